@@ -1,0 +1,150 @@
+-- The one spelling of each word. A timing that isn't there is spelled none.
+use Rattle.std.specs.Prelude.{ℕ, List, codes}
+use Rattle.permit_base.specs.declared.words.Role.{Role}
+use Rattle.permit_base.specs.declared.words.Role.TheVariants as role
+use Rattle.permit_base.specs.declared.words.Kind.{Kind}
+use Rattle.permit_base.specs.declared.words.Kind.TheVariants as kind
+use Rattle.permit_base.specs.declared.words.Step.{Step}
+use Rattle.permit_base.specs.declared.words.Step.TheVariants as step
+use Rattle.permit_base.specs.declared.words.Stage.{Stage}
+use Rattle.permit_base.specs.declared.words.Stage.TheVariants as stage
+use Rattle.permit_base.specs.declared.words.Timing.{Timing}
+use Rattle.permit_base.specs.declared.words.Timing.TheVariants as timing
+use Rattle.permit_base.specs.declared.words.Relation.{Relation}
+use Rattle.permit_base.specs.declared.words.Relation.TheVariants as relation
+use Rattle.permit_base.specs.declared.words.PaperSort.{PaperSort}
+use Rattle.permit_base.specs.declared.words.PaperSort.TheVariants as sort
+use Rattle.permit_base.specs.declared.words.Action.{Action}
+use Rattle.permit_base.specs.declared.words.Action.TheVariants as action
+use Rattle.permit_base.specs.declared.words.Effect.{Effect}
+use Rattle.permit_base.specs.declared.words.Effect.TheVariants as effect
+use Rattle.permit_base.specs.declared.words.RegisterKind.{RegisterKind}
+use Rattle.permit_base.specs.declared.words.RegisterKind.TheVariants as register
+use Rattle.permit_base.specs.declared.outcome.Reason.{Reason}
+use Rattle.permit_base.specs.declared.outcome.Reason.TheVariants as reason
+
+abbrev pub role_word : Role → List ℕ
+role_word role.Public = codes "public"
+role_word role.Clerk = codes "clerk"
+role_word role.Reviewer = codes "reviewer"
+role_word role.Inspector = codes "inspector"
+role_word role.Official = codes "official"
+
+abbrev pub kind_word : Kind → List ℕ
+kind_word kind.Construct = codes "construct"
+kind_word kind.Enlarge = codes "enlarge"
+kind_word kind.Alter = codes "alter"
+kind_word kind.Repair = codes "repair"
+kind_word kind.Move = codes "move"
+kind_word kind.Demolish = codes "demolish"
+kind_word kind.Occupancy = codes "occupancy"
+
+abbrev pub step_word : Step → List ℕ
+step_word step.Footing = codes "footing"
+step_word step.Slab = codes "slab"
+step_word step.Frame = codes "frame"
+step_word step.Lath = codes "lath"
+step_word step.Final = codes "final"
+
+abbrev pub stage_word : Stage → List ℕ
+stage_word stage.Filed = codes "filed"
+stage_word stage.Review = codes "review"
+stage_word stage.Returned = codes "returned"
+stage_word stage.Approved = codes "approved"
+stage_word stage.Rejected = codes "rejected"
+stage_word stage.Issued = codes "issued"
+stage_word stage.Working = codes "working"
+stage_word stage.Revoked = codes "revoked"
+stage_word stage.Finaled = codes "finaled"
+stage_word stage.Certified = codes "certified"
+stage_word stage.Abandoned = codes "abandoned"
+stage_word stage.Lapsed = codes "lapsed"
+stage_word stage.New = codes "new"
+stage_word stage.Office = codes "office"
+
+abbrev pub timing_word : Timing → List ℕ
+timing_word timing.Untimed = codes "none"
+timing_word timing.Past = codes "past"
+timing_word timing.Near = codes "near"
+timing_word timing.Ahead = codes "ahead"
+
+abbrev pub relation_word : Relation → List ℕ
+relation_word relation.Applicant = codes "applicant"
+relation_word relation.Contractor = codes "contractor"
+relation_word relation.Owner = codes "owner"
+relation_word relation.AssignedReviewer = codes "assigned-reviewer"
+relation_word relation.AssignedInspector = codes "assigned-inspector"
+relation_word relation.Conflict = codes "conflict"
+
+abbrev pub sort_word : PaperSort → List ℕ
+sort_word sort.Permit = codes "permit"
+sort_word sort.Returned = codes "returned"
+sort_word sort.Resubmitted = codes "resubmitted"
+sort_word sort.Rejected = codes "rejected"
+sort_word sort.Asked = codes "asked"
+sort_word sort.Granted = codes "granted"
+sort_word sort.Refused = codes "refused"
+sort_word sort.Notice = codes "notice"
+sort_word sort.Stop = codes "stop"
+sort_word sort.Lifted = codes "lifted"
+sort_word sort.Revoked = codes "revoked"
+sort_word sort.Temporary = codes "temporary"
+sort_word sort.Certificate = codes "certificate"
+
+abbrev pub action_word : Action → List ℕ
+action_word action.AddParty = codes "add-party"
+action_word action.AddStaff = codes "add-staff"
+action_word action.AddParcel = codes "add-parcel"
+action_word action.Transfer = codes "transfer"
+action_word action.Declare = codes "declare"
+action_word action.ReadParcel = codes "read-parcel"
+action_word action.File = codes "file"
+action_word action.Read = codes "read"
+action_word action.List = codes "list"
+action_word action.AssignReviewer = codes "assign-reviewer"
+action_word action.AssignInspector = codes "assign-inspector"
+action_word action.NameContractor = codes "name-contractor"
+action_word action.StartReview = codes "start-review"
+action_word action.Return = codes "return"
+action_word action.Resubmit = codes "resubmit"
+action_word action.ApprovePlans = codes "approve-plans"
+action_word action.Reject = codes "reject"
+action_word action.Issue = codes "issue"
+action_word action.AskExtension = codes "ask-extension"
+action_word action.GrantExtension = codes "grant-extension"
+action_word action.RefuseExtension = codes "refuse-extension"
+action_word action.BeginWork = codes "begin-work"
+action_word action.RequestInspection = codes "request-inspection"
+action_word action.ApproveStep = codes "approve-step"
+action_word action.Notice = codes "notice"
+action_word action.ClearNotice = codes "clear-notice"
+action_word action.Stop = codes "stop"
+action_word action.Lift = codes "lift"
+action_word action.Revoke = codes "revoke"
+action_word action.Temporary = codes "temporary"
+action_word action.Certify = codes "certify"
+
+abbrev pub effect_word : Effect → List ℕ
+effect_word effect.Allow = codes "allow"
+effect_word effect.Deny = codes "deny"
+
+abbrev pub register_word : RegisterKind → List ℕ
+register_word register.Files = codes "files"
+register_word register.Deadlines = codes "deadlines"
+register_word register.Inspections = codes "inspections"
+
+abbrev pub reason_word : Reason → List ℕ
+reason_word reason.Stage = codes "stage"
+reason_word reason.Stopped = codes "stopped"
+reason_word reason.Person = codes "person"
+reason_word reason.Interested = codes "interested"
+reason_word reason.Days = codes "days"
+reason_word reason.Pending = codes "pending"
+reason_word reason.NothingPending = codes "nothing-pending"
+reason_word reason.Step = codes "step"
+reason_word reason.NoticeOpen = codes "notice-open"
+reason_word reason.NoSuchNotice = codes "no-such-notice"
+reason_word reason.Kind = codes "kind"
+reason_word reason.Taken = codes "taken"
+reason_word reason.Full = codes "full"
+reason_word reason.Far = codes "far"

@@ -1,0 +1,26 @@
+-- What a file's row says on a day and to a caller.
+use Rattle.std.specs.Prelude.{ℕ, Bool, if◌then◌else◌, ◌==◌, Option}
+use Rattle.permit_base.specs.declared.words.Stage.{Stage}
+use Rattle.permit_base.specs.declared.words.Timing.{Timing}
+use Rattle.permit_base.specs.declared.words.Relations.{Relations}
+use Rattle.permit_model.specs.Search.{is_number}
+use Rattle.permit_model.specs.Days.{timing_on, is_past}
+use Rattle.permit_model.specs.Facts.{past_stage}
+use Rattle.permit_model.specs.Tables.{State}
+
+abbrev pub row_stage : ℕ → State → Stage
+row_stage day s = if is_past day s.deadline then past_stage s.stage else s.stage
+
+abbrev pub row_timing : ℕ → State → Timing
+row_timing day s = timing_on day s.deadline
+
+-- what the caller is to the file, by the parcel's owner and whether the caller has an interest in it
+abbrev pub row_relations : State → ℕ → Option ℕ → Bool → Relations
+row_relations s caller owner conflict = record {
+  applicant = s.applicant == caller;
+  contractor = is_number s.contractor caller;
+  owner = is_number owner caller;
+  assigned_reviewer = is_number s.reviewer caller;
+  assigned_inspector = is_number s.inspector caller;
+  conflict = conflict;
+}

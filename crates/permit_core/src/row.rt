@@ -1,0 +1,52 @@
+//! A file's row, and the row on a day.
+
+ghost use Rattle.std.specs.Prelude.{◌≡◌, IfOk};
+
+use crate::state::FileState;
+use permit_base::values::{Cents, FileId, Text};
+use permit_base::words::{Stage, Timing};
+use std::alloc::AllocError;
+use std::marker::Model;
+
+/// The row of a file.
+#[derive(Drop)]
+pub struct FileRow {
+    pub id: FileId,
+    pub state: FileState,
+    pub valuation: Cents,
+    pub description: Text,
+}
+
+impl Model for FileRow {
+    ghost use Rattle.permit_model.specs.Tables.{FileRow as TheRow};
+
+    ghost Value = { TheRow };
+
+    ghost view = { λ f. record { id = f.id; state = f.state; valuation = f.valuation; description = f.description } };
+}
+
+impl FileRow {
+    /// A copy.
+    pub fn copy(&self) -> Result<FileRow, AllocError>
+        ensures { IfOk result (λ p. p ≡ self.now) }
+    {
+        let description = self.description.copy()?;
+        Ok(FileRow { id: self.id, state: self.state, valuation: self.valuation, description })
+    }
+}
+
+/// A file's row with its stage and timing on a day.
+#[derive(Drop)]
+pub struct FileView {
+    pub row: FileRow,
+    pub stage: Stage,
+    pub timing: Timing,
+}
+
+impl Model for FileView {
+    ghost use Rattle.permit_model.specs.Tables.{FileView as TheView};
+
+    ghost Value = { TheView };
+
+    ghost view = { λ v. record { row = v.row; stage = v.stage; timing = v.timing } };
+}

@@ -1,0 +1,177 @@
+-- What stands against a command: its tests in the order of the reasons, of which the first that holds is answered.
+use Rattle.std.specs.Prelude.{ℕ, Bool, false, ◌||◌, not, ◌==◌, ◌+◌, nat_lt, nat_le, if◌then◌else◌, List, [], ◌∷◌, length, Option, None, Some, unwrap_or, is_some, is_none, bytes_eq}
+use Rattle.std.specs.List.{list_any}
+use Rattle.permit_base.specs.declared.words.Role.{Role}
+use Rattle.permit_base.specs.declared.words.Role.TheVariants.{Reviewer, Inspector}
+use Rattle.permit_base.specs.declared.words.Step.{Step}
+use Rattle.permit_base.specs.declared.words.Stage.{Stage}
+use Rattle.permit_base.specs.declared.words.Stage.TheVariants as stage
+use Rattle.permit_base.specs.declared.outcome.Reason.{Reason}
+use Rattle.permit_base.specs.declared.outcome.Reason.TheVariants as reason
+use Rattle.permit_base.specs.declared.request.Command.{Command}
+use Rattle.permit_base.specs.declared.request.Command.TheVariants.{AssignReviewer, AssignInspector, NameContractor, StartReview, Return, Resubmit, ApprovePlans, Reject, Issue, AskExtension, GrantExtension, RefuseExtension, BeginWork, RequestInspection, ApproveStep, Notice, ClearNotice, Stop, Lift, Revoke, Temporary, Certify}
+use Rattle.permit_base.specs.declared.request.Request.{Request}
+use Rattle.permit_base.specs.declared.request.Request.TheVariants.{AddParty, AddParcel, Transfer, Declare, File, OnFile}
+use Rattle.permit_base.specs.Digests.{digest_of}
+use Rattle.permit_model.specs.Search.{is_number, has_number}
+use Rattle.permit_model.specs.Codes.{is_step, is_stage_among}
+use Rattle.permit_model.specs.Days.{last_deadline}
+use Rattle.permit_model.specs.Steps.{has_certificates}
+use Rattle.permit_model.specs.History.{History}
+use Rattle.permit_model.specs.Caller.{parties, party_numbered, who, is_party, has_role}
+use Rattle.permit_model.specs.Parcels.{parcels, owner, has_interest}
+use Rattle.permit_model.specs.Files.{CaseFile, filings, case_numbered}
+use Rattle.permit_model.specs.Work.{contractor, next_of, pending_step, pending_ask, open_notices, is_stopped, paper_count}
+use Rattle.permit_model.specs.Deadline.{deadline}
+use Rattle.permit_model.specs.Facts.{stage_on}
+
+-- the most parties, parcels and files, and the most papers of a file
+abbrev pub most_records : ℕ
+most_records = 99999
+
+abbrev pub most_papers : ℕ
+most_papers = 9999
+
+-- a test: whether it fails the command, and the reason that is then answered
+abbrev pub Test : Type 0
+Test = Bool × Reason
+
+-- the reason of the first test that fails
+abbrev pub first_failing : List Test → Option Reason
+first_failing [] = None
+first_failing (test ∷ tests) = if test.0 then Some test.1 else first_failing tests
+
+-- ---- the stages in which commands are admitted
+
+abbrev pub reviewing_stages : List Stage
+reviewing_stages = stage.Filed ∷ stage.Review ∷ stage.Returned ∷ []
+
+abbrev pub inspecting_stages : List Stage
+inspecting_stages = stage.Approved ∷ stage.Issued ∷ stage.Working ∷ []
+
+-- the six stages with a deadline
+abbrev pub open_stages : List Stage
+open_stages = stage.Filed ∷ stage.Review ∷ stage.Returned ∷ stage.Approved ∷ stage.Issued ∷ stage.Working ∷ []
+
+abbrev pub stoppable_stages : List Stage
+stoppable_stages = stage.Issued ∷ stage.Working ∷ stage.Lapsed ∷ stage.Revoked ∷ stage.Finaled ∷ []
+
+abbrev pub revocable_stages : List Stage
+revocable_stages = stage.Issued ∷ stage.Working ∷ stage.Lapsed ∷ []
+
+-- ---- the tests
+
+abbrev pub not_in : ℕ → CaseFile → List Stage → Test
+not_in day file stages = (not (is_stage_among stages (stage_on day file)), reason.Stage)
+
+abbrev pub stopped : CaseFile → Test
+stopped file = (is_stopped file.acts, reason.Stopped)
+
+abbrev pub no_party : History → ℕ → Test
+no_party h party = (not (is_party h party), reason.Person)
+
+abbrev pub no_party_of_role : History → Role → ℕ → Test
+no_party_of_role h role party = (not (has_role role (party_numbered h party)), reason.Person)
+
+-- the file's applicant or contractor, the parcel's owner, or one with an interest in the parcel
+abbrev pub is_interested : History → CaseFile → ℕ → Bool
+is_interested h file party =
+    (file.filing.applicant == party) || is_number (contractor file.acts) party
+    || is_number (owner h file.filing.parcel) party || has_interest h file.filing.parcel party
+
+abbrev pub interested : History → CaseFile → ℕ → Test
+interested h file party = (is_interested h file party, reason.Interested)
+
+abbrev pub days_above : ℕ → ℕ → Test
+days_above limit days = (nat_lt limit days, reason.Days)
+
+-- the most days that may be asked in a stage
+abbrev pub ask_limit : Stage → ℕ
+ask_limit stage.Issued = 180
+ask_limit stage.Working = 180
+ask_limit _ = 90
+
+abbrev pub ask_pending : CaseFile → Test
+ask_pending file = (is_some (pending_ask file.acts), reason.Pending)
+
+abbrev pub no_ask_pending : CaseFile → Test
+no_ask_pending file = (is_none (pending_ask file.acts), reason.NothingPending)
+
+abbrev pub inspection_pending : CaseFile → Test
+inspection_pending file = (is_some (pending_step file.acts), reason.Pending)
+
+abbrev pub no_inspection_pending : CaseFile → Test
+no_inspection_pending file = (is_none (pending_step file.acts), reason.NothingPending)
+
+abbrev pub not_stopped : CaseFile → Test
+not_stopped file = (not (is_stopped file.acts), reason.NothingPending)
+
+abbrev pub is_the_step : Option Step → Step → Bool
+is_the_step None step = false
+is_the_step (Some other) step = is_step other step
+
+abbrev pub not_the_next : CaseFile → Step → Test
+not_the_next file step = (not (is_the_step (next_of file) step), reason.Step)
+
+abbrev pub not_the_requested : CaseFile → Step → Test
+not_the_requested file step = (not (is_the_step (pending_step file.acts) step), reason.Step)
+
+abbrev pub notice_open : CaseFile → Test
+notice_open file = (nat_lt 0 (length (open_notices file.acts)), reason.NoticeOpen)
+
+abbrev pub no_such_notice : CaseFile → ℕ → Test
+no_such_notice file paper = (not (has_number (open_notices file.acts) paper), reason.NoSuchNotice)
+
+abbrev pub no_certificates : CaseFile → Test
+no_certificates file = (not (has_certificates file.filing.kind), reason.Kind)
+
+abbrev pub papers_full : CaseFile → Test
+papers_full file = (nat_le most_papers (paper_count file.acts), reason.Full)
+
+-- the deadline with the asked days is too far
+abbrev pub too_far : CaseFile → Test
+too_far file = (nat_lt last_deadline (unwrap_or (deadline file) 0 + unwrap_or (pending_ask file.acts) 0), reason.Far)
+
+-- ---- the tests of each command
+
+abbrev pub file_tests : History → ℕ → CaseFile → Command → List Test
+file_tests h day file (AssignReviewer party) = not_in day file reviewing_stages ∷ no_party_of_role h Reviewer party ∷ interested h file party ∷ []
+file_tests h day file (AssignInspector party) = not_in day file inspecting_stages ∷ no_party_of_role h Inspector party ∷ interested h file party ∷ []
+file_tests h day file (NameContractor party) = not_in day file open_stages ∷ no_party h party ∷ []
+file_tests h day file StartReview = not_in day file (stage.Filed ∷ []) ∷ []
+file_tests h day file (Return text) = not_in day file (stage.Review ∷ []) ∷ papers_full file ∷ []
+file_tests h day file (Resubmit text) = not_in day file (stage.Returned ∷ []) ∷ papers_full file ∷ []
+file_tests h day file ApprovePlans = not_in day file (stage.Review ∷ []) ∷ []
+file_tests h day file (Reject text) = not_in day file (stage.Review ∷ []) ∷ papers_full file ∷ []
+file_tests h day file Issue = not_in day file (stage.Approved ∷ []) ∷ papers_full file ∷ []
+file_tests h day file (AskExtension days text) = not_in day file open_stages ∷ days_above (ask_limit (stage_on day file)) days ∷ ask_pending file ∷ papers_full file ∷ []
+file_tests h day file GrantExtension = not_in day file open_stages ∷ no_ask_pending file ∷ papers_full file ∷ too_far file ∷ []
+file_tests h day file (RefuseExtension text) = not_in day file open_stages ∷ no_ask_pending file ∷ papers_full file ∷ []
+file_tests h day file BeginWork = not_in day file (stage.Issued ∷ []) ∷ stopped file ∷ []
+file_tests h day file (RequestInspection step) = not_in day file (stage.Working ∷ []) ∷ stopped file ∷ inspection_pending file ∷ not_the_next file step ∷ []
+file_tests h day file (ApproveStep step) = not_in day file (stage.Working ∷ []) ∷ stopped file ∷ no_inspection_pending file ∷ not_the_requested file step ∷ notice_open file ∷ []
+file_tests h day file (Notice text) = not_in day file (stage.Working ∷ []) ∷ no_inspection_pending file ∷ papers_full file ∷ []
+file_tests h day file (ClearNotice paper) = not_in day file (stage.Working ∷ []) ∷ no_such_notice file paper ∷ []
+file_tests h day file (Stop text conditions) = not_in day file stoppable_stages ∷ stopped file ∷ papers_full file ∷ []
+file_tests h day file Lift = not_in day file stoppable_stages ∷ not_stopped file ∷ papers_full file ∷ []
+file_tests h day file (Revoke text) = not_in day file revocable_stages ∷ papers_full file ∷ []
+file_tests h day file (Temporary days text) = not_in day file (stage.Working ∷ []) ∷ stopped file ∷ days_above 180 days ∷ notice_open file ∷ no_certificates file ∷ papers_full file ∷ []
+file_tests h day file Certify = not_in day file (stage.Finaled ∷ []) ∷ stopped file ∷ no_certificates file ∷ papers_full file ∷ []
+
+abbrev pub tests_on : History → ℕ → Option CaseFile → Command → List Test
+tests_on h day None command = []
+tests_on h day (Some file) command = file_tests h day file command
+
+-- the tests of a request of the caller on the day; a request that asks for nothing to be changed has none
+abbrev pub tests : History → ℕ → ℕ → Request → List Test
+tests h day caller (AddParty name role token) = (is_some (who h (digest_of token)), reason.Taken) ∷ (nat_le most_records (length (parties h)), reason.Full) ∷ []
+tests h day caller (AddParcel lot address owner) = no_party h owner ∷ (list_any (λ p. bytes_eq p.lot lot) (parcels h), reason.Taken) ∷ (nat_le most_records (length (parcels h)), reason.Full) ∷ []
+tests h day caller (Transfer parcel to) = no_party h to ∷ (is_number (owner h parcel) to, reason.Taken) ∷ []
+tests h day caller (Declare parcel) = (has_interest h parcel caller, reason.Taken) ∷ []
+tests h day caller (File parcel kind valuation description) = (nat_le most_records (length (filings h)), reason.Full) ∷ []
+tests h day caller (OnFile file command) = tests_on h day (case_numbered h file) command
+tests h day caller _ = []
+
+-- the reason for which the request isn't admitted, or None where it is
+abbrev pub reason_against : History → ℕ → ℕ → Request → Option Reason
+reason_against h day caller request = first_failing (tests h day caller request)

@@ -1,0 +1,54 @@
+-- The deadline of a file: the greatest day to which an anchor reaches.
+use Rattle.std.specs.Prelude.{ℕ, ◌+◌, Bool, true, false, if◌then◌else◌, List, [], ◌∷◌, Option, None, Some, unwrap_or, map}
+use Rattle.permit_base.specs.declared.words.Stage.{Stage}
+use Rattle.permit_base.specs.declared.words.Stage.TheVariants as stage
+use Rattle.permit_base.specs.declared.request.Command.{Command}
+use Rattle.permit_base.specs.declared.request.Command.TheVariants.{Issue, GrantExtension, BeginWork, RequestInspection, ApproveStep, Notice}
+use Rattle.permit_model.specs.Days.{term, greatest}
+use Rattle.permit_model.specs.Files.{Act, CaseFile}
+use Rattle.permit_model.specs.Work.{pending_ask}
+use Rattle.permit_model.specs.BaseStage.{base_stage}
+
+-- the days that a command grants: those of the ask that is pending before it
+abbrev pub days_granted : Command → List Act → ℕ
+days_granted GrantExtension before = unwrap_or (pending_ask before) 0
+days_granted _ before = 0
+
+-- issuance and activity
+abbrev pub is_anchor : Command → Bool
+is_anchor Issue = true
+is_anchor BeginWork = true
+is_anchor (RequestInspection step) = true
+is_anchor (ApproveStep step) = true
+is_anchor (Notice text) = true
+is_anchor _ = false
+
+-- a day to which an anchor reaches, with the days that are granted after it
+abbrev pub extended : ℕ → List ℕ → List ℕ
+extended days reaches = map (λ reach. reach + days) reaches
+
+-- how far the application reaches: its day, the term, and the days of each extension granted since
+abbrev pub filing_reach : ℕ → List Act → ℕ
+filing_reach filed [] = filed + term
+filing_reach filed (act ∷ before) = filing_reach filed before + days_granted act.command before
+
+-- how far the issue and each activity reach: its day, the term, and the days of each extension granted after it
+abbrev pub anchor_reaches : List Act → List ℕ
+anchor_reaches [] = []
+anchor_reaches (act ∷ before) =
+    if is_anchor act.command
+    then (act.day + term) ∷ extended (days_granted act.command before) (anchor_reaches before)
+    else extended (days_granted act.command before) (anchor_reaches before)
+
+-- the deadline in a stage: the filing's reach before issuance, the greatest reach after it, none once the work is over
+abbrev pub deadline_in : Stage → ℕ → List Act → Option ℕ
+deadline_in stage.Filed filed acts = Some (filing_reach filed acts)
+deadline_in stage.Review filed acts = Some (filing_reach filed acts)
+deadline_in stage.Returned filed acts = Some (filing_reach filed acts)
+deadline_in stage.Approved filed acts = Some (filing_reach filed acts)
+deadline_in stage.Issued filed acts = greatest (anchor_reaches acts)
+deadline_in stage.Working filed acts = greatest (anchor_reaches acts)
+deadline_in _ filed acts = None
+
+abbrev pub deadline : CaseFile → Option ℕ
+deadline file = deadline_in (base_stage file.acts) file.filing.filed file.acts

@@ -1,0 +1,86 @@
+-- The file rows that a listing may open, counted as often as they come.
+use Rattle.std.specs.Prelude.{ℕ, Bool, true, false, ◌&&◌, not, if◌then◌else◌, List, [], ◌∷◌, map, filter}
+use Rattle.std.specs.List.{flat_map}
+use Rattle.permit_base.specs.declared.words.Role.{Role}
+use Rattle.permit_base.specs.declared.words.Stage.{Stage}
+use Rattle.permit_base.specs.declared.words.Stage.TheVariants as stage
+use Rattle.permit_base.specs.declared.words.Timing.{Timing}
+use Rattle.permit_base.specs.declared.words.Timing.TheVariants.{Untimed, Past, Near, Ahead}
+use Rattle.permit_base.specs.declared.words.Relation.{Relation}
+use Rattle.permit_base.specs.declared.words.Relation.TheVariants as relation
+use Rattle.permit_base.specs.declared.words.Relations.{Relations}
+use Rattle.permit_base.specs.declared.words.Action.TheVariants as action
+use Rattle.permit_base.specs.declared.request.Filter.{Filter}
+use Rattle.permit_model.specs.Codes.{is_stage, is_timing, is_relation}
+use Rattle.permit_model.specs.History.{History}
+use Rattle.permit_model.specs.Caller.{Party}
+use Rattle.permit_model.specs.Files.{CaseFile, case_files}
+use Rattle.permit_model.specs.Work.{is_stopped}
+use Rattle.permit_model.specs.Facts.{Facts, holds, no_relations, relations_to_file, stage_on, timing_of}
+use Rattle.permit_model.specs.Policy.{Policy, allows}
+use Rattle.permit_model.specs.Listing.{meets}
+
+-- what of a file a listing's rules read, but for the relations
+pub record Cell : Type 0 where
+  pub stage : Stage
+  pub stopped : Bool
+  pub timing : Timing
+
+abbrev pub all_stages : List Stage
+all_stages = stage.Filed ∷ stage.Review ∷ stage.Returned ∷ stage.Approved ∷ stage.Rejected ∷ stage.Issued ∷ stage.Working ∷ stage.Revoked ∷ stage.Finaled ∷ stage.Certified ∷ stage.Abandoned ∷ stage.Lapsed ∷ stage.New ∷ stage.Office ∷ []
+
+abbrev pub all_timings : List Timing
+all_timings = Untimed ∷ Past ∷ Near ∷ Ahead ∷ []
+
+abbrev pub all_relations : List Relation
+all_relations = relation.Applicant ∷ relation.Contractor ∷ relation.Owner ∷ relation.AssignedReviewer ∷ relation.AssignedInspector ∷ relation.Conflict ∷ []
+
+abbrev pub cells_of : Stage → Bool → List Cell
+cells_of s b = map (λ t. record { stage = s; stopped = b; timing = t }) all_timings
+
+-- the 112 cells
+abbrev pub cells : List Cell
+cells = flat_map (λ s. flat_map (cells_of s) (false ∷ true ∷ [])) all_stages
+
+abbrev pub same_truth : Bool → Bool → Bool
+same_truth a b = if a then b else not b
+
+-- whether the file lies in the cell on the day
+abbrev pub is_in : ℕ → Cell → CaseFile → Bool
+is_in day cell file = is_stage cell.stage (stage_on day file) && same_truth cell.stopped (is_stopped file.acts) && is_timing cell.timing (timing_of day file)
+
+-- the set of one relation
+abbrev pub only : Relation → Relations
+only r = record {
+  applicant = is_relation r relation.Applicant;
+  contractor = is_relation r relation.Contractor;
+  owner = is_relation r relation.Owner;
+  assigned_reviewer = is_relation r relation.AssignedReviewer;
+  assigned_inspector = is_relation r relation.AssignedInspector;
+  conflict = is_relation r relation.Conflict;
+}
+
+-- the facts of a listing in a cell with these relations
+abbrev pub cell_facts : Role → Cell → Relations → Facts
+cell_facts role cell relations = record { role = role; relations = relations; action = action.List; stage = cell.stage; stopped = cell.stopped; timing = cell.timing }
+
+-- the files of the cell to which the caller has the relation, where it is allowed alone
+abbrev pub opened_by : Policy → History → Party → Cell → List CaseFile → Relation → List CaseFile
+opened_by policy h caller cell files r =
+    if allows policy (cell_facts caller.role cell (only r))
+    then filter (λ file. holds (relations_to_file h caller.id file) r) files
+    else []
+
+-- each file of the cell once where no relation is wanted, else once for each relation that is allowed alone
+abbrev pub opened_of : Policy → History → Party → Cell → List CaseFile → List CaseFile
+opened_of policy h caller cell files =
+    if allows policy (cell_facts caller.role cell no_relations)
+    then files
+    else flat_map (opened_by policy h caller cell files) all_relations
+
+abbrev pub opened_in : Policy → History → ℕ → Party → Cell → List CaseFile
+opened_in policy h day caller cell = opened_of policy h caller cell (filter (is_in day cell) (case_files h))
+
+-- the rows of all cells that meet the filter
+abbrev pub opened : Policy → History → ℕ → Party → Filter → List CaseFile
+opened policy h day caller wanted = flat_map (opened_in policy h day caller) (filter (λ cell. meets wanted cell.stage cell.timing) cells)

@@ -1,0 +1,185 @@
+-- The rows that the tables keep, read off the history.
+use Rattle.std.specs.Prelude.{ℕ, Bool, true, false, ◌&&◌, List, [], ◌∷◌, map, length, Option, None, option_map, unwrap_or}
+use Rattle.permit_base.specs.declared.words.Kind.{Kind}
+use Rattle.permit_base.specs.declared.words.Step.{Step}
+use Rattle.permit_base.specs.declared.words.Stage.{Stage}
+use Rattle.permit_base.specs.declared.words.Timing.{Timing}
+use Rattle.permit_base.specs.declared.words.PaperSort.{PaperSort}
+use Rattle.permit_base.specs.declared.words.PaperSort.TheVariants as sort
+use Rattle.permit_base.specs.declared.request.Command.{Command}
+use Rattle.permit_base.specs.declared.request.Command.TheVariants.{Return, Resubmit, Reject, AskExtension, RefuseExtension, Notice, Stop, Revoke, Temporary}
+use Rattle.permit_base.specs.declared.request.Request.TheVariants.{OnFile}
+use Rattle.permit_model.specs.Search.{add_last, has_number}
+use Rattle.permit_model.specs.History.{Deed, Accepted, Entry, History, last_day}
+use Rattle.permit_model.specs.Caller.{Party, parties}
+use Rattle.permit_model.specs.Parcels.{Parcel, parcels, Interest, interests}
+use Rattle.permit_model.specs.Files.{Act, act_of, acts_on, CaseFile, case_files}
+use Rattle.permit_model.specs.Work.{contractor, reviewer, inspector, approved_steps, pending_step, requested_day, pending_ask, open_notices, is_stopped, temporary_until, paper_sort, paper_count}
+use Rattle.permit_model.specs.BaseStage.{base_stage}
+use Rattle.permit_model.specs.Deadline.{deadline, days_granted}
+use Rattle.permit_model.specs.Facts.{stage_on, timing_of}
+
+-- ---- files
+
+-- the row of a file without its number, valuation and description
+pub record State : Type 0 where
+  pub parcel : ℕ
+  pub applicant : ℕ
+  pub contractor : Option ℕ
+  pub reviewer : Option ℕ
+  pub inspector : Option ℕ
+  pub kind : Kind
+  pub filed : ℕ
+  pub stage : Stage
+  pub deadline : Option ℕ
+  pub done : ℕ
+  pub request : Option Step
+  pub requested : Option ℕ
+  pub ask : Option ℕ
+  pub stopped : Bool
+  pub notices : ℕ
+  pub papers : ℕ
+  pub temporary : Option ℕ
+
+pub record FileRow : Type 0 where
+  pub id : ℕ
+  pub state : State
+  pub valuation : ℕ
+  pub description : List ℕ
+
+abbrev pub state_of : CaseFile → State
+state_of file = record {
+  parcel = file.filing.parcel;
+  applicant = file.filing.applicant;
+  contractor = contractor file.acts;
+  reviewer = reviewer file.acts;
+  inspector = inspector file.acts;
+  kind = file.filing.kind;
+  filed = file.filing.filed;
+  stage = base_stage file.acts;
+  deadline = deadline file;
+  done = length (approved_steps file.acts);
+  request = pending_step file.acts;
+  requested = requested_day file.acts;
+  ask = pending_ask file.acts;
+  stopped = is_stopped file.acts;
+  notices = length (open_notices file.acts);
+  papers = paper_count file.acts;
+  temporary = temporary_until file.acts;
+}
+
+abbrev pub file_row : CaseFile → FileRow
+file_row file = record { id = file.filing.id; state = state_of file; valuation = file.filing.valuation; description = file.filing.description }
+
+-- a file's row with its stage and timing on a day
+pub record FileView : Type 0 where
+  pub row : FileRow
+  pub stage : Stage
+  pub timing : Timing
+
+abbrev pub file_view : ℕ → CaseFile → FileView
+file_view day file = record { row = file_row file; stage = stage_on day file; timing = timing_of day file }
+
+-- ---- papers
+
+pub record Paper : Type 0 where
+  pub file : ℕ
+  pub number : ℕ
+  pub day : ℕ
+  pub author : ℕ
+  pub sort : PaperSort
+  pub days : ℕ
+  pub text : List ℕ
+  pub terms : List ℕ
+  pub is_open : Bool
+
+-- the days of a paper: those asked, granted or given, else 0
+abbrev pub paper_days : Command → List Act → ℕ
+paper_days (AskExtension days text) before = days
+paper_days (Temporary days text) before = days
+paper_days command before = days_granted command before
+
+abbrev pub paper_text : Command → List ℕ
+paper_text (Return text) = text
+paper_text (Resubmit text) = text
+paper_text (Reject text) = text
+paper_text (AskExtension days text) = text
+paper_text (RefuseExtension text) = text
+paper_text (Notice text) = text
+paper_text (Stop text conditions) = text
+paper_text (Revoke text) = text
+paper_text (Temporary days text) = text
+paper_text _ = []
+
+abbrev pub paper_terms : Command → List ℕ
+paper_terms (Stop text conditions) = conditions
+paper_terms _ = []
+
+abbrev pub is_notice : PaperSort → Bool
+is_notice sort.Notice = true
+is_notice _ = false
+
+-- the paper that an act makes, with the acts before it and the notices that are open now
+abbrev pub paper_by : ℕ → List ℕ → Act → List Act → Option Paper
+paper_by file open_now act before =
+    option_map (λ s. record {
+      file = file;
+      number = unwrap_or act.number 0;
+      day = act.day;
+      author = act.caller;
+      sort = s;
+      days = paper_days act.command before;
+      text = paper_text act.command;
+      terms = paper_terms act.command;
+      is_open = is_notice s && has_number open_now (unwrap_or act.number 0);
+    }) (paper_sort act.command)
+
+-- the papers of the acts, oldest first
+abbrev pub papers_from : ℕ → List ℕ → List Act → List Paper
+papers_from file open_now [] = []
+papers_from file open_now (act ∷ before) = add_last (papers_from file open_now before) (paper_by file open_now act before)
+
+-- the papers of a file, in the order of their numbers
+abbrev pub papers_of : CaseFile → List Paper
+papers_of file = papers_from file.filing.id (open_notices file.acts) file.acts
+
+-- the paper of a deed, with the history that is now and the one before the deed
+abbrev pub paper_of_deed : History → Entry → Deed → History → Option Paper
+paper_of_deed now entry (Accepted (OnFile file command)) before = paper_by file (open_notices (acts_on file now)) (act_of entry command) (acts_on file before)
+paper_of_deed now entry _ before = None
+
+-- the papers of the entries, oldest first, as they are in the history that is now
+abbrev pub papers_made : History → History → List Paper
+papers_made now [] = []
+papers_made now (entry ∷ before) = add_last (papers_made now before) (paper_of_deed now entry entry.deed before)
+
+-- ---- all tables
+
+-- the last day and the counts
+pub record Desk : Type 0 where
+  pub last : ℕ
+  pub parties : ℕ
+  pub parcels : ℕ
+  pub files : ℕ
+
+pub record Tables : Type 0 where
+  pub desk : Desk
+  pub parties : List Party
+  pub parcels : List Parcel
+  pub interests : List Interest
+  pub files : List FileRow
+  pub papers : List Paper
+
+abbrev pub desk_of : History → Desk
+desk_of h = record { last = last_day h; parties = length (parties h); parcels = length (parcels h); files = length (case_files h) }
+
+-- the tables after a history; interests and papers stand in the order in which they were made
+abbrev pub tables : History → Tables
+tables h = record {
+  desk = desk_of h;
+  parties = parties h;
+  parcels = parcels h;
+  interests = interests h;
+  files = map file_row (case_files h);
+  papers = papers_made h h;
+}

@@ -1,0 +1,175 @@
+-- A run goes on by one request.
+use Rattle.std.proofs.Common.{◌≡◌, ℕ, ◌+◌, Bool, true, false, cond, not, List, [], ◌∷◌, ◌++◌, length, map, refl, sym, ◌∙◌, ap, subst, inl, inr, ⊎_elim, ◌⊎◌, length-append, arith}
+use Rattle.std.specs.Prelude.{filter, if◌then◌else◌}
+use Rattle.std.proofs.lemmas.List.{map-append}
+use Rattle.permit_base.specs.declared.outcome.Refusal.TheVariants as refusal
+use Rattle.permit_base.specs.declared.request.Asked.{Asked}
+use Rattle.std.specs.Prelude.{Option, Some, None, nat_lt}
+use Rattle.permit_base.specs.declared.outcome.Reason.{Reason}
+use Rattle.permit_base.specs.declared.request.Request.{Request}
+use Rattle.permit_base.specs.declared.request.Request.TheVariants.{AddParty, AddParcel, Transfer, Declare, ReadParcel, File, ReadFile, ListFiles, Register, OnFile}
+use Rattle.permit_base.specs.Digests.{digest_of}
+use Rattle.permit_model.specs.History.{History, Entry, last_day}
+use Rattle.permit_model.specs.Caller.{Party, who}
+use Rattle.permit_model.specs.Parcels.{Parcel, parcel_numbered}
+use Rattle.permit_model.specs.Files.{CaseFile, case_numbered}
+use Rattle.permit_model.specs.Facts.{Facts}
+use Rattle.permit_model.specs.Admission.{reason_against}
+use Rattle.permit_model.proofs.Histories.{run_keeps}
+use Rattle.permit_model.specs.Policy.{Policy, decision, is_allow}
+use Rattle.permit_model.specs.Tables.{Tables, tables}
+use Rattle.permit_model.specs.Machine.{Reply, Outcome, Refused, refused, shown_parcel, shown_file, admitted, performed, judged, served, known, entry_of, facts_of, IsHistory, step, replies_to, history_after}
+use Rattle.permit_office.specs.declared.reply.Reply.{Reply as Given}
+use Rattle.permit_office.specs.declared.reply.Reply.TheVariants as given
+use Rattle.permit_office.specs.Answers.{reply_of, is_store_refusal, Answers}
+use Rattle.permit_office.specs.Runs.{answered, own_replies, Ran}
+
+one_more : {A : Type 0} (b : Bool) (x : A) (xs ys : List A) → (if b then xs ++ ys else x ∷ (xs ++ ys)) ≡ (if b then xs else x ∷ xs) ++ ys
+one_more true x xs ys = refl
+one_more false x xs ys = refl
+
+answered_last : (requests : List (Asked × ℕ)) (replies : List Given) (request : Asked × ℕ) (reply : Given) → length replies ≡ length requests →
+    answered (requests ++ request ∷ []) (replies ++ reply ∷ []) ≡ answered requests replies ++ (if is_store_refusal reply then [] else request ∷ [])
+answered_last [] [] request reply e = refl
+answered_last [] (r ∷ rs) request reply e = absurd (omega arith)
+answered_last (q ∷ qs) [] request reply e = absurd (omega arith)
+answered_last (q ∷ qs) (r ∷ rs) request reply e =
+    ap (λ xs. if is_store_refusal r then xs else q ∷ xs) (answered_last qs rs request reply (omega arith))
+    ∙ one_more (is_store_refusal r) q (answered qs rs) (if is_store_refusal reply then [] else request ∷ [])
+
+replies_last : (policy : Policy) (xs : List (Asked × ℕ)) (x : Asked × ℕ) (h : History) → replies_to policy (xs ++ x ∷ []) h ≡ replies_to policy xs h ++ (step policy (history_after policy xs h) x.0 x.1).reply ∷ []
+replies_last policy [] x h = refl
+replies_last policy (y ∷ xs) x h = ap (λ rs. (step policy h y.0 y.1).reply ∷ rs) (replies_last policy xs x (step policy h y.0 y.1).history)
+
+history_last : (policy : Policy) (xs : List (Asked × ℕ)) (x : Asked × ℕ) (h : History) → history_after policy (xs ++ x ∷ []) h ≡ (step policy (history_after policy xs h) x.0 x.1).history
+history_last policy [] x h = refl
+history_last policy (y ∷ xs) x h = history_last policy xs x (step policy h y.0 y.1).history
+
+own_by : (b : Bool) (r : Given) (rs : List Given) (ys : List Reply) (more : List Given) → map reply_of (filter (λ x. not (is_store_refusal x)) more) ≡ own_replies rs ++ ys →
+    map reply_of (cond (not b) (r ∷ filter (λ x. not (is_store_refusal x)) more) (filter (λ x. not (is_store_refusal x)) more)) ≡ map reply_of (cond (not b) (r ∷ filter (λ x. not (is_store_refusal x)) rs) (filter (λ x. not (is_store_refusal x)) rs)) ++ ys
+own_by true r rs ys more e = e
+own_by false r rs ys more e = ap (λ zs. reply_of r ∷ zs) e
+
+own_first : (b : Bool) (reply : Given) → map reply_of (cond (not b) (reply ∷ []) []) ≡ (if b then [] else reply_of reply ∷ [])
+own_first true reply = refl
+own_first false reply = refl
+
+own_last : (replies : List Given) (reply : Given) → own_replies (replies ++ reply ∷ []) ≡ own_replies replies ++ (if is_store_refusal reply then [] else reply_of reply ∷ [])
+own_last [] reply = own_first (is_store_refusal reply) reply
+own_last (r ∷ rs) reply = own_by (is_store_refusal r) r rs (if is_store_refusal reply then [] else reply_of reply ∷ []) (rs ++ reply ∷ []) (own_last rs reply)
+
+nothing_more : {A : Type 0} (xs : List A) → xs ++ [] ≡ xs
+nothing_more [] = refl
+nothing_more (x ∷ xs) = ap (λ ys. x ∷ ys) (nothing_more xs)
+
+longer : {A B : Type 0} (xs : List A) (ys : List B) (x : A) (y : B) → length ys ≡ length xs → length (ys ++ y ∷ []) ≡ length (xs ++ x ∷ [])
+longer xs ys x y e = length-append ys (y ∷ []) ∙ ap (λ n. n + 1) e ∙ sym (length-append xs (x ∷ []))
+
+-- a request that the store refused
+skips : (holds after : Tables → Type 0) (policy : Policy) (requests : List (Asked × ℕ)) (replies : List Given) (h : History) (request : Asked × ℕ) (reply : Given) → Ran holds policy requests replies h →
+    is_store_refusal reply ≡ true → after (tables (history_after policy (answered requests replies) h)) → Ran after policy (requests ++ request ∷ []) (replies ++ reply ∷ []) h
+skips holds after policy requests replies h request reply ran e held =
+    let same : answered (requests ++ request ∷ []) (replies ++ reply ∷ []) ≡ answered requests replies =
+        answered_last requests replies request reply ran.each ∙ ap (λ (b : Bool). answered requests replies ++ (if b then [] else request ∷ [])) e ∙ nothing_more (answered requests replies) in
+    record {
+      each = longer requests replies request reply ran.each;
+      told = own_last replies reply ∙ ap (λ (b : Bool). own_replies replies ++ (if b then [] else reply_of reply ∷ [])) e ∙ nothing_more (own_replies replies) ∙ ran.told ∙ ap (λ xs. replies_to policy xs h) (sym same);
+      held = subst (λ xs. after (tables (history_after policy xs h))) (sym same) held;
+    }
+
+-- a request that the machine answered
+goes_on : (holds after : Tables → Type 0) (policy : Policy) (requests : List (Asked × ℕ)) (replies : List Given) (h : History) (request : Asked × ℕ) (reply : Given) → Ran holds policy requests replies h →
+    is_store_refusal reply ≡ false → reply_of reply ≡ (step policy (history_after policy (answered requests replies) h) request.0 request.1).reply →
+    after (tables (step policy (history_after policy (answered requests replies) h) request.0 request.1).history) → Ran after policy (requests ++ request ∷ []) (replies ++ reply ∷ []) h
+goes_on holds after policy requests replies h request reply ran e told held =
+    let done = answered requests replies in
+    let same : answered (requests ++ request ∷ []) (replies ++ reply ∷ []) ≡ done ++ request ∷ [] =
+        answered_last requests replies request reply ran.each ∙ ap (λ (b : Bool). done ++ (if b then [] else request ∷ [])) e in
+    record {
+      each = longer requests replies request reply ran.each;
+      told = own_last replies reply ∙ ap (λ (b : Bool). own_replies replies ++ (if b then [] else reply_of reply ∷ [])) e
+        ∙ ap (λ xs. xs ++ reply_of reply ∷ []) ran.told ∙ ap (λ r. replies_to policy done h ++ r ∷ []) told
+        ∙ sym (replies_last policy done request h) ∙ ap (λ xs. replies_to policy xs h) (sym same);
+      held = subst (λ xs. after (tables (history_after policy xs h))) (sym same) (subst (λ x. after (tables x)) (sym (history_last policy done request h)) held);
+    }
+
+-- ---- the machine never answers the store's refusal
+
+abbrev is_store : Reply → Bool
+is_store (Refused refusal.Store) = true
+is_store _ = false
+
+parcel_own : (o : Option Parcel) → is_store (shown_parcel o) ≡ false
+parcel_own None = refl
+parcel_own (Some p) = refl
+
+file_own : (day : ℕ) (o : Option CaseFile) → is_store (shown_file day o) ≡ false
+file_own day None = refl
+file_own day (Some p) = refl
+
+admitted_own : (h : History) (entry : Entry) (o : Option Reason) → is_store (admitted h entry o).reply ≡ false
+admitted_own h entry None = refl
+admitted_own h entry (Some why) = refl
+
+performed_own : (policy : Policy) (h : History) (day : ℕ) (caller : Party) (request : Request) → is_store (performed policy h day caller request).reply ≡ false
+performed_own policy h day caller (ReadParcel id) = parcel_own (parcel_numbered h id)
+performed_own policy h day caller (ReadFile id) = file_own day (case_numbered h id)
+performed_own policy h day caller (ListFiles wanted) = refl
+performed_own policy h day caller (Register kind) = refl
+performed_own policy h day caller (AddParty name role token) = admitted_own h (entry_of h day caller.id (AddParty name role token)) (reason_against h day caller.id (AddParty name role token))
+performed_own policy h day caller (AddParcel lot address owner) = admitted_own h (entry_of h day caller.id (AddParcel lot address owner)) (reason_against h day caller.id (AddParcel lot address owner))
+performed_own policy h day caller (Transfer parcel to) = admitted_own h (entry_of h day caller.id (Transfer parcel to)) (reason_against h day caller.id (Transfer parcel to))
+performed_own policy h day caller (Declare parcel) = admitted_own h (entry_of h day caller.id (Declare parcel)) (reason_against h day caller.id (Declare parcel))
+performed_own policy h day caller (File parcel kind valuation description) = admitted_own h (entry_of h day caller.id (File parcel kind valuation description)) (reason_against h day caller.id (File parcel kind valuation description))
+performed_own policy h day caller (OnFile file command) = admitted_own h (entry_of h day caller.id (OnFile file command)) (reason_against h day caller.id (OnFile file command))
+
+decided_own : (policy : Policy) (h : History) (day : ℕ) (caller : Party) (request : Request) (rule : List ℕ) (b : Bool) → is_store (if b then performed policy h day caller request else refused h (refusal.Denied rule)).reply ≡ false
+decided_own policy h day caller request rule true = performed_own policy h day caller request
+decided_own policy h day caller request rule false = refl
+
+judged_own : (policy : Policy) (h : History) (day : ℕ) (caller : Party) (request : Request) (o : Option Facts) → is_store (judged policy h day caller request o).reply ≡ false
+judged_own policy h day caller request None = refl
+judged_own policy h day caller request (Some facts) = decided_own policy h day caller request (decision policy facts).rule (is_allow (decision policy facts).effect)
+
+served_own : (policy : Policy) (h : History) (day : ℕ) (caller : Party) (request : Request) → is_store (served policy h day caller request).reply ≡ false
+served_own policy h day caller (ListFiles wanted) = refl
+served_own policy h day caller (Register kind) = refl
+served_own policy h day caller request = judged_own policy h day caller request (facts_of h day caller request)
+
+timed_own : (policy : Policy) (h : History) (day : ℕ) (caller : Party) (request : Request) (b : Bool) → is_store (if b then refused h refusal.Clock else served policy h day caller request).reply ≡ false
+timed_own policy h day caller request true = refl
+timed_own policy h day caller request false = served_own policy h day caller request
+
+known_own : (policy : Policy) (h : History) (day : ℕ) (request : Request) (o : Option Party) → is_store (known policy h day request o).reply ≡ false
+known_own policy h day request None = refl
+known_own policy h day request (Some caller) = timed_own policy h day caller request (nat_lt day (last_day h))
+
+never_store : (policy : Policy) (h : History) (request : Asked × ℕ) → is_store (step policy h request.0 request.1).reply ≡ false
+never_store policy h request = known_own policy h request.1 request.0.request (who h (digest_of request.0.token))
+
+same_refusal : (reply : Given) → is_store_refusal reply ≡ is_store (reply_of reply)
+same_refusal (given.Refused refusal.Store) = refl
+same_refusal (given.Refused refusal.Syntax) = refl
+same_refusal (given.Refused refusal.Caller) = refl
+same_refusal (given.Refused refusal.Clock) = refl
+same_refusal (given.Refused refusal.Record) = refl
+same_refusal (given.Refused (refusal.Denied name)) = refl
+same_refusal (given.Refused (refusal.NotAdmitted why)) = refl
+same_refusal (given.Done number) = refl
+same_refusal (given.Parcel p) = refl
+same_refusal (given.File f ps) = refl
+
+-- a run goes on by what the step answers
+pub ran_more : (holds after : Tables → Type 0) (policy : Policy) (requests : List (Asked × ℕ)) (replies : List Given) (h : History) (request : Asked × ℕ) (reply : Given) → IsHistory h → Ran holds policy requests replies h →
+    ((now : History) → IsHistory now → holds (tables now) → Answers after reply (step policy now request.0 request.1) now) → Ran after policy (requests ++ request ∷ []) (replies ++ reply ∷ []) h
+ran_more holds after policy requests replies h request reply is ran answers =
+    let now : History = history_after policy (answered requests replies) h in
+    ⊎_elim
+      (λ (a : (reply_of reply ≡ (step policy now request.0 request.1).reply) × after (tables (step policy now request.0 request.1).history)).
+        goes_on holds after policy requests replies h request reply ran (same_refusal reply ∙ ap is_store a.0 ∙ never_store policy now request) a.0 a.1)
+      (λ (a : (reply ≡ given.Refused refusal.Store) × after (tables now)). skips holds after policy requests replies h request reply ran (ap is_store_refusal a.0) a.1)
+      (answers now (run_keeps policy (answered requests replies) h is) ran.held)
+
+-- nothing was run yet
+pub ran_none : (holds : Tables → Type 0) (policy : Policy) (h : History) → holds (tables h) → Ran holds policy [] [] h
+ran_none holds policy h held = record { each = refl; told = refl; held = held }

@@ -1,0 +1,15 @@
+use Rattle.std.proofs.Common.{◌≡◌, ◌≤◌, ◌+◌, length, take}
+use Rattle.std.specs.Prelude.{vec_capacity}
+use Rattle.permit_model.specs.History.{History}
+use Rattle.permit_model.specs.Tables.{tables}
+use Rattle.permit_model.specs.Machine.{IsHistory}
+use Rattle.permit_office.specs.Runs.{Ran}
+use Rattle.permit_office.proofs.office.Office.run.Given as goal
+
+abbrev pub invariant-loop-asked : goal.invariant-loop-asked
+invariant-loop-asked g l = record {
+  policy : l.self.policy ≡ l.fn.self.policy;
+  room : length l.requests ≤ vec_capacity l.replies;
+  count : length l.replies.items ≡ l.asked-index;
+  ran : (h : History) → IsHistory h → g.S.Store.holds l.fn.self.store (tables h) → Ran (g.S.Store.holds l.self.store) l.fn.self.policy (take l.asked-index l.requests) l.replies.items h;
+}

@@ -1,0 +1,25 @@
+-- A run of the office against a run of the machine.
+use Rattle.std.specs.Prelude.{◌≡◌, ℕ, List, [], ◌∷◌, length, map, filter, not, if◌then◌else◌}
+use Rattle.permit_base.specs.declared.request.Asked.{Asked}
+use Rattle.permit_model.specs.History.{History}
+use Rattle.permit_model.specs.Policy.{Policy}
+use Rattle.permit_model.specs.Tables.{Tables, tables}
+use Rattle.permit_model.specs.Machine.{Reply, replies_to, history_after}
+use Rattle.permit_office.specs.declared.reply.Reply.{Reply as Given}
+use Rattle.permit_office.specs.Answers.{reply_of, is_store_refusal}
+
+-- the requests that weren't answered by the store's refusal
+abbrev pub answered : List (Asked × ℕ) → List Given → List (Asked × ℕ)
+answered [] replies = []
+answered (request ∷ requests) [] = []
+answered (request ∷ requests) (reply ∷ replies) = if is_store_refusal reply then answered requests replies else request ∷ answered requests replies
+
+-- the machine's replies among the replies: all but the store's refusals
+abbrev pub own_replies : List Given → List Reply
+own_replies replies = map reply_of (filter (λ r. not (is_store_refusal r)) replies)
+
+-- each request has its reply; the replies and the tables are the machine's over the requests that the store didn't refuse
+pub record Ran (holds : Tables → Type 0) (policy : Policy) (requests : List (Asked × ℕ)) (replies : List Given) (h : History) : Type 0 where
+  pub each : length replies ≡ length requests
+  pub told : own_replies replies ≡ replies_to policy (answered requests replies) h
+  pub held : holds (tables (history_after policy (answered requests replies) h))
