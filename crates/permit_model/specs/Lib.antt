@@ -13,6 +13,7 @@ pub mod Facts
 pub mod Policy
 pub mod Admission
 pub mod Tables
+pub mod SoundState
 pub mod Listing
 pub mod Opened
 pub mod Machine
