@@ -1,7 +1,6 @@
 //! Worked examples of applications: filing, review, extensions and issuance.
 
 ghost use Rattle.std.specs.Prelude.{◌≡◌, ◌∷◌, [], ◌++◌, None, Some, codes, false};
-ghost use Rattle.permit_base.specs.declared.words.Step.TheVariants.{Footing};
 ghost use Rattle.permit_base.specs.declared.words.Stage.TheVariants as stage;
 ghost use Rattle.permit_base.specs.declared.words.Timing.TheVariants as timing;
 ghost use Rattle.permit_base.specs.declared.words.PaperSort.TheVariants as sort;
@@ -9,7 +8,7 @@ ghost use Rattle.permit_base.specs.declared.outcome.Reason.TheVariants as reason
 ghost use Rattle.permit_base.specs.declared.request.Command.TheVariants.{ApprovePlans, AskExtension, GrantExtension, BeginWork};
 ghost use Rattle.permit_base.specs.declared.request.Request.TheVariants.{ReadFile};
 ghost use Rattle.permit_model.specs.Tables.{tables};
-ghost use Rattle.permit_model.specs.Examples.{opening, asks, on_one, replies, after, last_reply, done, made, denied, not_admitted, shown, state_shown, turn, read_after, state_after, file_house, house_state, house_shown, extended_house, ask_turns, issued_file, extended_file, begun_extended_file, requested_file, review_of_own, far_file};
+ghost use Rattle.permit_model.specs.Examples.{opening, asks, on_one, replies, after, last_reply, done, made, denied, not_admitted, shown, turn, read_after, state_after, file_house, house_state, house_shown, extended_house, ask_turns, issued_file, extended_file, begun_extended_file, requested_file, review_of_own, far_file};
 
 /// An application filed on 19723 (2024-01-01) has the deadline 19903 (2024-06-29). On that day it is open, also for
 /// its applicant; from the next day on it is abandoned and closed to the public.

@@ -1,6 +1,6 @@
 //! The laws that hold of every history, and of every policy.
 
-ghost use Rattle.std.specs.Prelude.{◌≡◌, ◌≤◌, ◌+◌, ℕ, List, [], length, Option, None, Some, is_some, true, false};
+ghost use Rattle.std.specs.Prelude.{◌≡◌, ◌≤◌, ◌+◌, ℕ, List, [], length, take, Some, is_some, true, false};
 ghost use Rattle.permit_base.specs.declared.words.Step.{Step};
 ghost use Rattle.permit_base.specs.declared.words.Stage.TheVariants as stage;
 ghost use Rattle.permit_base.specs.declared.words.Relations.{Relations};
@@ -41,7 +41,7 @@ pub fn steps_are_approved_in_order()
     ensures next { OfEachFile (λ h file. next_in_row (state_of file) ≡ next_of file) }
     ensures pending { OfEachFile (λ h file. (step : Step) → pending_step file.acts ≡ Some step → next_of file ≡ Some step) }
     ensures count { OfEachFile (λ h file. length (approved_steps file.acts) ≤ length (required_steps file.filing.kind)) }
-    ensures front { OfEachFile (λ h file. approved_steps file.acts ≡ Rattle.std.specs.Prelude.take (length (approved_steps file.acts)) (required_steps file.filing.kind)) }
+    ensures front { OfEachFile (λ h file. approved_steps file.acts ≡ take (length (approved_steps file.acts)) (required_steps file.filing.kind)) }
 {}
 
 /// Parties, parcels and files are numbered from 1 in order of acceptance, and so are the papers of each file.
