@@ -60,14 +60,17 @@ pub fn certified_files_are_finished()
 {}
 
 /// A deadline stands in the six stages from filed to working but rejected, and in no other. It is never before the
-/// filing's 180 days, and with days up to 100000 never after 200000.
+/// filing's 180 days. Where the last day is at most 100000 it is never after 200000: days never fall, and a grant that
+/// goes further isn't admitted.
 pub fn deadlines_stand_in_bounds()
     ensures stands { OfEachFile (λ h file. is_some (deadline file) ≡ is_timed (base_stage file.acts)) }
     ensures least { OfEachFile (λ h file. (d : ℕ) → deadline file ≡ Some d → file.filing.filed + term ≤ d) }
     ensures most { OfEachFile (λ h file. last_day h ≤ 100000 → (d : ℕ) → deadline file ≡ Some d → d ≤ last_deadline) }
 {}
 
-/// The row of each file is sound.
+/// The row of each file is sound: a stored stage, no more steps done than its kind requires, a deadline in the six
+/// stages alone, a request only for the next step and with its day, everything approved and no notice open once the
+/// work is over, and no stop work order on a certified file.
 pub fn rows_are_sound()
     ensures sound { OfEachFile (λ h file. IsSoundState (state_of file)) }
 {}
