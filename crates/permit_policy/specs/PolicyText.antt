@@ -65,13 +65,17 @@ abbrev pub keys_among : List (List ℕ) → Members → Bool
 keys_among keys no_members = true
 keys_among keys (member key value rest) = is_among keys key && keys_among keys rest
 
--- the text at a key of a table
+-- a value's text, empty where it is none
+abbrev pub text_of : Data → List ℕ
+text_of value = unwrap_or (as_str value) []
+
+-- the text at a key of a table, empty where there is none
 abbrev pub text_at : List ℕ → Data → List ℕ
-text_at key table = unwrap_or (option_and_then as_str (get key table)) []
+text_at key table = unwrap_or (option_map text_of (get key table)) []
 
 -- the texts at a key of a table, or None without the key
 abbrev pub texts_at : List ℕ → Data → Option (List (List ℕ))
-texts_at key table = option_map (λ items. map (λ value. unwrap_or (as_str value) []) (items_list items)) (option_and_then as_array (get key table))
+texts_at key table = option_map (λ items. map text_of (items_list items)) (option_and_then as_array (get key table))
 
 -- the truth value at a key of a table, or None without the key
 abbrev pub truth_at : List ℕ → Data → Option Bool
