@@ -1,53 +1,21 @@
 -- What a policy's text means: its rules, or the lowest fault that applies with the place of the first table that has it.
 use Rattle.std.specs.Prelude.{◌⊎◌, ◌≡◌, ℕ, ◌+◌, Bool, true, false, not, ◌&&◌, ◌||◌, nat_lt, if◌then◌else◌, List, [], ◌∷◌, ◌++◌, length, map, codes, bytes_eq, Option, None, Some, is_some, is_none, option_map, option_and_then, unwrap_or, Result, Ok, Err}
-use Rattle.std.specs.List.{list_any, list_all, filter_map, position_from, find}
+use Rattle.std.specs.List.{list_any, list_all, filter_map, position_from}
 use Rattle.toml.specs.Data.{Data, Items, no_items, item, Members, no_members, member, get, get_member, as_str, as_bool, as_array, as_table}
 use Rattle.toml.specs.Parse.{parse_document}
 use Rattle.permit_base.specs.declared.words.Role.{Role}
-use Rattle.permit_base.specs.declared.words.Role.TheVariants as role
 use Rattle.permit_base.specs.declared.words.Stage.{Stage}
-use Rattle.permit_base.specs.declared.words.Stage.TheVariants as stage
 use Rattle.permit_base.specs.declared.words.Timing.{Timing}
-use Rattle.permit_base.specs.declared.words.Timing.TheVariants as timing
 use Rattle.permit_base.specs.declared.words.Relation.{Relation}
-use Rattle.permit_base.specs.declared.words.Relation.TheVariants as relation
 use Rattle.permit_base.specs.declared.words.Action.{Action}
-use Rattle.permit_base.specs.declared.words.Action.TheVariants as action
 use Rattle.permit_base.specs.declared.words.Effect.{Effect}
-use Rattle.permit_base.specs.declared.words.Effect.TheVariants.{Allow, Deny}
+use Rattle.permit_base.specs.declared.words.Effect.TheVariants.{Deny}
 use Rattle.permit_base.specs.Texts.{is_rule_name}
-use Rattle.permit_base.specs.Words.{role_word, stage_word, timing_word, relation_word, action_word, effect_word}
+use Rattle.permit_base.specs.Words.{named, role_word, all_roles, stage_word, all_stages, timing_word, all_timings, relation_word, all_relations, action_word, all_actions, effect_word, all_effects}
 use Rattle.permit_model.specs.Policy.{Rule, Policy}
 use Rattle.permit_policy.specs.declared.fault.PolicyError.{PolicyError}
 use Rattle.permit_policy.specs.declared.fault.PolicyFault.{PolicyFault}
 use Rattle.permit_policy.specs.declared.fault.PolicyFault.TheVariants as fault
-
--- ---- interim
-
-abbrev pub named : {A : Type 0} → (A → List ℕ) → List A → List ℕ → Option A
-named spelling words text = find (λ w. bytes_eq (spelling w) text) words
-
-abbrev pub all_roles : List Role
-all_roles = role.Public ∷ role.Clerk ∷ role.Reviewer ∷ role.Inspector ∷ role.Official ∷ []
-
-abbrev pub all_actions : List Action
-all_actions =
-    action.AddParty ∷ action.AddStaff ∷ action.AddParcel ∷ action.Transfer ∷ action.Declare ∷ action.ReadParcel ∷ action.File ∷ action.Read ∷ action.List
-    ∷ action.AssignReviewer ∷ action.AssignInspector ∷ action.NameContractor ∷ action.StartReview ∷ action.Return ∷ action.Resubmit ∷ action.ApprovePlans
-    ∷ action.Reject ∷ action.Issue ∷ action.AskExtension ∷ action.GrantExtension ∷ action.RefuseExtension ∷ action.BeginWork ∷ action.RequestInspection
-    ∷ action.ApproveStep ∷ action.Notice ∷ action.ClearNotice ∷ action.Stop ∷ action.Lift ∷ action.Revoke ∷ action.Temporary ∷ action.Certify ∷ []
-
-abbrev pub all_stages : List Stage
-all_stages = stage.Filed ∷ stage.Review ∷ stage.Returned ∷ stage.Approved ∷ stage.Rejected ∷ stage.Issued ∷ stage.Working ∷ stage.Revoked ∷ stage.Finaled ∷ stage.Certified ∷ stage.Abandoned ∷ stage.Lapsed ∷ stage.New ∷ stage.Office ∷ []
-
-abbrev pub all_timings : List Timing
-all_timings = timing.Untimed ∷ timing.Past ∷ timing.Near ∷ timing.Ahead ∷ []
-
-abbrev pub all_relations : List Relation
-all_relations = relation.Applicant ∷ relation.Contractor ∷ relation.Owner ∷ relation.AssignedReviewer ∷ relation.AssignedInspector ∷ relation.Conflict ∷ []
-
-abbrev pub all_effects : List Effect
-all_effects = Allow ∷ Deny ∷ []
 
 -- ---- what stands in a table
 
@@ -71,15 +39,15 @@ text_of value = unwrap_or (as_str value) []
 
 -- the text at a key of a table, empty where there is none
 abbrev pub text_at : List ℕ → Data → List ℕ
-text_at key table = unwrap_or (option_map text_of (get key table)) []
+text_at key entry = unwrap_or (option_map text_of (get key entry)) []
 
 -- the texts at a key of a table, or None without the key
 abbrev pub texts_at : List ℕ → Data → Option (List (List ℕ))
-texts_at key table = option_map (λ items. map text_of (items_list items)) (option_and_then as_array (get key table))
+texts_at key entry = option_map (λ items. map text_of (items_list items)) (option_and_then as_array (get key entry))
 
 -- the truth value at a key of a table, or None without the key
 abbrev pub truth_at : List ℕ → Data → Option Bool
-truth_at key table = option_and_then as_bool (get key table)
+truth_at key entry = option_and_then as_bool (get key entry)
 
 -- ---- shape: the keys of a rule, and the type of each value
 
@@ -140,13 +108,13 @@ first_bad_name place used [] = None
 first_bad_name place used (name ∷ names) = if is_new_name used name then first_bad_name (place + 1) (used ++ name ∷ []) names else Some place
 
 abbrev pub name_of : Data → List ℕ
-name_of table = text_at (codes "name") table
+name_of entry = text_at (codes "name") entry
 
 abbrev pub effect_of : Data → Option Effect
-effect_of table = named effect_word all_effects (text_at (codes "effect") table)
+effect_of entry = named effect_word all_effects (text_at (codes "effect") entry)
 
 abbrev pub has_bad_effect : Data → Bool
-has_bad_effect table = is_none (effect_of table)
+has_bad_effect entry = is_none (effect_of entry)
 
 -- ---- lists of words, each word read by its spelling
 
@@ -181,26 +149,26 @@ abbrev pub timing_named : List ℕ → Option Timing
 timing_named = named timing_word all_timings
 
 abbrev pub has_bad_list : Data → Bool
-has_bad_list table =
-    is_bad_list role_named (texts_at (codes "role") table)
-    || is_bad_list relation_named (texts_at (codes "relation") table)
-    || is_bad_list action_named (texts_at (codes "action") table)
-    || is_bad_list stage_named (texts_at (codes "stage") table)
-    || is_bad_list timing_named (texts_at (codes "timing") table)
+has_bad_list entry =
+    is_bad_list role_named (texts_at (codes "role") entry)
+    || is_bad_list relation_named (texts_at (codes "relation") entry)
+    || is_bad_list action_named (texts_at (codes "action") entry)
+    || is_bad_list stage_named (texts_at (codes "stage") entry)
+    || is_bad_list timing_named (texts_at (codes "timing") entry)
 
 -- ---- the meaning
 
 -- the rule of a table without a fault
 abbrev pub rule_of : Data → Rule
-rule_of table = record {
-  name = name_of table;
-  effect = unwrap_or (effect_of table) Deny;
-  role = words_of role_named (texts_at (codes "role") table);
-  relation = words_of relation_named (texts_at (codes "relation") table);
-  action = words_of action_named (texts_at (codes "action") table);
-  stage = words_of stage_named (texts_at (codes "stage") table);
-  timing = words_of timing_named (texts_at (codes "timing") table);
-  stopped = truth_at (codes "stopped") table;
+rule_of entry = record {
+  name = name_of entry;
+  effect = unwrap_or (effect_of entry) Deny;
+  role = words_of role_named (texts_at (codes "role") entry);
+  relation = words_of relation_named (texts_at (codes "relation") entry);
+  action = words_of action_named (texts_at (codes "action") entry);
+  stage = words_of stage_named (texts_at (codes "stage") entry);
+  timing = words_of timing_named (texts_at (codes "timing") entry);
+  stopped = truth_at (codes "stopped") entry;
 }
 
 abbrev pub Meaning : Type 0
