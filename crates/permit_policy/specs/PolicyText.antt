@@ -110,11 +110,15 @@ first_bad_name place used (name ∷ names) = if is_new_name used name then first
 abbrev pub name_of : Data → List ℕ
 name_of entry = text_at (codes "name") entry
 
-abbrev pub effect_of : Data → Option Effect
-effect_of entry = named effect_word all_effects (text_at (codes "effect") entry)
+abbrev pub effect_named : List ℕ → Option Effect
+effect_named = named effect_word all_effects
 
+-- neither `allow` nor `deny`
 abbrev pub has_bad_effect : Data → Bool
-has_bad_effect entry = is_none (effect_of entry)
+has_bad_effect entry = is_none (effect_named (text_at (codes "effect") entry))
+
+abbrev pub effect_of : Data → Effect
+effect_of entry = unwrap_or (effect_named (text_at (codes "effect") entry)) Deny
 
 -- ---- lists of words, each word read by its spelling
 
@@ -162,7 +166,7 @@ has_bad_list entry =
 abbrev pub rule_of : Data → Rule
 rule_of entry = record {
   name = name_of entry;
-  effect = unwrap_or (effect_of entry) Deny;
+  effect = effect_of entry;
   role = words_of role_named (texts_at (codes "role") entry);
   relation = words_of relation_named (texts_at (codes "relation") entry);
   action = words_of action_named (texts_at (codes "action") entry);

@@ -2,6 +2,9 @@
 
 ghost use Rattle.std.specs.Prelude.{◌≡◌};
 ghost use Rattle.permit_policy.specs.Fault.{fault_number};
+ghost use Rattle.permit_policy.specs.declared.fault.PolicyFault.TheVariants.{Memory};
+
+use std::alloc::AllocFailed;
 
 /// A fault of a policy's text. Of several, the one of the lowest number is answered.
 #[derive(Clone, Copy, Debug, PartialEq, Eq)]
@@ -49,4 +52,25 @@ pub struct PolicyError {
     pub code: PolicyFault,
     /// The place, from 1, of the first table with that fault; 0 where the fault lies in no table.
     pub rule: usize,
+}
+
+impl<T: Drop> From<AllocFailed<T>> for PolicyFault {
+    ghost from_gives = { λ _ code. code ≡ Memory };
+
+    fn from(_: AllocFailed<T>) -> PolicyFault {
+        PolicyFault::Memory
+    }
+}
+
+impl<T: Drop> From<AllocFailed<T>> for PolicyError {
+    ghost use Rattle.permit_policy.specs.Reading.{out_of_memory};
+
+    ghost from_gives = { λ _ error. error ≡ out_of_memory };
+
+    fn from(_: AllocFailed<T>) -> PolicyError {
+        PolicyError {
+            code: PolicyFault::Memory,
+            rule: 0,
+        }
+    }
 }
