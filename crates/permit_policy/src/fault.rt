@@ -1,7 +1,7 @@
 //! Why a policy's text is refused.
 
 ghost use Rattle.std.specs.Prelude.{◌≡◌};
-ghost use Rattle.permit_policy.specs.Fault.{fault_number};
+ghost use Rattle.permit_policy.specs.Fault.{fault_number, place_of};
 ghost use Rattle.permit_policy.specs.declared.fault.PolicyFault.TheVariants.{Memory};
 
 use std::alloc::AllocFailed;
@@ -42,6 +42,17 @@ impl PolicyFault {
             PolicyFault::List => 7,
             PolicyFault::Memory => 8,
         }
+    }
+
+    /// The fault at a place, from 1; want of memory lies in no table.
+    pub(crate) fn at(self, place: usize) -> PolicyError
+        ensures { result ≡ record { code = self; rule = place_of self place } }
+    {
+        let rule = match self {
+            PolicyFault::Memory => 0,
+            _ => place,
+        };
+        PolicyError { code: self, rule }
     }
 }
 

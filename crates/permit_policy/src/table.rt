@@ -8,7 +8,8 @@ ghost use Rattle.permit_policy.specs.PolicyText.{is_among, items_list, keys_amon
 
 use toml::{Table, Value};
 
-fn member<'t>(table: &'t Table, key: &str) -> Option<&'t Value>
+/// The value at a key of the members.
+pub(crate) fn member<'t>(table: &'t Table, key: &str) -> Option<&'t Value>
     ensures { option_map (λ v. view v.now) result ≡ get_member key.now (table_view table.now) }
 {
     table.get(key)
