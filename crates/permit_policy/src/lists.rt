@@ -57,7 +57,11 @@ fn list_at<'t>(table: &'t Value, key: &str) -> Option<&'t [Value]>
 
 /// The words of the list at a key of a table: None without the key. A list is refused that is empty, has an unknown
 /// word, or a word twice.
-pub(crate) fn read_list<W: Word>(alloc: Global, table: &Value, key: &str) -> Result<Option<Vec<W>>, PolicyFault>
+pub(crate) fn read_list<W: Word>(
+    alloc: Global,
+    table: &Value,
+    key: &str,
+) -> Result<Option<Vec<W>>, PolicyFault>
     ensures ok { let read = named W.spelling W.every in let texts = texts_at key.now (view table.now) in IfOk result (λ words. (is_bad_list read texts ≡ false) × (option_map (λ v. v.items) words ≡ words_of read texts)) }
     ensures err { IfErr result (IsListFault (is_bad_list (named W.spelling W.every) (texts_at key.now (view table.now)))) }
 {

@@ -67,26 +67,8 @@ fn has_relation(set: &Relations, relation: Relation) -> bool
     }
 }
 
-fn same_role(a: Role, b: Role) -> bool
-    ensures { result ≡ is_role a b }
-{
-    a == b
-}
-
 fn same_action(a: Action, b: Action) -> bool
     ensures { result ≡ is_action a b }
-{
-    a == b
-}
-
-fn same_stage(a: Stage, b: Stage) -> bool
-    ensures { result ≡ is_stage a b }
-{
-    a == b
-}
-
-fn same_timing(a: Timing, b: Timing) -> bool
-    ensures { result ≡ is_timing a b }
 {
     a == b
 }
@@ -94,7 +76,7 @@ fn same_timing(a: Timing, b: Timing) -> bool
 fn role_in(words: &[Role], role: Role) -> bool
     ensures { result ≡ matches_list (Some words.now) (is_role role) }
 {
-    words.iter().any(|word| same_role(role, *word))
+    words.iter().any(|word| role == *word)
 }
 
 fn relation_in(words: &[Relation], set: &Relations) -> bool
@@ -112,13 +94,13 @@ fn action_in(words: &[Action], action: Action) -> bool
 fn stage_in(words: &[Stage], stage: Stage) -> bool
     ensures { result ≡ matches_list (Some words.now) (is_stage stage) }
 {
-    words.iter().any(|word| same_stage(stage, *word))
+    words.iter().any(|word| stage == *word)
 }
 
 fn timing_in(words: &[Timing], timing: Timing) -> bool
     ensures { result ≡ matches_list (Some words.now) (is_timing timing) }
 {
-    words.iter().any(|word| same_timing(timing, *word))
+    words.iter().any(|word| timing == *word)
 }
 
 fn role_matches(key: &Option<Vec<Role>>, role: Role) -> bool

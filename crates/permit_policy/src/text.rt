@@ -100,7 +100,12 @@ fn read_effects(alloc: Global, tables: &[Value]) -> Result<Vec<Effect>, PolicyEr
 }
 
 /// The rule of a table, its name and effect read before.
-fn read_rule(alloc: Global, table: &Value, name: RuleName, effect: Effect) -> Result<Rule, PolicyFault>
+fn read_rule(
+    alloc: Global,
+    table: &Value,
+    name: RuleName,
+    effect: Effect,
+) -> Result<Rule, PolicyFault>
     ensures sound { IfOk result (λ rule. has_bad_list (view table.now) ≡ false) }
     ensures rule { IfOk result (λ rule. name ≡ name_of (view table.now) → effect ≡ effect_of (view table.now) → rule ≡ rule_of (view table.now)) }
     ensures err { IfErr result (IsListFault (has_bad_list (view table.now))) }
@@ -118,7 +123,12 @@ fn read_rule(alloc: Global, table: &Value, name: RuleName, effect: Effect) -> Re
 }
 
 /// The rules of the tables, in order, their names and effects read before.
-fn read_rules(alloc: Global, tables: &[Value], names: &[RuleName], effects: &[Effect]) -> Result<Vec<Rule>, PolicyError>
+fn read_rules(
+    alloc: Global,
+    tables: &[Value],
+    names: &[RuleName],
+    effects: &[Effect],
+) -> Result<Vec<Rule>, PolicyError>
     requires named { names.now ≡ map name_of (map view tables.now) }
     requires decided { effects.now ≡ map effect_of (map view tables.now) }
     ensures ok { IfOk result (λ rules. AreParts (first_place has_bad_list (map view tables.now)) (map rule_of (map view tables.now)) rules.items) }
