@@ -6,6 +6,7 @@ pub mod History
 pub mod Parcels
 pub mod Caller
 pub mod Files
+pub mod People
 pub mod Work
 pub mod BaseStage
 pub mod Deadline

@@ -15,7 +15,8 @@ use Rattle.permit_model.specs.History.{Deed, Accepted, Entry, History, last_day}
 use Rattle.permit_model.specs.Caller.{Party, parties}
 use Rattle.permit_model.specs.Parcels.{Parcel, parcels, Interest, interests}
 use Rattle.permit_model.specs.Files.{Act, act_of, acts_on, CaseFile, case_files}
-use Rattle.permit_model.specs.Work.{contractor, reviewer, inspector, approved_steps, pending_step, requested_day, pending_ask, open_notices, is_stopped, temporary_until, paper_sort, paper_count}
+use Rattle.permit_model.specs.People.{contractor, reviewer, inspector}
+use Rattle.permit_model.specs.Work.{approved_steps, pending_step, requested_day, pending_ask, open_notices, is_stopped, temporary_until, paper_sort, paper_count}
 use Rattle.permit_model.specs.BaseStage.{base_stage}
 use Rattle.permit_model.specs.Deadline.{deadline, days_granted}
 use Rattle.permit_model.specs.Facts.{stage_on, timing_of}
