@@ -4,9 +4,10 @@ use Rattle.permit_base.specs.declared.words.Step.{Step}
 use Rattle.permit_base.specs.declared.words.Step.TheVariants.{Final}
 use Rattle.permit_base.specs.declared.request.Command.{Command}
 use Rattle.permit_base.specs.declared.request.Command.TheVariants.{Reject, Issue, AskExtension, GrantExtension, RefuseExtension, BeginWork, RequestInspection, ApproveStep, Notice, ClearNotice, Stop, Lift, Revoke, Temporary, Certify}
-use Rattle.permit_model.specs.Search.{or_else, flat}
+use Rattle.permit_model.specs.Search.{or_else}
 use Rattle.permit_model.specs.Days.{term}
-use Rattle.permit_model.specs.Work.{contractor_named, reviewer_named, inspector_named, inspection_told, ask_told, temporary_told, makes_paper}
+use Rattle.permit_model.specs.People.{contractor_named, reviewer_named, inspector_named}
+use Rattle.permit_model.specs.Work.{temporary_told, makes_paper}
 use Rattle.permit_model.specs.BaseStage.{stage_given}
 use Rattle.permit_model.specs.Tables.{State}
 

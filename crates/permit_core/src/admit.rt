@@ -6,6 +6,12 @@ ghost use Rattle.permit_model.specs.Steps;
 ghost use Rattle.permit_model.specs.Search.{is_number};
 ghost use Rattle.permit_model.specs.Admission;
 ghost use Rattle.permit_model.specs.Admission.{reviewing_stages, inspecting_stages, open_stages, stoppable_stages, revocable_stages};
+ghost use Rattle.permit_base.specs.declared.request.Request.TheVariants.{OnFile};
+ghost use Rattle.permit_model.specs.History.{History};
+ghost use Rattle.permit_model.specs.Files.{CaseFile, case_numbered};
+ghost use Rattle.permit_model.specs.Machine.{IsHistory};
+ghost use Rattle.permit_model.specs.Tables.{state_of};
+ghost use Rattle.permit_core.specs.Naming.{people_of};
 ghost use Rattle.permit_core.specs.RowTests;
 ghost use Rattle.permit_base.specs.declared.words.Stage.TheVariants as stage;
 ghost use Rattle.permit_core.specs.RowTests.{row_tests, Answers};
@@ -383,6 +389,9 @@ impl FileState {
     /// Whether a command is admitted on a day: Ok, or the first reason, in their numbered order, that stands against it.
     pub fn admit(&self, day: Day, command: &Command, people: &People) -> Result<(), Reason>
         ensures row { Answers result (Admission.first_failing (row_tests day self.now people.now command.now)) }
+        ensures model { (h : History) (id caller : ℕ) (file : CaseFile) → IsHistory h → case_numbered h id ≡ Some file
+            → self.now ≡ state_of file → people.now ≡ people_of h file command.now
+            → Answers result (Admission.reason_against h day caller (OnFile id command.now)) }
     {
         match self.reason_against(day, command, people) {
             Some(reason) => Err(reason),
