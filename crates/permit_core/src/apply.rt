@@ -3,7 +3,7 @@
 ghost use Rattle.std.specs.Prelude.{◌≡◌, ◌≤◌, ◌<◌, ◌+◌, ◌^◌, ℕ, true, None, Some, unwrap_or, option_map};
 ghost use Rattle.permit_base.specs.declared.request.Request.TheVariants.{OnFile};
 ghost use Rattle.permit_model.specs.Search.{or_else};
-ghost use Rattle.permit_model.specs.History.{History};
+ghost use Rattle.permit_model.specs.History.{History, last_day};
 ghost use Rattle.permit_model.specs.Files.{CaseFile, case_numbered};
 ghost use Rattle.permit_model.specs.People.{contractor_named, reviewer_named, inspector_named};
 ghost use Rattle.permit_model.specs.Work.{temporary_told, makes_paper};
@@ -208,24 +208,22 @@ impl FileState {
         requires admitted { IsAdmitted day self.now command.now }
         ensures { self.now.notices ≤ self.now.papers → result ≡ row_after day command.now self.now }
     {
+        let before = self.fields();
         FileState::with_fields(StateFields {
-            parcel: self.parcel(),
-            applicant: self.applicant(),
-            contractor: contractor_after(self.contractor(), command),
-            reviewer: reviewer_after(self.reviewer(), command),
-            inspector: inspector_after(self.inspector(), command),
-            kind: self.kind(),
-            filed: self.filed(),
-            stage: stage_after(self.stored_stage(), command),
-            deadline: deadline_after(command, day, self.ask(), self.deadline()),
-            done: done_after(self.done(), command),
-            request: request_after(self.request(), command),
-            requested: requested_after(self.requested(), day, command),
-            ask: ask_after(self.ask(), command),
-            stopped: stopped_after(self.is_stopped(), command),
-            notices: notices_after(self.notices(), command),
-            papers: papers_after(self.papers(), command),
-            temporary: temporary_after(self.temporary(), day, command),
+            contractor: contractor_after(before.contractor, command),
+            reviewer: reviewer_after(before.reviewer, command),
+            inspector: inspector_after(before.inspector, command),
+            stage: stage_after(before.stage, command),
+            deadline: deadline_after(command, day, before.ask, before.deadline),
+            done: done_after(before.done, command),
+            request: request_after(before.request, command),
+            requested: requested_after(before.requested, day, command),
+            ask: ask_after(before.ask, command),
+            stopped: stopped_after(before.stopped, command),
+            notices: notices_after(before.notices, command),
+            papers: papers_after(before.papers, command),
+            temporary: temporary_after(before.temporary, day, command),
+            ..before
         })
     }
 
@@ -233,7 +231,7 @@ impl FileState {
     pub fn apply(&mut self, day: Day, command: &Command, caller: PartyId)
         requires admitted { IsAdmitted day self.old command.now }
         ensures row { self.old.notices ≤ self.old.papers → self.new ≡ row_after day command.now self.old }
-        ensures model { (h : History) (id : ℕ) (file : CaseFile) → IsHistory h → case_numbered h id ≡ Some file
+        ensures model { (h : History) (id : ℕ) (file : CaseFile) → IsHistory h → case_numbered h id ≡ Some file → last_day h ≤ day
             → self.old ≡ state_of file → reason_against h day caller (OnFile id command.now) ≡ None
             → self.new ≡ state_of (file_after day command.now caller file) }
     {
