@@ -3,7 +3,6 @@
 ghost use Rattle.std.specs.Prelude.{◌≡◌, ℕ, not, Some, [], ◌∷◌};
 ghost use Rattle.permit_model.specs.Codes;
 ghost use Rattle.permit_model.specs.Steps;
-ghost use Rattle.permit_model.specs.Search.{is_number};
 ghost use Rattle.permit_model.specs.Admission;
 ghost use Rattle.permit_model.specs.Admission.{reviewing_stages, inspecting_stages, open_stages, stoppable_stages, revocable_stages};
 ghost use Rattle.permit_base.specs.declared.request.Request.TheVariants.{OnFile};
@@ -17,12 +16,52 @@ ghost use Rattle.permit_base.specs.declared.words.Stage.TheVariants as stage;
 ghost use Rattle.permit_core.specs.RowTests.{row_tests, Answers};
 ghost use Rattle.permit_core.specs.Views.{row_stage};
 
-use crate::people::{NamedParty, People};
+use crate::people::{NamedParty, People, is_party};
 use crate::state::FileState;
 use permit_base::outcome::Reason;
 use permit_base::request::Command;
 use permit_base::values::{Day, Days, PartyId};
 use permit_base::words::{Kind, Role, Stage, Step};
+
+/// The stages in which a reviewer is assigned.
+const REVIEWING: [Stage; 3] = [Stage::Filed, Stage::Review, Stage::Returned];
+
+/// The stages in which an inspector is assigned.
+const INSPECTING: [Stage; 3] = [Stage::Approved, Stage::Issued, Stage::Working];
+
+/// The stages with a deadline, before it is past.
+const OPEN: [Stage; 6] = [
+    Stage::Filed,
+    Stage::Review,
+    Stage::Returned,
+    Stage::Approved,
+    Stage::Issued,
+    Stage::Working,
+];
+
+/// The stages in which work is stopped, and a stop lifted.
+const STOPPABLE: [Stage; 5] = [
+    Stage::Issued,
+    Stage::Working,
+    Stage::Lapsed,
+    Stage::Revoked,
+    Stage::Finaled,
+];
+
+/// The stages in which a permit is revoked.
+const REVOCABLE: [Stage; 3] = [Stage::Issued, Stage::Working, Stage::Lapsed];
+
+/// The most papers of a file.
+const MOST_PAPERS: u16 = 9999;
+
+/// The greatest number that a deadline may be.
+const LAST_DEADLINE: u32 = 200000;
+
+/// The most days of a temporary certificate, and of an extension once the permit is issued (IBC 2018, section 105.5).
+const LONGEST_TERM: u32 = 180;
+
+/// The most days of an extension before the permit is issued (IBC 2018, section 105.3.2).
+const LONGEST_REVIEW_EXTENSION: u32 = 90;
 
 /// A test of a command: whether it fails the command, and the reason that is then answered.
 type Test = (bool, Reason);
@@ -70,47 +109,7 @@ fn has_certificates(kind: Kind) -> bool
     !matches!(kind, Kind::Repair | Kind::Demolish)
 }
 
-/// The stages in which a reviewer is assigned.
-const REVIEWING: [Stage; 3] = [Stage::Filed, Stage::Review, Stage::Returned];
-
-/// The stages in which an inspector is assigned.
-const INSPECTING: [Stage; 3] = [Stage::Approved, Stage::Issued, Stage::Working];
-
-/// The stages with a deadline, before it is past.
-const OPEN: [Stage; 6] = [
-    Stage::Filed,
-    Stage::Review,
-    Stage::Returned,
-    Stage::Approved,
-    Stage::Issued,
-    Stage::Working,
-];
-
-/// The stages in which work is stopped, and a stop lifted.
-const STOPPABLE: [Stage; 5] = [
-    Stage::Issued,
-    Stage::Working,
-    Stage::Lapsed,
-    Stage::Revoked,
-    Stage::Finaled,
-];
-
-/// The stages in which a permit is revoked.
-const REVOCABLE: [Stage; 3] = [Stage::Issued, Stage::Working, Stage::Lapsed];
-
-/// The most papers of a file.
-const MOST_PAPERS: u16 = 9999;
-
-/// The greatest number that a deadline may be.
-const LAST_DEADLINE: u32 = 200000;
-
-/// The most days of a temporary certificate, and of an extension once the permit is issued (IBC 2018, section 105.5).
-const LONGEST_TERM: u32 = 180;
-
-/// The most days of an extension before the permit is issued (IBC 2018, section 105.3.2).
-const LONGEST_REVIEW_EXTENSION: u32 = 90;
-
-/// There is no party of the name, or it isn't of the role.
+/// The named party isn't there, or isn't of the role.
 fn no_party_of_role(role: Role, people: &People) -> Test
     ensures { result ≡ RowTests.no_party_of_role role people.now }
 {
@@ -137,16 +136,6 @@ fn is_with_interest(named: Option<NamedParty>) -> bool
     }
 }
 
-/// Whether there is a number and it is this one.
-fn is(named: Option<PartyId>, party: PartyId) -> bool
-    ensures { result ≡ is_number named party }
-{
-    match named {
-        Some(other) => other.get() == party.get(),
-        None => false,
-    }
-}
-
 impl FileState {
     /// The stage on the day is none of these.
     fn not_in(&self, day: Day, stages: &[Stage]) -> Test
@@ -156,7 +145,7 @@ impl FileState {
     }
 
     /// A stop work order stands.
-    fn stopped_test(&self) -> Test
+    fn order_stands(&self) -> Test
         ensures { result ≡ RowTests.stopped self.now }
     {
         (self.is_stopped(), Reason::Stopped)
@@ -167,8 +156,8 @@ impl FileState {
         ensures { result ≡ RowTests.interested self.now party people.now }
     {
         let is_interested = self.applicant().get() == party.get()
-            || is(self.contractor(), party)
-            || is(people.owner, party)
+            || is_party(self.contractor(), party)
+            || is_party(people.owner, party)
             || is_with_interest(people.named);
         (is_interested, Reason::Interested)
     }
@@ -207,7 +196,14 @@ impl FileState {
     }
 
     /// What stands against a reviewer or an inspector being assigned.
-    fn against_assignment(&self, day: Day, stages: &[Stage], role: Role, party: PartyId, people: &People) -> Option<Reason>
+    fn against_assignment(
+        &self,
+        day: Day,
+        stages: &[Stage],
+        role: Role,
+        party: PartyId,
+        people: &People,
+    ) -> Option<Reason>
         ensures { result ≡ Admission.first_failing (RowTests.not_in day self.now stages.now ∷ RowTests.no_party_of_role role people.now ∷ RowTests.interested self.now party people.now ∷ []) }
     {
         first_failing(&[
@@ -221,7 +217,10 @@ impl FileState {
     fn against_naming(&self, day: Day, people: &People) -> Option<Reason>
         ensures { result ≡ Admission.first_failing (RowTests.not_in day self.now open_stages ∷ RowTests.no_party people.now ∷ []) }
     {
-        first_failing(&[self.not_in(day, &OPEN), (people.named.is_none(), Reason::Person)])
+        first_failing(&[
+            self.not_in(day, &OPEN),
+            (people.named.is_none(), Reason::Person),
+        ])
     }
 
     /// What stands against a command that makes a paper and asks nothing but its stages.
@@ -272,7 +271,7 @@ impl FileState {
     {
         first_failing(&[
             self.not_in(day, &[Stage::Working]),
-            self.stopped_test(),
+            self.order_stands(),
             (self.request().is_some(), Reason::Pending),
             (!is_the_step(self.next_step(), step), Reason::Step),
         ])
@@ -284,7 +283,7 @@ impl FileState {
     {
         first_failing(&[
             self.not_in(day, &[Stage::Working]),
-            self.stopped_test(),
+            self.order_stands(),
             (self.request().is_none(), Reason::NothingPending),
             (!is_the_step(self.request(), step), Reason::Step),
             self.notice_open(),
@@ -308,7 +307,10 @@ impl FileState {
     {
         first_failing(&[
             self.not_in(day, &[Stage::Working]),
-            (!(people.is_open_notice && self.notices() > 0), Reason::NoSuchNotice),
+            (
+                !(people.is_open_notice && self.notices() > 0),
+                Reason::NoSuchNotice,
+            ),
         ])
     }
 
@@ -316,7 +318,11 @@ impl FileState {
     fn against_stop(&self, day: Day) -> Option<Reason>
         ensures { result ≡ Admission.first_failing (RowTests.not_in day self.now stoppable_stages ∷ RowTests.stopped self.now ∷ RowTests.papers_full self.now ∷ []) }
     {
-        first_failing(&[self.not_in(day, &STOPPABLE), self.stopped_test(), self.papers_full()])
+        first_failing(&[
+            self.not_in(day, &STOPPABLE),
+            self.order_stands(),
+            self.papers_full(),
+        ])
     }
 
     /// What stands against a stop work order being lifted.
@@ -336,7 +342,7 @@ impl FileState {
     {
         first_failing(&[
             self.not_in(day, &[Stage::Working]),
-            self.stopped_test(),
+            self.order_stands(),
             (days.get() > LONGEST_TERM, Reason::Days),
             self.notice_open(),
             self.no_certificates(),
@@ -350,7 +356,7 @@ impl FileState {
     {
         first_failing(&[
             self.not_in(day, &[Stage::Finaled]),
-            self.stopped_test(),
+            self.order_stands(),
             self.no_certificates(),
             self.papers_full(),
         ])
@@ -361,8 +367,20 @@ impl FileState {
         ensures { result ≡ Admission.first_failing (row_tests day self.now people.now command.now) }
     {
         match command {
-            Command::AssignReviewer { party } => self.against_assignment(day, &REVIEWING, Role::Reviewer, *party, people),
-            Command::AssignInspector { party } => self.against_assignment(day, &INSPECTING, Role::Inspector, *party, people),
+            Command::AssignReviewer { party } => self.against_assignment(
+                day,
+                &REVIEWING,
+                Role::Reviewer,
+                *party,
+                people,
+            ),
+            Command::AssignInspector { party } => self.against_assignment(
+                day,
+                &INSPECTING,
+                Role::Inspector,
+                *party,
+                people,
+            ),
             Command::NameContractor { .. } => self.against_naming(day, people),
             Command::StartReview => first_failing(&[self.not_in(day, &[Stage::Filed])]),
             Command::Return { .. } => self.against_decision(day, &[Stage::Review]),
@@ -373,7 +391,10 @@ impl FileState {
             Command::AskExtension { days, .. } => self.against_ask(day, *days),
             Command::GrantExtension => self.against_grant(day),
             Command::RefuseExtension { .. } => self.against_refusal(day),
-            Command::BeginWork => first_failing(&[self.not_in(day, &[Stage::Issued]), self.stopped_test()]),
+            Command::BeginWork => first_failing(&[
+                self.not_in(day, &[Stage::Issued]),
+                self.order_stands(),
+            ]),
             Command::RequestInspection { step } => self.against_request(day, *step),
             Command::ApproveStep { step } => self.against_approval(day, *step),
             Command::Notice { .. } => self.against_notice(day),

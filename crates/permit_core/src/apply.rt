@@ -85,7 +85,12 @@ fn moved_by_activity(day: Day, deadline: Option<u32>) -> u32
 }
 
 /// The deadline after a command of the day, from the pending ask and the deadline before it.
-fn deadline_after(command: &Command, day: Day, ask: Option<Days>, deadline: Option<u32>) -> Option<u32>
+fn deadline_after(
+    command: &Command,
+    day: Day,
+    ask: Option<Days>,
+    deadline: Option<u32>,
+) -> Option<u32>
     ensures { FitsGrant command.now ask deadline → result ≡ RowAfter.deadline_after command.now day ask deadline }
 {
     match command {
