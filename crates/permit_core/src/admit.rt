@@ -1,10 +1,10 @@
 //! What is admitted on a file: the department's table of commands, with the reasons in their numbered order.
 
-ghost use Rattle.std.specs.Prelude.{◌≡◌, ℕ, not, Some, [], ◌∷◌};
+ghost use Rattle.std.specs.Prelude.{◌≡◌, ℕ, Some, List, [], ◌∷◌};
 ghost use Rattle.permit_model.specs.Codes;
 ghost use Rattle.permit_model.specs.Steps;
 ghost use Rattle.permit_model.specs.Admission;
-ghost use Rattle.permit_model.specs.Admission.{reviewing_stages, inspecting_stages, open_stages, stoppable_stages, revocable_stages};
+ghost use Rattle.permit_base.specs.declared.request.Command.TheVariants.{NameContractor, AskExtension, GrantExtension, RefuseExtension, RequestInspection, ApproveStep, Notice, ClearNotice, Stop, Lift, Temporary, Certify};
 ghost use Rattle.permit_base.specs.declared.request.Request.TheVariants.{OnFile};
 ghost use Rattle.permit_model.specs.History.{History};
 ghost use Rattle.permit_model.specs.Files.{CaseFile, case_numbered};
@@ -12,9 +12,8 @@ ghost use Rattle.permit_model.specs.Machine.{IsHistory};
 ghost use Rattle.permit_model.specs.Tables.{state_of};
 ghost use Rattle.permit_core.specs.Naming.{people_of};
 ghost use Rattle.permit_core.specs.RowTests;
-ghost use Rattle.permit_base.specs.declared.words.Stage.TheVariants as stage;
 ghost use Rattle.permit_core.specs.RowTests.{row_tests, Answers};
-ghost use Rattle.permit_core.specs.Views.{row_stage};
+ghost use Rattle.permit_core.specs.declared.people.People.{People};
 
 use crate::people::{NamedParty, People, is_party};
 use crate::state::FileState;
@@ -204,7 +203,8 @@ impl FileState {
         party: PartyId,
         people: &People,
     ) -> Option<Reason>
-        ensures { result ≡ Admission.first_failing (RowTests.not_in day self.now stages.now ∷ RowTests.no_party_of_role role people.now ∷ RowTests.interested self.now party people.now ∷ []) }
+        ensures { result ≡ Admission.first_failing (RowTests.not_in day self.now stages.now
+            ∷ RowTests.no_party_of_role role people.now ∷ RowTests.interested self.now party people.now ∷ []) }
     {
         first_failing(&[
             self.not_in(day, stages),
@@ -215,7 +215,7 @@ impl FileState {
 
     /// What stands against a contractor being named.
     fn against_naming(&self, day: Day, people: &People) -> Option<Reason>
-        ensures { result ≡ Admission.first_failing (RowTests.not_in day self.now open_stages ∷ RowTests.no_party people.now ∷ []) }
+        ensures { (party : ℕ) → result ≡ Admission.first_failing (row_tests day self.now people.now (NameContractor party)) }
     {
         first_failing(&[
             self.not_in(day, &OPEN),
@@ -232,7 +232,7 @@ impl FileState {
 
     /// What stands against an extension being asked for.
     fn against_ask(&self, day: Day, days: Days) -> Option<Reason>
-        ensures { result ≡ Admission.first_failing (RowTests.not_in day self.now open_stages ∷ Admission.days_above (Admission.ask_limit (row_stage day self.now)) days ∷ RowTests.ask_pending self.now ∷ RowTests.papers_full self.now ∷ []) }
+        ensures { (people : People) (text : List ℕ) → result ≡ Admission.first_failing (row_tests day self.now people (AskExtension days text)) }
     {
         first_failing(&[
             self.not_in(day, &OPEN),
@@ -244,7 +244,7 @@ impl FileState {
 
     /// What stands against the pending ask being granted.
     fn against_grant(&self, day: Day) -> Option<Reason>
-        ensures { result ≡ Admission.first_failing (RowTests.not_in day self.now open_stages ∷ RowTests.no_ask_pending self.now ∷ RowTests.papers_full self.now ∷ RowTests.too_far self.now ∷ []) }
+        ensures { (people : People) → result ≡ Admission.first_failing (row_tests day self.now people GrantExtension) }
     {
         first_failing(&[
             self.not_in(day, &OPEN),
@@ -256,7 +256,7 @@ impl FileState {
 
     /// What stands against the pending ask being refused.
     fn against_refusal(&self, day: Day) -> Option<Reason>
-        ensures { result ≡ Admission.first_failing (RowTests.not_in day self.now open_stages ∷ RowTests.no_ask_pending self.now ∷ RowTests.papers_full self.now ∷ []) }
+        ensures { (people : People) (text : List ℕ) → result ≡ Admission.first_failing (row_tests day self.now people (RefuseExtension text)) }
     {
         first_failing(&[
             self.not_in(day, &OPEN),
@@ -267,7 +267,7 @@ impl FileState {
 
     /// What stands against an inspection of a step being requested (IBC 2018, sections 110.5 and 110.6).
     fn against_request(&self, day: Day, step: Step) -> Option<Reason>
-        ensures { result ≡ Admission.first_failing (RowTests.not_in day self.now (stage.Working ∷ []) ∷ RowTests.stopped self.now ∷ RowTests.request_pending self.now ∷ RowTests.not_the_next self.now step ∷ []) }
+        ensures { (people : People) → result ≡ Admission.first_failing (row_tests day self.now people (RequestInspection step)) }
     {
         first_failing(&[
             self.not_in(day, &[Stage::Working]),
@@ -279,7 +279,7 @@ impl FileState {
 
     /// What stands against a step being approved (IBC 2018, section 110.6).
     fn against_approval(&self, day: Day, step: Step) -> Option<Reason>
-        ensures { result ≡ Admission.first_failing (RowTests.not_in day self.now (stage.Working ∷ []) ∷ RowTests.stopped self.now ∷ RowTests.no_request_pending self.now ∷ RowTests.not_the_requested self.now step ∷ RowTests.notice_open self.now ∷ []) }
+        ensures { (people : People) → result ≡ Admission.first_failing (row_tests day self.now people (ApproveStep step)) }
     {
         first_failing(&[
             self.not_in(day, &[Stage::Working]),
@@ -292,7 +292,7 @@ impl FileState {
 
     /// What stands against a correction notice.
     fn against_notice(&self, day: Day) -> Option<Reason>
-        ensures { result ≡ Admission.first_failing (RowTests.not_in day self.now (stage.Working ∷ []) ∷ RowTests.no_request_pending self.now ∷ RowTests.papers_full self.now ∷ []) }
+        ensures { (people : People) (text : List ℕ) → result ≡ Admission.first_failing (row_tests day self.now people (Notice text)) }
     {
         first_failing(&[
             self.not_in(day, &[Stage::Working]),
@@ -303,7 +303,7 @@ impl FileState {
 
     /// What stands against a notice being cleared.
     fn against_clearing(&self, day: Day, people: &People) -> Option<Reason>
-        ensures { result ≡ Admission.first_failing (RowTests.not_in day self.now (stage.Working ∷ []) ∷ RowTests.no_such_notice self.now people.now ∷ []) }
+        ensures { (paper : ℕ) → result ≡ Admission.first_failing (row_tests day self.now people.now (ClearNotice paper)) }
     {
         first_failing(&[
             self.not_in(day, &[Stage::Working]),
@@ -316,7 +316,7 @@ impl FileState {
 
     /// What stands against a stop work order (IBC 2018, section 115).
     fn against_stop(&self, day: Day) -> Option<Reason>
-        ensures { result ≡ Admission.first_failing (RowTests.not_in day self.now stoppable_stages ∷ RowTests.stopped self.now ∷ RowTests.papers_full self.now ∷ []) }
+        ensures { (people : People) (text conditions : List ℕ) → result ≡ Admission.first_failing (row_tests day self.now people (Stop text conditions)) }
     {
         first_failing(&[
             self.not_in(day, &STOPPABLE),
@@ -327,7 +327,7 @@ impl FileState {
 
     /// What stands against a stop work order being lifted.
     fn against_lift(&self, day: Day) -> Option<Reason>
-        ensures { result ≡ Admission.first_failing (RowTests.not_in day self.now stoppable_stages ∷ RowTests.not_stopped self.now ∷ RowTests.papers_full self.now ∷ []) }
+        ensures { (people : People) → result ≡ Admission.first_failing (row_tests day self.now people Lift) }
     {
         first_failing(&[
             self.not_in(day, &STOPPABLE),
@@ -338,7 +338,7 @@ impl FileState {
 
     /// What stands against a temporary certificate (IBC 2018, section 111).
     fn against_temporary(&self, day: Day, days: Days) -> Option<Reason>
-        ensures { result ≡ Admission.first_failing (RowTests.not_in day self.now (stage.Working ∷ []) ∷ RowTests.stopped self.now ∷ Admission.days_above 180 days ∷ RowTests.notice_open self.now ∷ RowTests.no_certificates self.now ∷ RowTests.papers_full self.now ∷ []) }
+        ensures { (people : People) (text : List ℕ) → result ≡ Admission.first_failing (row_tests day self.now people (Temporary days text)) }
     {
         first_failing(&[
             self.not_in(day, &[Stage::Working]),
@@ -352,7 +352,7 @@ impl FileState {
 
     /// What stands against the certificate of occupancy (IBC 2018, section 111).
     fn against_certificate(&self, day: Day) -> Option<Reason>
-        ensures { result ≡ Admission.first_failing (RowTests.not_in day self.now (stage.Finaled ∷ []) ∷ RowTests.stopped self.now ∷ RowTests.no_certificates self.now ∷ RowTests.papers_full self.now ∷ []) }
+        ensures { (people : People) → result ≡ Admission.first_failing (row_tests day self.now people Certify) }
     {
         first_failing(&[
             self.not_in(day, &[Stage::Finaled]),
