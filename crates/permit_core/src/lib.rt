@@ -9,3 +9,5 @@ pub mod restore;
 pub mod row;
 pub mod state;
 pub mod steps;
+#[cfg(test)]
+mod tests;
