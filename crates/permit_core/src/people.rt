@@ -24,7 +24,8 @@ pub struct People {
     pub named: Option<NamedParty>,
     /// The owner of the file's parcel.
     pub owner: Option<PartyId>,
-    /// Whether the paper that a clearing names is an open notice of the file.
+    /// Whether the paper that a clearing names is an open notice of the file; a row that counts no open notice admits
+    /// no clearing, whatever stands here.
     pub is_open_notice: bool,
 }
 
