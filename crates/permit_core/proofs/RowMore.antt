@@ -1,21 +1,23 @@
 -- The row of a file after one more command is what the command makes of its row.
 use Rattle.std.proofs.Common.{◌≡◌, ◌≤◌, ℕ, ◌+◌, ◌-◌, Bool, true, false, not, cond, List, [], ◌∷◌, length, refl, sym, ◌∙◌, ap, arith, length-append}
-use Rattle.std.specs.Prelude.{Option, None, Some, filter, if◌then◌else◌}
+use Rattle.std.specs.Prelude.{Option, None, Some, unwrap_or, option_map, filter, ◌==◌, if◌then◌else◌}
+use Rattle.std.specs.List.{cons_option}
+use Rattle.std.proofs.lemmas.Bool.{eq-eqb}
 use Rattle.permit_base.specs.declared.words.Step.{Step}
 use Rattle.permit_base.specs.declared.words.Step.TheVariants.{Final}
 use Rattle.permit_base.specs.declared.request.Command.{Command}
 use Rattle.permit_base.specs.declared.request.Command.TheVariants.{Reject, Issue, AskExtension, GrantExtension, RefuseExtension, BeginWork, RequestInspection, ApproveStep, Notice, ClearNotice, Stop, Lift, Revoke, Certify}
 use Rattle.permit_base.specs.declared.request.Request.TheVariants.{OnFile}
 use Rattle.permit_model.specs.Search.{add_last, has_number}
-use Rattle.permit_model.specs.History.{History, last_day}
-use Rattle.permit_model.specs.Files.{Filing, Act, CaseFile, case_numbered}
+use Rattle.permit_model.specs.History.{Entry, History, last_day}
+use Rattle.permit_model.specs.Files.{Filing, Act, CaseFile, act_of, acts_on, filings, case_file, case_numbered}
 use Rattle.permit_model.specs.Work.{approved_steps, step_approved, pending_step, requested_day, pending_ask, open_notices, is_stopped, makes_paper, paper_count}
 use Rattle.permit_model.specs.Deadline.{deadline}
 use Rattle.permit_model.specs.Admission.{first_failing, file_tests, tests_on, reason_against}
 use Rattle.permit_model.specs.Tables.{State, state_of}
-use Rattle.permit_model.specs.Machine.{IsHistory, paper_number}
+use Rattle.permit_model.specs.Machine.{IsHistory, paper_number, entry_of}
 use Rattle.permit_model.proofs.Appending.{base_stage-more, FallFrom, open_fall, length-cleared}
-use Rattle.permit_model.proofs.Projection.{WasAdmitted, WereAdmitted, DoneTo, done_to}
+use Rattle.permit_model.proofs.Projection.{filing_numbered, found_has_id, WasAdmitted, WereAdmitted, DoneTo, done_to}
 use Rattle.permit_model.proofs.StopOrders.{stopped_by_order, released_by_lift}
 use Rattle.permit_model.proofs.Fronts.{are_numbered}
 use Rattle.permit_model.proofs.Deadlines as deadlines
@@ -133,3 +135,30 @@ row_more h id day caller file command is there later admitted =
 -- the open notices of a file of a history are no more than its papers
 pub notices_within : (h : History) (id : ℕ) (file : CaseFile) → IsHistory h → case_numbered h id ≡ Some file → (state_of file).notices ≤ (state_of file).papers
 notices_within h id file is there = notices_few file.filing file.acts (done_to h id file is there).admitted
+
+-- ---- the file of the history with the entry added
+
+-- the entry's act is on the file of its number
+act_added : (h : History) (entry : Entry) (command : Command) (filing : Filing) (b : Bool) → b ≡ true →
+    case_of filing (cons_option (option_map (act_of entry) (if b then Some command else None)) (acts_on filing.id h)) ≡ case_of filing (act_of entry command ∷ acts_on filing.id h)
+act_added h entry command filing true e = refl
+act_added h entry command filing false e = cc
+
+file_recorded : (h : History) (id day caller : ℕ) (command : Command) (filing : Filing) → filing.id ≡ id → case_numbered h id ≡ Some (case_file h filing) →
+    case_file (entry_of h day caller (OnFile id command) ∷ h) filing ≡ file_after day command caller (case_file h filing)
+file_recorded h id day caller command filing named there =
+    act_added h (entry_of h day caller (OnFile id command)) command filing (id == filing.id) (eq-eqb id filing.id (sym named))
+    ∙ ap (λ (o : Option CaseFile). case_of filing (act_by caller day command (paper_number command o) ∷ acts_on filing.id h)) there
+
+recorded_by : (h : History) (id day caller : ℕ) (file after : CaseFile) (command : Command) (o : Option Filing) → filing_numbered (filings h) id ≡ o → case_numbered h id ≡ Some file → option_map (case_file h) o ≡ Some file →
+    option_map (case_file (entry_of h day caller (OnFile id command) ∷ h)) o ≡ Some after → after ≡ file_after day command caller file
+recorded_by h id day caller file after command None e there was is = cc
+recorded_by h id day caller file after command (Some filing) e there was is =
+    let same : case_file h filing ≡ file = ap (λ o. unwrap_or o file) was in
+    let named : filing.id ≡ id = found_has_id (filings h) id filing e in
+    sym (ap (λ o. unwrap_or o after) is) ∙ file_recorded h id day caller command filing named (there ∙ sym was) ∙ ap (file_after day command caller) same
+
+-- the file after a command is the file of its number in the history with the entry added
+pub recorded : (h : History) (id day caller : ℕ) (file after : CaseFile) (command : Command) → case_numbered h id ≡ Some file → case_numbered (entry_of h day caller (OnFile id command) ∷ h) id ≡ Some after →
+    after ≡ file_after day command caller file
+recorded h id day caller file after command there is = recorded_by h id day caller file after command (filing_numbered (filings h) id) refl there there is

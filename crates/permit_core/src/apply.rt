@@ -1,6 +1,6 @@
 //! What an admitted command makes of a file's state.
 
-ghost use Rattle.std.specs.Prelude.{◌≡◌, ◌≤◌, ◌<◌, ◌+◌, ◌^◌, ℕ, true, None, Some, unwrap_or, option_map};
+ghost use Rattle.std.specs.Prelude.{◌≡◌, ◌≤◌, ◌<◌, ◌+◌, ◌^◌, ◌∷◌, ℕ, true, None, Some, unwrap_or, option_map};
 ghost use Rattle.permit_base.specs.declared.request.Request.TheVariants.{OnFile};
 ghost use Rattle.permit_model.specs.Search.{or_else};
 ghost use Rattle.permit_model.specs.History.{History, last_day};
@@ -9,7 +9,7 @@ ghost use Rattle.permit_model.specs.People.{contractor_named, reviewer_named, in
 ghost use Rattle.permit_model.specs.Work.{temporary_told, makes_paper};
 ghost use Rattle.permit_model.specs.BaseStage.{stage_given};
 ghost use Rattle.permit_model.specs.Admission.{reason_against};
-ghost use Rattle.permit_model.specs.Machine.{IsHistory};
+ghost use Rattle.permit_model.specs.Machine.{IsHistory, entry_of};
 ghost use Rattle.permit_model.specs.Tables.{state_of};
 ghost use Rattle.permit_core.specs.RowTests.{IsAdmitted};
 ghost use Rattle.permit_core.specs.RowAfter;
@@ -241,6 +241,10 @@ impl FileState {
         ensures model { (h : History) (id : ℕ) (file : CaseFile) → IsHistory h → case_numbered h id ≡ Some file → last_day h ≤ day
             → self.old ≡ state_of file → reason_against h day caller (OnFile id command.now) ≡ None
             → self.new ≡ state_of (file_after day command.now caller file) }
+        ensures recorded { (h : History) (id : ℕ) (file after : CaseFile) → IsHistory h → case_numbered h id ≡ Some file → last_day h ≤ day
+            → self.old ≡ state_of file → reason_against h day caller (OnFile id command.now) ≡ None
+            → case_numbered (entry_of h day caller (OnFile id command.now) ∷ h) id ≡ Some after
+            → self.new ≡ state_of after }
     {
         *self = self.after(day, command);
     }
