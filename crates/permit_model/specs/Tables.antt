@@ -1,5 +1,5 @@
 -- The rows that the tables keep, read off the history.
-use Rattle.std.specs.Prelude.{ℕ, Bool, true, false, ◌&&◌, List, [], ◌∷◌, map, length, Option, None, option_map, unwrap_or}
+use Rattle.std.specs.Prelude.{ℕ, Bool, true, false, ◌&&◌, List, [], ◌∷◌, map, length, Option, None, option_map, unwrap_or, slice_get}
 use Rattle.permit_base.specs.declared.words.Kind.{Kind}
 use Rattle.permit_base.specs.declared.words.Step.{Step}
 use Rattle.permit_base.specs.declared.words.Stage.{Stage}
@@ -10,11 +10,13 @@ use Rattle.permit_base.specs.declared.request.Command.{Command}
 use Rattle.permit_base.specs.declared.request.Command.TheVariants.{Return, Resubmit, Reject, AskExtension, RefuseExtension, Notice, Stop, Revoke, Temporary}
 use Rattle.permit_base.specs.declared.request.Request.TheVariants.{OnFile}
 use Rattle.permit_model.specs.Search.{add_last, has_number}
+use Rattle.permit_model.specs.Steps.{required_steps}
 use Rattle.permit_model.specs.History.{Deed, Accepted, Entry, History, last_day}
 use Rattle.permit_model.specs.Caller.{Party, parties}
 use Rattle.permit_model.specs.Parcels.{Parcel, parcels, Interest, interests}
 use Rattle.permit_model.specs.Files.{Act, act_of, acts_on, CaseFile, case_files}
-use Rattle.permit_model.specs.Work.{contractor, reviewer, inspector, approved_steps, pending_step, requested_day, pending_ask, open_notices, is_stopped, temporary_until, paper_sort, paper_count}
+use Rattle.permit_model.specs.People.{contractor, reviewer, inspector}
+use Rattle.permit_model.specs.Work.{approved_steps, pending_step, requested_day, pending_ask, open_notices, is_stopped, temporary_until, paper_sort, paper_count}
 use Rattle.permit_model.specs.BaseStage.{base_stage}
 use Rattle.permit_model.specs.Deadline.{deadline, days_granted}
 use Rattle.permit_model.specs.Facts.{stage_on, timing_of}
@@ -41,12 +43,18 @@ pub record State : Type 0 where
   pub papers : ℕ
   pub temporary : Option ℕ
 
+-- the row of a file
 pub record FileRow : Type 0 where
   pub id : ℕ
   pub state : State
   pub valuation : ℕ
   pub description : List ℕ
 
+-- the next step of a row, by the count of those that are done
+abbrev pub next_in_row : State → Option Step
+next_in_row state = slice_get (required_steps state.kind) state.done
+
+-- the row of a file, without its number, valuation and description, read off what was done to it
 abbrev pub state_of : CaseFile → State
 state_of file = record {
   parcel = file.filing.parcel;
@@ -68,6 +76,7 @@ state_of file = record {
   temporary = temporary_until file.acts;
 }
 
+-- the row of a file, read off what was done to it
 abbrev pub file_row : CaseFile → FileRow
 file_row file = record { id = file.filing.id; state = state_of file; valuation = file.filing.valuation; description = file.filing.description }
 
@@ -77,11 +86,13 @@ pub record FileView : Type 0 where
   pub stage : Stage
   pub timing : Timing
 
+-- a file's row as it is shown on a day
 abbrev pub file_view : ℕ → CaseFile → FileView
 file_view day file = record { row = file_row file; stage = stage_on day file; timing = timing_of day file }
 
 -- ---- papers
 
+-- a paper of a file
 pub record Paper : Type 0 where
   pub file : ℕ
   pub number : ℕ
@@ -99,6 +110,7 @@ paper_days (AskExtension days text) before = days
 paper_days (Temporary days text) before = days
 paper_days command before = days_granted command before
 
+-- the text that a command gives its paper
 abbrev pub paper_text : Command → List ℕ
 paper_text (Return text) = text
 paper_text (Resubmit text) = text
@@ -111,10 +123,12 @@ paper_text (Revoke text) = text
 paper_text (Temporary days text) = text
 paper_text _ = []
 
+-- the conditions for resuming that a stop work order states
 abbrev pub paper_terms : Command → List ℕ
 paper_terms (Stop text conditions) = conditions
 paper_terms _ = []
 
+-- whether the paper is a correction notice
 abbrev pub is_notice : PaperSort → Bool
 is_notice sort.Notice = true
 is_notice _ = false
@@ -162,6 +176,7 @@ pub record Desk : Type 0 where
   pub parcels : ℕ
   pub files : ℕ
 
+-- the six tables
 pub record Tables : Type 0 where
   pub desk : Desk
   pub parties : List Party
@@ -170,6 +185,7 @@ pub record Tables : Type 0 where
   pub files : List FileRow
   pub papers : List Paper
 
+-- the last day and the counts after a history
 abbrev pub desk_of : History → Desk
 desk_of h = record { last = last_day h; parties = length (parties h); parcels = length (parcels h); files = length (case_files h) }
 

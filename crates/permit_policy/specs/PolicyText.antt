@@ -110,6 +110,10 @@ first_bad_name place used (name ∷ names) = if is_new_name used name then first
 abbrev pub name_of : Data → List ℕ
 name_of entry = text_at (codes "name") entry
 
+-- the place, from 1, of the first table whose name is bad
+abbrev pub bad_name_place : List Data → Option ℕ
+bad_name_place tables = first_bad_name 1 [] (map name_of tables)
+
 abbrev pub effect_named : List ℕ → Option Effect
 effect_named = named effect_word all_effects
 
@@ -196,7 +200,7 @@ abbrev pub meaning_of_tables : List Data → Meaning
 meaning_of_tables tables =
     refused_at fault.Shape (first_place is_misshapen tables) (
     if nat_lt 64 (length tables) then refused fault.TooMany else
-    refused_at fault.Name (first_bad_name 1 [] (map name_of tables)) (
+    refused_at fault.Name (bad_name_place tables) (
     refused_at fault.Effect (first_place has_bad_effect tables) (
     refused_at fault.List (first_place has_bad_list tables) (
     Ok (map rule_of tables)))))

@@ -22,7 +22,8 @@ fn is_among(values: &[Value], text: &str) -> bool
 
 /// The word that a text spells, unless the text comes again later.
 fn read_word<W: Word>(text: &str, later: &[Value]) -> Option<W>
-    ensures { result ≡ (if is_among (map text_of (map view later.now)) text.now then None else named W.spelling W.every text.now) }
+    ensures { result ≡ (if is_among (map text_of (map view later.now)) text.now then None
+        else named W.spelling W.every text.now) }
 {
     if is_among(later, text) {
         None
@@ -33,8 +34,12 @@ fn read_word<W: Word>(text: &str, later: &[Value]) -> Option<W>
 
 /// The words that the texts spell.
 fn read_words<W: Word>(alloc: Global, values: &[Value]) -> Result<Vec<W>, PolicyFault>
-    ensures ok { let texts = map text_of (map view values.now) in IfOk result (λ words. (are_words (named W.spelling W.every) texts ≡ true) × (words.items ≡ filter_map (named W.spelling W.every) texts)) }
-    ensures err { let texts = map text_of (map view values.now) in IfErr result (IsListFault (not (are_words (named W.spelling W.every) texts))) }
+    ensures sound { IfOk result (λ words.
+        are_words (named W.spelling W.every) (map text_of (map view values.now)) ≡ true) }
+    ensures words { IfOk result (λ words.
+        words.items ≡ filter_map (named W.spelling W.every) (map text_of (map view values.now))) }
+    ensures err { IfErr result (IsListFault
+        (not (are_words (named W.spelling W.every) (map text_of (map view values.now))))) }
 {
     let mut words = Vec::new(alloc);
     for (i, value) in values.iter().enumerate() {
@@ -62,8 +67,12 @@ pub(crate) fn read_list<W: Word>(
     table: &Value,
     key: &str,
 ) -> Result<Option<Vec<W>>, PolicyFault>
-    ensures ok { let read = named W.spelling W.every in let texts = texts_at key.now (view table.now) in IfOk result (λ words. (is_bad_list read texts ≡ false) × (option_map (λ v. v.items) words ≡ words_of read texts)) }
-    ensures err { IfErr result (IsListFault (is_bad_list (named W.spelling W.every) (texts_at key.now (view table.now)))) }
+    ensures sound { IfOk result (λ words.
+        is_bad_list (named W.spelling W.every) (texts_at key.now (view table.now)) ≡ false) }
+    ensures words { IfOk result (λ words.
+        option_map (λ v. v.items) words ≡ words_of (named W.spelling W.every) (texts_at key.now (view table.now))) }
+    ensures err { IfErr result (IsListFault
+        (is_bad_list (named W.spelling W.every) (texts_at key.now (view table.now)))) }
 {
     match list_at(table, key) {
         Some(values) => {

@@ -1,9 +1,9 @@
 //! The text of a policy read to its rules.
 
-ghost use Rattle.std.specs.Prelude.{◌≡◌, [], ◌∷◌, true, false, map, length, codes, IfOk, IfErr, option_map, if◌then◌else◌, Some, None};
+ghost use Rattle.std.specs.Prelude.{◌≡◌, [], ◌∷◌, false, map, codes, IfOk, IfErr, option_map, if◌then◌else◌, Some, None};
 ghost use Rattle.toml.specs.View.{view, table_view};
 ghost use Rattle.permit_policy.specs.declared.fault.PolicyFault.TheVariants as fault;
-ghost use Rattle.permit_policy.specs.PolicyText.{is_among, keys_among, tables_in, is_misshapen, first_place, is_new_name, first_bad_name, name_of, has_bad_effect, effect_of, has_bad_list, rule_of, meaning_of_tables, meaning, Means};
+ghost use Rattle.permit_policy.specs.PolicyText.{is_among, keys_among, tables_in, is_misshapen, first_place, is_new_name, bad_name_place, name_of, has_bad_effect, effect_of, has_bad_list, rule_of, meaning_of_tables, meaning, Means};
 ghost use Rattle.permit_policy.specs.Reading.{AreParts, IsRefusal, IsListFault};
 
 use crate::decide::Policy;
@@ -65,8 +65,9 @@ fn new_name(text: &str, used: &[RuleName]) -> Option<RuleName>
 
 /// The names of the rules, in order.
 fn read_names(alloc: Global, tables: &[Value]) -> Result<Vec<RuleName>, PolicyError>
-    ensures ok { let texts = map name_of (map view tables.now) in IfOk result (λ names. AreParts (first_bad_name 1 [] texts) texts names.items) }
-    ensures err { let texts = map name_of (map view tables.now) in IfErr result (IsRefusal fault.Name (first_bad_name 1 [] texts)) }
+    ensures ok { IfOk result (λ names.
+        AreParts (bad_name_place (map view tables.now)) (map name_of (map view tables.now)) names.items) }
+    ensures err { IfErr result (IsRefusal fault.Name (bad_name_place (map view tables.now))) }
 {
     let mut names = Vec::new(alloc);
     for (i, table) in tables.iter().enumerate() {
@@ -86,7 +87,8 @@ fn read_effect(table: &Value) -> Option<Effect>
 
 /// The effects of the rules, in order.
 fn read_effects(alloc: Global, tables: &[Value]) -> Result<Vec<Effect>, PolicyError>
-    ensures ok { IfOk result (λ effects. AreParts (first_place has_bad_effect (map view tables.now)) (map effect_of (map view tables.now)) effects.items) }
+    ensures ok { IfOk result (λ effects.
+        AreParts (first_place has_bad_effect (map view tables.now)) (map effect_of (map view tables.now)) effects.items) }
     ensures err { IfErr result (IsRefusal fault.Effect (first_place has_bad_effect (map view tables.now))) }
 {
     let mut effects = Vec::new(alloc);
@@ -107,7 +109,8 @@ fn read_rule(
     effect: Effect,
 ) -> Result<Rule, PolicyFault>
     ensures sound { IfOk result (λ rule. has_bad_list (view table.now) ≡ false) }
-    ensures rule { IfOk result (λ rule. name ≡ name_of (view table.now) → effect ≡ effect_of (view table.now) → rule ≡ rule_of (view table.now)) }
+    ensures rule { IfOk result (λ rule.
+        name ≡ name_of (view table.now) → effect ≡ effect_of (view table.now) → rule ≡ rule_of (view table.now)) }
     ensures err { IfErr result (IsListFault (has_bad_list (view table.now))) }
 {
     Ok(Rule {
@@ -131,7 +134,8 @@ fn read_rules(
 ) -> Result<Vec<Rule>, PolicyError>
     requires named { names.now ≡ map name_of (map view tables.now) }
     requires decided { effects.now ≡ map effect_of (map view tables.now) }
-    ensures ok { IfOk result (λ rules. AreParts (first_place has_bad_list (map view tables.now)) (map rule_of (map view tables.now)) rules.items) }
+    ensures ok { IfOk result (λ rules.
+        AreParts (first_place has_bad_list (map view tables.now)) (map rule_of (map view tables.now)) rules.items) }
     ensures err { IfErr result (IsRefusal fault.List (first_place has_bad_list (map view tables.now))) }
 {
     let mut rules = Vec::new(alloc);
@@ -163,7 +167,7 @@ fn read_tables(alloc: Global, tables: &[Value]) -> Result<Policy, PolicyError>
 /// lists of words `role`, `relation`, `action`, `stage` and `timing`, and the truth value `stopped`.
 ///
 /// A text with a fault is refused with the fault of the lowest number that applies, and the place of the first table
-/// that has it. Want of memory is answered only where a growth was refused.
+/// that has it. Want of memory may come in place of any other answer.
 pub fn read_policy(alloc: Global, text: &str) -> Result<Policy, PolicyError>
     ensures { Means result (meaning text.now) }
 {
