@@ -3,6 +3,6 @@
 
 pub mod plan;
 pub mod program;
-pub mod words;
 #[cfg(test)]
 mod tests;
+pub mod words;

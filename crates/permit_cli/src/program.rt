@@ -4,7 +4,8 @@ ghost use Rattle.std.specs.Prelude.{◌≤◌};
 
 use crate::plan::{Plan, PlanFault};
 use crate::words::plan;
-use permit_policy::text::{PolicyError, PolicyFault, read_policy};
+use permit_policy::fault::{PolicyError, PolicyFault};
+use permit_policy::text::read_policy;
 use std::alloc::Global;
 use std::io::{ErrorKind, Write};
 use std::rt::Files;
@@ -71,7 +72,12 @@ fn bad_policy<E: Write>(error: &PolicyError, err: &mut E) -> Ending {
 }
 
 /// Reads the policy at a path and prints how many rules it has.
-fn check_policy<R: Files + AllocGlobal, O: Write, E: Write>(rt: &R, path: &str, out: &mut O, err: &mut E) -> Ending {
+fn check_policy<R: Files + AllocGlobal, O: Write, E: Write>(
+    rt: &R,
+    path: &str,
+    out: &mut O,
+    err: &mut E,
+) -> Ending {
     let text = match fs::read_to_string(rt, path) {
         Ok(text) => text,
         Err(error) if error.kind() == ErrorKind::OutOfMemory => {
@@ -84,7 +90,7 @@ fn check_policy<R: Files + AllocGlobal, O: Write, E: Write>(rt: &R, path: &str, 
     };
     match read_policy(rt.alloc(), text.as_str()) {
         Ok(policy) => {
-            let rules = policy.len();
+            let rules = policy.rules();
             let outcome = writeln!(out, "rules {rules}");
             written(err, outcome)
         }
@@ -94,7 +100,12 @@ fn check_policy<R: Files + AllocGlobal, O: Write, E: Write>(rt: &R, path: &str, 
 
 /// Runs the program on the words behind its name, and gives its status: 0 done, 1 refused, 2 bad words or files.
 /// What it prints goes to `out`, its faults to `err`.
-pub fn run_words<R: Files + AllocGlobal, O: Write, E: Write>(rt: &R, words: &[String], out: &mut O, err: &mut E) -> u8
+pub fn run_words<R: Files + AllocGlobal, O: Write, E: Write>(
+    rt: &R,
+    words: &[String],
+    out: &mut O,
+    err: &mut E,
+) -> u8
     ensures { result ≤ 2 }
 {
     let ending = match plan(rt.alloc(), words) {
