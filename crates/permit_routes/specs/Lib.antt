@@ -1,3 +1,6 @@
+pub mod Bodies
 pub mod Ids
+pub mod Outcome
+pub mod Requests
 pub mod Routes
 pub mod Targets
