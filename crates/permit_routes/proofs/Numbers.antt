@@ -5,7 +5,8 @@ use Rattle.std.specs.Char.{is_ascii_digit}
 use Rattle.std.specs.Str.Parse.{digits_value, ParsesUnsigned}
 use Rattle.std.proofs.lemmas.Str.Parse.{IsNumeralModel, numerals_by_value, parse_gives}
 use Rattle.std.proofs.lemmas.Bool.{and_parts, leb-true}
-use Rattle.permit_routes.specs.Ids.{keep, is_plain_number, starts_with_zero, id_in}
+use Rattle.permit_base.specs.Limits.{only_if, is_object_number}
+use Rattle.permit_routes.specs.Ids.{is_plain_number, starts_with_zero, id_in}
 
 own : IsNumeralModel (λ ds. list_all is_ascii_digit ds ≡ true) (digits_value 10)
 own = numerals_by_value _ (search rules)
@@ -23,7 +24,7 @@ not_kept x true b e = rw e refl
 not_kept x false b e = refl
 
 refused_by : {E : Type 0} → (bs : List ℕ) (r : Result ℕ E) (e : E) (b : Bool) → is_plain_number bs ≡ true → ParsesUnsigned 32 10 bs r → r ≡ Err e
-    → nat_le (digits_value 10 bs) 99999 ≡ b → keep (λ n. nat_le 1 n && nat_le n 99999) (digits_value 10 bs) ≡ None
+    → nat_le (digits_value 10 bs) 99999 ≡ b → only_if is_object_number (digits_value 10 bs) ≡ None
 refused_by bs r e true h p is t = absurd (let q = plain_reads bs r h p (leb-true (digits_value 10 bs) 99999 t) in cc)
 refused_by bs r e false h p is t = not_kept (digits_value 10 bs) (nat_le 1 (digits_value 10 bs)) (nat_le (digits_value 10 bs) 99999) t
 

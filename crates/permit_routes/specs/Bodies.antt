@@ -5,9 +5,8 @@ use Rattle.serde_json.specs.Data.{Data}
 use Rattle.serde_json.specs.Read.{read}
 use Rattle.serde_json.specs.Events.{members_len}
 use Rattle.serde_json.specs.Find.{get, as_number, as_u64, as_str, as_object}
-use Rattle.permit_base.specs.Texts.{is_printable, is_lot, is_token}
+use Rattle.permit_base.specs.Limits.{only_if}
 use Rattle.permit_base.specs.Words.{named}
-use Rattle.permit_routes.specs.Ids.{keep}
 
 infixl 10 ◌>>=◌
 abbrev pub ◌>>=◌ : {A B : Type 0} → Option A → (A → Option B) → Option B
@@ -19,7 +18,7 @@ is_utf8 bytes = utf8_valid_len bytes == length bytes
 
 -- the text of a body; an empty one counts as {}
 abbrev pub text_in : List ℕ → Option (List ℕ)
-text_in body = if length body == 0 then Some (codes "{}") else keep is_utf8 body
+text_in body = if length body == 0 then Some (codes "{}") else only_if is_utf8 body
 
 -- the value that the bytes say
 abbrev pub said : List ℕ → Option Data
@@ -29,21 +28,17 @@ said body = text_in body >>= read
 abbrev pub has_members : ℕ → Data → Bool
 has_members n d = unwrap_or (option_map (λ ms. members_len ms == n) (as_object d)) false
 
--- a number at the key is an unsigned whole one, within the limits
-abbrev pub number_at : ℕ → ℕ → List ℕ → Data → Option ℕ
-number_at low high key d = get key d >>= as_number >>= as_u64 >>= keep (λ n. nat_le low n && nat_le n high)
-
--- the number of a party, a parcel or a file
-abbrev pub id_at : List ℕ → Data → Option ℕ
-id_at key d = number_at 1 99999 key d
+-- the unsigned whole number at the key, within the limits
+abbrev pub number_at : (ℕ → Bool) → List ℕ → Data → Option ℕ
+number_at limits key d = get key d >>= as_number >>= as_u64 >>= only_if limits
 
 -- the string at the key
 abbrev pub string_at : List ℕ → Data → Option (List ℕ)
 string_at key d = get key d >>= as_str
 
--- a text at the key that passes the test
+-- the text at the key, within the limits
 abbrev pub text_at : (List ℕ → Bool) → List ℕ → Data → Option (List ℕ)
-text_at test key d = string_at key d >>= keep test
+text_at limits key d = string_at key d >>= only_if limits
 
 -- a word at the key, by its spelling
 abbrev pub word_at : {A : Type 0} → (A → List ℕ) → List A → List ℕ → Data → Option A

@@ -3,10 +3,7 @@ use Rattle.std.specs.Prelude.{ℕ, Bool, false, not, ◌&&◌, ◌==◌, nat_le,
 use Rattle.std.specs.List.{list_all}
 use Rattle.std.specs.Char.{is_ascii_digit}
 use Rattle.std.specs.Str.Parse.{digits_value}
-
--- the value, where the test holds
-abbrev pub keep : {A : Type 0} → (A → Bool) → A → Option A
-keep test x = if test x then Some x else None
+use Rattle.permit_base.specs.Limits.{only_if, is_object_number}
 
 -- the text begins with the digit 0
 abbrev pub starts_with_zero : List ℕ → Bool
@@ -23,4 +20,4 @@ number_in word = if is_plain_number word then Some (digits_value 10 word) else N
 
 -- an id is 1 to 99999 without leading zeros
 abbrev pub id_in : List ℕ → Option ℕ
-id_in word = option_and_then (keep (λ n. nat_le 1 n && nat_le n 99999)) (number_in word)
+id_in word = option_and_then (only_if is_object_number) (number_in word)

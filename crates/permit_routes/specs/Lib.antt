@@ -1,3 +1,4 @@
+pub mod Bearer
 pub mod Bodies
 pub mod Ids
 pub mod Outcome

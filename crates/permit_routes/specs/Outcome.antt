@@ -8,3 +8,7 @@ abbrev pub Means : {A B : Type 0} → (A → B) → Result A BodyFault → Optio
 Means view (Ok x) meaning = meaning ≡ Some (view x)
 Means view (Err Refused) meaning = meaning ≡ None
 Means view (Err Memory) meaning = Unit {0}
+
+-- the view of a value that is its own meaning
+abbrev pub same : {A : Type 0} → A → A
+same x = x

@@ -1,14 +1,14 @@
 -- The request that a target and a body make.
 use Rattle.std.specs.Prelude.{ℕ, ◌==◌, List, length, Option, Some, None, codes, if◌then◌else◌}
 use Rattle.serde_json.specs.Data.{Data}
+use Rattle.permit_base.specs.Limits.{only_if, is_object_number, is_cents}
 use Rattle.permit_base.specs.Texts.{is_printable, is_lot, is_token}
 use Rattle.permit_base.specs.Words.{role_word, all_roles, kind_word, all_kinds}
 use Rattle.permit_base.specs.declared.request.Request.{Request}
 use Rattle.permit_base.specs.declared.request.Request.TheVariants as request
 use Rattle.permit_routes.specs.declared.routing.Target.{Target}
 use Rattle.permit_routes.specs.declared.routing.Target.TheVariants.{Parties, Parcels, Files, ReadFile}
-use Rattle.permit_routes.specs.Ids.{keep}
-use Rattle.permit_routes.specs.Bodies.{◌>>=◌, said, has_members, number_at, id_at, text_at, word_at}
+use Rattle.permit_routes.specs.Bodies.{◌>>=◌, said, has_members, number_at, text_at, word_at}
 
 -- a new party: name, role, token
 abbrev pub party_of : Data → Option Request
@@ -23,21 +23,21 @@ abbrev pub parcel_of : Data → Option Request
 parcel_of d =
     text_at is_lot (codes "lot") d >>= λ lot.
     (text_at is_printable (codes "address") d >>= λ address.
-    (id_at (codes "owner") d >>= λ owner.
+    (number_at is_object_number (codes "owner") d >>= λ owner.
     Some (request.AddParcel lot address owner)))
 
 -- a filing: parcel, kind, valuation, description
 abbrev pub filing_of : Data → Option Request
 filing_of d =
-    id_at (codes "parcel") d >>= λ parcel.
+    number_at is_object_number (codes "parcel") d >>= λ parcel.
     (word_at kind_word all_kinds (codes "kind") d >>= λ kind.
-    (number_at 0 9999999999999 (codes "valuation") d >>= λ valuation.
+    (number_at is_cents (codes "valuation") d >>= λ valuation.
     (text_at is_printable (codes "description") d >>= λ description.
     Some (request.File parcel kind valuation description))))
 
 -- what the body says, where it is an object of so many members
 abbrev pub object_of : ℕ → List ℕ → Option Data
-object_of n body = said body >>= keep (has_members n)
+object_of n body = said body >>= only_if (has_members n)
 
 -- the request of a target and a body; one that reads has no body
 abbrev pub request_of : Target → List ℕ → Option Request

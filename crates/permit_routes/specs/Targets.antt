@@ -8,7 +8,8 @@ use Rattle.permit_routes.specs.declared.routing.Endpoint.{Endpoint}
 use Rattle.permit_routes.specs.declared.routing.Endpoint.TheVariants as endpoint
 use Rattle.permit_routes.specs.declared.routing.Target.{Target}
 use Rattle.permit_routes.specs.declared.routing.Target.TheVariants.{Parties, Parcels, Files, ReadFile}
-use Rattle.permit_routes.specs.Ids.{keep, id_in}
+use Rattle.permit_base.specs.Limits.{only_if}
+use Rattle.permit_routes.specs.Ids.{id_in}
 use Rattle.permit_routes.specs.Routes.{Rows, post_rows, get_rows}
 
 -- the parts that a path's parameters took, by their names
@@ -48,4 +49,4 @@ target_by method path =
 
 -- the target of a method and a path; a path with a byte that is not ASCII has no route
 abbrev pub target_of : List ℕ → List ℕ → Option Target
-target_of method path = option_and_then (target_by method) (keep are_ascii path)
+target_of method path = option_and_then (target_by method) (only_if are_ascii path)

@@ -1,6 +1,8 @@
 //! From a request's method, path, token and body to what is asked of the office.
 #![tactic(auto)]
 
+pub mod bearer;
 mod document;
 pub mod fault;
+pub mod requests;
 pub mod routing;

@@ -4,7 +4,8 @@ ghost use Rattle.std.specs.Prelude.{◌≡◌, ◌<◌, IfOk, OnOk, IfSome, opti
 ghost use Rattle.std.specs.List.{list_all};
 ghost use Rattle.std.specs.Char.{is_ascii_digit};
 ghost use Rattle.matchit.specs.Params.{walk, named};
-ghost use Rattle.permit_routes.specs.Ids.{keep, is_plain_number, id_in, starts_with_zero};
+ghost use Rattle.permit_base.specs.Limits.{only_if};
+ghost use Rattle.permit_routes.specs.Ids.{is_plain_number, id_in, starts_with_zero};
 ghost use Rattle.permit_routes.specs.Routes.{post_rows, get_rows};
 ghost use Rattle.permit_routes.specs.Targets.{are_ascii, are_ascii_rows, id_of, target_with, target_among, target_of};
 
@@ -143,7 +144,7 @@ fn are_ascii(bytes: &[u8]) -> bool
 
 /// The text of a path, where it is ASCII.
 fn ascii(path: &[u8]) -> Option<&str>
-    ensures { option_map (λ s. s.now) result ≡ keep are_ascii path.now }
+    ensures { option_map (λ s. s.now) result ≡ only_if are_ascii path.now }
 {
     if !are_ascii(path) {
         return None;
