@@ -4,5 +4,8 @@
 pub mod bearer;
 mod document;
 pub mod fault;
+pub mod laws;
 pub mod requests;
 pub mod routing;
+#[cfg(test)]
+mod tests;

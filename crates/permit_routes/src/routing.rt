@@ -9,6 +9,7 @@ ghost use Rattle.permit_routes.specs.Ids.{is_plain_number, id_in, starts_with_ze
 ghost use Rattle.permit_routes.specs.Routes.{post_rows, get_rows};
 ghost use Rattle.permit_routes.specs.Targets.{are_ascii, are_ascii_rows, id_of, target_with, target_among, target_of};
 
+use http::Method;
 use matchit::{InsertError, Params, Router};
 use permit_base::values::FileId;
 use std::alloc::{AllocError, Global};
@@ -186,9 +187,11 @@ pub fn route(alloc: Global, method: &[u8], path: &[u8]) -> Result<Option<Target>
     let Some(path) = ascii(path) else {
         return Ok(None)
     };
-    match method {
-        b"POST" => post_target(alloc, path),
-        b"GET" => get_target(alloc, path),
-        _ => Ok(None),
+    if method == Method::POST.as_str().as_bytes() {
+        post_target(alloc, path)
+    } else if method == Method::GET.as_str().as_bytes() {
+        get_target(alloc, path)
+    } else {
+        Ok(None)
     }
 }
