@@ -1,0 +1,4 @@
+pub mod Ascii
+pub mod Numbers
+pub mod Rows
+pub mod Tokens

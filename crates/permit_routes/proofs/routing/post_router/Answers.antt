@@ -1,0 +1,9 @@
+use Rattle.std.proofs.Common.{refl}
+use Rattle.matchit.proofs.OnLiterals.{matchit_on_literals}
+use Rattle.permit_routes.specs.Routes.{post_rows}
+use Rattle.permit_routes.proofs.routing.post_router.Goals as goal
+
+pub returns : goal.returns
+unfolding matchit_on_literals post_rows
+returns c =
+    rw (c.in_ok-insert-3.ensures.1, c.in_ok-insert-2.ensures.1, c.in_ok-insert.ensures.1, c.new-router.ensures) refl

@@ -1,0 +1,11 @@
+//! From a request's method, path, token and body to what is asked of the office.
+#![tactic(auto)]
+
+pub mod bearer;
+mod document;
+pub mod fault;
+pub mod laws;
+pub mod requests;
+pub mod routing;
+#[cfg(test)]
+mod tests;

@@ -1,0 +1,169 @@
+//! Each public call with ample memory, on values from the office's written rules.
+
+use crate::bearer::read_token;
+use crate::fault::BodyFault;
+use crate::requests::read_body;
+use crate::routing::{Target, route};
+use permit_base::request::Request;
+use permit_base::values::FileId;
+use permit_base::words::{Kind, Role};
+use std::test::Fail;
+
+#[test]
+fn routes_have_targets(rt: HostRuntime) -> Result<(), Fail> {
+    let file = FileId::new(1).ok_or("no id")?;
+    assert_eq!(rt;
+        route(rt.alloc(), b"POST", b"/parties")?,
+        Some(Target::Parties)
+    );
+    assert_eq!(rt;
+        route(rt.alloc(), b"POST", b"/parcels")?,
+        Some(Target::Parcels)
+    );
+    assert_eq!(rt; route(rt.alloc(), b"POST", b"/files")?, Some(Target::Files));
+    assert_eq!(rt;
+        route(rt.alloc(), b"GET", b"/files/1")?,
+        Some(Target::ReadFile(file))
+    );
+    assert_eq!(rt; route(rt.alloc(), b"GET", b"/files/01")?, None);
+    assert_eq!(rt; route(rt.alloc(), b"GET", b"/files?x=1")?, None);
+    assert_eq!(rt; route(rt.alloc(), b"BREW", b"/files")?, None);
+    assert_eq!(rt; route(rt.alloc(), b"GET", b"/files/\xc3\xa9")?, None);
+    Ok(())
+}
+
+#[test]
+fn a_filing_is_read(rt: HostRuntime) -> Result<(), Fail> {
+    let body = br#"{"parcel":1,"kind":"construct","valuation":25000000,"description":"House"}"#;
+    let request = read_body(rt.alloc(), Target::Files, body).map_err(|_| "refused")?;
+    let Request::File {
+        parcel,
+        kind,
+        valuation,
+        description,
+    } = request
+    else {
+        return Err(Fail::from("another request"))
+    };
+    assert_eq!(rt; parcel.get(), 1);
+    assert_eq!(rt; kind, Kind::Construct);
+    assert_eq!(rt; valuation.get(), 25000000);
+    assert_eq!(rt; description.as_str(), "House");
+    Ok(())
+}
+
+#[test]
+fn a_party_and_a_parcel_are_read(rt: HostRuntime) -> Result<(), Fail> {
+    let body = br#" { "token" : "abcdefghijklmnop", "name" : "Z\u00fcrn", "role" : "clerk" } "#;
+    let request = read_body(rt.alloc(), Target::Parties, body).map_err(|_| "refused")?;
+    let Request::AddParty { name, role, token } = request else {
+        return Err(Fail::from("another request"))
+    };
+    assert_eq!(rt; name.as_str(), "Zürn");
+    assert_eq!(rt; role, Role::Clerk);
+    assert_eq!(rt; token.as_str(), "abcdefghijklmnop");
+    let body = br#"{"lot":"A-1","address":"1 Main Street","owner":5}"#;
+    let request = read_body(rt.alloc(), Target::Parcels, body).map_err(|_| "refused")?;
+    let Request::AddParcel {
+        lot,
+        address,
+        owner,
+    } = request
+    else {
+        return Err(Fail::from("another request"))
+    };
+    assert_eq!(rt; lot.as_str(), "A-1");
+    assert_eq!(rt; address.as_str(), "1 Main Street");
+    assert_eq!(rt; owner.get(), 5);
+    Ok(())
+}
+
+#[test]
+fn other_bodies_are_refused(rt: HostRuntime) -> Result<(), Fail> {
+    let file = FileId::new(1).ok_or("no id")?;
+    let refused: [(Target, &[u8]); 8] = [
+        (Target::ReadFile(file), b"{}"),
+        (Target::Files, b""),
+        (
+            Target::Files,
+            br#"{"parcel":1,"kind":"construct","valuation":5.0,"description":"House"}"#,
+        ),
+        (
+            Target::Files,
+            br#"{"parcel":1,"kind":"construct","valuation":5e0,"description":"House"}"#,
+        ),
+        (
+            Target::Files,
+            br#"{"parcel":1,"kind":"construct","valuation":5}"#,
+        ),
+        (
+            Target::Files,
+            br#"{"parcel":1,"kind":"construct","valuation":5,"description":"House","day":1}"#,
+        ),
+        (
+            Target::Files,
+            br#"{"parcel":0,"kind":"construct","valuation":5,"description":"House"}"#,
+        ),
+        (
+            Target::Files,
+            br#"{"parcel":1,"kind":"Construct","valuation":5,"description":"House"}"#,
+        ),
+    ];
+    for (target, body) in refused {
+        assert!(rt;
+            matches!(read_body(rt.alloc(), target, body), Err(BodyFault::Refused)),
+            "{body:?}"
+        );
+    }
+    Ok(())
+}
+
+#[test]
+fn a_file_is_read_without_a_body(rt: HostRuntime) -> Result<(), Fail> {
+    let id = FileId::new(99999).ok_or("no id")?;
+    let request = read_body(rt.alloc(), Target::ReadFile(id), b"").map_err(|_| "refused")?;
+    let Request::ReadFile { file } = request else {
+        return Err(Fail::from("another request"))
+    };
+    assert_eq!(rt; file, id);
+    Ok(())
+}
+
+#[test]
+fn a_key_that_stands_twice_has_its_last_value(rt: HostRuntime) -> Result<(), Fail> {
+    let body = br#"{"lot":"B-1","lot":"A-1","address":"1 Main Street","owner":5}"#;
+    let request = read_body(rt.alloc(), Target::Parcels, body).map_err(|_| "refused")?;
+    let Request::AddParcel {
+        lot,
+        address: _,
+        owner: _,
+    } = request
+    else {
+        return Err(Fail::from("another request"))
+    };
+    assert_eq!(rt; lot.as_str(), "A-1");
+    Ok(())
+}
+
+#[test]
+fn tokens_are_read(rt: HostRuntime) -> Result<(), Fail> {
+    for value in [
+        "Bearer abcdefghijklmnopqrstuvwxyz",
+        "bEARER abcdefghijklmnopqrstuvwxyz",
+    ] {
+        let token = read_token(rt.alloc(), value.as_bytes())?.ok_or("no token")?;
+        assert_eq!(rt; token.as_str(), "abcdefghijklmnopqrstuvwxyz");
+    }
+    for value in [
+        "Bearer  abcdefghijklmnopqrstuvwxyz",
+        "Basic abcdefghijklmnopqrstuvwxyz",
+        "Bearer abcdefghijklmno",
+        "",
+    ] {
+        assert!(rt;
+            read_token(rt.alloc(), value.as_bytes())?.is_none(),
+            "{value}"
+        );
+    }
+    Ok(())
+}
