@@ -38,6 +38,10 @@ IsMessage bytes m rest =
 abbrev pub LacksBody : List ℕ → Type 0
 LacksBody bytes = (h : RequestHead) × (after : List ℕ) × (n : ℕ) × GoodHead bytes h after n × (length after < n)
 
+-- the bytes end inside a head or a body
+abbrev pub IsUnfinished : List ℕ → Type 0
+IsUnfinished bytes = LacksHead bytes ⊎ LacksBody bytes
+
 -- the bytes begin with a head that has this fault
 abbrev pub HasFault : List ℕ → MessageFault → Type 0
 HasFault bytes fault = (h : RequestHead) × (after : List ℕ) × HeadAt bytes h after × (judged h.minor (pairs_of h) ≡ Err fault)

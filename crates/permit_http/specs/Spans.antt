@@ -8,7 +8,7 @@ use Rattle.httparse.specs.declared.spans.HeaderSpan.{HeaderSpan}
 use Rattle.httparse.specs.declared.spans.RequestSpans.{RequestSpans}
 use Rattle.permit_http.specs.Stream.{InboxData, stream}
 use Rattle.permit_http.specs.Head.{HeadAt, LacksHead, NeverHasHead, judged, pairs_of, head_limit, body_limit}
-use Rattle.permit_http.specs.Message.{MessageData, message_of, IsIncoming, IsMessage, nothing, cut, refused}
+use Rattle.permit_http.specs.Message.{MessageData, message_of, IsIncoming, IsMessage, IsUnfinished, nothing, cut, refused}
 use Rattle.permit_http.specs.declared.fault.MessageFault.{MessageFault}
 use Rattle.permit_http.specs.declared.fault.MessageFault.TheVariants.{ReadFailed, Ended}
 use Rattle.permit_http.specs.declared.head.Look.{Look}
@@ -35,7 +35,7 @@ abbrev pub GivesHead : List ℕ → Option (List ℕ) → List HeaderSpan → So
 GivesHead bytes left headers (sought.Head spans) = (h : RequestHead) × IsFound bytes headers spans h
 GivesHead bytes left headers sought.Refused = NeverHasHead bytes
 GivesHead bytes left headers sought.Ended = LacksHead bytes × IsAtEnd left
-GivesHead bytes left headers sought.Failed = Unit {0}
+GivesHead bytes left headers sought.Failed = LacksHead bytes
 
 -- so many bytes are there, or the input is at its end and they aren't
 abbrev pub GetsTo : ℕ → Bool → List ℕ → Option (List ℕ) → Type 0
@@ -90,6 +90,12 @@ view_of m = record {
 abbrev pub GivesMessage : List ℕ → InboxData → Option (List ℕ) → MessageSpans → Type 0
 GivesMessage bytes new left s =
     (rest : List ℕ) × IsMessage bytes (message_at new.bytes s) rest × (prepend_known (drop s.body.end new.bytes) left ≡ Some rest)
+
+-- where the reader failed or ended, a message was still to come: a fault of its head is told whatever comes behind it
+abbrev pub StopsAt : List ℕ → MessageFault → Type 0
+StopsAt bytes ReadFailed = IsUnfinished bytes
+StopsAt bytes Ended = IsUnfinished bytes
+StopsAt bytes _ = Unit {0}
 
 -- what reading one message gave on a stream of these bytes
 abbrev pub Gives : List ℕ → InboxData → Option (List ℕ) → Result (Option MessageSpans) MessageFault → Type 0

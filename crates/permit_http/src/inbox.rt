@@ -1,6 +1,6 @@
 //! The bytes of a connection that were read and not used yet.
 
-ghost use Rattle.std.specs.Prelude.{◌≡◌, ◌≤◌, ◌<◌, ◌+◌, ◌||◌, drop, length, min, nat_le, true, false, IfOk, Ok};
+ghost use Rattle.std.specs.Prelude.{◌≡◌, ◌≤◌, ◌<◌, ◌+◌, ◌||◌, drop, length, min, nat_le, true, false, IfOk, OnErr, Ok};
 ghost use Rattle.std.specs.Io.KnownBytes.{IsAtEnd};
 ghost use Rattle.permit_http.specs.Stream.{fresh, Filled};
 ghost use Rattle.permit_http.specs.Spans.{GetsTo};
@@ -93,6 +93,7 @@ impl Inbox {
         ensures filled { Filled self.old self.new (R.remaining reader.old) (R.remaining reader.new) }
         ensures grows { IfOk result (λ n. length self.new.bytes ≡ length self.old.bytes + n) }
         ensures end { result ≡ Ok 0 → IsAtEnd (R.remaining reader.new) }
+        ensures failed { OnErr result (self.new ≡ self.old) }
     {
         let len = self.len;
         let read = reader.read(&mut self.bytes[len..])?;
@@ -105,6 +106,7 @@ impl Inbox {
         requires { n ≤ 24576 }
         ensures filled { Filled self.old self.new (R.remaining reader.old) (R.remaining reader.new) }
         ensures there { IfOk result (λ there. GetsTo n there self.new.bytes (R.remaining reader.new)) }
+        ensures failed { OnErr result (length self.new.bytes < n) }
     {
         loop {
             if n <= self.as_slice().len() {

@@ -1,9 +1,9 @@
 //! One message of a connection: its parts, lent from the inbox.
 
-ghost use Rattle.std.specs.Prelude.{◌≡◌, ◌+◌, ◌||◌, drop, min, nat_le, true, false, ⊤, Ok, None, OnErr, OnOk, IfOk, IfSome};
+ghost use Rattle.std.specs.Prelude.{◌≡◌, ◌+◌, ◌||◌, drop, min, nat_le, true, false, ⊤, Ok, None, OnErr, OnOk, IfOk, IfErr, IfSome};
 ghost use Rattle.std.specs.Io.KnownBytes.{Keeps};
 ghost use Rattle.permit_http.specs.Stream.{Filled};
-ghost use Rattle.permit_http.specs.Spans.{GivesHead, GivesMessage, Holds, ReadsMessage, message_at, view_of, IsFound};
+ghost use Rattle.permit_http.specs.Spans.{GivesHead, GivesMessage, Holds, ReadsMessage, StopsAt, message_at, view_of, IsFound};
 ghost use Rattle.httparse.specs.Grammar.{RequestHead};
 
 use crate::fault::MessageFault;
@@ -76,6 +76,7 @@ impl Inbox {
         requires found { (h : RequestHead) × IsFound self.old.bytes headers.now found h }
         ensures filled { Filled self.old self.new (R.remaining reader.old) (R.remaining reader.new) }
         ensures gives { ReadsMessage self.old self.new (R.remaining reader.old) (R.remaining reader.new) result }
+        ensures unfinished { IfErr result (StopsAt self.new.bytes) }
         ensures held { IfOk result (λ o. IfSome o (λ s. Holds self.new s)) }
         ensures some { result ≡ Ok None → ⊥ }
     {
@@ -94,6 +95,7 @@ impl Inbox {
     fn read_open<R: Read>(&mut self, reader: &mut R) -> Result<Option<MessageSpans>, MessageFault>
         ensures filled { Filled self.old self.new (R.remaining reader.old) (R.remaining reader.new) }
         ensures gives { ReadsMessage self.old self.new (R.remaining reader.old) (R.remaining reader.new) result }
+        ensures unfinished { IfErr result (StopsAt self.new.bytes) }
         ensures held { IfOk result (λ o. IfSome o (λ s. Holds self.new s)) }
         ensures ended { result ≡ Ok None → self.new ≡ self.old }
     {
@@ -121,6 +123,7 @@ impl Inbox {
     ) -> Result<Option<MessageSpans>, MessageFault>
         ensures shut { self.old.closed ≡ true → (result ≡ Ok None) × Keeps (R.remaining reader.old) (R.remaining reader.new) }
         ensures gives { self.old.closed ≡ false → ReadsMessage self.old self.new (R.remaining reader.old) (R.remaining reader.new) result }
+        ensures unfinished { IfErr result (StopsAt self.new.bytes) }
         ensures held { IfOk result (λ o. IfSome o (λ s. Holds self.new s)) }
         ensures ended { result ≡ Ok None → self.new ≡ self.old }
         ensures stays { OnOk result (self.new.closed ≡ self.old.closed) }

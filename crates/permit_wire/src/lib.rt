@@ -1,0 +1,5 @@
+//! From the bytes of a connection to a request of the office.
+#![tactic(auto)]
+
+pub mod error;
+pub mod read;
