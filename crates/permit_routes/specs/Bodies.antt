@@ -28,6 +28,10 @@ said body = text_in body >>= read
 abbrev pub has_members : ℕ → Data → Bool
 has_members n d = unwrap_or (option_map (λ ms. members_len ms == n) (as_object d)) false
 
+-- what a body says, where it is an object of so many members
+abbrev pub object_of : ℕ → List ℕ → Option Data
+object_of n body = said body >>= only_if (has_members n)
+
 -- the unsigned whole number at the key, within the limits
 abbrev pub number_at : (ℕ → Bool) → List ℕ → Data → Option ℕ
 number_at limits key d = get key d >>= as_number >>= as_u64 >>= only_if limits
