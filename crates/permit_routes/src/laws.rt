@@ -1,6 +1,9 @@
-//! Worked examples of the routes: functions with nothing to do, whose contracts are the examples.
+//! Laws and worked examples of the routes: functions with nothing to do, whose contracts are the laws.
 
-ghost use Rattle.std.specs.Prelude.{◌≡◌, codes, Some, None};
+ghost use Rattle.std.specs.Prelude.{◌≡◌, ℕ, List, IsTrue, codes, Some, None};
+ghost use Rattle.std.specs.Fmt.{decimal};
+ghost use Rattle.permit_base.specs.Limits.{is_object_number};
+ghost use Rattle.permit_routes.specs.Ids.{id_in};
 ghost use Rattle.permit_routes.specs.Targets.{target_of};
 ghost use Rattle.permit_base.specs.declared.words.Action.TheVariants.{Issue};
 ghost use Rattle.permit_routes.specs.declared.routing.Target.TheVariants.{Parties, Transfer, Declare, ReadParcel, OnFile, ReadFile};
@@ -30,4 +33,10 @@ pub fn worked_refusals()
     ensures a_read_as_a_command { target_of (codes "POST") (codes "/files/1/read") ≡ None }
     ensures a_command_on_a_parcel { target_of (codes "POST") (codes "/parcels/1/issue") ≡ None }
     ensures a_command_by_get { target_of (codes "GET") (codes "/files/1/issue") ≡ None }
+{}
+
+/// An id is the decimal spelling of a number from 1 to 99999, and each of these numbers has that one.
+pub fn each_id_has_one_spelling()
+    ensures read { (n : ℕ) → IsTrue (is_object_number n) → id_in (decimal n) ≡ Some n }
+    ensures spelled { (word : List ℕ) (n : ℕ) → id_in word ≡ Some n → IsTrue (is_object_number n) × (decimal n ≡ word) }
 {}
