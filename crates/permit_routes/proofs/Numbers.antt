@@ -1,5 +1,5 @@
 -- What the id of a path is parsed as.
-use Rattle.std.proofs.Common.{nat_le, ◌≡◌, ℕ, ◌<◌, ◌≤◌, ◌&&◌, not, List, length, Bool, true, false, cond, refl, sym, ap, ◌∙◌, arith, rules, Result, Ok, Err, Option, Some, None}
+use Rattle.std.proofs.Common.{nat_le, ◌≡◌, ℕ, ◌≤◌, ◌&&◌, not, List, length, Bool, true, false, cond, refl, arith, rules, Result, Ok, Err, Some, None}
 use Rattle.std.specs.List.{list_all}
 use Rattle.std.specs.Char.{is_ascii_digit}
 use Rattle.std.specs.Str.Parse.{digits_value, ParsesUnsigned}

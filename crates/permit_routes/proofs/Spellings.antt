@@ -1,5 +1,5 @@
 -- Each number within the limit has one spelling, and no other word is an id.
-use Rattle.std.proofs.Common.{nat_le, ◌≡◌, ◌≢◌, ◌==◌, ℕ, ◌<◌, ◌≤◌, ◌^◌, ◌&&◌, not, List, [], ◌∷◌, length, get_or, Bool, true, false, refl, sym, ap, ◌∙◌, arith, Option, Some, None, eqb-true}
+use Rattle.std.proofs.Common.{nat_le, ◌≡◌, ◌≢◌, ℕ, ◌<◌, ◌≤◌, ◌^◌, ◌&&◌, not, List, [], ◌∷◌, length, get_or, Bool, true, false, refl, sym, ap, ◌∙◌, arith, Some, None}
 use Rattle.std.specs.Fmt.{decimal}
 use Rattle.std.specs.List.{list_all}
 use Rattle.std.specs.Char.{is_ascii_digit}
@@ -8,7 +8,7 @@ use Rattle.std.proofs.lemmas.Fmt.{decimal_nonempty, first_decimal, digits_decima
 use Rattle.std.proofs.lemmas.Bool.{and_parts, leb-true, le-leb}
 use Rattle.std.proofs.lemmas.Bool.Decides.{nat_tests}
 use Rattle.permit_base.specs.Limits.{only_if, is_object_number}
-use Rattle.permit_routes.specs.Ids.{is_plain_number, starts_with_zero, number_in, id_in}
+use Rattle.permit_routes.specs.Ids.{is_plain_number, starts_with_zero, id_in}
 use Rattle.permit_routes.proofs.Numbers.{own}
 
 first_no_zero : (word : List ℕ) → not (starts_with_zero word) ≡ true → get_or word 0 0 ≢ 48

@@ -1,5 +1,5 @@
 -- What a request's body says: an object with exactly the keys of its request.
-use Rattle.std.specs.Prelude.{ℕ, ◌==◌, ◌&&◌, nat_le, List, length, Bool, false, if◌then◌else◌, Option, Some, None, option_and_then, option_map, codes, unwrap_or}
+use Rattle.std.specs.Prelude.{ℕ, ◌==◌, List, length, Bool, false, if◌then◌else◌, Option, Some, option_and_then, option_map, codes, unwrap_or}
 use Rattle.std.specs.Str.Lossy.{utf8_valid_len}
 use Rattle.serde_json.specs.Data.{Data}
 use Rattle.serde_json.specs.Read.{read}

@@ -1,6 +1,6 @@
 -- The command on a file that an action and a body make.
 use Rattle.std.specs.Prelude.{ℕ, List, Option, Some, None, option_map, codes}
-use Rattle.permit_base.specs.Limits.{only_if, is_object_number, is_days, is_paper_number}
+use Rattle.permit_base.specs.Limits.{is_object_number, is_days, is_paper_number}
 use Rattle.permit_base.specs.Texts.{is_printable}
 use Rattle.permit_base.specs.Words.{step_word, all_steps}
 use Rattle.permit_base.specs.declared.words.Step.{Step}
@@ -51,21 +51,25 @@ bare_command action.Lift = Some command.Lift
 bare_command action.Certify = Some command.Certify
 bare_command _ = None
 
+-- the command of an action whose body has the key text alone, or no key
+abbrev pub text_command : Action → List ℕ → Option Command
+text_command action.Return body = option_map command.Return (text_alone body)
+text_command action.Resubmit body = option_map command.Resubmit (text_alone body)
+text_command action.Reject body = option_map command.Reject (text_alone body)
+text_command action.RefuseExtension body = option_map command.RefuseExtension (text_alone body)
+text_command action.Notice body = option_map command.Notice (text_alone body)
+text_command action.Revoke body = option_map command.Revoke (text_alone body)
+text_command other body = object_of 0 body >>= λ d. bare_command other
+
 -- the command that an action and a body make
 abbrev pub command_of : Action → List ℕ → Option Command
 command_of action.AssignReviewer body = option_map command.AssignReviewer (party_in body)
 command_of action.AssignInspector body = option_map command.AssignInspector (party_in body)
 command_of action.NameContractor body = option_map command.NameContractor (party_in body)
-command_of action.Return body = option_map command.Return (text_alone body)
-command_of action.Resubmit body = option_map command.Resubmit (text_alone body)
-command_of action.Reject body = option_map command.Reject (text_alone body)
-command_of action.RefuseExtension body = option_map command.RefuseExtension (text_alone body)
-command_of action.Notice body = option_map command.Notice (text_alone body)
-command_of action.Revoke body = option_map command.Revoke (text_alone body)
 command_of action.AskExtension body = option_map (λ d. command.AskExtension d.0 d.1) (days_and_text body)
 command_of action.Temporary body = option_map (λ d. command.Temporary d.0 d.1) (days_and_text body)
 command_of action.RequestInspection body = option_map command.RequestInspection (step_in body)
 command_of action.ApproveStep body = option_map command.ApproveStep (step_in body)
 command_of action.ClearNotice body = option_map command.ClearNotice (paper_in body)
 command_of action.Stop body = option_map (λ d. command.Stop d.0 d.1) (text_and_conditions body)
-command_of other body = object_of 0 body >>= λ d. bare_command other
+command_of other body = text_command other body

@@ -1,7 +1,7 @@
 -- The request that a target and a body make.
 use Rattle.std.specs.Prelude.{ℕ, ◌==◌, List, length, Option, Some, None, option_map, codes, if◌then◌else◌}
 use Rattle.serde_json.specs.Data.{Data}
-use Rattle.permit_base.specs.Limits.{only_if, is_object_number, is_cents}
+use Rattle.permit_base.specs.Limits.{is_object_number, is_cents}
 use Rattle.permit_base.specs.Texts.{is_printable, is_lot, is_token}
 use Rattle.permit_base.specs.Words.{role_word, all_roles, kind_word, all_kinds}
 use Rattle.permit_base.specs.declared.request.Request.{Request}

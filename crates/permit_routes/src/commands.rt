@@ -2,7 +2,7 @@
 
 ghost use Rattle.std.specs.Prelude.{◌≡◌};
 ghost use Rattle.permit_routes.specs.Outcome.{Means, same};
-ghost use Rattle.permit_routes.specs.Commands.{party_in, text_alone, step_in, paper_in, days_and_text, text_and_conditions, bare_command, command_of};
+ghost use Rattle.permit_routes.specs.Commands.{party_in, text_alone, step_in, paper_in, days_and_text, text_and_conditions, bare_command, text_command, command_of};
 
 use crate::document::{days_at, object, paper_at, party_at, text_at, word_at};
 use crate::fault::BodyFault;
@@ -79,20 +79,11 @@ fn bare_command(action: Action) -> Option<Command>
     }
 }
 
-/// The command that an action and a body make. An action that is no command on a file has none.
-pub fn command(alloc: Global, action: Action, body: &[u8]) -> Result<Command, BodyFault>
-    ensures { Means same result (command_of action body.now) }
+/// The command of an action whose body has the key `text` alone, or no key.
+fn text_command(alloc: Global, action: Action, body: &[u8]) -> Result<Command, BodyFault>
+    ensures { Means same result (text_command action body.now) }
 {
     match action {
-        Action::AssignReviewer => Ok(Command::AssignReviewer {
-            party: party_in(alloc, body)?,
-        }),
-        Action::AssignInspector => Ok(Command::AssignInspector {
-            party: party_in(alloc, body)?,
-        }),
-        Action::NameContractor => Ok(Command::NameContractor {
-            party: party_in(alloc, body)?,
-        }),
         Action::Return => Ok(Command::Return {
             text: text_alone(alloc, body)?,
         }),
@@ -110,6 +101,27 @@ pub fn command(alloc: Global, action: Action, body: &[u8]) -> Result<Command, Bo
         }),
         Action::Revoke => Ok(Command::Revoke {
             text: text_alone(alloc, body)?,
+        }),
+        _ => {
+            object(alloc, body, 0)?;
+            bare_command(action).ok_or(BodyFault::Refused)
+        }
+    }
+}
+
+/// The command that an action and a body make. An action that is no command on a file has none.
+pub fn command(alloc: Global, action: Action, body: &[u8]) -> Result<Command, BodyFault>
+    ensures { Means same result (command_of action body.now) }
+{
+    match action {
+        Action::AssignReviewer => Ok(Command::AssignReviewer {
+            party: party_in(alloc, body)?,
+        }),
+        Action::AssignInspector => Ok(Command::AssignInspector {
+            party: party_in(alloc, body)?,
+        }),
+        Action::NameContractor => Ok(Command::NameContractor {
+            party: party_in(alloc, body)?,
         }),
         Action::AskExtension => {
             let (days, text) = days_and_text(alloc, body)?;
@@ -132,9 +144,6 @@ pub fn command(alloc: Global, action: Action, body: &[u8]) -> Result<Command, Bo
             let (text, conditions) = text_and_conditions(alloc, body)?;
             Ok(Command::Stop { text, conditions })
         }
-        _ => {
-            object(alloc, body, 0)?;
-            bare_command(action).ok_or(BodyFault::Refused)
-        }
+        _ => text_command(alloc, action, body),
     }
 }
