@@ -1,6 +1,5 @@
 -- The ASCII test of a text, and the routes' patterns.
-use Rattle.std.proofs.Common.{suc, ◌≡◌, ℕ, List, [], ◌∷◌, ◌&&◌, true, false, cond, nat_lt, Option, Some, None, refl, sym, ap, ◌∙◌}
-use Rattle.std.specs.List.{list_all}
+use Rattle.std.proofs.Common.{suc, ◌≡◌, ℕ, List, [], ◌∷◌, ◌&&◌, true, nat_lt, Some, refl, ap, ◌∙◌}
 use Rattle.std.specs.Str.{IsAscii}
 use Rattle.std.proofs.lemmas.Str.Ascii.{IsAscii-nil, IsAscii-cons}
 use Rattle.std.proofs.lemmas.Bool.{and_parts, ltb-true, lt-ltb}

@@ -1,5 +1,5 @@
 -- What the id of a path is parsed as.
-use Rattle.std.proofs.Common.{nat_le, ◌≡◌, ℕ, ◌<◌, ◌≤◌, ◌&&◌, not, List, length, Bool, true, false, cond, refl, sym, ap, ◌∙◌, arith, rules, Result, Ok, Err, Option, Some, None}
+use Rattle.std.proofs.Common.{nat_le, ◌≡◌, ℕ, ◌≤◌, ◌&&◌, not, List, length, Bool, true, false, cond, refl, arith, rules, Result, Ok, Err, Some, None}
 use Rattle.std.specs.List.{list_all}
 use Rattle.std.specs.Char.{is_ascii_digit}
 use Rattle.std.specs.Str.Parse.{digits_value, ParsesUnsigned}
@@ -8,7 +8,7 @@ use Rattle.std.proofs.lemmas.Bool.{and_parts, leb-true}
 use Rattle.permit_base.specs.Limits.{only_if, is_object_number}
 use Rattle.permit_routes.specs.Ids.{is_plain_number, starts_with_zero, id_in}
 
-own : IsNumeralModel (λ ds. list_all is_ascii_digit ds ≡ true) (digits_value 10)
+pub own : IsNumeralModel (λ ds. list_all is_ascii_digit ds ≡ true) (digits_value 10)
 own = numerals_by_value _ (search rules)
 
 -- digits within the limit are read

@@ -1,5 +1,5 @@
 -- What a request's body says: an object with exactly the keys of its request.
-use Rattle.std.specs.Prelude.{ℕ, ◌==◌, ◌&&◌, nat_le, List, length, Bool, false, if◌then◌else◌, Option, Some, None, option_and_then, option_map, codes, unwrap_or}
+use Rattle.std.specs.Prelude.{ℕ, ◌==◌, List, length, Bool, false, if◌then◌else◌, Option, Some, option_and_then, option_map, codes, unwrap_or}
 use Rattle.std.specs.Str.Lossy.{utf8_valid_len}
 use Rattle.serde_json.specs.Data.{Data}
 use Rattle.serde_json.specs.Read.{read}
@@ -27,6 +27,10 @@ said body = text_in body >>= read
 -- an object of that many members; each key stands once in it
 abbrev pub has_members : ℕ → Data → Bool
 has_members n d = unwrap_or (option_map (λ ms. members_len ms == n) (as_object d)) false
+
+-- what a body says, where it is an object of so many members
+abbrev pub object_of : ℕ → List ℕ → Option Data
+object_of n body = said body >>= only_if (has_members n)
 
 -- the unsigned whole number at the key, within the limits
 abbrev pub number_at : (ℕ → Bool) → List ℕ → Data → Option ℕ

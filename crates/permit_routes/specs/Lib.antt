@@ -1,5 +1,6 @@
 pub mod Bearer
 pub mod Bodies
+pub mod Commands
 pub mod Ids
 pub mod Outcome
 pub mod Requests

@@ -6,7 +6,7 @@ use Rattle.matchit.specs.Route.{Scan, parse_route}
 use Rattle.matchit.specs.Router.{RouteOf, route_from}
 use Rattle.matchit.specs.declared.error.InsertError.{InsertError}
 use Rattle.permit_routes.specs.declared.routing.Endpoint.{Endpoint}
-use Rattle.permit_routes.specs.declared.routing.Endpoint.TheVariants.{Parties, Parcels, Files, File}
+use Rattle.permit_routes.specs.declared.routing.Endpoint.TheVariants.{Parties, Parcels, ParcelAction, Files, FileAction, Parcel, File}
 
 -- a pattern, and what it stands for
 abbrev pub Entry : Type 0
@@ -29,11 +29,16 @@ abbrev pub post_table : List Entry
 post_table =
     (codes "/parties", Parties)
     ∷ (codes "/parcels", Parcels)
+    ∷ (codes "/parcels/{id}/{action}", ParcelAction)
     ∷ (codes "/files", Files)
+    ∷ (codes "/files/{id}/{action}", FileAction)
     ∷ []
 
 abbrev pub get_table : List Entry
-get_table = (codes "/files/{id}", File) ∷ []
+get_table =
+    (codes "/parcels/{id}", Parcel)
+    ∷ (codes "/files/{id}", File)
+    ∷ []
 
 unfoldable pub post_rows : Rows
 post_rows = routed post_table []

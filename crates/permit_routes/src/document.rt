@@ -3,13 +3,13 @@
 ghost use Rattle.std.specs.Prelude.{◌≡◌, ◌≤◌, IfOk, IfSome, option_map, string_bytes, nat_le};
 ghost use Rattle.serde_json.specs.View.{view};
 ghost use Rattle.serde_json.specs.Read.{read};
-ghost use Rattle.permit_base.specs.Limits.{is_between, is_object_number, is_cents};
+ghost use Rattle.permit_base.specs.Limits.{is_between, is_object_number, is_days, is_paper_number, is_cents};
 ghost use Rattle.permit_base.specs.Texts.{is_printable, is_lot, is_token};
-ghost use Rattle.permit_routes.specs.Bodies.{text_in, said, has_members, number_at, string_at, text_at, word_at};
+ghost use Rattle.permit_routes.specs.Bodies.{text_in, said, has_members, object_of, number_at, string_at, text_at, word_at};
 ghost use Rattle.permit_routes.specs.Outcome.{Means, same};
 
 use crate::fault::BodyFault;
-use permit_base::values::{Cents, Lot, ParcelId, PartyId, Text, Token};
+use permit_base::values::{Cents, Days, Lot, PaperNumber, ParcelId, PartyId, Text, Token};
 use permit_base::words::Word;
 use serde_json::Value;
 use std::alloc::Global;
@@ -44,7 +44,7 @@ fn value_of(alloc: Global, text: &str) -> Result<Value, BodyFault>
 }
 
 /// What a body says as JSON.
-pub fn document(alloc: Global, body: &[u8]) -> Result<Value, BodyFault>
+fn document(alloc: Global, body: &[u8]) -> Result<Value, BodyFault>
     ensures { Means view result (said body.now) }
 {
     match body_text(body) {
@@ -54,12 +54,24 @@ pub fn document(alloc: Global, body: &[u8]) -> Result<Value, BodyFault>
 }
 
 /// Whether a value is an object of so many members.
-pub fn has_members(value: &Value, members: usize) -> bool
+fn has_members(value: &Value, members: usize) -> bool
     ensures { result ≡ has_members members (view value.now) }
 {
     match value.as_object() {
         Some(map) => map.len() == members,
         None => false,
+    }
+}
+
+/// What a body says, where it is an object of so many members.
+pub fn object(alloc: Global, body: &[u8], members: usize) -> Result<Value, BodyFault>
+    ensures { Means view result (object_of members body.now) }
+{
+    let value = document(alloc, body)?;
+    if has_members(&value, members) {
+        Ok(value)
+    } else {
+        Err(BodyFault::Refused)
     }
 }
 
@@ -98,6 +110,22 @@ pub fn cents_at(value: &Value, key: &str) -> Result<Cents, BodyFault>
 {
     let number = number_at(value, key, 0, 9999999999999).ok_or(BodyFault::Refused)?;
     Cents::new(number).ok_or(BodyFault::Refused)
+}
+
+/// The count of days at a key.
+pub fn days_at(value: &Value, key: &str) -> Result<Days, BodyFault>
+    ensures { Means same result (number_at is_days key.now (view value.now)) }
+{
+    let number = number_at(value, key, 1, 365).ok_or(BodyFault::Refused)?;
+    Days::new(number as u32).ok_or(BodyFault::Refused)
+}
+
+/// The number of a paper, at a key.
+pub fn paper_at(value: &Value, key: &str) -> Result<PaperNumber, BodyFault>
+    ensures { Means same result (number_at is_paper_number key.now (view value.now)) }
+{
+    let number = number_at(value, key, 1, 9999).ok_or(BodyFault::Refused)?;
+    PaperNumber::new(number as u32).ok_or(BodyFault::Refused)
 }
 
 /// The string at a key.

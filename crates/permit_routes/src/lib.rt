@@ -2,9 +2,11 @@
 #![tactic(auto)]
 
 pub mod bearer;
+mod commands;
 mod document;
 pub mod fault;
 pub mod laws;
+mod parts;
 pub mod requests;
 pub mod routing;
 #[cfg(test)]

@@ -3,29 +3,17 @@
 ghost use Rattle.std.specs.Prelude.{codes};
 ghost use Rattle.serde_json.specs.View.{view};
 ghost use Rattle.permit_routes.specs.Outcome.{Means, same};
-ghost use Rattle.permit_routes.specs.Requests.{object_of, party_of, parcel_of, filing_of, request_of};
+ghost use Rattle.permit_routes.specs.Requests.{party_of, parcel_of, filing_of, transfer_of, without_keys, without_body, request_of};
 
-use crate::document::{
-    cents_at, document, has_members, lot_at, parcel_at, party_at, text_at, token_at, word_at,
-};
+use crate::commands::command;
+use crate::document::{cents_at, lot_at, object, parcel_at, party_at, text_at, token_at, word_at};
 use crate::fault::BodyFault;
 use crate::routing::Target;
 use permit_base::request::Request;
+use permit_base::values::ParcelId;
 use permit_base::words::{Kind, Role};
 use serde_json::Value;
 use std::alloc::Global;
-
-/// What a body says, where it is an object of so many members.
-fn object(alloc: Global, body: &[u8], members: usize) -> Result<Value, BodyFault>
-    ensures { Means view result (object_of members body.now) }
-{
-    let value = document(alloc, body)?;
-    if has_members(&value, members) {
-        Ok(value)
-    } else {
-        Err(BodyFault::Refused)
-    }
-}
 
 /// A new party.
 fn party(alloc: Global, value: &Value) -> Result<Request, BodyFault>
@@ -67,6 +55,33 @@ fn filing(alloc: Global, value: &Value) -> Result<Request, BodyFault>
     })
 }
 
+/// A transfer of a parcel.
+fn transfer(parcel: ParcelId, value: &Value) -> Result<Request, BodyFault>
+    ensures { Means same result (transfer_of parcel (view value.now)) }
+{
+    let to = party_at(value, "to")?;
+    Ok(Request::Transfer { parcel, to })
+}
+
+/// The request that a body without keys makes.
+fn without_keys(alloc: Global, request: Request, body: &[u8]) -> Result<Request, BodyFault>
+    ensures { Means same result (without_keys request body.now) }
+{
+    object(alloc, body, 0)?;
+    Ok(request)
+}
+
+/// The request that reads, which has no body.
+fn without_body(request: Request, body: &[u8]) -> Result<Request, BodyFault>
+    ensures { Means same result (without_body request body.now) }
+{
+    if body.is_empty() {
+        Ok(request)
+    } else {
+        Err(BodyFault::Refused)
+    }
+}
+
 /// The request of a target and a body, by what `serde_json` reads the body as.
 ///
 /// The body is an object with exactly the keys of its request; an empty body counts as `{}`. A target that
@@ -77,13 +92,14 @@ pub fn read_body(alloc: Global, target: Target, body: &[u8]) -> Result<Request, 
     match target {
         Target::Parties => party(alloc, &object(alloc, body, 3)?),
         Target::Parcels => parcel(alloc, &object(alloc, body, 3)?),
+        Target::Transfer(parcel) => transfer(parcel, &object(alloc, body, 1)?),
+        Target::Declare(parcel) => without_keys(alloc, Request::Declare { parcel }, body),
+        Target::ReadParcel(parcel) => without_body(Request::ReadParcel { parcel }, body),
         Target::Files => filing(alloc, &object(alloc, body, 4)?),
-        Target::ReadFile(file) => {
-            if body.is_empty() {
-                Ok(Request::ReadFile { file })
-            } else {
-                Err(BodyFault::Refused)
-            }
+        Target::OnFile { file, action } => {
+            let command = command(alloc, action, body)?;
+            Ok(Request::OnFile { file, command })
         }
+        Target::ReadFile(file) => without_body(Request::ReadFile { file }, body),
     }
 }

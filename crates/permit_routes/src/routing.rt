@@ -1,17 +1,16 @@
 //! The routes of the office, and the target of a method and a path.
 
-ghost use Rattle.std.specs.Prelude.{◌≡◌, ◌<◌, IfOk, OnOk, IfSome, option_map, IsAscii, IsTrue};
-ghost use Rattle.std.specs.List.{list_all};
-ghost use Rattle.std.specs.Char.{is_ascii_digit};
-ghost use Rattle.matchit.specs.Params.{walk, named};
+ghost use Rattle.std.specs.Prelude.{◌≡◌, IfOk, option_map, IsAscii, IsTrue};
+ghost use Rattle.matchit.specs.Params.{walk};
 ghost use Rattle.permit_base.specs.Limits.{only_if};
-ghost use Rattle.permit_routes.specs.Ids.{is_plain_number, id_in, starts_with_zero};
 ghost use Rattle.permit_routes.specs.Routes.{post_rows, get_rows};
-ghost use Rattle.permit_routes.specs.Targets.{are_ascii, are_ascii_rows, id_of, target_with, target_among, target_of};
+ghost use Rattle.permit_routes.specs.Targets.{are_ascii, are_ascii_rows, parcel_target, file_target, target_with, target_among, target_of};
 
+use crate::parts::{action_of, file_of, is_command, parcel_of};
 use http::Method;
 use matchit::{InsertError, Params, Router};
-use permit_base::values::FileId;
+use permit_base::values::{FileId, ParcelId};
+use permit_base::words::Action;
 use std::alloc::{AllocError, Global};
 
 /// What a pattern of the routes stands for.
@@ -19,7 +18,10 @@ use std::alloc::{AllocError, Global};
 enum Endpoint {
     Parties,
     Parcels,
+    ParcelAction,
     Files,
+    FileAction,
+    Parcel,
     File,
 }
 
@@ -30,8 +32,16 @@ pub enum Target {
     Parties,
     /// A new parcel.
     Parcels,
+    /// A parcel's next owner.
+    Transfer(ParcelId),
+    /// The caller's interest in a parcel.
+    Declare(ParcelId),
+    /// A parcel, to be read.
+    ReadParcel(ParcelId),
     /// The filing of an application.
     Files,
+    /// A command on a file. [`route`] gives the actions of the 22 commands alone.
+    OnFile { file: FileId, action: Action },
     /// A file, to be read.
     ReadFile(FileId),
 }
@@ -42,7 +52,9 @@ fn post_router(alloc: Global) -> Result<Router<Endpoint>, InsertError>
     let mut router = Router::new(alloc);
     router.insert("/parties", Endpoint::Parties)?;
     router.insert("/parcels", Endpoint::Parcels)?;
+    router.insert("/parcels/{id}/{action}", Endpoint::ParcelAction)?;
     router.insert("/files", Endpoint::Files)?;
+    router.insert("/files/{id}/{action}", Endpoint::FileAction)?;
     Ok(router)
 }
 
@@ -50,65 +62,31 @@ fn get_router(alloc: Global) -> Result<Router<Endpoint>, InsertError>
     ensures { IfOk result (λ r. r ≡ get_rows) }
 {
     let mut router = Router::new(alloc);
+    router.insert("/parcels/{id}", Endpoint::Parcel)?;
     router.insert("/files/{id}", Endpoint::File)?;
     Ok(router)
 }
 
-/// What a parameter took of an ASCII path, under an ASCII route.
-fn part<'p>(params: &Params<'_, 'p>, key: &str) -> Option<&'p str>
-    requires text { IsAscii params.now.text.now }
-    requires path { IsAscii params.now.path.now }
-    ensures { option_map (λ s. s.now) result ≡ named key.now (walk params.now.pattern.now params.now.text.now params.now.path.now params.now.names.now 0 0) }
+/// The target of an action on a parcel; reading one isn't among them.
+fn parcel_target(parcel: ParcelId, action: Action) -> Option<Target>
+    ensures { result ≡ parcel_target parcel action }
 {
-    params.get(key)
-}
-
-fn are_digits(word: &[u8]) -> bool
-    ensures { result ≡ list_all is_ascii_digit word.now }
-{
-    word.iter().all(|b| b.is_ascii_digit())
-}
-
-fn starts_with_zero(word: &[u8]) -> bool
-    ensures { result ≡ starts_with_zero word.now }
-{
-    matches!(word, [b'0', ..])
-}
-
-/// Whether these are digits without a leading zero.
-fn is_plain_number(word: &str) -> bool
-    ensures { result ≡ is_plain_number word.now }
-{
-    !word.is_empty() && are_digits(word.as_bytes()) && !starts_with_zero(word.as_bytes())
-}
-
-/// The number from 1 to 99999 that a word spells without leading zeros.
-fn id(word: &str) -> Option<u32>
-    ensures number { result ≡ id_in word.now }
-    ensures within { IfSome result (λ n. (0 < n) × (n < 100000)) }
-{
-    if !is_plain_number(word) {
-        return None;
-    }
-    match word.parse::<u32>() {
-        Ok(number) if 1 <= number && number <= 99999 => Some(number),
+    match action {
+        Action::Transfer => Some(Target::Transfer(parcel)),
+        Action::Declare => Some(Target::Declare(parcel)),
         _ => None,
     }
 }
 
-fn file_id(word: &str) -> Option<FileId>
-    ensures { result ≡ id_in word.now }
+/// The target of an action on a file; filing, reading and listing aren't among them.
+fn file_target(file: FileId, action: Action) -> Option<Target>
+    ensures { result ≡ file_target file action }
 {
-    FileId::new(id(word)?)
-}
-
-/// The file that the parameter `id` names.
-fn file_of(params: &Params<'_, '_>) -> Option<FileId>
-    requires text { IsAscii params.now.text.now }
-    requires path { IsAscii params.now.path.now }
-    ensures { result ≡ id_of (walk params.now.pattern.now params.now.text.now params.now.path.now params.now.names.now 0 0) }
-{
-    file_id(part(params, "id")?)
+    if is_command(action) {
+        Some(Target::OnFile { file, action })
+    } else {
+        None
+    }
 }
 
 /// The target that an endpoint has with these parameters.
@@ -120,7 +98,10 @@ fn target_with(endpoint: Endpoint, params: &Params<'_, '_>) -> Option<Target>
     match endpoint {
         Endpoint::Parties => Some(Target::Parties),
         Endpoint::Parcels => Some(Target::Parcels),
+        Endpoint::ParcelAction => parcel_target(parcel_of(params)?, action_of(params)?),
+        Endpoint::Parcel => Some(Target::ReadParcel(parcel_of(params)?)),
         Endpoint::Files => Some(Target::Files),
+        Endpoint::FileAction => file_target(file_of(params)?, action_of(params)?),
         Endpoint::File => Some(Target::ReadFile(file_of(params)?)),
     }
 }

@@ -4,9 +4,10 @@ use crate::bearer::read_token;
 use crate::fault::BodyFault;
 use crate::requests::read_body;
 use crate::routing::{Target, route};
-use permit_base::request::Request;
-use permit_base::values::FileId;
-use permit_base::words::{Kind, Role};
+use permit_base::request::{Command, Request};
+use permit_base::values::{FileId, ParcelId};
+use permit_base::words::{Action, Kind, Role, Step};
+use std::alloc::Global;
 use std::test::Fail;
 
 #[test]
@@ -25,7 +26,12 @@ fn routes_have_targets(rt: HostRuntime) -> Result<(), Fail> {
         route(rt.alloc(), b"GET", b"/files/1")?,
         Some(Target::ReadFile(file))
     );
-    assert_eq!(rt; route(rt.alloc(), b"GET", b"/files/01")?, None);
+    let issue = Target::OnFile {
+        file,
+        action: Action::Issue,
+    };
+    assert_eq!(rt; route(rt.alloc(), b"POST", b"/files/1/issue")?, Some(issue));
+    assert_eq!(rt; route(rt.alloc(), b"POST", b"/files/01/issue")?, None);
     assert_eq!(rt; route(rt.alloc(), b"GET", b"/files?x=1")?, None);
     assert_eq!(rt; route(rt.alloc(), b"BREW", b"/files")?, None);
     assert_eq!(rt; route(rt.alloc(), b"GET", b"/files/\xc3\xa9")?, None);
@@ -75,6 +81,73 @@ fn a_party_and_a_parcel_are_read(rt: HostRuntime) -> Result<(), Fail> {
     assert_eq!(rt; lot.as_str(), "A-1");
     assert_eq!(rt; address.as_str(), "1 Main Street");
     assert_eq!(rt; owner.get(), 5);
+    Ok(())
+}
+
+/// What a command on file 1 is, by a body.
+fn command_in(alloc: Global, action: Action, body: &[u8]) -> Result<Command, Fail> {
+    let file = FileId::new(1).ok_or("no id")?;
+    let target = Target::OnFile { file, action };
+    let request = read_body(alloc, target, body).map_err(|_| "refused")?;
+    let Request::OnFile { file: _, command } = request else {
+        return Err(Fail::from("another request"))
+    };
+    Ok(command)
+}
+
+#[test]
+fn commands_are_read(rt: HostRuntime) -> Result<(), Fail> {
+    let command = command_in(rt.alloc(), Action::Issue, b"")?;
+    assert!(rt; matches!(command, Command::Issue));
+    let command = command_in(rt.alloc(), Action::Lift, b" { } ")?;
+    assert!(rt; matches!(command, Command::Lift));
+    let command = command_in(rt.alloc(), Action::AssignReviewer, br#"{"party":3}"#)?;
+    assert!(rt; matches!(command, Command::AssignReviewer { party } if party.get() == 3));
+    let command = command_in(rt.alloc(), Action::Return, br#"{"text":"Stairs"}"#)?;
+    assert!(rt; matches!(&command, Command::Return { text } if text.as_str() == "Stairs"));
+    let command = command_in(
+        rt.alloc(),
+        Action::AskExtension,
+        br#"{"text":"Rain","days":90}"#,
+    )?;
+    assert!(rt;
+        matches!(&command, Command::AskExtension { days, text } if days.get() == 90 && text.as_str() == "Rain")
+    );
+    let command = command_in(rt.alloc(), Action::ApproveStep, br#"{"step":"footing"}"#)?;
+    assert!(rt;
+        matches!(
+            command,
+            Command::ApproveStep {
+                step: Step::Footing
+            }
+        )
+    );
+    let command = command_in(rt.alloc(), Action::ClearNotice, br#"{"paper":9999}"#)?;
+    assert!(rt; matches!(command, Command::ClearNotice { paper } if paper.get() == 9999));
+    let command = command_in(
+        rt.alloc(),
+        Action::Stop,
+        br#"{"text":"Unsafe","conditions":"Shore it"}"#,
+    )?;
+    assert!(rt;
+        matches!(&command, Command::Stop { text, conditions } if text.as_str() == "Unsafe" && conditions.as_str() == "Shore it")
+    );
+    Ok(())
+}
+
+#[test]
+fn requests_on_a_parcel_are_read(rt: HostRuntime) -> Result<(), Fail> {
+    let id = ParcelId::new(2).ok_or("no id")?;
+    let request = read_body(rt.alloc(), Target::Transfer(id), br#"{"to":6}"#).map_err(
+        |_| "refused",
+    )?;
+    assert!(rt;
+        matches!(&request, Request::Transfer { parcel, to } if *parcel == id && to.get() == 6)
+    );
+    let request = read_body(rt.alloc(), Target::Declare(id), b"{}").map_err(|_| "refused")?;
+    assert!(rt; matches!(&request, Request::Declare { parcel } if *parcel == id));
+    let request = read_body(rt.alloc(), Target::ReadParcel(id), b"").map_err(|_| "refused")?;
+    assert!(rt; matches!(&request, Request::ReadParcel { parcel } if *parcel == id));
     Ok(())
 }
 

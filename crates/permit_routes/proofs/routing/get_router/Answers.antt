@@ -5,4 +5,4 @@ use Rattle.permit_routes.proofs.routing.get_router.Goals as goal
 
 pub returns : goal.returns
 unfolding matchit_on_literals get_rows
-returns c = rw (c.in_ok-insert.ensures.1, c.new-router.ensures) refl
+returns c = rw (c.in_ok-insert-2.ensures.1, c.in_ok-insert.ensures.1, c.new-router.ensures) refl

@@ -1,5 +1,5 @@
 use Rattle.permit_routes.proofs.Rows.{walk_text, part_of_match}
-use Rattle.permit_routes.proofs.routing.part.Goals as goal
+use Rattle.permit_routes.proofs.parts.part.Goals as goal
 
 pub returns : goal.returns
 returns c =

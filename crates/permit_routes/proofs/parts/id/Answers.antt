@@ -1,6 +1,6 @@
 use Rattle.std.proofs.Common.{sym, ◌∙◌}
 use Rattle.permit_routes.proofs.Numbers.{unread}
-use Rattle.permit_routes.proofs.routing.id.Goals as goal
+use Rattle.permit_routes.proofs.parts.id.Goals as goal
 
 pub returns-in_default-3-clause-number : goal.returns-in_default-3-clause-number
 returns-in_default-3-clause-number c =
