@@ -1,0 +1,6 @@
+//! The exact text of every answer, and writing it.
+#![tactic(auto)]
+
+pub mod answer;
+mod line;
+
