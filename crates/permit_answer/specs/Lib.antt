@@ -2,3 +2,4 @@ pub mod AnswerText
 pub mod Line
 pub mod Outgoing
 pub mod RowData
+pub mod Examples

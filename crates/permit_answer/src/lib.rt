@@ -4,3 +4,4 @@
 pub mod answer;
 mod line;
 
+pub mod examples;
