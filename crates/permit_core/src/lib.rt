@@ -3,3 +3,4 @@
 
 pub mod row;
 pub mod state;
+pub mod steps;
