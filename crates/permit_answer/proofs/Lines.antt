@@ -92,3 +92,12 @@ pub fitting : (now text : List ℕ) → length text ≤ 512 → now ≡ take roo
 unfolding room
 fitting now text h e = e ∙ take_all 512 text h
 
+-- the same of a piece that is said in other words
+pub push_as : (mid next old said piece : List ℕ) → mid ≡ take room old → said ≡ piece → next ≡ take room (mid ++ said) → next ≡ take room (old ++ piece)
+push_as mid next old said piece e s f = push_on mid next old piece e (f ∙ ap (λ x. take room (mid ++ x)) s)
+
+-- a body behind a head
+pub whole_push : (first body said next : List ℕ) → length first ≤ 256 → length body ≤ 128 → said ≡ body → next ≡ take room (first ++ said) → next ≡ first ++ body
+whole_push first body said next h k s f =
+    let short : length (first ++ body) ≤ 512 = omega (arith, length-append first body) in
+    fitting next (first ++ body) short (f ∙ ap (λ x. take room (first ++ x)) s)

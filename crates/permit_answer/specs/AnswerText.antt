@@ -73,14 +73,21 @@ phrase code =
 abbrev pub refused_text : List ℕ → List ℕ
 refused_text word = codes "{\"refused\":\"" ++ word ++ codes "\"}"
 
--- a denial names its rule, and a command that isn't admitted its reason
+-- a denial names its rule
+abbrev pub denied_text : List ℕ → List ℕ
+denied_text rule = codes "{\"refused\":\"denied\",\"rule\":\"" ++ rule ++ codes "\"}"
+
+-- a refusal of a command that isn't admitted names the reason
+abbrev pub not_admitted_text : List ℕ → List ℕ
+not_admitted_text reason = codes "{\"reason\":\"" ++ reason ++ codes "\",\"refused\":\"not-admitted\"}"
+
 abbrev pub refusal_text : Refusal → List ℕ
 refusal_text refusal.Syntax = refused_text (codes "syntax")
 refusal_text refusal.Caller = refused_text (codes "caller")
 refusal_text refusal.Clock = refused_text (codes "clock")
 refusal_text refusal.Record = refused_text (codes "record")
-refusal_text (refusal.Denied rule) = codes "{\"refused\":\"denied\",\"rule\":\"" ++ rule ++ codes "\"}"
-refusal_text (refusal.NotAdmitted reason) = codes "{\"reason\":\"" ++ reason_word reason ++ codes "\",\"refused\":\"not-admitted\"}"
+refusal_text (refusal.Denied rule) = denied_text rule
+refusal_text (refusal.NotAdmitted reason) = not_admitted_text (reason_word reason)
 refusal_text refusal.Store = refused_text (codes "store")
 
 abbrev pub fault_text : Fault → List ℕ

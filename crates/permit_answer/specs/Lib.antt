@@ -3,3 +3,4 @@ pub mod Line
 pub mod Outgoing
 pub mod RowData
 pub mod Examples
+pub mod Made

@@ -28,6 +28,10 @@ pub enum Fault {
 /// The reply to a request, with its action and the day on which it was served, or a fault.
 #[derive(Drop)]
 pub enum Answer {
-    Replied { reply: Reply, action: Action, day: Day },
+    Replied {
+        reply: Reply,
+        action: Action,
+        day: Day,
+    },
     Fault(Fault),
 }

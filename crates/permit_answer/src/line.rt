@@ -28,7 +28,10 @@ impl Line {
     pub fn new() -> Line
         ensures { result ≡ [] }
     {
-        Line { bytes: [0; 512], len: 0 }
+        Line {
+            bytes: [0; 512],
+            len: 0,
+        }
     }
 
     pub fn len(&self) -> usize
