@@ -31,8 +31,8 @@ refusal_code refusal.Syntax = 400
 refusal_code refusal.Caller = 401
 refusal_code refusal.Clock = 503
 refusal_code refusal.Record = 404
-refusal_code (refusal.Denied rule) = 403
-refusal_code (refusal.NotAdmitted reason) = 409
+refusal_code (refusal.Denied _) = 403
+refusal_code (refusal.NotAdmitted _) = 409
 refusal_code refusal.Store = 500
 
 abbrev pub fault_code : Fault → ℕ

@@ -4,3 +4,4 @@ pub mod Outgoing
 pub mod RowData
 pub mod Examples
 pub mod Made
+pub mod Inserted

@@ -9,7 +9,7 @@ ghost use Rattle.permit_answer.specs.Made.{made_bytes};
 use crate::answer::{Answer, Fault};
 use crate::in_place::{done_body, fault_body, head, in_place, refusal_body};
 use crate::line::Line;
-use crate::rows::parcel_text;
+use crate::rows::{file_text, parcel_text};
 use crate::status::{fault_status, refusal_status};
 use http::StatusCode;
 use permit_office::reply::Reply;
@@ -88,7 +88,7 @@ fn make(alloc: Global, answer: &Answer, close: bool) -> Result<Made, AllocError>
                 close,
             ))),
             Reply::Parcel(parcel) => in_memory(alloc, parcel_text(alloc, parcel)?.as_str(), close),
-            Reply::File(_, _) => Err(AllocError),
+            Reply::File(file, papers) => in_memory(alloc, file_text(alloc, file, papers.as_slice())?.as_str(), close),
         },
     }
 }
