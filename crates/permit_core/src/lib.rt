@@ -3,4 +3,3 @@
 
 pub mod row;
 pub mod state;
-pub mod steps;

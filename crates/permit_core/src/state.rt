@@ -6,10 +6,8 @@ ghost use Rattle.permit_model.specs.Files.{CaseFile};
 ghost use Rattle.permit_model.specs.Facts.{stage_on, timing_of};
 ghost use Rattle.permit_model.specs.Deadline.{deadline};
 ghost use Rattle.permit_model.specs.Tables.{state_of};
-ghost use Rattle.permit_model.specs.Register.{next_in_row};
 ghost use Rattle.permit_core.specs.Views.{row_stage, row_timing, row_relations};
 
-use crate::steps::step_at;
 use permit_base::values::{Day, Days, ParcelId, PartyId};
 use permit_base::words::{Kind, Relations, Stage, Step, Timing};
 use std::marker::Model;
@@ -134,97 +132,6 @@ impl FileState {
         ensures { result ≡ self.now.parcel }
     {
         self.parcel
-    }
-
-    /// The party who filed it.
-    pub fn applicant(&self) -> PartyId
-        ensures { result ≡ self.now.applicant }
-    {
-        self.applicant
-    }
-
-    /// The contractor who was last named.
-    pub fn contractor(&self) -> Option<PartyId>
-        ensures { result ≡ self.now.contractor }
-    {
-        self.contractor
-    }
-
-    /// The reviewer who was last assigned.
-    pub fn reviewer(&self) -> Option<PartyId>
-        ensures { result ≡ self.now.reviewer }
-    {
-        self.reviewer
-    }
-
-    /// The inspector who was last assigned.
-    pub fn inspector(&self) -> Option<PartyId>
-        ensures { result ≡ self.now.inspector }
-    {
-        self.inspector
-    }
-
-    /// The kind of work.
-    pub fn kind(&self) -> Kind
-        ensures { result ≡ self.now.kind }
-    {
-        self.kind
-    }
-
-    /// The day of the filing.
-    pub fn filed(&self) -> Day
-        ensures { result ≡ self.now.filed }
-    {
-        self.filed
-    }
-
-    /// How many of the required steps are approved.
-    pub fn done(&self) -> u8
-        ensures { result ≡ self.now.done }
-    {
-        self.done
-    }
-
-    /// The step of the inspection that is pending.
-    pub fn request(&self) -> Option<Step>
-        ensures { result ≡ self.now.request }
-    {
-        self.request
-    }
-
-    /// The day on which the pending inspection was requested.
-    pub fn requested(&self) -> Option<Day>
-        ensures { result ≡ self.now.requested }
-    {
-        self.requested
-    }
-
-    /// The days of the extension that is pending.
-    pub fn ask(&self) -> Option<Days>
-        ensures { result ≡ self.now.ask }
-    {
-        self.ask
-    }
-
-    /// How many notices are open.
-    pub fn notices(&self) -> u16
-        ensures { result ≡ self.now.notices }
-    {
-        self.notices
-    }
-
-    /// The last day of the temporary certificate.
-    pub fn temporary(&self) -> Option<u32>
-        ensures { result ≡ self.now.temporary }
-    {
-        self.temporary
-    }
-
-    /// The next step: the required one at the count of those that are approved.
-    pub fn next_step(&self) -> Option<Step>
-        ensures row { result ≡ next_in_row self.now }
-    {
-        step_at(self.kind, self.done)
     }
 
     pub fn is_stopped(&self) -> bool
