@@ -140,6 +140,12 @@ impl FileState {
         self.stopped
     }
 
+    pub fn papers(&self) -> u16
+        ensures { result ≡ self.now.papers }
+    {
+        self.papers
+    }
+
     /// What the caller is to the file, by the parcel's owner and whether the caller has an interest in it.
     pub fn relations(&self, caller: PartyId, owner: Option<PartyId>, conflict: bool) -> Relations
         ensures { result ≡ row_relations self.now caller owner conflict }
