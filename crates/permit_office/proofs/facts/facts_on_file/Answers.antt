@@ -1,6 +1,6 @@
 use Rattle.std.proofs.Common.{◌≡◌, ap, ◌∙◌, refl}
 use Rattle.permit_model.specs.Tables.{State, FileRow, state_of, tables}
-use Rattle.permit_office.proofs.office.facts_on_file.Goals as goal
+use Rattle.permit_office.proofs.facts.facts_on_file.Goals as goal
 
 pub returns-clause-facts : goal.returns-clause-facts
 returns-clause-facts g c = λ h file held e.

@@ -14,7 +14,7 @@ use Rattle.permit_model.specs.Machine.{entry_of}
 use Rattle.permit_office.proofs.Deciding.{denied_outcome, allowed_outcome, file_suits, wrapped}
 use Rattle.permit_office.proofs.Finding.{found_number, file_judged}
 use Rattle.permit_office.proofs.Tables.{file_more}
-use Rattle.permit_office.proofs.office.file.Goals as goal
+use Rattle.permit_office.proofs.filing.file.Goals as goal
 
 pub returns-in-Some-denial-clause-model : goal.returns-in-Some-denial-clause-model
 returns-in-Some-denial-clause-model g c = λ h is held e t party.

@@ -9,7 +9,7 @@ use Rattle.permit_model.specs.Policy.{decision}
 use Rattle.permit_model.proofs.Papers.{papers_of-tables}
 use Rattle.permit_office.proofs.Deciding.{denied_outcome, allowed_outcome}
 use Rattle.permit_office.proofs.Finding.{IsFound, file_found, read_missing, read_judged, read_shown, shown_as}
-use Rattle.permit_office.proofs.office.read_file.Goals as goal
+use Rattle.permit_office.proofs.reading.read_file.Goals as goal
 
 pub returns-in_default-clause-model : goal.returns-in_default-clause-model
 returns-in_default-clause-model g c = λ h held.
