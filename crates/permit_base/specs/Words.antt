@@ -1,5 +1,6 @@
 -- The one spelling of each word. A timing that isn't there is spelled none.
-use Rattle.std.specs.Prelude.{ℕ, List, codes}
+use Rattle.std.specs.Prelude.{◌≡◌, ℕ, List, [], ◌∷◌, codes, Option, Some, bytes_eq}
+use Rattle.std.specs.List.{find}
 use Rattle.permit_base.specs.declared.words.Role.{Role}
 use Rattle.permit_base.specs.declared.words.Role.TheVariants as role
 use Rattle.permit_base.specs.declared.words.Kind.{Kind}
@@ -22,6 +23,14 @@ use Rattle.permit_base.specs.declared.words.RegisterKind.{RegisterKind}
 use Rattle.permit_base.specs.declared.words.RegisterKind.TheVariants as register
 use Rattle.permit_base.specs.declared.outcome.Reason.{Reason}
 use Rattle.permit_base.specs.declared.outcome.Reason.TheVariants as reason
+
+-- the first of these words that is spelled so
+abbrev pub named : {A : Type 0} → (A → List ℕ) → List A → List ℕ → Option A
+named spelling words text = find (λ w. bytes_eq (spelling w) text) words
+
+-- reading the spelling of a word gives the word
+abbrev pub IsReadBack : {A : Type 0} → (A → List ℕ) → List A → Type 0
+IsReadBack spelling words = (w : _) → named spelling words (spelling w) ≡ Some w
 
 abbrev pub role_word : Role → List ℕ
 role_word role.Public = codes "public"
@@ -148,3 +157,58 @@ reason_word reason.Kind = codes "kind"
 reason_word reason.Taken = codes "taken"
 reason_word reason.Full = codes "full"
 reason_word reason.Far = codes "far"
+
+-- each role once
+abbrev pub all_roles : List Role
+all_roles =
+    role.Public ∷ role.Clerk ∷ role.Reviewer ∷ role.Inspector ∷ role.Official ∷ []
+
+-- each kind once
+abbrev pub all_kinds : List Kind
+all_kinds =
+    kind.Construct ∷ kind.Enlarge ∷ kind.Alter ∷ kind.Repair ∷ kind.Move ∷ kind.Demolish ∷ kind.Occupancy ∷ []
+
+-- each step once
+abbrev pub all_steps : List Step
+all_steps =
+    step.Footing ∷ step.Slab ∷ step.Frame ∷ step.Lath ∷ step.Final ∷ []
+
+-- each stage once
+abbrev pub all_stages : List Stage
+all_stages =
+    stage.Filed ∷ stage.Review ∷ stage.Returned ∷ stage.Approved ∷ stage.Rejected ∷ stage.Issued ∷ stage.Working ∷ stage.Revoked ∷ stage.Finaled ∷ stage.Certified ∷ stage.Abandoned ∷ stage.Lapsed ∷ stage.New ∷ stage.Office ∷ []
+
+-- each timing once
+abbrev pub all_timings : List Timing
+all_timings =
+    timing.Untimed ∷ timing.Past ∷ timing.Near ∷ timing.Ahead ∷ []
+
+-- each relation once
+abbrev pub all_relations : List Relation
+all_relations =
+    relation.Applicant ∷ relation.Contractor ∷ relation.Owner ∷ relation.AssignedReviewer ∷ relation.AssignedInspector ∷ relation.Conflict ∷ []
+
+-- each sort of paper once
+abbrev pub all_sorts : List PaperSort
+all_sorts =
+    sort.Permit ∷ sort.Returned ∷ sort.Resubmitted ∷ sort.Rejected ∷ sort.Asked ∷ sort.Granted ∷ sort.Refused ∷ sort.Notice ∷ sort.Stop ∷ sort.Lifted ∷ sort.Revoked ∷ sort.Temporary ∷ sort.Certificate ∷ []
+
+-- each action once
+abbrev pub all_actions : List Action
+all_actions =
+    action.AddParty ∷ action.AddStaff ∷ action.AddParcel ∷ action.Transfer ∷ action.Declare ∷ action.ReadParcel ∷ action.File ∷ action.Read ∷ action.List ∷ action.AssignReviewer ∷ action.AssignInspector ∷ action.NameContractor ∷ action.StartReview ∷ action.Return ∷ action.Resubmit ∷ action.ApprovePlans ∷ action.Reject ∷ action.Issue ∷ action.AskExtension ∷ action.GrantExtension ∷ action.RefuseExtension ∷ action.BeginWork ∷ action.RequestInspection ∷ action.ApproveStep ∷ action.Notice ∷ action.ClearNotice ∷ action.Stop ∷ action.Lift ∷ action.Revoke ∷ action.Temporary ∷ action.Certify ∷ []
+
+-- each effect once
+abbrev pub all_effects : List Effect
+all_effects =
+    effect.Allow ∷ effect.Deny ∷ []
+
+-- each register once
+abbrev pub all_registers : List RegisterKind
+all_registers =
+    register.Files ∷ register.Deadlines ∷ register.Inspections ∷ []
+
+-- each reason once
+abbrev pub all_reasons : List Reason
+all_reasons =
+    reason.Stage ∷ reason.Stopped ∷ reason.Person ∷ reason.Interested ∷ reason.Days ∷ reason.Pending ∷ reason.NothingPending ∷ reason.Step ∷ reason.NoticeOpen ∷ reason.NoSuchNotice ∷ reason.Kind ∷ reason.Taken ∷ reason.Full ∷ reason.Far ∷ []

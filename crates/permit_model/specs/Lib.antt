@@ -6,6 +6,7 @@ pub mod History
 pub mod Parcels
 pub mod Caller
 pub mod Files
+pub mod People
 pub mod Work
 pub mod BaseStage
 pub mod Deadline
@@ -13,6 +14,7 @@ pub mod Facts
 pub mod Policy
 pub mod Admission
 pub mod Tables
+pub mod SoundState
 pub mod Listing
 pub mod Opened
 pub mod Machine
