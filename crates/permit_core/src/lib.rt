@@ -2,7 +2,6 @@
 #![tactic(auto)]
 
 pub mod admit;
-pub mod apply;
 pub mod paper;
 pub mod people;
 pub mod restore;

@@ -13,6 +13,7 @@ pub mod Deadline
 pub mod Facts
 pub mod Policy
 pub mod Admission
+pub mod Numbering
 pub mod Tables
 pub mod SoundState
 pub mod Listing

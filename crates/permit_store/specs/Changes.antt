@@ -1,6 +1,7 @@
 -- What a change makes of the tables, and which change fits them.
-use Rattle.std.specs.Prelude.{◌≤◌, ℕ, ◌+◌, Bool, false, ◌==◌, ◌&&◌, if◌then◌else◌, List, [], ◌∷◌, ◌++◌, map, find, Option, None, Some, is_some, is_none, IsTrue, bytes_eq, nat_lt, not}
+use Rattle.std.specs.Prelude.{◌≤◌, ℕ, ◌+◌, Bool, false, ◌==◌, ◌&&◌, if◌then◌else◌, List, [], ◌∷◌, ◌++◌, map, find, Option, None, Some, is_some, is_none, unwrap_or, IsTrue, bytes_eq, nat_lt, not}
 use Rattle.std.specs.Borrow.{Bor}
+use Rattle.std.specs.Option.{option_copied}
 use Rattle.std.specs.List.{list_any}
 use Rattle.permit_model.specs.Parcels.{Parcel}
 use Rattle.permit_model.specs.Admission.{most_records, most_papers}
@@ -27,8 +28,7 @@ closed_by file number p = if (p.file == file) && (p.number == number) then recor
 
 -- a borrowed text, or the empty one
 abbrev pub text_of : Option (Bor (List ℕ)) → List ℕ
-text_of None = []
-text_of (Some text) = text.now
+text_of text = unwrap_or (option_copied text) []
 
 -- the paper of the file with the number and the day; a notice is open
 abbrev pub paper_of : ℕ → ℕ → ℕ → NewPaper → Paper
