@@ -8,4 +8,4 @@ returns-clause-facts g c = λ h file held e.
     let p : c.parcel-parcel.result ≡ file.filing.parcel = c.parcel-parcel.ensures ∙ ap (λ (s : State). s.parcel) s in
     let o = c.in_ok-owner.ensures.owner h held in
     let k = c.in_ok-conflict.ensures.found (tables h) (c.owner_of.ensures.kept (tables h) held) in
-    rw (c.relations.ensures, c.stage.ensures.row, c.timing.ensures.row, c.is_stopped.ensures, s, o, k, p, ← c.caller.view_is) refl
+    rw (c.relations.ensures.row, c.stage.ensures.row, c.timing.ensures.row, c.is_stopped.ensures, s, o, k, p, ← c.caller.view_is) refl
