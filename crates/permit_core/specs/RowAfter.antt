@@ -1,5 +1,5 @@
 -- What an admitted command makes of a file's row.
-use Rattle.std.specs.Prelude.{ℕ, Bool, true, false, ◌+◌, ◌-◌, max, Option, None, Some, unwrap_or, option_map, if◌then◌else◌}
+use Rattle.std.specs.Prelude.{ℕ, Bool, true, false, ◌+◌, ◌-◌, ◌<◌, ◌^◌, max, ◌∷◌, Option, None, Some, unwrap_or, option_map, if◌then◌else◌}
 use Rattle.permit_base.specs.declared.words.Step.{Step}
 use Rattle.permit_base.specs.declared.words.Step.TheVariants.{Final}
 use Rattle.permit_base.specs.declared.request.Command.{Command}
@@ -9,7 +9,9 @@ use Rattle.permit_model.specs.Days.{term}
 use Rattle.permit_model.specs.People.{contractor_named, reviewer_named, inspector_named}
 use Rattle.permit_model.specs.Work.{temporary_told, makes_paper}
 use Rattle.permit_model.specs.BaseStage.{stage_given}
+use Rattle.permit_model.specs.Files.{CaseFile}
 use Rattle.permit_model.specs.Tables.{State}
+use Rattle.permit_model.specs.Machine.{paper_number}
 
 -- the days of the paper that a command makes: those asked, granted or given, else 0
 abbrev pub row_paper_days : State → Command → ℕ
@@ -22,19 +24,20 @@ row_paper_days s _ = 0
 abbrev pub moved_by_activity : ℕ → Option ℕ → Option ℕ
 moved_by_activity day deadline = Some (max (day + term) (unwrap_or deadline 0))
 
--- issuance sets the deadline, activity moves it, a grant adds the asked days, and an end takes it away
-abbrev pub deadline_after : ℕ → Command → State → Option ℕ
-deadline_after day Issue s = Some (day + term)
-deadline_after day BeginWork s = moved_by_activity day s.deadline
-deadline_after day (RequestInspection step) s = moved_by_activity day s.deadline
-deadline_after day (ApproveStep Final) s = None
-deadline_after day (ApproveStep step) s = moved_by_activity day s.deadline
-deadline_after day (Notice text) s = moved_by_activity day s.deadline
-deadline_after day GrantExtension s = option_map (λ d. d + unwrap_or s.ask 0) s.deadline
-deadline_after day (Reject text) s = None
-deadline_after day (Revoke text) s = None
-deadline_after day Certify s = None
-deadline_after day _ s = s.deadline
+-- the deadline after a command of the day, from the pending ask and the deadline before it:
+-- issuance sets it, activity moves it, a grant adds the asked days, and an end takes it away
+abbrev pub deadline_after : Command → ℕ → Option ℕ → Option ℕ → Option ℕ
+deadline_after Issue day ask deadline = Some (day + term)
+deadline_after BeginWork day ask deadline = moved_by_activity day deadline
+deadline_after (RequestInspection step) day ask deadline = moved_by_activity day deadline
+deadline_after (ApproveStep Final) day ask deadline = None
+deadline_after (ApproveStep step) day ask deadline = moved_by_activity day deadline
+deadline_after (Notice text) day ask deadline = moved_by_activity day deadline
+deadline_after GrantExtension day ask deadline = option_map (λ d. d + unwrap_or ask 0) deadline
+deadline_after (Reject text) day ask deadline = None
+deadline_after (Revoke text) day ask deadline = None
+deadline_after Certify day ask deadline = None
+deadline_after _ day ask deadline = deadline
 
 abbrev pub done_after : Command → ℕ → ℕ
 done_after (ApproveStep step) done = done + 1
@@ -81,7 +84,7 @@ row_after day command s = record s {
   reviewer = or_else (reviewer_named command) s.reviewer;
   inspector = or_else (inspector_named command) s.inspector;
   stage = unwrap_or (stage_given command) s.stage;
-  deadline = deadline_after day command s;
+  deadline = deadline_after command day s.ask s.deadline;
   done = done_after command s.done;
   request = request_after command s.request;
   requested = requested_after day command s.requested;
@@ -91,3 +94,19 @@ row_after day command s = record s {
   papers = papers_after command s.papers;
   temporary = or_else (temporary_told command day) s.temporary;
 }
+
+-- the file after a command of the caller on the day, with the number of the paper that it makes
+abbrev pub file_after : ℕ → Command → ℕ → CaseFile → CaseFile
+file_after day command caller file = record {
+  filing = file.filing;
+  acts = record { caller = caller; day = day; command = command; number = paper_number command (Some file) } ∷ file.acts;
+}
+
+-- a granted deadline, and one more notice, are numbers that a row can keep
+abbrev pub FitsGrant : Command → Option ℕ → Option ℕ → Type 0
+FitsGrant GrantExtension ask deadline = unwrap_or deadline 0 + unwrap_or ask 0 < 2 ^ 32
+FitsGrant _ ask deadline = Unit {0}
+
+abbrev pub FitsNotice : Command → ℕ → Type 0
+FitsNotice (Notice text) notices = notices < 65535
+FitsNotice _ notices = Unit {0}

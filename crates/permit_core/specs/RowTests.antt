@@ -15,7 +15,7 @@ use Rattle.permit_model.specs.Search.{is_number}
 use Rattle.permit_model.specs.Codes.{is_role, is_stage_among}
 use Rattle.permit_model.specs.Days.{last_deadline}
 use Rattle.permit_model.specs.Steps.{has_certificates}
-use Rattle.permit_model.specs.Admission.{Test, reviewing_stages, inspecting_stages, open_stages, stoppable_stages, revocable_stages, ask_limit, is_the_step, most_papers, days_above}
+use Rattle.permit_model.specs.Admission.{Test, first_failing, reviewing_stages, inspecting_stages, open_stages, stoppable_stages, revocable_stages, ask_limit, is_the_step, most_papers, days_above}
 use Rattle.permit_model.specs.Tables.{State, next_in_row}
 use Rattle.permit_core.specs.Views.{row_stage}
 
@@ -111,3 +111,7 @@ row_tests day s people Certify = not_in day s (stage.Finaled ∷ []) ∷ stopped
 abbrev pub Answers : Result Unit Reason → Option Reason → Type 0
 Answers (Ok done) against = against ≡ None
 Answers (Err reason) against = against ≡ Some reason
+
+-- the command is admitted on the day, with some people about it
+abbrev pub IsAdmitted : ℕ → State → Command → Type 0
+IsAdmitted day s command = (people : People) × (first_failing (row_tests day s people command) ≡ None)

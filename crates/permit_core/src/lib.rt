@@ -2,6 +2,7 @@
 #![tactic(auto)]
 
 pub mod admit;
+pub mod apply;
 pub mod paper;
 pub mod people;
 pub mod restore;

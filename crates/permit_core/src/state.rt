@@ -284,6 +284,32 @@ impl FileState {
         self.temporary
     }
 
+    /// The fields of the row.
+    pub fn fields(&self) -> StateFields
+        ensures same { result ≡ self.now }
+        ensures sound { IsSoundState result }
+    {
+        StateFields {
+            parcel: self.parcel,
+            applicant: self.applicant,
+            contractor: self.contractor,
+            reviewer: self.reviewer,
+            inspector: self.inspector,
+            kind: self.kind,
+            filed: self.filed,
+            stage: self.stage,
+            deadline: self.deadline,
+            done: self.done,
+            request: self.request,
+            requested: self.requested,
+            ask: self.ask,
+            stopped: self.stopped,
+            notices: self.notices,
+            papers: self.papers,
+            temporary: self.temporary,
+        }
+    }
+
     /// The state with the fields, which keep to the facts of the type.
     pub(crate) fn with_fields(fields: StateFields) -> FileState
         requires { IsSoundState fields }
