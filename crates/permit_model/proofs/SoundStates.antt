@@ -89,7 +89,7 @@ anchored [] = λ e. cc
 anchored (act ∷ before) = anchored_more act.caller act.day act.command act.number before (anchored before)
 
 -- a deadline stands in the six stages, and in no other
-stands_in : (s : Stage) (filed : ℕ) (acts : List Act) → (is_late s ≡ true → is_some (greatest (anchor_reaches acts)) ≡ true) →
+pub stands_in : (s : Stage) (filed : ℕ) (acts : List Act) → (is_late s ≡ true → is_some (greatest (anchor_reaches acts)) ≡ true) →
     (if is_timed s then is_some (deadline_in s filed acts) else is_none (deadline_in s filed acts)) ≡ true
 stands_in stage.Issued filed acts late = late refl
 stands_in stage.Working filed acts late = late refl
@@ -108,7 +108,7 @@ dated : (o : Option Inspection) → (if is_some (option_map (λ (i : Inspection)
 dated None = refl
 dated (Some inspection) = refl
 
-front_length : (kind : Kind) (steps : List Step) → IsFront kind steps → length steps ≤ length (required_steps kind)
+pub front_length : (kind : Kind) (steps : List Step) → IsFront kind steps → length steps ≤ length (required_steps kind)
 front_length kind steps front =
     let same : length steps ≡ length (take front.0 (required_steps kind)) = ap length front.1 in
     omega (arith, same, length-take front.0 (required_steps kind))

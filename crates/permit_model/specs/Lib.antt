@@ -22,4 +22,5 @@ pub mod Machine
 pub mod StandardPolicy
 pub mod Register
 pub mod HallRun
+pub mod Laws
 pub mod Examples
