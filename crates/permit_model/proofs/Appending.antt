@@ -36,7 +36,7 @@ base_stage-more act acts = unwrap_or-or_else (stage_given act.command) (latest (
 
 -- ---- the deadline
 
-extended-zero : (xs : List ℕ) → extended 0 xs ≡ xs
+pub extended-zero : (xs : List ℕ) → extended 0 xs ≡ xs
 extended-zero [] = refl
 extended-zero (x ∷ xs) = let e : x + 0 ≡ x = omega arith in rw (e, extended-zero xs)
 

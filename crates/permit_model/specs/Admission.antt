@@ -21,7 +21,8 @@ use Rattle.permit_model.specs.History.{History}
 use Rattle.permit_model.specs.Caller.{parties, party_numbered, who, is_party, has_role}
 use Rattle.permit_model.specs.Parcels.{parcels, owner, has_interest}
 use Rattle.permit_model.specs.Files.{CaseFile, filings, case_numbered}
-use Rattle.permit_model.specs.Work.{contractor, next_of, pending_step, pending_ask, open_notices, is_stopped, paper_count}
+use Rattle.permit_model.specs.People.{contractor}
+use Rattle.permit_model.specs.Work.{next_of, pending_step, pending_ask, open_notices, is_stopped, paper_count}
 use Rattle.permit_model.specs.Deadline.{deadline}
 use Rattle.permit_model.specs.Facts.{stage_on}
 

@@ -15,7 +15,8 @@ use Rattle.permit_model.specs.History.{History}
 use Rattle.permit_model.specs.Caller.{Party}
 use Rattle.permit_model.specs.Parcels.{owner, has_interest}
 use Rattle.permit_model.specs.Files.{CaseFile}
-use Rattle.permit_model.specs.Work.{contractor, reviewer, inspector, is_stopped}
+use Rattle.permit_model.specs.People.{contractor, reviewer, inspector}
+use Rattle.permit_model.specs.Work.{is_stopped}
 use Rattle.permit_model.specs.BaseStage.{base_stage}
 use Rattle.permit_model.specs.Deadline.{deadline}
 

@@ -1,11 +1,9 @@
 -- The texts of the registers.
-use Rattle.std.specs.Prelude.{ℕ, zero, suc, ◌+◌, ◌-◌, ◌%◌, Bool, not, ◌&&◌, ◌||◌, ◌==◌, nat_lt, if◌then◌else◌, List, [], ◌∷◌, ◌++◌, length, replicate, codes, decimal, Option, None, Some, slice_get}
+use Rattle.std.specs.Prelude.{ℕ, zero, suc, ◌+◌, ◌-◌, ◌%◌, Bool, not, ◌&&◌, ◌||◌, ◌==◌, nat_lt, if◌then◌else◌, List, [], ◌∷◌, ◌++◌, length, replicate, codes, decimal, Option, None, Some}
 use Rattle.permit_base.specs.declared.words.RegisterKind.{RegisterKind}
 use Rattle.permit_base.specs.declared.words.RegisterKind.TheVariants.{Files, Deadlines, Inspections}
-use Rattle.permit_base.specs.declared.words.Step.{Step}
 use Rattle.permit_base.specs.Words.{kind_word, stage_word, timing_word, step_word}
-use Rattle.permit_model.specs.Steps.{required_steps}
-use Rattle.permit_model.specs.Tables.{State, FileView}
+use Rattle.permit_model.specs.Tables.{FileView, next_in_row}
 
 -- ---- dates
 
@@ -73,10 +71,6 @@ abbrev pub line : List (List ℕ) → List ℕ
 line [] = 10 ∷ []
 line (column ∷ []) = column ++ 10 ∷ []
 line (column ∷ next ∷ columns) = column ++ 32 ∷ line (next ∷ columns)
-
--- the next step, by the count of those that are done
-abbrev pub next_in_row : State → Option Step
-next_in_row state = slice_get (required_steps state.kind) state.done
 
 -- ---- registers
 

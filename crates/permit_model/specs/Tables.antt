@@ -1,5 +1,5 @@
 -- The rows that the tables keep, read off the history.
-use Rattle.std.specs.Prelude.{ℕ, Bool, true, false, ◌&&◌, List, [], ◌∷◌, map, length, Option, None, option_map, unwrap_or}
+use Rattle.std.specs.Prelude.{ℕ, Bool, true, false, ◌&&◌, List, [], ◌∷◌, map, length, Option, None, option_map, unwrap_or, slice_get}
 use Rattle.permit_base.specs.declared.words.Kind.{Kind}
 use Rattle.permit_base.specs.declared.words.Step.{Step}
 use Rattle.permit_base.specs.declared.words.Stage.{Stage}
@@ -10,11 +10,13 @@ use Rattle.permit_base.specs.declared.request.Command.{Command}
 use Rattle.permit_base.specs.declared.request.Command.TheVariants.{Return, Resubmit, Reject, AskExtension, RefuseExtension, Notice, Stop, Revoke, Temporary}
 use Rattle.permit_base.specs.declared.request.Request.TheVariants.{OnFile}
 use Rattle.permit_model.specs.Search.{add_last, has_number}
+use Rattle.permit_model.specs.Steps.{required_steps}
 use Rattle.permit_model.specs.History.{Deed, Accepted, Entry, History, last_day}
 use Rattle.permit_model.specs.Caller.{Party, parties}
 use Rattle.permit_model.specs.Parcels.{Parcel, parcels, Interest, interests}
 use Rattle.permit_model.specs.Files.{Act, act_of, acts_on, CaseFile, case_files}
-use Rattle.permit_model.specs.Work.{contractor, reviewer, inspector, approved_steps, pending_step, requested_day, pending_ask, open_notices, is_stopped, temporary_until, paper_sort, paper_count}
+use Rattle.permit_model.specs.People.{contractor, reviewer, inspector}
+use Rattle.permit_model.specs.Work.{approved_steps, pending_step, requested_day, pending_ask, open_notices, is_stopped, temporary_until, paper_sort, paper_count}
 use Rattle.permit_model.specs.BaseStage.{base_stage}
 use Rattle.permit_model.specs.Deadline.{deadline, days_granted}
 use Rattle.permit_model.specs.Facts.{stage_on, timing_of}
@@ -46,6 +48,10 @@ pub record FileRow : Type 0 where
   pub state : State
   pub valuation : ℕ
   pub description : List ℕ
+
+-- the next step of a row, by the count of those that are done
+abbrev pub next_in_row : State → Option Step
+next_in_row state = slice_get (required_steps state.kind) state.done
 
 abbrev pub state_of : CaseFile → State
 state_of file = record {

@@ -1,0 +1,59 @@
+-- The stage that a file had when a command on it was admitted.
+use Rattle.std.proofs.Common.{◌≡◌, ℕ, Bool, true, false, not, List, [], ◌∷◌, refl, sym, ◌∙◌, ap, subst}
+use Rattle.std.specs.Prelude.{◌==◌, ◌||◌, if◌then◌else◌}
+use Rattle.std.proofs.lemmas.Bool.{eqb-true}
+use Rattle.permit_base.specs.declared.words.Stage.{Stage}
+use Rattle.permit_base.specs.declared.words.Stage.TheVariants as stage
+use Rattle.permit_model.specs.Codes.{stage_code, is_stage, is_stage_among}
+use Rattle.permit_model.specs.Days.{is_past}
+use Rattle.permit_model.specs.Files.{CaseFile}
+use Rattle.permit_model.specs.BaseStage.{base_stage}
+use Rattle.permit_model.specs.Deadline.{deadline}
+use Rattle.permit_model.specs.Facts.{past_stage, stage_on}
+use Rattle.permit_model.specs.SoundState.{is_stored}
+
+-- the stage of a code
+abbrev pub stage_coded : ℕ → Stage
+stage_coded code =
+    if code == 0 then stage.Filed else if code == 1 then stage.Review else if code == 2 then stage.Returned else if code == 3 then stage.Approved
+    else if code == 4 then stage.Rejected else if code == 5 then stage.Issued else if code == 6 then stage.Working else if code == 7 then stage.Revoked
+    else if code == 8 then stage.Finaled else if code == 9 then stage.Certified else if code == 10 then stage.Abandoned else if code == 11 then stage.Lapsed
+    else if code == 12 then stage.New else stage.Office
+
+coded_back : (s : Stage) → stage_coded (stage_code s) ≡ s
+coded_back stage.Filed = refl
+coded_back _ = refl
+
+-- stages of one code are one stage
+pub same_stage : (a b : Stage) → is_stage a b ≡ true → a ≡ b
+same_stage a b e = sym (coded_back a) ∙ ap stage_coded (eqb-true (stage_code a) (stage_code b) e) ∙ coded_back b
+
+-- the only one of the list
+pub only_one : (s wanted : Stage) (b : Bool) → is_stage s wanted ≡ b → not (b || false) ≡ false → s ≡ wanted
+only_one s wanted true e h = same_stage s wanted e
+only_one s wanted false e h = cc
+
+-- a stored stage on the day is the stage whatever the day is
+pub unpassed : (s wanted : Stage) (past : Bool) → is_stored wanted ≡ true → (if past then past_stage s else s) ≡ wanted → s ≡ wanted
+unpassed s wanted false stored e = e
+unpassed stage.Filed wanted true stored e = let bad : false ≡ true = ap is_stored e ∙ stored in cc
+unpassed stage.Review wanted true stored e = let bad : false ≡ true = ap is_stored e ∙ stored in cc
+unpassed stage.Returned wanted true stored e = let bad : false ≡ true = ap is_stored e ∙ stored in cc
+unpassed stage.Approved wanted true stored e = let bad : false ≡ true = ap is_stored e ∙ stored in cc
+unpassed stage.Issued wanted true stored e = let bad : false ≡ true = ap is_stored e ∙ stored in cc
+unpassed stage.Working wanted true stored e = let bad : false ≡ true = ap is_stored e ∙ stored in cc
+unpassed _ wanted true stored e = e
+
+-- a command of one stored stage was admitted in it
+pub was_in : (day : ℕ) (file : CaseFile) (wanted : Stage) → is_stored wanted ≡ true → not (is_stage_among (wanted ∷ []) (stage_on day file)) ≡ false → base_stage file.acts ≡ wanted
+was_in day file wanted stored h = unpassed (base_stage file.acts) wanted (is_past day (deadline file)) stored (only_one (stage_on day file) wanted (is_stage (stage_on day file) wanted) refl h)
+
+same_when_past : (s : Stage) (past : Bool) → past_stage s ≡ s → (if past then past_stage s else s) ≡ s
+same_when_past s true e = e
+same_when_past s false e = refl
+
+-- where the stage can't be past, it is among the stages of the command
+pub was_among : (day : ℕ) (file : CaseFile) (stages : List Stage) (s : Stage) → past_stage s ≡ s → base_stage file.acts ≡ s → not (is_stage_among stages (stage_on day file)) ≡ false → not (is_stage_among stages s) ≡ false
+was_among day file stages s unpast e h =
+    let here : stage_on day file ≡ s = ap (λ x. if is_past day (deadline file) then past_stage x else x) e ∙ same_when_past s (is_past day (deadline file)) unpast in
+    rw here at h

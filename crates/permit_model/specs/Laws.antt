@@ -1,0 +1,24 @@
+-- The words in which the laws of this crate are stated.
+use Rattle.std.specs.Prelude.{◌≡◌, ◌⊎◌, ℕ, true, Option, None, Some}
+use Rattle.permit_base.specs.declared.words.Relation.{Relation}
+use Rattle.permit_base.specs.declared.words.Relations.{Relations}
+use Rattle.permit_model.specs.History.{History}
+use Rattle.permit_model.specs.Files.{CaseFile, case_numbered}
+use Rattle.permit_model.specs.Facts.{Facts, holds, no_relations}
+use Rattle.permit_model.specs.Policy.{Policy, allows}
+use Rattle.permit_model.specs.Opened.{only}
+use Rattle.permit_model.specs.Machine.{IsHistory}
+
+-- what holds of each file of each history
+abbrev pub OfEachFile : (History → CaseFile → Type 0) → Type 0
+OfEachFile P = (h : History) (id : ℕ) (file : CaseFile) → IsHistory h → case_numbered h id ≡ Some file → P h file
+
+-- the facts with other relations
+abbrev pub with_relations : Facts → Relations → Facts
+with_relations facts set = record facts { relations = set }
+
+-- what is allowed to the set is allowed to none of its relations, or to one of them alone
+abbrev pub Narrowed : Policy → Facts → Relations → Type 0
+Narrowed policy facts set =
+    (allows policy (with_relations facts no_relations) ≡ true)
+    ⊎ ((r : Relation) × (holds set r ≡ true) × (allows policy (with_relations facts (only r)) ≡ true))

@@ -1,0 +1,11 @@
+-- Numbering in order of acceptance.
+use Rattle.std.specs.Prelude.{◌≡◌, ℕ, ◌+◌, List, [], ◌∷◌}
+
+-- the records have the numbers from the first one on, in the order in which they stand
+abbrev pub IsNumberedFrom : {A : Type 0} → (A → ℕ) → ℕ → List A → Type 0
+IsNumberedFrom number first [] = Unit {0}
+IsNumberedFrom number first (x ∷ xs) = (number x ≡ first) × IsNumberedFrom number (first + 1) xs
+
+-- the records are numbered from 1
+abbrev pub IsNumbered : {A : Type 0} → (A → ℕ) → List A → Type 0
+IsNumbered number records = IsNumberedFrom number 1 records

@@ -1,0 +1,50 @@
+//! Worked examples of inspections, notices and certificates.
+
+ghost use Rattle.std.specs.Prelude.{◌≡◌, ◌∷◌, [], ◌++◌, None, Some, codes, true, false, map, option_map};
+ghost use Rattle.permit_base.specs.declared.words.Kind.TheVariants.{Construct, Alter, Repair, Demolish};
+ghost use Rattle.permit_base.specs.declared.words.Step.TheVariants.{Footing, Frame, Final};
+ghost use Rattle.permit_base.specs.declared.words.Stage.TheVariants as stage;
+ghost use Rattle.permit_base.specs.declared.words.Timing.TheVariants as timing;
+ghost use Rattle.permit_base.specs.declared.outcome.Reason.TheVariants as reason;
+ghost use Rattle.permit_base.specs.declared.request.Command.TheVariants.{RequestInspection, Certify};
+ghost use Rattle.permit_model.specs.Tables.{State, Paper, next_in_row, tables};
+ghost use Rattle.permit_model.specs.Examples.{opening, on_one, replies, after, last_reply, done, made, denied, not_admitted, read_after, state_after, begun_file, inspected, interest_turns, notice_given, notice_cleared, finaled_file, by_official, by_inspector, pending_repair};
+
+/// An inspector with a declared interest isn't assigned; one who declares an interest later may not approve.
+pub fn interested_inspector_conflict_at_approval()
+    ensures replies { replies interest_turns opening ≡
+        done ∷ made 1 ∷ done ∷ done ∷ done ∷ done
+        ∷ not_admitted reason.Interested ∷ done ∷ made 1 ∷ done
+        ∷ done ∷ done ∷ denied (codes "no-conflict") ∷ [] }
+{}
+
+/// After the footing comes the slab, so the frame isn't the next step; of an alteration it is the first.
+pub fn steps_in_order()
+    ensures construct { last_reply (begun_file Construct ++ inspected 19820 Footing) (on_one 6 19830 (RequestInspection Frame)) opening ≡ not_admitted reason.Step }
+    ensures alter { last_reply (begun_file Alter) (on_one 6 19830 (RequestInspection Frame)) opening ≡ done }
+{}
+
+/// A notice closes the request, and while it is open the step isn't approved. The permit is no notice; once the notice
+/// is cleared the step is approved, and the final one is next.
+pub fn notice_blocks_approval()
+    ensures issued { replies (begun_file Repair) opening ≡ made 1 ∷ done ∷ done ∷ done ∷ done ∷ done ∷ made 1 ∷ done ∷ [] }
+    ensures noticed { replies notice_given (after (begun_file Repair) opening) ≡ done ∷ made 2 ∷ [] }
+    ensures cleared { replies notice_cleared (after (begun_file Repair ++ notice_given) opening) ≡ done ∷ not_admitted reason.NoticeOpen ∷ not_admitted reason.NoSuchNotice ∷ done ∷ done ∷ [] }
+    ensures next { option_map next_in_row (state_after (begun_file Repair ++ notice_given ++ notice_cleared) 19830) ≡ Some (Some Final) }
+    ensures paper_open { map (λ (p : Paper). p.is_open) (tables (after (begun_file Repair ++ notice_given) opening)).papers ≡ false ∷ true ∷ [] }
+    ensures paper_closed { map (λ (p : Paper). p.is_open) (tables (after (begun_file Repair ++ notice_given ++ notice_cleared) opening)).papers ≡ false ∷ false ∷ [] }
+{}
+
+/// With its five steps approved a construction is finaled, and then certified, without a timing. A demolition gets no
+/// certificate.
+pub fn certificates_by_kind()
+    ensures finaled { read_after finaled_file 19824 ≡ Some (stage.Finaled, timing.Untimed, None) }
+    ensures certified { read_after (finaled_file ++ on_one 1 19825 Certify ∷ []) 19825 ≡ Some (stage.Certified, timing.Untimed, None) }
+    ensures demolish { last_reply (begun_file Demolish ++ inspected 19820 Final) (on_one 1 19820 Certify) opening ≡ not_admitted reason.Kind }
+{}
+
+/// The official and the assigned inspector approve one pending step: whoever comes second finds nothing pending.
+pub fn two_approvals_of_one_request()
+    ensures official_first { replies (by_official ∷ by_inspector ∷ []) pending_repair ≡ done ∷ not_admitted reason.NothingPending ∷ [] }
+    ensures inspector_first { replies (by_inspector ∷ by_official ∷ []) pending_repair ≡ done ∷ not_admitted reason.NothingPending ∷ [] }
+{}

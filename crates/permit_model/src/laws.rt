@@ -1,0 +1,73 @@
+//! The laws that hold of every history, and of every policy.
+
+ghost use Rattle.std.specs.Prelude.{◌≡◌, ◌≤◌, ◌+◌, ℕ, List, [], length, Option, None, Some, is_some, true, false};
+ghost use Rattle.permit_base.specs.declared.words.Step.{Step};
+ghost use Rattle.permit_base.specs.declared.words.Stage.TheVariants as stage;
+ghost use Rattle.permit_base.specs.declared.words.Relations.{Relations};
+ghost use Rattle.permit_base.specs.declared.request.Asked.{Asked};
+ghost use Rattle.permit_base.specs.declared.request.Request.{Request};
+ghost use Rattle.permit_model.specs.Days.{term, last_deadline};
+ghost use Rattle.permit_model.specs.Steps.{required_steps};
+ghost use Rattle.permit_model.specs.History.{History, last_day};
+ghost use Rattle.permit_model.specs.Caller.{Party, parties};
+ghost use Rattle.permit_model.specs.Parcels.{Parcel, parcels};
+ghost use Rattle.permit_model.specs.Files.{CaseFile, case_files};
+ghost use Rattle.permit_model.specs.Work.{approved_steps, next_of, pending_step, open_notices, is_stopped};
+ghost use Rattle.permit_model.specs.BaseStage.{base_stage};
+ghost use Rattle.permit_model.specs.Deadline.{deadline};
+ghost use Rattle.permit_model.specs.Facts.{Facts};
+ghost use Rattle.permit_model.specs.Policy.{Policy, allows};
+ghost use Rattle.permit_model.specs.Numbering.{IsNumbered};
+ghost use Rattle.permit_model.specs.Tables.{Paper, papers_of, state_of, next_in_row};
+ghost use Rattle.permit_model.specs.SoundState.{is_timed, IsSoundState};
+ghost use Rattle.permit_model.specs.Machine.{IsHistory, step_as, step, history_after};
+ghost use Rattle.permit_model.specs.Laws.{OfEachFile, with_relations, Narrowed};
+
+/// A step leads from a history to a history, and so does a run of steps, whoever asks for what on whatever day.
+pub fn steps_keep_histories()
+    ensures by_digest { (policy : Policy) (h : History) (digest : List ℕ) (request : Request) (day : ℕ) → IsHistory h → IsHistory (step_as policy h digest request day).history }
+    ensures by_token { (policy : Policy) (h : History) (asked : Asked) (day : ℕ) → IsHistory h → IsHistory (step policy h asked day).history }
+    ensures run { (policy : Policy) (requests : List (Asked × ℕ)) (h : History) → IsHistory h → IsHistory (history_after policy requests h) }
+{}
+
+/// What a policy allows to a set of relations, it allows to none of them or to one of them alone.
+pub fn allowed_to_one_relation()
+    ensures narrowed { (policy : Policy) (facts : Facts) (set : Relations) → allows policy (with_relations facts set) ≡ true → Narrowed policy facts set }
+{}
+
+/// Steps are approved in their order: the next step is the one at the count of approved ones, and a pending request is
+/// for it.
+pub fn steps_are_approved_in_order()
+    ensures next { OfEachFile (λ h file. next_in_row (state_of file) ≡ next_of file) }
+    ensures pending { OfEachFile (λ h file. (step : Step) → pending_step file.acts ≡ Some step → next_of file ≡ Some step) }
+    ensures count { OfEachFile (λ h file. length (approved_steps file.acts) ≤ length (required_steps file.filing.kind)) }
+    ensures front { OfEachFile (λ h file. approved_steps file.acts ≡ Rattle.std.specs.Prelude.take (length (approved_steps file.acts)) (required_steps file.filing.kind)) }
+{}
+
+/// Parties, parcels and files are numbered from 1 in order of acceptance, and so are the papers of each file.
+pub fn records_are_numbered()
+    ensures parties { (h : History) → IsHistory h → IsNumbered (λ (p : Party). p.id) (parties h) }
+    ensures parcels { (h : History) → IsHistory h → IsNumbered (λ (p : Parcel). p.id) (parcels h) }
+    ensures files { (h : History) → IsHistory h → IsNumbered (λ (f : CaseFile). f.filing.id) (case_files h) }
+    ensures papers { OfEachFile (λ h file. IsNumbered (λ (p : Paper). p.number) (papers_of file)) }
+{}
+
+/// A finaled or certified file has every required step approved, in order, and no open notice; on a certified file no
+/// stop work order stands.
+pub fn certified_files_are_finished()
+    ensures finaled { OfEachFile (λ h file. base_stage file.acts ≡ stage.Finaled → (approved_steps file.acts ≡ required_steps file.filing.kind) × (open_notices file.acts ≡ [])) }
+    ensures certified { OfEachFile (λ h file. base_stage file.acts ≡ stage.Certified → (approved_steps file.acts ≡ required_steps file.filing.kind) × (open_notices file.acts ≡ []) × (is_stopped file.acts ≡ false)) }
+{}
+
+/// A deadline stands in the six stages from filed to working but rejected, and in no other. It is never before the
+/// filing's 180 days, and with days up to 100000 never after 200000.
+pub fn deadlines_stand_in_bounds()
+    ensures stands { OfEachFile (λ h file. is_some (deadline file) ≡ is_timed (base_stage file.acts)) }
+    ensures least { OfEachFile (λ h file. (d : ℕ) → deadline file ≡ Some d → file.filing.filed + term ≤ d) }
+    ensures most { OfEachFile (λ h file. last_day h ≤ 100000 → (d : ℕ) → deadline file ≡ Some d → d ≤ last_deadline) }
+{}
+
+/// The row of each file is sound.
+pub fn rows_are_sound()
+    ensures sound { OfEachFile (λ h file. IsSoundState (state_of file)) }
+{}

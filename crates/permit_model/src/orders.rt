@@ -1,0 +1,37 @@
+//! Worked examples of stop work orders, temporary certificates and revocation.
+
+ghost use Rattle.std.specs.Prelude.{◌≡◌, ◌∷◌, [], ◌++◌, None, Some, codes, option_map};
+ghost use Rattle.permit_base.specs.declared.words.Kind.TheVariants.{Construct};
+ghost use Rattle.permit_base.specs.declared.words.Step.TheVariants.{Footing};
+ghost use Rattle.permit_base.specs.declared.words.Stage.TheVariants as stage;
+ghost use Rattle.permit_base.specs.declared.words.Timing.TheVariants as timing;
+ghost use Rattle.permit_base.specs.declared.outcome.Reason.TheVariants as reason;
+ghost use Rattle.permit_base.specs.declared.request.Command.TheVariants.{RequestInspection, Revoke, Temporary};
+ghost use Rattle.permit_model.specs.Tables.{State};
+ghost use Rattle.permit_model.specs.Examples.{opening, on_one, replies, after, last_reply, made, not_admitted, read_after, state_after, begun_file, house_state, stopped_file, lifted_file, issued_file, temporary_turns, revoking_turns};
+
+/// A stop work order and its lift leave the deadline 19990; an inspection is refused while it stands, and activity
+/// after the lift moves the deadline to 20010.
+pub fn stop_order_leaves_the_deadline()
+    ensures before { read_after (begun_file Construct) 19810 ≡ Some (stage.Working, timing.Ahead, Some 19990) }
+    ensures stopped { last_reply stopped_file (on_one 6 19820 (RequestInspection Footing)) opening ≡ not_admitted reason.Stopped }
+    ensures lifted { read_after lifted_file 19830 ≡ Some (stage.Working, timing.Ahead, Some 19990) }
+    ensures active { read_after (lifted_file ++ on_one 6 19830 (RequestInspection Footing) ∷ []) 19830 ≡ Some (stage.Working, timing.Ahead, Some 20010) }
+{}
+
+/// The last temporary certificate counts, also where it ends earlier; none is for more than 180 days, and none moves
+/// the deadline.
+pub fn temporary_certificates()
+    ensures replies { replies temporary_turns (after (begun_file Construct) opening) ≡ made 2 ∷ made 3 ∷ not_admitted reason.Days ∷ [] }
+    ensures first { option_map (λ (s : State). s.temporary) (state_after (begun_file Construct ++ on_one 1 19850 (Temporary 60 (codes "Floor 1")) ∷ []) 19850) ≡ Some (Some 19910) }
+    ensures last { state_after (begun_file Construct ++ temporary_turns) 19860 ≡ Some (record house_state {
+        filed = 19790; contractor = Some 6; reviewer = Some 3; inspector = Some 4; stage = stage.Working; deadline = Some 19990; papers = 3; temporary = Some 19890 }) }
+{}
+
+/// A permit under which work never began is revoked once, and has no deadline then; orders may still stop and release
+/// it.
+pub fn revoke_a_lapsed_permit()
+    ensures lapsed { read_after issued_file 19981 ≡ Some (stage.Lapsed, timing.Past, Some 19980) }
+    ensures replies { replies revoking_turns (after issued_file opening) ≡ made 2 ∷ not_admitted reason.Stage ∷ made 3 ∷ not_admitted reason.Stopped ∷ made 4 ∷ [] }
+    ensures revoked { read_after (issued_file ++ on_one 1 19981 (Revoke (codes "Void")) ∷ []) 19981 ≡ Some (stage.Revoked, timing.Untimed, None) }
+{}
