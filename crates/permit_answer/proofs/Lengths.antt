@@ -1,4 +1,5 @@
 -- No answer in place is longer than its line.
+use Rattle.std.proofs.lemmas.Bool.Decides.{nat_tests}
 use Rattle.std.proofs.Common.{lit<, lit≤, Bool, true, false, ◌==◌, if◌then◌else◌, ◌≡◌, ◌^◌, ℕ, ◌+◌, ◌<◌, ◌≤◌, List, [], ◌∷◌, ◌++◌, length, Option, Some, None, codes, arith, length-append, append_assoc}
 use Rattle.std.specs.Fmt.{decimal}
 use Rattle.std.proofs.lemmas.Fmt.{length-decimal-le}
@@ -6,6 +7,9 @@ use Rattle.permit_base.specs.declared.words.Action.{Action}
 use Rattle.permit_base.specs.declared.words.Action.TheVariants as action
 use Rattle.permit_base.specs.declared.outcome.Reason.{Reason}
 use Rattle.permit_base.specs.declared.outcome.Reason.TheVariants as reason
+use Rattle.std.specs.Prelude.{IsTrue, nat_le, ◌&&◌}
+use Rattle.std.specs.List.{list_all}
+use Rattle.permit_base.specs.Texts.{is_rule_name, is_name_letter}
 use Rattle.permit_base.specs.Words.{action_word, reason_word}
 use Rattle.permit_answer.specs.AnswerText.{number_text, closing, challenge, line, phrase, head_text, done_text, refused_text, denied_text, not_admitted_text}
 
@@ -81,6 +85,12 @@ done_short day a number h k =
     let d = number_short day h in
     let w = action_short a in
     simp length-append (omega arith)
+
+within_32 : (b : Bool) (n : ℕ) → IsTrue ((nat_le 1 n && nat_le n 32) && b) → n ≤ 32
+within_32 b n h = grind (arith, nat_tests)
+
+pub name_short : (name : List ℕ) → IsTrue (is_rule_name name) → length name ≤ 32
+name_short name h = within_32 (list_all is_name_letter name) (length name) h
 
 pub refused_short : (word : List ℕ) → length word ≤ 32 → length (refused_text word) ≤ 128
 refused_short word h = simp length-append (omega arith)

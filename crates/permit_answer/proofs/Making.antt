@@ -1,6 +1,6 @@
 -- An answer's text by its parts.
 use Rattle.std.proofs.Common.{ℕ, Bool, List, ◌≡◌, ◌++◌, length, codes, ap, ◌∙◌, refl}
-use Rattle.std.specs.Prelude.{IfOk, Result, Ok, Err}
+use Rattle.std.specs.Prelude.{IfOk, OnErr, Result, Ok, Err}
 use Rattle.permit_answer.specs.AnswerText.{head_text}
 use Rattle.permit_answer.specs.Made.{made_bytes}
 use Rattle.permit_answer.specs.declared.write.Made.{Made}
@@ -19,3 +19,8 @@ pub made_in_memory : {E : Type 0} → (result : Result Made E) (said body : List
     → IfOk result (λ made. made_bytes made ≡ head_text 200 (codes "application/json") (length body) close ++ body)
 made_in_memory (Ok made) said body close s e = made_in_place 200 200 said body close (made_bytes made) refl s e
 made_in_memory (Err _) said body close s e = tt
+
+-- a fact that holds anyway holds at an error
+pub on_err : {A E : Type 0} → (result : Result A E) (P : Type 0) → P → OnErr result P
+on_err (Ok _) P p = tt
+on_err (Err _) P p = p

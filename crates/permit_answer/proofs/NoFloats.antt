@@ -7,7 +7,7 @@ use Rattle.serde_json.specs.View.{items_of}
 use Rattle.serde_json.specs.Written.{has_float, compact_text}
 use Rattle.permit_base.specs.declared.words.Step.{Step}
 use Rattle.permit_base.specs.Words.{step_word}
-use Rattle.permit_model.specs.Register.{next_in_row}
+use Rattle.permit_model.specs.Tables.{next_in_row}
 use Rattle.permit_model.specs.Tables.{FileView, Paper}
 use Rattle.permit_answer.specs.RowData.{count_or_null, step_or_null, paper_data, papers_data, steps_data, done_steps, file_data}
 
@@ -29,9 +29,19 @@ papers_plain (p ∷ papers) = papers_plain papers
 
 pub file_plain : (file : FileView) (papers : List Paper) → has_float (file_data file papers) ≡ false
 file_plain file papers =
-    rw (count_plain file.row.state.ask, count_plain file.row.state.contractor, count_plain file.row.state.deadline, steps_plain (done_steps file.row.state),
-    count_plain file.row.state.inspector, step_plain (next_in_row file.row.state), papers_plain papers, step_plain file.row.state.request,
-    count_plain file.row.state.requested, count_plain file.row.state.reviewer, count_plain file.row.state.temporary) refl
+    rw (
+      count_plain file.row.state.ask,
+      count_plain file.row.state.contractor,
+      count_plain file.row.state.deadline,
+      steps_plain (done_steps file.row.state),
+      count_plain file.row.state.inspector,
+      step_plain (next_in_row file.row.state),
+      papers_plain papers,
+      step_plain file.row.state.request,
+      count_plain file.row.state.requested,
+      count_plain file.row.state.reviewer,
+      count_plain file.row.state.temporary,
+    ) refl
 
 -- the text of a value that was made as data with no float
 pub text_of : {E : Type 0} → (result : Result (String Global) E) (made wanted : Data) → made ≡ wanted → has_float wanted ≡ false

@@ -2,7 +2,7 @@
 use Rattle.std.specs.Prelude.{codes}
 use Rattle.serde_json.specs.Data.{string, Members, put}
 use Rattle.permit_base.specs.Words.{kind_word}
-use Rattle.permit_model.specs.Register.{next_in_row}
+use Rattle.permit_model.specs.Tables.{next_in_row}
 use Rattle.permit_model.specs.Tables.{FileView}
 use Rattle.permit_answer.specs.RowData.{count, count_or_null, step_or_null, steps_data, done_steps}
 

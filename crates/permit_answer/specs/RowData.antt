@@ -7,7 +7,7 @@ use Rattle.permit_base.specs.Words.{kind_word, step_word, stage_word, timing_wor
 use Rattle.permit_model.specs.Parcels.{Parcel}
 use Rattle.permit_model.specs.Steps.{required_steps}
 use Rattle.permit_model.specs.Tables.{State, FileRow, FileView, Paper}
-use Rattle.permit_model.specs.Register.{next_in_row}
+use Rattle.permit_model.specs.Tables.{next_in_row}
 
 abbrev pub count : ℕ → Data
 count n = number (unsigned n)

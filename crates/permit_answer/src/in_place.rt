@@ -81,7 +81,7 @@ fn denied_body(rule: &RuleName) -> Line
 {
     let mut line = Line::new();
     line.push_bytes(b"{\"refused\":\"denied\",\"rule\":\"");
-    line.push_bytes(rule.as_bytes());
+    line.push_bytes(rule.as_str().as_bytes());
     line.push_bytes(b"\"}");
     line
 }

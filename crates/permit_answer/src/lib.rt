@@ -10,6 +10,8 @@ mod in_place;
 mod line;
 mod rows;
 mod status;
+#[cfg(test)]
+mod tests;
 mod write;
 
 pub use write::{WriteFault, write_reply};

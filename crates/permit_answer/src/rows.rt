@@ -94,42 +94,130 @@ fn later(alloc: Global, file: &FileView) -> Result<Map<String, Value>, AllocErro
 {
     let state = &file.row.state;
     let mut members = Map::new(alloc);
-    put(&mut members, alloc, "valuation", Value::from(file.row.valuation.get()))?;
-    put(&mut members, alloc, "timing", Value::try_from_str(alloc, file.timing.word())?)?;
-    put(&mut members, alloc, "temporary", number_or_null(state.temporary()))?;
-    put(&mut members, alloc, "stopped", Value::from(state.is_stopped()))?;
-    put(&mut members, alloc, "stage", Value::try_from_str(alloc, file.stage.word())?)?;
-    put(&mut members, alloc, "reviewer", number_or_null(state.reviewer().map(|party| party.get())))?;
-    put(&mut members, alloc, "requested", number_or_null(state.requested().map(|day| day.get())))?;
-    put(&mut members, alloc, "request", step_value(alloc, state.request())?)?;
-    put(&mut members, alloc, "parcel", Value::from(state.parcel().get()))?;
+    put(
+        &mut members,
+        alloc,
+        "valuation",
+        Value::from(file.row.valuation.get()),
+    )?;
+    put(
+        &mut members,
+        alloc,
+        "timing",
+        Value::try_from_str(alloc, file.timing.word())?,
+    )?;
+    put(
+        &mut members,
+        alloc,
+        "temporary",
+        number_or_null(state.temporary()),
+    )?;
+    put(
+        &mut members,
+        alloc,
+        "stopped",
+        Value::from(state.is_stopped()),
+    )?;
+    put(
+        &mut members,
+        alloc,
+        "stage",
+        Value::try_from_str(alloc, file.stage.word())?,
+    )?;
+    put(
+        &mut members,
+        alloc,
+        "reviewer",
+        number_or_null(state.reviewer().map(|party| party.get())),
+    )?;
+    put(
+        &mut members,
+        alloc,
+        "requested",
+        number_or_null(state.requested().map(|day| day.get())),
+    )?;
+    put(
+        &mut members,
+        alloc,
+        "request",
+        step_value(alloc, state.request())?,
+    )?;
+    put(
+        &mut members,
+        alloc,
+        "parcel",
+        Value::from(state.parcel().get()),
+    )?;
     Ok(members)
 }
 
-fn add_middle(alloc: Global, members: &mut Map<String, Value>, file: &FileView) -> Result<(), AllocError>
+fn add_middle(
+    alloc: Global,
+    members: &mut Map<String, Value>,
+    file: &FileView,
+) -> Result<(), AllocError>
     ensures { OnOk result (members_view members.new.entries ≡ with_middle file.now (members_view members.old.entries)) }
 {
     let state = &file.row.state;
     put(members, alloc, "notices", Value::from(state.notices()))?;
-    put(members, alloc, "next", step_value(alloc, state.next_step())?)?;
-    put(members, alloc, "kind", Value::try_from_str(alloc, state.kind().word())?)?;
-    put(members, alloc, "inspector", number_or_null(state.inspector().map(|party| party.get())))?;
+    put(
+        members,
+        alloc,
+        "next",
+        step_value(alloc, state.next_step())?,
+    )?;
+    put(
+        members,
+        alloc,
+        "kind",
+        Value::try_from_str(alloc, state.kind().word())?,
+    )?;
+    put(
+        members,
+        alloc,
+        "inspector",
+        number_or_null(state.inspector().map(|party| party.get())),
+    )?;
     put(members, alloc, "id", Value::from(file.row.id.get()))?;
     put(members, alloc, "filed", Value::from(state.filed().get()))
 }
 
-fn add_front(alloc: Global, members: &mut Map<String, Value>, file: &FileView) -> Result<(), AllocError>
+fn add_front(
+    alloc: Global,
+    members: &mut Map<String, Value>,
+    file: &FileView,
+) -> Result<(), AllocError>
     ensures { OnOk result (members_view members.new.entries ≡ with_front file.now (members_view members.old.entries)) }
 {
     let state = &file.row.state;
     let required = required_steps(state.kind());
     let done = &required[..usize::from(state.done()).min(required.len())];
     put(members, alloc, "done", steps_value(alloc, done)?)?;
-    put(members, alloc, "description", Value::try_from_str(alloc, file.row.description.as_str())?)?;
+    put(
+        members,
+        alloc,
+        "description",
+        Value::try_from_str(alloc, file.row.description.as_str())?,
+    )?;
     put(members, alloc, "deadline", number_or_null(state.deadline()))?;
-    put(members, alloc, "contractor", number_or_null(state.contractor().map(|party| party.get())))?;
-    put(members, alloc, "ask", number_or_null(state.ask().map(|days| days.get())))?;
-    put(members, alloc, "applicant", Value::from(state.applicant().get()))
+    put(
+        members,
+        alloc,
+        "contractor",
+        number_or_null(state.contractor().map(|party| party.get())),
+    )?;
+    put(
+        members,
+        alloc,
+        "ask",
+        number_or_null(state.ask().map(|days| days.get())),
+    )?;
+    put(
+        members,
+        alloc,
+        "applicant",
+        Value::from(state.applicant().get()),
+    )
 }
 
 fn file_value(alloc: Global, file: &FileView, papers: &[Paper]) -> Result<Value, AllocError>

@@ -23,7 +23,7 @@ pub struct WriteFault;
 /// Writes all the bytes.
 fn write_whole<W: Write>(writer: &mut W, bytes: &[u8]) -> Result<(), WriteFault>
     ensures whole { OnOk result (Appends (W.contents writer.old) (W.contents writer.new) bytes.now) }
-    ensures front { WroteFront (W.contents writer.old) (W.contents writer.new) bytes.now }
+    ensures front { OnErr result (WroteFront (W.contents writer.old) (W.contents writer.new) bytes.now) }
 {
     let mut at = 0;
     while at < bytes.len() {
@@ -88,7 +88,11 @@ fn make(alloc: Global, answer: &Answer, close: bool) -> Result<Made, AllocError>
                 close,
             ))),
             Reply::Parcel(parcel) => in_memory(alloc, parcel_text(alloc, parcel)?.as_str(), close),
-            Reply::File(file, papers) => in_memory(alloc, file_text(alloc, file, papers.as_slice())?.as_str(), close),
+            Reply::File(file, papers) => in_memory(
+                alloc,
+                file_text(alloc, file, papers.as_slice())?.as_str(),
+                close,
+            ),
         },
     }
 }
@@ -97,11 +101,8 @@ fn make(alloc: Global, answer: &Answer, close: bool) -> Result<Made, AllocError>
 fn store_refusal() -> Line
     ensures { result ≡ answer_text (Faulted Fault.Memory) true }
 {
-    in_place(
-        fault_status(Fault::Memory),
-        &fault_body(Fault::Memory),
-        true,
-    )
+    let body = fault_body(Fault::Memory);
+    in_place(fault_status(Fault::Memory), &body, true)
 }
 
 /// Writes the text of an answer by its own loop over `write`, and says whether the text that went out closes the connection.
@@ -117,7 +118,7 @@ pub fn write_reply<W: Write>(
     writer: &mut W,
 ) -> Result<bool, WriteFault>
     ensures whole { IfOk result (WroteAnswer (answer_data answer.now) close (W.contents writer.old) (W.contents writer.new)) }
-    ensures front { WroteFrontOfAnswer (answer_data answer.now) close (W.contents writer.old) (W.contents writer.new) }
+    ensures front { OnErr result (WroteFrontOfAnswer (answer_data answer.now) close (W.contents writer.old) (W.contents writer.new)) }
 {
     match make(alloc, answer, close) {
         Ok(text) => {

@@ -7,4 +7,4 @@ use Rattle.permit_answer.proofs.write.store_refusal.Goals as goal
 
 pub returns : goal.returns
 unfolding answer_text
-returns c = made_in_place _ _ _ _ true _ c.fault_status.ensures c.fault_body.ensures.text c.in_place.ensures
+returns c = made_in_place _ _ _ _ true _ c.fault_status.ensures c.fault_body-body.ensures.text c.in_place.ensures
