@@ -1,0 +1,6 @@
+//! From the bytes of a connection to a request of the office.
+#![tactic(auto)]
+
+pub mod error;
+pub mod read;
+pub mod serve;
