@@ -1,7 +1,7 @@
 //! An office in memory.
 
 use anyhow::{Result, anyhow};
-use permit_base::digest::digest;
+use permit_base::digests::digest;
 use permit_base::values::{Day, Text, Token};
 use permit_office::office::Office;
 use permit_policy::text::read_policy;

@@ -2,7 +2,7 @@
 
 use crate::exchange::{answer, asked};
 use crate::standard::POLICY;
-use permit_base::digest::digest;
+use permit_base::digests::digest;
 use permit_base::values::{Day, Text, Token};
 use permit_office::office::Office;
 use permit_policy::text::read_policy;
@@ -46,9 +46,18 @@ pub fn founded(alloc: Global) -> Result<Office<PlainStore>, Fail> {
 }
 
 /// Asks as party 1 on the day of the founding, and wants the number that is made.
-fn add(alloc: Global, office: &mut Office<PlainStore>, path: &str, body: &str, action: &str, number: u32) -> Result<(), Fail> {
+fn add(
+    alloc: Global,
+    office: &mut Office<PlainStore>,
+    path: &str,
+    body: &str,
+    action: &str,
+    number: u32,
+) -> Result<(), Fail> {
     let written = asked(alloc, office, "POST", path, TOKENS[0], body, day(FOUNDED)?)?;
-    let made = format!(in alloc; "{{\"day\":{FOUNDED},\"done\":\"{action}\",\"number\":{number}}}")?;
+    let made = format!(in alloc;
+        "{{\"day\":{FOUNDED},\"done\":\"{action}\",\"number\":{number}}}"
+    )?;
     if written.as_str() == answer(alloc, "200 OK", made.as_str())?.as_str() {
         Ok(())
     } else {
@@ -60,15 +69,49 @@ fn add(alloc: Global, office: &mut Office<PlainStore>, path: &str, body: &str, a
 /// parcels of the public's.
 pub fn opened(alloc: Global) -> Result<Office<PlainStore>, Fail> {
     let mut office = founded(alloc)?;
-    let parties = [("Cal", "clerk"), ("Rae", "reviewer"), ("Ian", "inspector"), ("Sam", "public"), ("Pat", "public"), ("Ivy", "inspector")];
+    let parties = [
+        ("Cal", "clerk"),
+        ("Rae", "reviewer"),
+        ("Ian", "inspector"),
+        ("Sam", "public"),
+        ("Pat", "public"),
+        ("Ivy", "inspector"),
+    ];
     let mut number = 1;
     for ((name, role), token) in parties.iter().zip(&TOKENS[1..]) {
         number += 1;
-        let body = format!(in alloc; "{{\"name\":\"{name}\",\"role\":\"{role}\",\"token\":\"{token}\"}}")?;
-        let action = if *role == "public" { "add-party" } else { "add-staff" };
-        add(alloc, &mut office, "/parties", body.as_str(), action, number)?;
+        let body = format!(in alloc;
+            "{{\"name\":\"{name}\",\"role\":\"{role}\",\"token\":\"{token}\"}}"
+        )?;
+        let action = if *role == "public" {
+            "add-party"
+        } else {
+            "add-staff"
+        };
+        add(
+            alloc,
+            &mut office,
+            "/parties",
+            body.as_str(),
+            action,
+            number,
+        )?;
     }
-    add(alloc, &mut office, "/parcels", "{\"lot\":\"A-1\",\"address\":\"1 Main St\",\"owner\":5}", "add-parcel", 1)?;
-    add(alloc, &mut office, "/parcels", "{\"lot\":\"A-2\",\"address\":\"2 Main St\",\"owner\":6}", "add-parcel", 2)?;
+    add(
+        alloc,
+        &mut office,
+        "/parcels",
+        "{\"lot\":\"A-1\",\"address\":\"1 Main St\",\"owner\":5}",
+        "add-parcel",
+        1,
+    )?;
+    add(
+        alloc,
+        &mut office,
+        "/parcels",
+        "{\"lot\":\"A-2\",\"address\":\"2 Main St\",\"owner\":6}",
+        "add-parcel",
+        2,
+    )?;
     Ok(office)
 }
