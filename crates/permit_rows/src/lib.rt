@@ -2,6 +2,8 @@
 #![tactic(auto)]
 
 #[cfg(test)]
+mod applications;
+#[cfg(test)]
 mod exchange;
 #[cfg(test)]
 mod filing;
@@ -10,6 +12,10 @@ mod opening;
 #[cfg(test)]
 mod oversized_and_cut;
 #[cfg(test)]
+mod script;
+#[cfg(test)]
 mod standard;
 #[cfg(test)]
 mod unknown_and_missing;
+#[cfg(test)]
+mod work;
