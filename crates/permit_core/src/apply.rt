@@ -1,6 +1,6 @@
 //! What an admitted command makes of a file's state.
 
-ghost use Rattle.std.specs.Prelude.{◌≡◌, ◌≤◌, ◌<◌, ◌+◌, ◌^◌, ℕ, true, None, Some, unwrap_or, option_map};
+ghost use Rattle.std.specs.Prelude.{◌≡◌, ◌≤◌, ◌<◌, ◌+◌, ◌^◌, ◌∷◌, ℕ, true, None, Some, unwrap_or, option_map};
 ghost use Rattle.permit_base.specs.declared.request.Request.TheVariants.{OnFile};
 ghost use Rattle.permit_model.specs.Search.{or_else};
 ghost use Rattle.permit_model.specs.History.{History, last_day};
@@ -9,7 +9,7 @@ ghost use Rattle.permit_model.specs.People.{contractor_named, reviewer_named, in
 ghost use Rattle.permit_model.specs.Work.{temporary_told, makes_paper};
 ghost use Rattle.permit_model.specs.BaseStage.{stage_given};
 ghost use Rattle.permit_model.specs.Admission.{reason_against};
-ghost use Rattle.permit_model.specs.Machine.{IsHistory};
+ghost use Rattle.permit_model.specs.Machine.{IsHistory, entry_of};
 ghost use Rattle.permit_model.specs.Tables.{state_of};
 ghost use Rattle.permit_core.specs.RowTests.{IsAdmitted};
 ghost use Rattle.permit_core.specs.RowAfter;
@@ -85,7 +85,12 @@ fn moved_by_activity(day: Day, deadline: Option<u32>) -> u32
 }
 
 /// The deadline after a command of the day, from the pending ask and the deadline before it.
-fn deadline_after(command: &Command, day: Day, ask: Option<Days>, deadline: Option<u32>) -> Option<u32>
+fn deadline_after(
+    command: &Command,
+    day: Day,
+    ask: Option<Days>,
+    deadline: Option<u32>,
+) -> Option<u32>
     ensures { FitsGrant command.now ask deadline → result ≡ RowAfter.deadline_after command.now day ask deadline }
 {
     match command {
@@ -230,10 +235,16 @@ impl FileState {
     /// Makes the state what an admitted command of the caller on the day makes of it.
     pub fn apply(&mut self, day: Day, command: &Command, caller: PartyId)
         requires admitted { IsAdmitted day self.old command.now }
+
+        // Every open notice is a paper, and a file has at most 9999 of these.
         ensures row { self.old.notices ≤ self.old.papers → self.new ≡ row_after day command.now self.old }
         ensures model { (h : History) (id : ℕ) (file : CaseFile) → IsHistory h → case_numbered h id ≡ Some file → last_day h ≤ day
             → self.old ≡ state_of file → reason_against h day caller (OnFile id command.now) ≡ None
             → self.new ≡ state_of (file_after day command.now caller file) }
+        ensures recorded { (h : History) (id : ℕ) (file after : CaseFile) → IsHistory h → case_numbered h id ≡ Some file → last_day h ≤ day
+            → self.old ≡ state_of file → reason_against h day caller (OnFile id command.now) ≡ None
+            → case_numbered (entry_of h day caller (OnFile id command.now) ∷ h) id ≡ Some after
+            → self.new ≡ state_of after }
     {
         *self = self.after(day, command);
     }
