@@ -94,7 +94,7 @@ below_first id caller day bound (Founding name digest) number is = tt
 below_first id caller day bound (Accepted request) number is = absurd is
 
 -- a file's papers have numbers below any bound above their count
-are_below : (h : History) (id bound : ℕ) → IsHistory h → paper_count (acts_on id h) < bound → AreBelow id bound h
+pub are_below : (h : History) (id bound : ℕ) → IsHistory h → paper_count (acts_on id h) < bound → AreBelow id bound h
 are_below [] id bound is small = tt
 are_below (entry ∷ []) id bound is small = (below_first id entry.caller entry.day bound entry.deed entry.number is, tt)
 are_below (entry ∷ last ∷ before) id bound is small =
@@ -165,7 +165,7 @@ nothing_left true = refl
 nothing_left false = refl
 
 -- a number that is taken out is not among those left
-without : (k m : ℕ) (ns : List ℕ) → has_number (filter (λ n. not (n == k)) ns) m ≡ (if m == k then false else has_number ns m)
+pub without : (k m : ℕ) (ns : List ℕ) → has_number (filter (λ n. not (n == k)) ns) m ≡ (if m == k then false else has_number ns m)
 without k m [] = nothing_left (m == k)
 without k m (n ∷ ns) =
     without_by k m n ns (n == k)

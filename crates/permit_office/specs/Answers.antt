@@ -76,10 +76,9 @@ HandedIn true result old new = Handed result old new
 
 -- ---- what is built
 
--- the requests that the office serves; listings, registers and the commands on a file it doesn't yet, nor does it
--- say when it refuses a new party for the store
+-- the requests that the office serves; listings and registers it doesn't yet
 abbrev pub is_built : Request → Bool
-is_built (request.AddParty name role token) = false
+is_built (request.AddParty name role token) = true
 is_built (request.AddParcel lot address owner) = true
 is_built (request.Transfer parcel to) = true
 is_built (request.Declare parcel) = true
@@ -88,8 +87,14 @@ is_built (request.File parcel kind valuation description) = true
 is_built (request.ReadFile file) = true
 is_built (request.ListFiles wanted) = false
 is_built (request.Register kind) = false
-is_built (request.OnFile file command) = false
+is_built (request.OnFile file command) = true
 
 -- a reply that isn't the store's refusal
 abbrev pub IsOwn : Given → Type 0
 IsOwn reply = IsTrue (not (is_store_refusal reply))
+
+-- the reply to a command that the policy allows: it is done or not admitted
+abbrev pub IsDecided : Given → Type 0
+IsDecided (given.Done number) = Unit {0}
+IsDecided (given.Refused (refusal.NotAdmitted why)) = Unit {0}
+IsDecided _ = ⊥

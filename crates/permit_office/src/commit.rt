@@ -6,7 +6,7 @@ ghost use Rattle.permit_model.specs.Tables.{tables};
 ghost use Rattle.permit_model.specs.Machine.{admitted};
 ghost use Rattle.permit_store.specs.Counts.{failed_after};
 ghost use Rattle.permit_store.specs.Changes.{Fits, changed};
-ghost use Rattle.permit_office.specs.Answers.{Attempts, Committed, IsOwn};
+ghost use Rattle.permit_office.specs.Answers.{Attempts, Committed, IsDecided, IsOwn};
 
 use crate::reply::Reply;
 use permit_base::outcome::{Reason, Refusal};
@@ -22,6 +22,7 @@ pub(crate) fn carry_out<S: Store>(store: &mut S, reason: Option<Reason>, number:
     ensures failed { S.failed store.new ≡ failed_after result (S.failed store.old) }
     ensures commits { Committed result (S.commits store.old) (S.commits store.new) }
     ensures handed { S.handed store.new ≡ S.handed store.old }
+    ensures decided { IfOk result IsDecided }
     ensures own { IfOk result IsOwn }
 {
     match reason {

@@ -10,6 +10,7 @@ ghost use Rattle.permit_office.specs.Runs.{Ran};
 
 use crate::reply::Reply;
 use crate::serve::attempt;
+use permit_base::digests::digest;
 use permit_base::outcome::Refusal;
 use permit_base::request::{Asked, Request};
 use permit_base::values::{Day, Digest};
@@ -82,11 +83,13 @@ impl<S: Store + Drop> Office<S> {
         ensures model { (h : History) → IsHistory h → S.holds self.old.store (tables h)
             → Answers (S.holds self.new.store) result (step self.old.policy h asked.now day) h }
         ensures policy { self.new.policy ≡ self.old.policy }
+        ensures failed { IsTrue (is_built asked.now.request) → (IsTrue (is_store_refusal result) ↔ (S.failed self.new.store ≢ S.failed self.old.store)) }
         ensures commits { CommittedBy result (S.commits self.old.store) (S.commits self.new.store) }
+        ensures handed { HandedBy (is_on_file asked.now.request) result (S.handed self.old.store) (S.handed self.new.store) }
     {
-        match asked.token.digest() {
-            Some(digest) => self.step_as(&digest, &asked.request, day),
-            None => Reply::Refused(Refusal::Store),
+        match digest(&asked.token) {
+            Ok(digest) => self.step_as(&digest, &asked.request, day),
+            Err(_) => Reply::Refused(Refusal::Store),
         }
     }
 

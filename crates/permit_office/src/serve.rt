@@ -8,6 +8,7 @@ ghost use Rattle.permit_model.specs.Machine.{IsHistory, served, step_as};
 ghost use Rattle.permit_store.specs.Counts.{failed_after};
 ghost use Rattle.permit_office.specs.Answers.{Attempts, Committed, HandedIn, is_built, is_on_file, IsOwn};
 
+use crate::commands::on_file;
 use crate::filing::file;
 use crate::land::{add_parcel, declare, transfer};
 use crate::people::add_party;
@@ -37,7 +38,8 @@ fn serve_known<S: Store>(store: &mut S, policy: &Policy, caller: &Party, desk: &
         Request::Declare { parcel } => declare(store, policy, caller, *parcel, day),
         Request::Transfer { parcel, to } => transfer(store, policy, caller, *parcel, *to, day),
         Request::ReadFile { file } => read_file(store, policy, caller, *file, day),
-        Request::ListFiles { .. } | Request::Register { .. } | Request::OnFile { .. } => Ok(Reply::Refused(Refusal::Store)),
+        Request::OnFile { file, command } => on_file(store, policy, caller, *file, command, day),
+        Request::ListFiles { .. } | Request::Register { .. } => Ok(Reply::Refused(Refusal::Store)),
     }
 }
 
