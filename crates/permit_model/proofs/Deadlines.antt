@@ -1,5 +1,5 @@
 -- What each admitted command does to the deadline, and the bounds within which it stays.
-use Rattle.std.proofs.Common.{◌≡◌, ◌≤◌, ℕ, ◌+◌, max, Bool, true, false, not, List, [], ◌∷◌, refl, sym, ◌∙◌, ap, arith}
+use Rattle.std.proofs.Common.{◌≡◌, ◌≤◌, ℕ, ◌+◌, max, Bool, true, false, List, [], ◌∷◌, refl, sym, ◌∙◌, ap, arith}
 use Rattle.std.specs.Prelude.{Option, None, Some, option_map, unwrap_or, nat_lt}
 use Rattle.std.proofs.lemmas.Bool.{ltb-false as not_below}
 use Rattle.permit_base.specs.declared.words.Step.TheVariants.{Final}
@@ -13,7 +13,7 @@ use Rattle.permit_model.specs.Work.{pending_ask}
 use Rattle.permit_model.specs.BaseStage.{base_stage}
 use Rattle.permit_model.specs.Deadline.{days_granted, is_anchor, extended, filing_reach, anchor_reaches, deadline_in, deadline}
 use Rattle.permit_model.specs.Admission.{file_tests}
-use Rattle.permit_model.proofs.Appending.{with_act, extended-zero, greatest-extended}
+use Rattle.permit_model.proofs.Appending.{extended-zero, greatest-extended}
 use Rattle.permit_model.proofs.Projection.{last_touched, WasAdmitted, WereAdmitted}
 use Rattle.permit_model.proofs.Fronts.{AllPass, all_pass}
 use Rattle.permit_model.proofs.Stages.{was_in}

@@ -1,6 +1,6 @@
 -- What holds of each file of a history, in the words of its definitions.
 use Rattle.std.proofs.Common.{◌≡◌, ◌≤◌, ℕ, ◌+◌, Bool, true, false, List, [], ◌∷◌, length, take, refl, sym, ◌∙◌, ap, arith}
-use Rattle.std.specs.Prelude.{Option, None, Some, is_some, is_none, if◌then◌else◌, slice_get}
+use Rattle.std.specs.Prelude.{Option, None, Some, is_some, is_none, if◌then◌else◌}
 use Rattle.std.proofs.lemmas.List.{take_all}
 use Rattle.permit_base.specs.declared.words.Step.{Step}
 use Rattle.permit_base.specs.declared.words.Stage.TheVariants as stage

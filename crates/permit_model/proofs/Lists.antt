@@ -1,10 +1,10 @@
 -- Lists searched, and lists numbered.
-use Rattle.std.proofs.Common.{◌≡◌, ◌≤◌, ◌<◌, ℕ, zero, suc, ◌+◌, ◌-◌, ◌==◌, Bool, true, false, cond, List, [], ◌∷◌, ◌++◌, length, refl, sym, ◌∙◌, ap, map, arith}
-use Rattle.std.specs.Prelude.{Option, None, Some, is_some, find, option_map, slice_get, get_or, unwrap_or, ◌||◌}
+use Rattle.std.proofs.Common.{◌≡◌, ℕ, zero, suc, ◌+◌, ◌==◌, Bool, true, false, cond, List, [], ◌∷◌, ◌++◌, length, refl, ◌∙◌, ap, map, arith}
+use Rattle.std.specs.Prelude.{Option, Some, is_some, find, option_map, slice_get, get_or, unwrap_or, ◌||◌}
 use Rattle.std.specs.List.{list_any, All}
 use Rattle.std.proofs.lemmas.Bool.{eq-eqb, ne_eqb}
 use Rattle.std.proofs.lemmas.Option.{slice_get-get_or}
-use Rattle.permit_model.specs.Numbering.{IsNumberedFrom, IsNumbered}
+use Rattle.permit_model.specs.Numbering.{IsNumberedFrom}
 
 any_found_by : {A : Type 0} (p : A → Bool) (x : A) (xs : List A) (b : Bool) → list_any p xs ≡ is_some (find p xs) → (b || list_any p xs) ≡ is_some (cond b (Some x) (find p xs))
 any_found_by p x xs true ih = refl

@@ -1,5 +1,5 @@
 -- Parties, parcels, files and the papers of a file are numbered by their places, and nothing is said of one that isn't there.
-use Rattle.std.proofs.Common.{◌≡◌, ◌<◌, ◌+◌, ℕ, ◌==◌, Bool, true, false, cond, List, [], ◌∷◌, ◌++◌, length, refl, sym, ◌∙◌, ap, subst, map, arith, length-append}
+use Rattle.std.proofs.Common.{◌≡◌, ◌<◌, ◌+◌, ℕ, ◌==◌, Bool, true, false, cond, List, [], ◌∷◌, ◌++◌, length, refl, ◌∙◌, ap, subst, arith, length-append}
 use Rattle.std.specs.Prelude.{Option, None, Some, is_some, find, option_map, unwrap_or, slice_get, IsTrue, ◌&&◌, if◌then◌else◌}
 use Rattle.std.proofs.lemmas.Bool.{eqb-true}
 use Rattle.std.proofs.lemmas.List.{length-map}
@@ -8,7 +8,7 @@ use Rattle.permit_base.specs.declared.request.Request.TheVariants.{AddParty, Add
 use Rattle.permit_model.specs.Search.{in_order, add_last, latest, or_else, when, has_number}
 use Rattle.permit_model.specs.History.{Deed, Founding, Accepted, Entry, History}
 use Rattle.permit_model.specs.Parcels.{Parcel, parcel_added, parcel_now, parcels, parcel_numbered, receiver_by}
-use Rattle.permit_model.specs.Files.{Filing, filings, filing_made}
+use Rattle.permit_model.specs.Files.{Filing, filings}
 use Rattle.permit_model.specs.Machine.{MayFollow, IsFounding, IsHistory}
 use Rattle.permit_model.proofs.Lists.{find_mapped, numbered_last, numbered_mapped, found_at, all_at, slice_get_mapped}
 use Rattle.permit_model.specs.Numbering.{IsNumbered}

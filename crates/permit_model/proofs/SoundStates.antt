@@ -1,16 +1,16 @@
 -- Every file of a history has a sound row.
-use Rattle.std.proofs.Common.{◌≡◌, ◌≤◌, ℕ, zero, suc, ◌+◌, min, Bool, true, false, not, List, [], ◌∷◌, ◌++◌, length, take, refl, sym, ◌∙◌, ap, arith, length-append}
-use Rattle.std.specs.Prelude.{Option, None, Some, option_map, is_some, is_none, IsTrue, ◌==◌, ◌&&◌, ◌||◌, nat_le, if◌then◌else◌, slice_get, unwrap_or}
+use Rattle.std.proofs.Common.{◌≡◌, ◌≤◌, ℕ, zero, suc, ◌+◌, Bool, true, false, not, List, [], ◌∷◌, ◌++◌, length, take, refl, sym, ◌∙◌, ap, arith, length-append}
+use Rattle.std.specs.Prelude.{Option, None, Some, option_map, is_some, is_none, ◌==◌, ◌&&◌, ◌||◌, nat_le, if◌then◌else◌, slice_get, unwrap_or}
 use Rattle.std.proofs.lemmas.Bool.{le-leb, eq-eqb, ltb-false as not_below}
 use Rattle.std.proofs.lemmas.List.{length-take}
 use Rattle.permit_base.specs.declared.words.Kind.{Kind}
 use Rattle.permit_base.specs.declared.words.Kind.TheVariants.{Construct, Enlarge, Alter, Repair, Move, Demolish, Occupancy}
 use Rattle.permit_base.specs.declared.words.Step.{Step}
-use Rattle.permit_base.specs.declared.words.Step.TheVariants.{Footing, Slab, Frame, Lath, Final}
+use Rattle.permit_base.specs.declared.words.Step.TheVariants.{Final}
 use Rattle.permit_base.specs.declared.words.Stage.{Stage}
 use Rattle.permit_base.specs.declared.words.Stage.TheVariants as stage
 use Rattle.permit_base.specs.declared.request.Command.{Command}
-use Rattle.permit_base.specs.declared.request.Command.TheVariants.{StartReview, Return, Resubmit, ApprovePlans, Reject, Issue, BeginWork, RequestInspection, ApproveStep, Notice, ClearNotice, Stop, Lift, Revoke, Temporary, Certify}
+use Rattle.permit_base.specs.declared.request.Command.TheVariants.{StartReview, Return, Resubmit, ApprovePlans, Reject, Issue, BeginWork, RequestInspection, ApproveStep, Notice, ClearNotice, Stop, Lift, Revoke, Certify}
 use Rattle.permit_model.specs.Codes.{step_code, is_step, is_stage_among}
 use Rattle.permit_model.specs.Steps.{required_steps, next_step}
 use Rattle.permit_model.specs.History.{History}
@@ -20,12 +20,12 @@ use Rattle.permit_model.specs.BaseStage.{stage_given, base_stage}
 use Rattle.permit_model.specs.Days.{greatest}
 use Rattle.permit_model.specs.Deadline.{extended, anchor_reaches, deadline_in, days_granted}
 use Rattle.permit_model.specs.Facts.{stage_on}
-use Rattle.permit_model.specs.Admission.{stoppable_stages, file_tests}
-use Rattle.permit_model.specs.Tables.{State, state_of, next_in_row}
+use Rattle.permit_model.specs.Admission.{stoppable_stages}
+use Rattle.permit_model.specs.Tables.{state_of}
 use Rattle.permit_model.specs.SoundState.{is_stored, is_timed, is_completed, is_certified, is_for, IsSoundState}
 use Rattle.permit_model.specs.Machine.{IsHistory}
 use Rattle.permit_model.proofs.Appending.{base_stage-more, greatest-extended}
-use Rattle.permit_model.proofs.Projection.{WasAdmitted, WereAdmitted, DoneTo, done_to}
+use Rattle.permit_model.proofs.Projection.{WasAdmitted, WereAdmitted, done_to}
 use Rattle.permit_model.proofs.Fronts.{IsFront, Fronts, fronts, next_at_count, is_it}
 use Rattle.permit_model.proofs.Stages.{was_in, was_among}
 use Rattle.permit_model.proofs.Deadlines.{act_by, case_of, tests_passed}

@@ -26,10 +26,11 @@ use Rattle.permit_model.specs.Work.{next_of, pending_step, pending_ask, open_not
 use Rattle.permit_model.specs.Deadline.{deadline}
 use Rattle.permit_model.specs.Facts.{stage_on}
 
--- the most parties, parcels and files, and the most papers of a file
+-- the most parties, parcels and files
 abbrev pub most_records : ℕ
 most_records = 99999
 
+-- the most papers of a file
 abbrev pub most_papers : ℕ
 most_papers = 9999
 
@@ -44,9 +45,11 @@ first_failing (test ∷ tests) = if test.0 then Some test.1 else first_failing t
 
 -- ---- the stages in which commands are admitted
 
+-- the stages in which plans are reviewed
 abbrev pub reviewing_stages : List Stage
 reviewing_stages = stage.Filed ∷ stage.Review ∷ stage.Returned ∷ []
 
+-- the stages from approval of the plans to the end of the work
 abbrev pub inspecting_stages : List Stage
 inspecting_stages = stage.Approved ∷ stage.Issued ∷ stage.Working ∷ []
 
@@ -54,23 +57,29 @@ inspecting_stages = stage.Approved ∷ stage.Issued ∷ stage.Working ∷ []
 abbrev pub open_stages : List Stage
 open_stages = stage.Filed ∷ stage.Review ∷ stage.Returned ∷ stage.Approved ∷ stage.Issued ∷ stage.Working ∷ []
 
+-- the stages in which work is stopped and released
 abbrev pub stoppable_stages : List Stage
 stoppable_stages = stage.Issued ∷ stage.Working ∷ stage.Lapsed ∷ stage.Revoked ∷ stage.Finaled ∷ []
 
+-- the stages in which a permit is revoked
 abbrev pub revocable_stages : List Stage
 revocable_stages = stage.Issued ∷ stage.Working ∷ stage.Lapsed ∷ []
 
 -- ---- the tests
 
+-- the stage on the day is none of these
 abbrev pub not_in : ℕ → CaseFile → List Stage → Test
 not_in day file stages = (not (is_stage_among stages (stage_on day file)), reason.Stage)
 
+-- a stop work order stands
 abbrev pub stopped : CaseFile → Test
 stopped file = (is_stopped file.acts, reason.Stopped)
 
+-- the party isn't there
 abbrev pub no_party : History → ℕ → Test
 no_party h party = (not (is_party h party), reason.Person)
 
+-- the party isn't there, or has another role
 abbrev pub no_party_of_role : History → Role → ℕ → Test
 no_party_of_role h role party = (not (has_role role (party_numbered h party)), reason.Person)
 
@@ -80,9 +89,11 @@ is_interested h file party =
     (file.filing.applicant == party) || is_number (contractor file.acts) party
     || is_number (owner h file.filing.parcel) party || has_interest h file.filing.parcel party
 
+-- the party named has a part in the file or its parcel
 abbrev pub interested : History → CaseFile → ℕ → Test
 interested h file party = (is_interested h file party, reason.Interested)
 
+-- more days than the limit
 abbrev pub days_above : ℕ → ℕ → Test
 days_above limit days = (nat_lt limit days, reason.Days)
 
@@ -92,40 +103,52 @@ ask_limit stage.Issued = 180
 ask_limit stage.Working = 180
 ask_limit _ = 90
 
+-- an ask is pending
 abbrev pub ask_pending : CaseFile → Test
 ask_pending file = (is_some (pending_ask file.acts), reason.Pending)
 
+-- no ask is pending
 abbrev pub no_ask_pending : CaseFile → Test
 no_ask_pending file = (is_none (pending_ask file.acts), reason.NothingPending)
 
+-- a request for inspection is pending
 abbrev pub inspection_pending : CaseFile → Test
 inspection_pending file = (is_some (pending_step file.acts), reason.Pending)
 
+-- no request for inspection is pending
 abbrev pub no_inspection_pending : CaseFile → Test
 no_inspection_pending file = (is_none (pending_step file.acts), reason.NothingPending)
 
+-- no stop work order stands
 abbrev pub not_stopped : CaseFile → Test
 not_stopped file = (not (is_stopped file.acts), reason.NothingPending)
 
+-- whether there is a step and it is this one
 abbrev pub is_the_step : Option Step → Step → Bool
 is_the_step None step = false
 is_the_step (Some other) step = is_step other step
 
+-- the step isn't the next one
 abbrev pub not_the_next : CaseFile → Step → Test
 not_the_next file step = (not (is_the_step (next_of file) step), reason.Step)
 
+-- the step isn't the one whose inspection was requested
 abbrev pub not_the_requested : CaseFile → Step → Test
 not_the_requested file step = (not (is_the_step (pending_step file.acts) step), reason.Step)
 
+-- a notice of the file is open
 abbrev pub notice_open : CaseFile → Test
 notice_open file = (nat_lt 0 (length (open_notices file.acts)), reason.NoticeOpen)
 
+-- no open notice of the file has the number
 abbrev pub no_such_notice : CaseFile → ℕ → Test
 no_such_notice file paper = (not (has_number (open_notices file.acts) paper), reason.NoSuchNotice)
 
+-- the kind has no certificates
 abbrev pub no_certificates : CaseFile → Test
 no_certificates file = (not (has_certificates file.filing.kind), reason.Kind)
 
+-- the file has as many papers as it may have
 abbrev pub papers_full : CaseFile → Test
 papers_full file = (nat_le most_papers (paper_count file.acts), reason.Full)
 
@@ -135,6 +158,7 @@ too_far file = (nat_lt last_deadline (unwrap_or (deadline file) 0 + unwrap_or (p
 
 -- ---- the tests of each command
 
+-- the tests of a command on a file, in the order of the reasons
 abbrev pub file_tests : History → ℕ → CaseFile → Command → List Test
 file_tests h day file (AssignReviewer party) = not_in day file reviewing_stages ∷ no_party_of_role h Reviewer party ∷ interested h file party ∷ []
 file_tests h day file (AssignInspector party) = not_in day file inspecting_stages ∷ no_party_of_role h Inspector party ∷ interested h file party ∷ []
@@ -159,6 +183,7 @@ file_tests h day file (Revoke text) = not_in day file revocable_stages ∷ paper
 file_tests h day file (Temporary days text) = not_in day file (stage.Working ∷ []) ∷ stopped file ∷ days_above 180 days ∷ notice_open file ∷ no_certificates file ∷ papers_full file ∷ []
 file_tests h day file Certify = not_in day file (stage.Finaled ∷ []) ∷ stopped file ∷ no_certificates file ∷ papers_full file ∷ []
 
+-- a file that isn't there has no tests: it is refused before
 abbrev pub tests_on : History → ℕ → Option CaseFile → Command → List Test
 tests_on h day None command = []
 tests_on h day (Some file) command = file_tests h day file command

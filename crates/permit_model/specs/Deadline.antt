@@ -50,5 +50,6 @@ deadline_in stage.Issued filed acts = greatest (anchor_reaches acts)
 deadline_in stage.Working filed acts = greatest (anchor_reaches acts)
 deadline_in _ filed acts = None
 
+-- the deadline of a file, where one stands
 abbrev pub deadline : CaseFile → Option ℕ
 deadline file = deadline_in (base_stage file.acts) file.filing.filed file.acts

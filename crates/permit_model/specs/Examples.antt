@@ -1,30 +1,27 @@
 -- The scripts of the worked examples, whose values stand on the functions of this crate.
-use Rattle.std.specs.Prelude.{◌≡◌, ℕ, true, false, List, [], ◌∷◌, ◌++◌, map, length, Option, None, Some, option_map, codes, refl}
+use Rattle.std.specs.Prelude.{ℕ, false, List, [], ◌∷◌, ◌++◌, map, length, Option, None, Some, codes}
 use Rattle.permit_base.specs.declared.words.Role.TheVariants.{Public, Clerk, Reviewer, Inspector}
-use Rattle.permit_base.specs.declared.words.Kind.TheVariants.{Construct, Alter, Repair, Demolish}
+use Rattle.permit_base.specs.declared.words.Kind.TheVariants.{Construct, Alter, Repair}
 use Rattle.permit_base.specs.declared.words.Step.TheVariants.{Footing, Slab, Frame, Lath, Final}
 use Rattle.permit_base.specs.declared.words.Stage.TheVariants as stage
-use Rattle.permit_base.specs.declared.words.Timing.TheVariants.{Untimed, Past, Near, Ahead}
-use Rattle.permit_base.specs.declared.outcome.Reason.TheVariants as reason
 use Rattle.permit_base.specs.declared.outcome.Refusal.TheVariants as refusal
 use Rattle.permit_base.specs.declared.request.Filter.TheVariants.{All}
 use Rattle.permit_base.specs.declared.request.Command.{Command}
-use Rattle.permit_base.specs.declared.request.Command.TheVariants.{AssignReviewer, AssignInspector, NameContractor, StartReview, ApprovePlans, Issue, AskExtension, GrantExtension, RefuseExtension, BeginWork, RequestInspection, ApproveStep, Notice, ClearNotice, Stop, Lift, Revoke, Temporary, Certify}
+use Rattle.permit_base.specs.declared.request.Command.TheVariants.{AssignReviewer, AssignInspector, NameContractor, StartReview, ApprovePlans, Issue, AskExtension, GrantExtension, RefuseExtension, BeginWork, RequestInspection, ApproveStep, Notice, ClearNotice, Stop, Lift, Revoke, Temporary}
 use Rattle.permit_base.specs.declared.request.Request.{Request}
-use Rattle.permit_base.specs.declared.request.Request.TheVariants.{AddParty, AddParcel, Transfer, Declare, ReadParcel, File, ReadFile, ListFiles, Register, OnFile}
+use Rattle.permit_base.specs.declared.request.Request.TheVariants.{AddParty, AddParcel, Transfer, Declare, File, ReadFile, ListFiles, Register, OnFile}
 use Rattle.permit_model.specs.History.{Founding, Accepted, Entry, History}
 use Rattle.permit_model.specs.Caller.{party_numbered}
-use Rattle.permit_model.specs.Machine.{Reply, Done, ParcelShown, FileShown, Listed, RegisterShown, Refused, Outcome, known}
+use Rattle.permit_model.specs.Machine.{Reply, Done, FileShown, Listed, RegisterShown, Refused, Outcome, known}
 use Rattle.permit_model.specs.StandardPolicy.{standard_policy}
 use Rattle.permit_base.specs.declared.words.Step.{Step}
 use Rattle.permit_base.specs.declared.words.Stage.{Stage}
 use Rattle.permit_base.specs.declared.words.Timing.{Timing}
 use Rattle.permit_base.specs.declared.words.Kind.{Kind}
 use Rattle.permit_base.specs.declared.outcome.Reason.{Reason}
-use Rattle.permit_model.specs.Tables.{State, FileRow, Paper, Tables, tables}
+use Rattle.permit_model.specs.Tables.{State}
 use Rattle.permit_base.specs.declared.words.Relation.TheVariants as relation
 use Rattle.permit_base.specs.declared.words.Action.TheVariants as action
-use Rattle.permit_base.specs.declared.words.PaperSort.TheVariants as sort
 use Rattle.permit_model.specs.Caller.{Party}
 use Rattle.permit_base.specs.declared.words.Effect.TheVariants.{Allow, Deny}
 use Rattle.permit_model.specs.Policy.{Policy}
@@ -199,6 +196,7 @@ abbrev pub file_shown : State → ℕ → List ℕ → Stage → Timing → Repl
 file_shown state valuation description stage timing =
     FileShown (record { row = record { id = 1; state = state; valuation = valuation; description = description }; stage = stage; timing = timing }) []
 
+-- the file as it is shown with a stage and a timing
 abbrev pub house_shown : Stage → Timing → Reply
 house_shown stage timing = file_shown house_state 25000000 (codes "House") stage timing
 
@@ -314,6 +312,7 @@ parcel_list party =
 
 -- ---- registers
 
+-- the text of a register that is shown
 abbrev pub text_shown : ℕ → Reply → List ℕ
 text_shown day (RegisterShown kind files) = register_text kind day files
 text_shown day _ = []
@@ -326,6 +325,7 @@ register_by h party kind day = text_shown day (turn h (asks party day (Register 
 abbrev pub register_after : List Turn → RegisterKind → ℕ → List ℕ
 register_after ts kind day = register_by (after ts opening) 1 kind day
 
+-- the end of a line
 abbrev pub line_end : List ℕ
 line_end = 10 ∷ []
 
@@ -349,6 +349,7 @@ hall_events = Put 0 by_official ∷ Put 1 by_inspector ∷ Put 0 by_official ∷
 abbrev pub founded_with_token : History
 founded_with_token = record { caller = 1; day = 19700; deed = Founding (codes "Chief") (codes "71c480df93d6ae2f1efad1447c66c9525e316218cf51fc8d9ed832f2daf18b73"); number = Some 1 } ∷ []
 
+-- the founder asks this on the founding day
 abbrev pub founder_asks : Request → Asked × ℕ
 founder_asks request = (record { token = codes "abcdefghijklmnopqrstuvwxyz"; request = request }, 19700)
 

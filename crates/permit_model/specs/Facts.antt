@@ -34,6 +34,7 @@ past_stage other = other
 abbrev pub stage_on : ℕ → CaseFile → Stage
 stage_on day file = if is_past day (deadline file) then past_stage (base_stage file.acts) else base_stage file.acts
 
+-- the timing of a file on a day
 abbrev pub timing_of : ℕ → CaseFile → Timing
 timing_of day file = timing_on day (deadline file)
 
@@ -46,6 +47,7 @@ holds set relation.AssignedReviewer = set.assigned_reviewer
 holds set relation.AssignedInspector = set.assigned_inspector
 holds set relation.Conflict = set.conflict
 
+-- the empty set
 abbrev pub no_relations : Relations
 no_relations = record { applicant = false; contractor = false; owner = false; assigned_reviewer = false; assigned_inspector = false; conflict = false }
 
@@ -71,6 +73,7 @@ relations_to_file h caller file = record {
   conflict = has_interest h file.filing.parcel caller;
 }
 
+-- what the rules of a policy read
 pub record Facts : Type 0 where
   pub role : Role
   pub relations : Relations
@@ -79,6 +82,7 @@ pub record Facts : Type 0 where
   pub stopped : Bool
   pub timing : Timing
 
+-- the facts on the office, to which nobody has a relation
 abbrev pub office_facts : Role → Action → Facts
 office_facts role action = record { role = role; relations = no_relations; action = action; stage = stage.Office; stopped = false; timing = Untimed }
 
@@ -86,6 +90,7 @@ office_facts role action = record { role = role; relations = no_relations; actio
 abbrev pub parcel_facts : History → Party → ℕ → Stage → Action → Facts
 parcel_facts h caller parcel word action = record { role = caller.role; relations = relations_to_parcel h caller.id parcel; action = action; stage = word; stopped = false; timing = Untimed }
 
+-- the facts on a file, on a day
 abbrev pub file_facts : History → ℕ → Party → CaseFile → Action → Facts
 file_facts h day caller file action = record {
   role = caller.role;

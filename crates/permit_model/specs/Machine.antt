@@ -25,6 +25,7 @@ use Rattle.permit_model.specs.Admission.{reason_against}
 use Rattle.permit_model.specs.Tables.{FileView, file_view, Paper, papers_of}
 use Rattle.permit_model.specs.Listing.{listing, register_filter}
 
+-- what a caller is told
 pub data Reply : Type 0 where
   Done : (number : Option ℕ) → Reply
   ParcelShown : (parcel : Parcel) → Reply
@@ -35,6 +36,7 @@ pub data Reply : Type 0 where
 
 -- ---- the object of a request
 
+-- what a request is about: the office, a parcel with its stage word, or a file
 pub data Object : Type 0 where
   TheOffice : Object
   OneParcel : (id : ℕ) (word : Stage) → Object
@@ -62,11 +64,13 @@ is_there h TheOffice = true
 is_there h (OneParcel id word) = is_some (parcel_numbered h id)
 is_there h (OneFile id) = is_some (case_numbered h id)
 
+-- the facts by which a request is decided
 abbrev pub facts_of : History → ℕ → Party → Request → Option Facts
 facts_of h day caller request = facts_on h day caller (action_of request) (object_of request)
 
 -- ---- what an accepted command adds
 
+-- the number of the paper that a command makes, if it makes one
 abbrev pub paper_number : Command → Option CaseFile → Option ℕ
 paper_number command None = None
 paper_number command (Some file) = when (makes_paper command) (paper_count file.acts + 1)
@@ -90,16 +94,20 @@ pub record Outcome : Type 0 where
   pub reply : Reply
   pub history : History
 
+-- a reply that leaves the history
 abbrev pub unchanged : History → Reply → Outcome
 unchanged h reply = record { reply = reply; history = h }
 
+-- a refusal leaves the history
 abbrev pub refused : History → Refusal → Outcome
 refused h why = unchanged h (Refused why)
 
+-- the parcel's row, or that it isn't there
 abbrev pub shown_parcel : Option Parcel → Reply
 shown_parcel None = Refused refusal.Record
 shown_parcel (Some p) = ParcelShown p
 
+-- the file's row and papers, or that it isn't there
 abbrev pub shown_file : ℕ → Option CaseFile → Reply
 shown_file day None = Refused refusal.Record
 shown_file day (Some file) = FileShown (file_view day file) (papers_of file)
@@ -132,6 +140,7 @@ served policy h day caller (ListFiles wanted) = performed policy h day caller (L
 served policy h day caller (Register kind) = performed policy h day caller (Register kind)
 served policy h day caller request = judged policy h day caller request (facts_of h day caller request)
 
+-- the caller has to be known, and the day not below the last
 abbrev pub known : Policy → History → ℕ → Request → Option Party → Outcome
 known policy h day request None = refused h refusal.Caller
 known policy h day request (Some caller) = if nat_lt day (last_day h) then refused h refusal.Clock else served policy h day caller request
@@ -158,6 +167,7 @@ history_after policy (a ∷ rest) h = history_after policy rest (step policy h a
 
 -- ---- which lists are histories
 
+-- whether the request changes something where it is admitted
 abbrev pub is_command : Request → Bool
 is_command (ReadParcel id) = false
 is_command (ReadFile id) = false

@@ -26,15 +26,19 @@ pub record Cell : Type 0 where
   pub stopped : Bool
   pub timing : Timing
 
+-- the 14 stages
 abbrev pub all_stages : List Stage
 all_stages = stage.Filed ∷ stage.Review ∷ stage.Returned ∷ stage.Approved ∷ stage.Rejected ∷ stage.Issued ∷ stage.Working ∷ stage.Revoked ∷ stage.Finaled ∷ stage.Certified ∷ stage.Abandoned ∷ stage.Lapsed ∷ stage.New ∷ stage.Office ∷ []
 
+-- the four timings
 abbrev pub all_timings : List Timing
 all_timings = Untimed ∷ Past ∷ Near ∷ Ahead ∷ []
 
+-- the six relations
 abbrev pub all_relations : List Relation
 all_relations = relation.Applicant ∷ relation.Contractor ∷ relation.Owner ∷ relation.AssignedReviewer ∷ relation.AssignedInspector ∷ relation.Conflict ∷ []
 
+-- the cells of a stage, stopped or not
 abbrev pub cells_of : Stage → Bool → List Cell
 cells_of s b = map (λ t. record { stage = s; stopped = b; timing = t }) all_timings
 
@@ -42,6 +46,7 @@ cells_of s b = map (λ t. record { stage = s; stopped = b; timing = t }) all_tim
 abbrev pub cells : List Cell
 cells = flat_map (λ s. flat_map (cells_of s) (false ∷ true ∷ [])) all_stages
 
+-- whether two truth values are one
 abbrev pub same_truth : Bool → Bool → Bool
 same_truth a b = if a then b else not b
 
@@ -78,6 +83,7 @@ opened_of policy h caller cell files =
     then files
     else flat_map (opened_by policy h caller cell files) all_relations
 
+-- the rows of a cell on the day
 abbrev pub opened_in : Policy → History → ℕ → Party → Cell → List CaseFile
 opened_in policy h day caller cell = opened_of policy h caller cell (filter (is_in day cell) (case_files h))
 

@@ -22,6 +22,7 @@ pub record Rule : Type 0 where
   pub timing : Option (List Timing)
   pub stopped : Option Bool
 
+-- the rules in the order written
 abbrev pub Policy : Type 0
 Policy = List Rule
 
@@ -30,6 +31,7 @@ abbrev pub matches_list : {A : Type 0} → Option (List A) → (A → Bool) → 
 matches_list None test = true
 matches_list (Some words) test = list_any test words
 
+-- a key that isn't there matches both, else the truth value has to be the same
 abbrev pub matches_truth : Option Bool → Bool → Bool
 matches_truth None value = true
 matches_truth (Some wanted) value = if wanted then value else not value
@@ -44,10 +46,12 @@ matches rule facts =
     && matches_list rule.timing (is_timing facts.timing)
     && matches_truth rule.stopped facts.stopped
 
+-- the effect, and the name of the rule that decides
 pub record Decision : Type 0 where
   pub effect : Effect
   pub rule : List ℕ
 
+-- where no rule matches
 abbrev pub default_denial : Decision
 default_denial = record { effect = Deny; rule = codes "default" }
 
@@ -56,9 +60,11 @@ abbrev pub decision : Policy → Facts → Decision
 decision [] facts = default_denial
 decision (rule ∷ rules) facts = if matches rule facts then record { effect = rule.effect; rule = rule.name } else decision rules facts
 
+-- whether the effect is to allow
 abbrev pub is_allow : Effect → Bool
 is_allow Allow = true
 is_allow Deny = false
 
+-- whether the policy allows
 abbrev pub allows : Policy → Facts → Bool
 allows policy facts = is_allow (decision policy facts).effect

@@ -3,13 +3,16 @@ use Rattle.std.specs.Prelude.{ℕ, zero, suc, ◌+◌, ◌-◌, ◌%◌, Bool, n
 use Rattle.permit_base.specs.declared.words.RegisterKind.{RegisterKind}
 use Rattle.permit_base.specs.declared.words.RegisterKind.TheVariants.{Files, Deadlines, Inspections}
 use Rattle.permit_base.specs.Words.{kind_word, stage_word, timing_word, step_word}
-use Rattle.permit_model.specs.Tables.{FileView, next_in_row}
+use Rattle.permit_model.specs.Tables.{FileView}
+pub use Rattle.permit_model.specs.Tables.{next_in_row}
 
 -- ---- dates
 
+-- every fourth year, but of the centuries only every fourth
 abbrev pub is_leap : ℕ → Bool
 is_leap year = (year % 4 == 0) && (not (year % 100 == 0) || (year % 400 == 0))
 
+-- the days of a year
 abbrev pub year_days : ℕ → ℕ
 year_days year = if is_leap year then 366 else 365
 
@@ -17,6 +20,7 @@ year_days year = if is_leap year then 366 else 365
 abbrev pub month_days : ℕ → List ℕ
 month_days year = 31 ∷ (if is_leap year then 29 else 28) ∷ 31 ∷ 30 ∷ 31 ∷ 30 ∷ 31 ∷ 31 ∷ 30 ∷ 31 ∷ 30 ∷ 31 ∷ []
 
+-- a civil date
 pub record Date : Type 0 where
   pub year : ℕ
   pub month : ℕ
@@ -40,9 +44,11 @@ date_of day = date_in_years 600 1970 day
 
 -- ---- columns
 
+-- the text at the right of its column
 abbrev pub pad_left : ℕ → List ℕ → List ℕ
 pad_left width text = replicate (width - length text) 32 ++ text
 
+-- the text at the left of its column
 abbrev pub pad_right : ℕ → List ℕ → List ℕ
 pad_right width text = text ++ replicate (width - length text) 32
 
@@ -50,6 +56,7 @@ pad_right width text = text ++ replicate (width - length text) 32
 abbrev pub padded_number : ℕ → ℕ → List ℕ
 padded_number width n = replicate (width - length (decimal n)) 48 ++ decimal n
 
+-- the year in four digits, the month and the day in two
 abbrev pub written_date : Date → List ℕ
 written_date date = padded_number 4 date.year ++ codes "-" ++ padded_number 2 date.month ++ codes "-" ++ padded_number 2 date.day
 
@@ -74,11 +81,13 @@ line (column ∷ next ∷ columns) = column ++ 32 ∷ line (next ∷ columns)
 
 -- ---- registers
 
+-- the line of the column's words
 abbrev pub header : RegisterKind → List ℕ
 header Files = line (pad_left 5 (codes "FILE") ∷ pad_left 6 (codes "PARCEL") ∷ pad_right 9 (codes "KIND") ∷ pad_right 9 (codes "STAGE") ∷ pad_right 6 (codes "TIMING") ∷ pad_right 10 (codes "DEADLINE") ∷ pad_left 13 (codes "CENTS") ∷ [])
 header Deadlines = line (pad_left 5 (codes "FILE") ∷ pad_right 9 (codes "STAGE") ∷ pad_right 6 (codes "TIMING") ∷ pad_right 10 (codes "DEADLINE") ∷ pad_left 7 (codes "LEFT") ∷ [])
 header Inspections = line (pad_left 5 (codes "FILE") ∷ pad_right 7 (codes "NEXT") ∷ pad_right 10 (codes "REQUESTED") ∷ pad_left 9 (codes "INSPECTOR") ∷ pad_left 7 (codes "NOTICES") ∷ [])
 
+-- the line of a file
 abbrev pub file_line : RegisterKind → ℕ → FileView → List ℕ
 file_line Files day file = line
     (pad_left 5 (decimal file.row.id) ∷ pad_left 6 (decimal file.row.state.parcel) ∷ pad_right 9 (kind_word file.row.state.kind)
@@ -91,10 +100,12 @@ file_line Inspections day file = line
     (pad_left 5 (decimal file.row.id) ∷ pad_right 7 (or_hyphen step_word (next_in_row file.row.state)) ∷ pad_right 10 (or_hyphen date_text file.row.state.requested)
     ∷ pad_left 9 (or_hyphen decimal file.row.state.inspector) ∷ pad_left 7 (decimal file.row.state.notices) ∷ [])
 
+-- a line for each file
 abbrev pub file_lines : RegisterKind → ℕ → List FileView → List ℕ
 file_lines kind day [] = []
 file_lines kind day (file ∷ files) = file_line kind day file ++ file_lines kind day files
 
+-- the count of the files
 abbrev pub foot : ℕ → List ℕ
 foot count = codes "files " ++ decimal count ++ 10 ∷ []
 

@@ -31,6 +31,7 @@ is_completed stage.Finaled = true
 is_completed stage.Certified = true
 is_completed _ = false
 
+-- whether the stage is certified
 abbrev pub is_certified : Stage → Bool
 is_certified stage.Certified = true
 is_certified _ = false
@@ -61,5 +62,6 @@ is_sound_state s =
     && is_for s.request (next_in_row s) && request_dated s
     && (not (is_completed s.stage) || is_finished s) && (not (is_certified s.stage) || not s.stopped)
 
+-- the row is sound
 abbrev pub IsSoundState : State → Type 0
 IsSoundState s = IsTrue (is_sound_state s)

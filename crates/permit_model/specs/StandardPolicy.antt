@@ -13,6 +13,7 @@ use Rattle.permit_model.specs.Policy.{Policy}
 abbrev pub judging_actions : List Action
 judging_actions = action.StartReview ∷ action.Return ∷ action.ApprovePlans ∷ action.Reject ∷ action.Issue ∷ action.ApproveStep ∷ action.Notice ∷ action.ClearNotice ∷ action.Temporary ∷ action.Certify ∷ []
 
+-- the twelve rules
 abbrev pub standard_policy : Policy
 standard_policy =
     record { name = codes "no-conflict"; effect = Deny; role = None; relation = Some (relation.Conflict ∷ []); action = Some judging_actions; stage = None; timing = None; stopped = None }

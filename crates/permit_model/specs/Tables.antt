@@ -43,6 +43,7 @@ pub record State : Type 0 where
   pub papers : ℕ
   pub temporary : Option ℕ
 
+-- the row of a file
 pub record FileRow : Type 0 where
   pub id : ℕ
   pub state : State
@@ -53,6 +54,7 @@ pub record FileRow : Type 0 where
 abbrev pub next_in_row : State → Option Step
 next_in_row state = slice_get (required_steps state.kind) state.done
 
+-- the row of a file, without its number, valuation and description, read off what was done to it
 abbrev pub state_of : CaseFile → State
 state_of file = record {
   parcel = file.filing.parcel;
@@ -74,6 +76,7 @@ state_of file = record {
   temporary = temporary_until file.acts;
 }
 
+-- the row of a file, read off what was done to it
 abbrev pub file_row : CaseFile → FileRow
 file_row file = record { id = file.filing.id; state = state_of file; valuation = file.filing.valuation; description = file.filing.description }
 
@@ -83,11 +86,13 @@ pub record FileView : Type 0 where
   pub stage : Stage
   pub timing : Timing
 
+-- a file's row as it is shown on a day
 abbrev pub file_view : ℕ → CaseFile → FileView
 file_view day file = record { row = file_row file; stage = stage_on day file; timing = timing_of day file }
 
 -- ---- papers
 
+-- a paper of a file
 pub record Paper : Type 0 where
   pub file : ℕ
   pub number : ℕ
@@ -105,6 +110,7 @@ paper_days (AskExtension days text) before = days
 paper_days (Temporary days text) before = days
 paper_days command before = days_granted command before
 
+-- the text that a command gives its paper
 abbrev pub paper_text : Command → List ℕ
 paper_text (Return text) = text
 paper_text (Resubmit text) = text
@@ -117,10 +123,12 @@ paper_text (Revoke text) = text
 paper_text (Temporary days text) = text
 paper_text _ = []
 
+-- the conditions for resuming that a stop work order states
 abbrev pub paper_terms : Command → List ℕ
 paper_terms (Stop text conditions) = conditions
 paper_terms _ = []
 
+-- whether the paper is a correction notice
 abbrev pub is_notice : PaperSort → Bool
 is_notice sort.Notice = true
 is_notice _ = false
@@ -168,6 +176,7 @@ pub record Desk : Type 0 where
   pub parcels : ℕ
   pub files : ℕ
 
+-- the six tables
 pub record Tables : Type 0 where
   pub desk : Desk
   pub parties : List Party
@@ -176,6 +185,7 @@ pub record Tables : Type 0 where
   pub files : List FileRow
   pub papers : List Paper
 
+-- the last day and the counts after a history
 abbrev pub desk_of : History → Desk
 desk_of h = record { last = last_day h; parties = length (parties h); parcels = length (parcels h); files = length (case_files h) }
 

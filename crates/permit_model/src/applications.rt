@@ -1,15 +1,16 @@
 //! Worked examples of applications: filing, review, extensions and issuance.
 
 ghost use Rattle.std.specs.Prelude.{◌≡◌, ◌∷◌, [], ◌++◌, None, Some, codes, false};
-ghost use Rattle.permit_base.specs.declared.words.Step.TheVariants.{Footing};
+ghost use Rattle.permit_base.specs.declared.words.Kind.TheVariants.{Construct};
 ghost use Rattle.permit_base.specs.declared.words.Stage.TheVariants as stage;
 ghost use Rattle.permit_base.specs.declared.words.Timing.TheVariants as timing;
 ghost use Rattle.permit_base.specs.declared.words.PaperSort.TheVariants as sort;
 ghost use Rattle.permit_base.specs.declared.outcome.Reason.TheVariants as reason;
-ghost use Rattle.permit_base.specs.declared.request.Command.TheVariants.{ApprovePlans, AskExtension, GrantExtension, BeginWork};
+ghost use Rattle.permit_base.specs.declared.request.Command.TheVariants.{ApprovePlans, AskExtension, GrantExtension, BeginWork, Temporary};
 ghost use Rattle.permit_base.specs.declared.request.Request.TheVariants.{ReadFile};
+ghost use Rattle.permit_model.specs.Days.{timing_on};
 ghost use Rattle.permit_model.specs.Tables.{tables};
-ghost use Rattle.permit_model.specs.Examples.{opening, asks, on_one, replies, after, last_reply, done, made, denied, not_admitted, shown, state_shown, turn, read_after, state_after, file_house, house_state, house_shown, extended_house, ask_turns, issued_file, extended_file, begun_extended_file, requested_file, review_of_own, far_file};
+ghost use Rattle.permit_model.specs.Examples.{opening, asks, on_one, replies, after, last_reply, done, made, denied, not_admitted, shown, turn, read_after, state_after, begun_file, file_house, house_state, house_shown, extended_house, ask_turns, issued_file, extended_file, begun_extended_file, requested_file, review_of_own, far_file};
 
 /// An application filed on 19723 (2024-01-01) has the deadline 19903 (2024-06-29). On that day it is open, also for
 /// its applicant; from the next day on it is abandoned and closed to the public.
@@ -73,4 +74,15 @@ pub fn limits_of_text_and_deadline()
     ensures before { shown (turn far_file (asks 1 19810 (ReadFile 1))).reply ≡ Some (stage.Working, timing.Ahead, Some 199900) }
     ensures granted { shown (last_reply (on_one 5 19810 (AskExtension 100 (codes "Ill")) ∷ on_one 1 19810 GrantExtension ∷ []) (asks 1 19810 (ReadFile 1)) far_file) ≡ Some (stage.Working, timing.Ahead, Some 200000) }
     ensures too_far { last_reply (on_one 5 19810 (AskExtension 101 (codes "Ill")) ∷ []) (on_one 1 19810 GrantExtension) far_file ≡ not_admitted reason.Far }
+{}
+
+/// A deadline is near with 30 days left and ahead with 31. Once the permit is issued 180 days may be asked for, and 181
+/// may not; so with the days of a temporary certificate.
+pub fn days_at_their_limits()
+    ensures near { timing_on 19873 (Some 19903) ≡ timing.Near }
+    ensures ahead { timing_on 19872 (Some 19903) ≡ timing.Ahead }
+    ensures asked { last_reply issued_file (on_one 5 19800 (AskExtension 180 (codes "Ill"))) opening ≡ made 2 }
+    ensures too_many_asked { last_reply issued_file (on_one 5 19800 (AskExtension 181 (codes "Ill"))) opening ≡ not_admitted reason.Days }
+    ensures occupied { last_reply (begun_file Construct) (on_one 1 19850 (Temporary 180 (codes "Floor 1"))) opening ≡ made 2 }
+    ensures occupied_too_long { last_reply (begun_file Construct) (on_one 1 19850 (Temporary 181 (codes "Floor 1"))) opening ≡ not_admitted reason.Days }
 {}

@@ -1,6 +1,6 @@
 //! The laws that hold of every history, and of every policy.
 
-ghost use Rattle.std.specs.Prelude.{◌≡◌, ◌≤◌, ◌+◌, ℕ, List, [], length, Option, None, Some, is_some, true, false};
+ghost use Rattle.std.specs.Prelude.{◌≡◌, ◌≤◌, ◌+◌, ℕ, List, [], length, take, Some, is_some, true, false};
 ghost use Rattle.permit_base.specs.declared.words.Step.{Step};
 ghost use Rattle.permit_base.specs.declared.words.Stage.TheVariants as stage;
 ghost use Rattle.permit_base.specs.declared.words.Relations.{Relations};
@@ -41,7 +41,7 @@ pub fn steps_are_approved_in_order()
     ensures next { OfEachFile (λ h file. next_in_row (state_of file) ≡ next_of file) }
     ensures pending { OfEachFile (λ h file. (step : Step) → pending_step file.acts ≡ Some step → next_of file ≡ Some step) }
     ensures count { OfEachFile (λ h file. length (approved_steps file.acts) ≤ length (required_steps file.filing.kind)) }
-    ensures front { OfEachFile (λ h file. approved_steps file.acts ≡ Rattle.std.specs.Prelude.take (length (approved_steps file.acts)) (required_steps file.filing.kind)) }
+    ensures front { OfEachFile (λ h file. approved_steps file.acts ≡ take (length (approved_steps file.acts)) (required_steps file.filing.kind)) }
 {}
 
 /// Parties, parcels and files are numbered from 1 in order of acceptance, and so are the papers of each file.
@@ -60,14 +60,17 @@ pub fn certified_files_are_finished()
 {}
 
 /// A deadline stands in the six stages from filed to working but rejected, and in no other. It is never before the
-/// filing's 180 days, and with days up to 100000 never after 200000.
+/// filing's 180 days. Where the last day is at most 100000 it is never after 200000: days never fall, and a grant that
+/// goes further isn't admitted.
 pub fn deadlines_stand_in_bounds()
     ensures stands { OfEachFile (λ h file. is_some (deadline file) ≡ is_timed (base_stage file.acts)) }
     ensures least { OfEachFile (λ h file. (d : ℕ) → deadline file ≡ Some d → file.filing.filed + term ≤ d) }
     ensures most { OfEachFile (λ h file. last_day h ≤ 100000 → (d : ℕ) → deadline file ≡ Some d → d ≤ last_deadline) }
 {}
 
-/// The row of each file is sound.
+/// The row of each file is sound: a stored stage, no more steps done than its kind requires, a deadline in the six
+/// stages alone, a request only for the next step and with its day, everything approved and no notice open once the
+/// work is over, and no stop work order on a certified file.
 pub fn rows_are_sound()
     ensures sound { OfEachFile (λ h file. IsSoundState (state_of file)) }
 {}

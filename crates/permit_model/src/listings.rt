@@ -1,6 +1,6 @@
 //! Worked examples of listings, and of the rows that they open.
 
-ghost use Rattle.std.specs.Prelude.{◌≡◌, ◌∷◌, [], ◌++◌, codes, map};
+ghost use Rattle.std.specs.Prelude.{◌≡◌, ◌∷◌, [], ◌++◌, codes};
 ghost use Rattle.permit_base.specs.declared.words.RegisterKind.TheVariants.{Files};
 ghost use Rattle.permit_base.specs.declared.request.Filter.TheVariants.{All};
 ghost use Rattle.permit_base.specs.declared.request.Request.TheVariants.{ListFiles};

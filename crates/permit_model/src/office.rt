@@ -11,7 +11,7 @@ ghost use Rattle.permit_base.specs.declared.request.Filter.TheVariants.{All};
 ghost use Rattle.permit_base.specs.declared.request.Request.TheVariants.{ReadParcel, File, ReadFile, ListFiles, OnFile};
 ghost use Rattle.permit_model.specs.Machine.{ParcelShown, Listed, Refused, replies_to};
 ghost use Rattle.permit_model.specs.StandardPolicy.{standard_policy};
-ghost use Rattle.permit_model.specs.Examples.{founded_with_token, opening_requests, opening, asks, on_one, replies, after, last_reply, made, denied, not_admitted, house_state, file_shown, file_house, reply_under, opened_for, three_files, parcel_list};
+ghost use Rattle.permit_model.specs.Examples.{founded_with_token, opening_requests, opening, asks, on_one, replies, after, last_reply, made, denied, not_admitted, house_state, file_shown, reply_under, opened_for, three_files, parcel_list};
 
 /// The opening by tokens, whose digests are computed by SHA-256: a token that is taken, one of no party, a member of
 /// the public who may add no parcel, and a file that isn't there.

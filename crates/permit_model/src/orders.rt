@@ -25,7 +25,15 @@ pub fn temporary_certificates()
     ensures replies { replies temporary_turns (after (begun_file Construct) opening) ≡ made 2 ∷ made 3 ∷ not_admitted reason.Days ∷ [] }
     ensures first { option_map (λ (s : State). s.temporary) (state_after (begun_file Construct ++ on_one 1 19850 (Temporary 60 (codes "Floor 1")) ∷ []) 19850) ≡ Some (Some 19910) }
     ensures last { state_after (begun_file Construct ++ temporary_turns) 19860 ≡ Some (record house_state {
-        filed = 19790; contractor = Some 6; reviewer = Some 3; inspector = Some 4; stage = stage.Working; deadline = Some 19990; papers = 3; temporary = Some 19890 }) }
+      filed = 19790;
+      contractor = Some 6;
+      reviewer = Some 3;
+      inspector = Some 4;
+      stage = stage.Working;
+      deadline = Some 19990;
+      papers = 3;
+      temporary = Some 19890;
+    }) }
 {}
 
 /// A permit under which work never began is revoked once, and has no deadline then; orders may still stop and release

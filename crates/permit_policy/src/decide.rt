@@ -1,0 +1,104 @@
+//! A policy, and what it decides: the first rule that matches.
+
+ghost use Rattle.std.specs.Prelude.{◌≡◌, length};
+ghost use Rattle.permit_model.specs.Policy.{decision, is_allow};
+ghost use Rattle.permit_policy.specs.Denial.{denied};
+
+use crate::facts::Facts;
+use crate::rule::Rule;
+use permit_base::values::RuleName;
+use permit_base::words::Effect;
+use std::marker::Model;
+
+/// The rules in the order written.
+#[derive(Debug, Drop)]
+pub struct Policy {
+    rules: Vec<Rule>,
+}
+
+impl Model for Policy {
+    ghost use Rattle.std.specs.Prelude.{List};
+    ghost use Rattle.permit_model.specs.Policy.{Rule as TheRule};
+
+    ghost Value = { List TheRule };
+
+    ghost view = { λ p. p.rules.items };
+}
+
+impl Policy {
+    /// The policy of these rules.
+    pub(crate) fn new(rules: Vec<Rule>) -> Policy
+        ensures { result ≡ rules.items }
+    {
+        Policy { rules }
+    }
+
+    /// The count of rules.
+    pub fn rules(&self) -> usize
+        ensures { result ≡ length self.now }
+    {
+        self.rules.len()
+    }
+
+    /// The name of the rule that denies, or None where the policy allows.
+    pub fn denial(&self, facts: &Facts) -> Option<RuleName>
+        ensures { result ≡ denied (decision self.now facts.now) }
+    {
+        let decision = decide(self, facts);
+        if decision.is_allow() {
+            None
+        } else {
+            Some(decision.rule)
+        }
+    }
+}
+
+/// What a policy decides, and by which rule.
+#[derive(Clone, Copy, Debug)]
+pub struct Decision {
+    /// Whether the request is allowed.
+    pub effect: Effect,
+    /// The deciding rule's name, or `default` where no rule matched.
+    pub rule: RuleName,
+}
+
+impl Model for Decision {
+    ghost use Rattle.permit_model.specs.Policy.{Decision as TheDecision};
+
+    ghost Value = { TheDecision };
+
+    ghost view = { λ d. record { effect = d.effect; rule = d.rule } };
+
+    ghost inverse = { λ d. record { effect = d.effect; rule = d.rule } };
+}
+
+impl Decision {
+    /// Whether the request is allowed.
+    pub fn is_allow(self) -> bool
+        ensures { result ≡ is_allow self.effect }
+    {
+        match self.effect {
+            Effect::Allow => true,
+            Effect::Deny => false,
+        }
+    }
+}
+
+/// The effect of the first rule that matches, with its name; where none matches, a denial named `default`.
+/// It takes no memory.
+pub fn decide(policy: &Policy, facts: &Facts) -> Decision
+    ensures { result ≡ decision policy.now facts.now }
+{
+    for rule in &policy.rules {
+        if rule.matches(facts) {
+            return Decision {
+                effect: rule.effect,
+                rule: rule.name,
+            };
+        }
+    }
+    Decision {
+        effect: Effect::Deny,
+        rule: RuleName::default_denial(),
+    }
+}
