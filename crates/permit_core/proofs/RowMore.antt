@@ -1,25 +1,23 @@
 -- The row of a file after one more command is what the command makes of its row.
-use Rattle.std.proofs.Common.{◌≡◌, ◌≤◌, ◌<◌, ℕ, zero, suc, ◌+◌, ◌-◌, Bool, true, false, not, cond, List, [], ◌∷◌, ◌++◌, length, refl, sym, ◌∙◌, ap, arith, length-append}
-use Rattle.std.specs.Prelude.{Option, None, Some, option_map, unwrap_or, nat_lt, IsTrue, filter, if◌then◌else◌}
-use Rattle.std.proofs.lemmas.Bool.{lt-ltb, le-ltb, ltb-true, ltb-false as not_below}
+use Rattle.std.proofs.Common.{◌≡◌, ◌≤◌, ℕ, ◌+◌, ◌-◌, Bool, true, false, not, cond, List, [], ◌∷◌, length, refl, sym, ◌∙◌, ap, arith, length-append}
+use Rattle.std.specs.Prelude.{Option, None, Some, filter, if◌then◌else◌}
 use Rattle.permit_base.specs.declared.words.Step.{Step}
 use Rattle.permit_base.specs.declared.words.Step.TheVariants.{Final}
 use Rattle.permit_base.specs.declared.request.Command.{Command}
 use Rattle.permit_base.specs.declared.request.Command.TheVariants.{Reject, Issue, AskExtension, GrantExtension, RefuseExtension, BeginWork, RequestInspection, ApproveStep, Notice, ClearNotice, Stop, Lift, Revoke, Certify}
 use Rattle.permit_base.specs.declared.request.Request.TheVariants.{OnFile}
-use Rattle.permit_model.specs.Search.{add_last, has_number, how_many, when}
+use Rattle.permit_model.specs.Search.{add_last, has_number}
 use Rattle.permit_model.specs.History.{History, last_day}
 use Rattle.permit_model.specs.Files.{Filing, Act, CaseFile, case_numbered}
-use Rattle.permit_model.specs.Work as work
-use Rattle.permit_model.specs.Work.{approved_steps, step_approved, pending_step, requested_day, pending_ask, open_notices, is_stop, is_lift, is_stopped, makes_paper, paper_count}
-use Rattle.permit_model.specs.BaseStage.{stage_given, base_stage}
+use Rattle.permit_model.specs.Work.{approved_steps, step_approved, pending_step, requested_day, pending_ask, open_notices, is_stopped, makes_paper, paper_count}
 use Rattle.permit_model.specs.Deadline.{deadline}
 use Rattle.permit_model.specs.Admission.{first_failing, file_tests, tests_on, reason_against}
 use Rattle.permit_model.specs.Tables.{State, state_of}
 use Rattle.permit_model.specs.Machine.{IsHistory, paper_number}
 use Rattle.permit_model.proofs.Appending.{base_stage-more, FallFrom, open_fall, length-cleared}
-use Rattle.permit_model.proofs.Projection.{last_touched, WasAdmitted, WereAdmitted, DoneTo, done_to}
-use Rattle.permit_model.proofs.Fronts.{AllPass, all_pass, are_numbered}
+use Rattle.permit_model.proofs.Projection.{WasAdmitted, WereAdmitted, DoneTo, done_to}
+use Rattle.permit_model.proofs.StopOrders.{stopped_by_order, released_by_lift}
+use Rattle.permit_model.proofs.Fronts.{are_numbered}
 use Rattle.permit_model.proofs.Deadlines as deadlines
 use Rattle.permit_model.proofs.Deadlines.{act_by, case_of, tests_passed, unanchored, deadline_more}
 use Rattle.permit_core.specs.RowAfter.{deadline_after, done_after, request_after, requested_after, ask_after, stopped_after, notices_after, papers_after, row_after, file_after}
@@ -66,42 +64,16 @@ ask_more caller day _ number before = refl
 
 -- ---- stop work orders
 
+stopped_more : (filing : Filing) (caller day : ℕ) (command : Command) (number : Option ℕ) (before : List Act) → WereAdmitted filing before → is_stopped (act_by caller day command number ∷ before) ≡ stopped_after command (is_stopped before)
+stopped_more filing caller day (Stop text conditions) number before all = stopped_by_order filing caller day text conditions number before all
+stopped_more filing caller day Lift number before all = released_by_lift filing caller day number before all
+stopped_more filing caller day _ number before all = refl
+
+-- ---- papers and notices
+
 not_false : (b : Bool) → not b ≡ false → b ≡ true
 not_false true e = refl
 not_false false e = cc
-
-abbrev pub stops : List Act → ℕ
-stops acts = how_many (λ act. is_stop act.command) acts
-
-abbrev pub lifts : List Act → ℕ
-lifts acts = how_many (λ act. is_lift act.command) acts
-
--- at most one more stop work order than lifts, and no fewer
-pub record Balanced (acts : List Act) : Type 0 where
-  pub no_more_lifts : lifts acts ≤ stops acts
-  pub one_more_stop : stops acts ≤ lifts acts + 1
-
-balanced_more : (filing : Filing) (caller day : ℕ) (command : Command) (number : Option ℕ) (before : List Act) →
-    WasAdmitted filing (act_by caller day command number) before → Balanced before → Balanced (act_by caller day command number ∷ before)
-balanced_more filing caller day (Stop text conditions) number before w b =
-    let free : stops before ≤ lifts before = not_below (lifts before) (stops before) (tests_passed filing (act_by caller day (Stop text conditions) number) before w).1.0 in
-    record { no_more_lifts = omega (arith, b.no_more_lifts); one_more_stop = omega (arith, free) }
-balanced_more filing caller day Lift number before w b =
-    let standing : is_stopped before ≡ true = not_false (is_stopped before) (tests_passed filing (act_by caller day Lift number) before w).1.0 in
-    let more : lifts before < stops before = ltb-true (lifts before) (stops before) standing in
-    record { no_more_lifts = omega (arith, more); one_more_stop = omega (arith, b.one_more_stop) }
-balanced_more filing caller day _ number before w b = record { no_more_lifts = b.no_more_lifts; one_more_stop = b.one_more_stop }
-
-pub balanced : (filing : Filing) (acts : List Act) → WereAdmitted filing acts → Balanced acts
-balanced filing [] w = record { no_more_lifts = omega arith; one_more_stop = omega arith }
-balanced filing (act ∷ before) w = balanced_more filing act.caller act.day act.command act.number before w.0 (balanced filing before w.1)
-
-stopped_more : (caller day : ℕ) (command : Command) (number : Option ℕ) (before : List Act) → Balanced before → is_stopped (act_by caller day command number ∷ before) ≡ stopped_after command (is_stopped before)
-stopped_more caller day (Stop text conditions) number before b = lt-ltb (lifts before) (suc (stops before)) (omega (arith, b.no_more_lifts))
-stopped_more caller day Lift number before b = le-ltb (suc (lifts before)) (stops before) (omega (arith, b.one_more_stop))
-stopped_more caller day _ number before b = refl
-
--- ---- papers and notices
 
 counted_more : {A : Type 0} (x : A) (xs : List A) (b : Bool) → length (cond b (x ∷ xs) xs) ≡ (if b then length xs + 1 else length xs)
 counted_more x xs true = omega arith
@@ -144,7 +116,7 @@ row_of_act filing caller day command number before w all =
     (request_more caller day command number before)
     (requested_more caller day command number before)
     (ask_more caller day command number before)
-    (stopped_more caller day command number before (balanced filing before all))
+    (stopped_more filing caller day command number before all)
     (notices_more filing caller day command number before w all)
     (papers_more (act_by caller day command number) before)
     refl

@@ -1,6 +1,6 @@
 -- An admitted command makes a sound row of a sound row.
-use Rattle.std.proofs.Common.{◌≡◌, ◌≤◌, ◌<◌, ℕ, suc, ◌+◌, Bool, true, false, not, ◌==◌, List, [], ◌∷◌, length, refl, sym, ◌∙◌, ap, subst, arith, lit≤}
-use Rattle.std.specs.Prelude.{Option, None, Some, option_map, is_some, is_none, IsTrue, ◌&&◌, ◌||◌, nat_lt, nat_le, if◌then◌else◌, slice_get, unwrap_or}
+use Rattle.std.proofs.Common.{◌≡◌, ◌≤◌, ◌<◌, ℕ, ◌+◌, Bool, true, false, not, ◌==◌, [], ◌∷◌, length, refl, sym, ◌∙◌, ap, subst, arith, lit≤}
+use Rattle.std.specs.Prelude.{Option, None, Some, option_map, is_some, is_none, ◌&&◌, ◌||◌, nat_lt, nat_le, if◌then◌else◌, slice_get, unwrap_or}
 use Rattle.std.proofs.Math.Bool.{or-true}
 use Rattle.std.proofs.lemmas.Bool.{le-leb, leb-true, leb-false, eq-eqb, ltb-false as not_below}
 use Rattle.std.proofs.lemmas.Option.{slice_get_within}
@@ -11,9 +11,9 @@ use Rattle.permit_base.specs.declared.words.Step.TheVariants.{Final}
 use Rattle.permit_base.specs.declared.words.Stage.{Stage}
 use Rattle.permit_base.specs.declared.words.Stage.TheVariants as stage
 use Rattle.permit_base.specs.declared.request.Command.{Command}
-use Rattle.permit_base.specs.declared.request.Command.TheVariants.{AssignReviewer, AssignInspector, NameContractor, StartReview, Return, Resubmit, ApprovePlans, Reject, Issue, AskExtension, GrantExtension, RefuseExtension, BeginWork, RequestInspection, ApproveStep, Notice, ClearNotice, Stop, Lift, Revoke, Temporary, Certify}
+use Rattle.permit_base.specs.declared.request.Command.TheVariants.{StartReview, Return, Resubmit, ApprovePlans, Reject, Issue, AskExtension, GrantExtension, RefuseExtension, BeginWork, RequestInspection, ApproveStep, Notice, ClearNotice, Stop, Lift, Revoke, Temporary, Certify}
 use Rattle.permit_core.specs.declared.people.People.{People}
-use Rattle.permit_model.specs.Codes.{is_step, is_stage, is_stage_among}
+use Rattle.permit_model.specs.Codes.{is_stage, is_stage_among}
 use Rattle.permit_model.specs.Days.{is_past, last_deadline}
 use Rattle.permit_model.specs.Steps.{required_steps}
 use Rattle.permit_model.specs.Facts.{past_stage}

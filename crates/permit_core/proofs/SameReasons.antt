@@ -1,10 +1,9 @@
 -- What stands against a command on the row is what stands against it on the history.
 use Rattle.std.proofs.Common.{◌≡◌, ℕ, suc, Bool, true, false, not, ◌==◌, List, [], ◌∷◌, length, refl, sym, ◌∙◌, ap, arith}
-use Rattle.std.specs.Prelude.{Option, None, Some, option_map, is_some, slice_get, nat_lt, ◌||◌, ◌&&◌}
+use Rattle.std.specs.Prelude.{Option, None, Some, option_map, is_some, nat_lt, ◌||◌, ◌&&◌}
 use Rattle.std.proofs.lemmas.Bool.Decides.{nat_tests}
 use Rattle.permit_base.specs.declared.words.Role.{Role}
 use Rattle.permit_base.specs.declared.words.Role.TheVariants.{Reviewer, Inspector}
-use Rattle.permit_base.specs.declared.outcome.Reason.{Reason}
 use Rattle.permit_base.specs.declared.outcome.Reason.TheVariants as reason
 use Rattle.permit_base.specs.declared.request.Command.{Command}
 use Rattle.permit_base.specs.declared.request.Command.TheVariants.{AssignReviewer, AssignInspector, NameContractor, RequestInspection, ClearNotice}
@@ -18,7 +17,7 @@ use Rattle.permit_model.specs.Parcels.{owner, has_interest}
 use Rattle.permit_model.specs.Files.{CaseFile, case_numbered}
 use Rattle.permit_model.specs.People.{contractor}
 use Rattle.permit_model.specs.Work.{next_of, open_notices}
-use Rattle.permit_model.specs.Admission.{Test, first_failing, file_tests, tests_on, reason_against, reviewing_stages, inspecting_stages, not_in}
+use Rattle.permit_model.specs.Admission.{first_failing, file_tests, tests_on, reason_against, reviewing_stages, inspecting_stages, not_in}
 use Rattle.permit_model.specs.Tables.{State, state_of, next_in_row}
 use Rattle.permit_model.specs.Machine.{IsHistory}
 use Rattle.permit_model.proofs.Projection.{done_to}

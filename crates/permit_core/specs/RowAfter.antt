@@ -39,6 +39,7 @@ deadline_after (Revoke text) day ask deadline = None
 deadline_after Certify day ask deadline = None
 deadline_after _ day ask deadline = deadline
 
+-- an approval adds one to the steps that are done
 abbrev pub done_after : Command → ℕ → ℕ
 done_after (ApproveStep step) done = done + 1
 done_after _ done = done
@@ -50,6 +51,7 @@ request_after (ApproveStep step) request = None
 request_after (Notice text) request = None
 request_after _ request = request
 
+-- the day of the pending request
 abbrev pub requested_after : ℕ → Command → Option ℕ → Option ℕ
 requested_after day (RequestInspection step) requested = Some day
 requested_after day (ApproveStep step) requested = None
@@ -64,16 +66,19 @@ ask_after (RefuseExtension text) ask = None
 ask_after Issue ask = None
 ask_after _ ask = ask
 
+-- an order stops the work until it is lifted
 abbrev pub stopped_after : Command → Bool → Bool
 stopped_after (Stop text conditions) stopped = true
 stopped_after Lift stopped = false
 stopped_after _ stopped = stopped
 
+-- a notice is open until it is cleared
 abbrev pub notices_after : Command → ℕ → ℕ
 notices_after (Notice text) notices = notices + 1
 notices_after (ClearNotice paper) notices = notices - 1
 notices_after _ notices = notices
 
+-- one paper more, where the command makes one
 abbrev pub papers_after : Command → ℕ → ℕ
 papers_after command papers = if makes_paper command then papers + 1 else papers
 
@@ -102,11 +107,12 @@ file_after day command caller file = record {
   acts = record { caller = caller; day = day; command = command; number = paper_number command (Some file) } ∷ file.acts;
 }
 
--- a granted deadline, and one more notice, are numbers that a row can keep
+-- a granted deadline is a number that a row can keep
 abbrev pub FitsGrant : Command → Option ℕ → Option ℕ → Type 0
 FitsGrant GrantExtension ask deadline = unwrap_or deadline 0 + unwrap_or ask 0 < 2 ^ 32
 FitsGrant _ ask deadline = Unit {0}
 
+-- one more notice is a number that a row can keep
 abbrev pub FitsNotice : Command → ℕ → Type 0
 FitsNotice (Notice text) notices = notices < 65535
 FitsNotice _ notices = Unit {0}

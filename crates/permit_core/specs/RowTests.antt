@@ -23,22 +23,28 @@ use Rattle.permit_core.specs.Views.{row_stage}
 abbrev pub not_in : ℕ → State → List Stage → Test
 not_in day s stages = (not (is_stage_among stages (row_stage day s)), reason.Stage)
 
+-- a stop work order stands
 abbrev pub stopped : State → Test
 stopped s = (s.stopped, reason.Stopped)
 
+-- no stop work order stands
 abbrev pub not_stopped : State → Test
 not_stopped s = (not s.stopped, reason.NothingPending)
 
+-- the named party isn't there
 abbrev pub no_party : People → Test
 no_party people = (not (is_some people.named), reason.Person)
 
+-- there is a party of the role
 abbrev pub is_of_role : Role → Option NamedParty → Bool
 is_of_role role None = false
 is_of_role role (Some p) = is_role role p.role
 
+-- the named party isn't there, or isn't of the role
 abbrev pub no_party_of_role : Role → People → Test
 no_party_of_role role people = (not (is_of_role role people.named), reason.Person)
 
+-- there is a party with an interest in the parcel
 abbrev pub is_with_interest : Option NamedParty → Bool
 is_with_interest None = false
 is_with_interest (Some p) = p.has_interest
@@ -47,24 +53,31 @@ is_with_interest (Some p) = p.has_interest
 abbrev pub interested : State → ℕ → People → Test
 interested s party people = ((s.applicant == party) || is_number s.contractor party || is_number people.owner party || is_with_interest people.named, reason.Interested)
 
+-- an ask for an extension is pending
 abbrev pub ask_pending : State → Test
 ask_pending s = (is_some s.ask, reason.Pending)
 
+-- no ask is pending
 abbrev pub no_ask_pending : State → Test
 no_ask_pending s = (is_none s.ask, reason.NothingPending)
 
+-- a request for an inspection is pending
 abbrev pub request_pending : State → Test
 request_pending s = (is_some s.request, reason.Pending)
 
+-- no request is pending
 abbrev pub no_request_pending : State → Test
 no_request_pending s = (is_none s.request, reason.NothingPending)
 
+-- the step isn't the next one
 abbrev pub not_the_next : State → Step → Test
 not_the_next s step = (not (is_the_step (next_in_row s) step), reason.Step)
 
+-- the step isn't the requested one
 abbrev pub not_the_requested : State → Step → Test
 not_the_requested s step = (not (is_the_step s.request step), reason.Step)
 
+-- a notice is open
 abbrev pub notice_open : State → Test
 notice_open s = (nat_lt 0 s.notices, reason.NoticeOpen)
 
@@ -72,9 +85,11 @@ notice_open s = (nat_lt 0 s.notices, reason.NoticeOpen)
 abbrev pub no_such_notice : State → People → Test
 no_such_notice s people = (not (people.is_open_notice && nat_lt 0 s.notices), reason.NoSuchNotice)
 
+-- no certificates are given for the kind
 abbrev pub no_certificates : State → Test
 no_certificates s = (not (has_certificates s.kind), reason.Kind)
 
+-- the file has the most papers
 abbrev pub papers_full : State → Test
 papers_full s = (nat_le most_papers s.papers, reason.Full)
 

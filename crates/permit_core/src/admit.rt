@@ -1,11 +1,10 @@
 //! What is admitted on a file: the department's table of commands, with the reasons in their numbered order.
 
-ghost use Rattle.std.specs.Prelude.{◌≡◌, ℕ, not, Some, [], ◌∷◌};
+ghost use Rattle.std.specs.Prelude.{◌≡◌, ℕ, Some, List, [], ◌∷◌};
 ghost use Rattle.permit_model.specs.Codes;
 ghost use Rattle.permit_model.specs.Steps;
-ghost use Rattle.permit_model.specs.Search.{is_number};
 ghost use Rattle.permit_model.specs.Admission;
-ghost use Rattle.permit_model.specs.Admission.{reviewing_stages, inspecting_stages, open_stages, stoppable_stages, revocable_stages};
+ghost use Rattle.permit_base.specs.declared.request.Command.TheVariants.{NameContractor, AskExtension, GrantExtension, RefuseExtension, RequestInspection, ApproveStep, Notice, ClearNotice, Stop, Lift, Temporary, Certify};
 ghost use Rattle.permit_base.specs.declared.request.Request.TheVariants.{OnFile};
 ghost use Rattle.permit_model.specs.History.{History};
 ghost use Rattle.permit_model.specs.Files.{CaseFile, case_numbered};
@@ -13,16 +12,55 @@ ghost use Rattle.permit_model.specs.Machine.{IsHistory};
 ghost use Rattle.permit_model.specs.Tables.{state_of};
 ghost use Rattle.permit_core.specs.Naming.{people_of};
 ghost use Rattle.permit_core.specs.RowTests;
-ghost use Rattle.permit_base.specs.declared.words.Stage.TheVariants as stage;
 ghost use Rattle.permit_core.specs.RowTests.{row_tests, Answers};
-ghost use Rattle.permit_core.specs.Views.{row_stage};
+ghost use Rattle.permit_core.specs.declared.people.People.{People};
 
-use crate::people::{NamedParty, People};
+use crate::people::{NamedParty, People, is_party};
 use crate::state::FileState;
 use permit_base::outcome::Reason;
 use permit_base::request::Command;
 use permit_base::values::{Day, Days, PartyId};
 use permit_base::words::{Kind, Role, Stage, Step};
+
+/// The stages in which a reviewer is assigned.
+const REVIEWING: [Stage; 3] = [Stage::Filed, Stage::Review, Stage::Returned];
+
+/// The stages in which an inspector is assigned.
+const INSPECTING: [Stage; 3] = [Stage::Approved, Stage::Issued, Stage::Working];
+
+/// The stages with a deadline, before it is past.
+const OPEN: [Stage; 6] = [
+    Stage::Filed,
+    Stage::Review,
+    Stage::Returned,
+    Stage::Approved,
+    Stage::Issued,
+    Stage::Working,
+];
+
+/// The stages in which work is stopped, and a stop lifted.
+const STOPPABLE: [Stage; 5] = [
+    Stage::Issued,
+    Stage::Working,
+    Stage::Lapsed,
+    Stage::Revoked,
+    Stage::Finaled,
+];
+
+/// The stages in which a permit is revoked.
+const REVOCABLE: [Stage; 3] = [Stage::Issued, Stage::Working, Stage::Lapsed];
+
+/// The most papers of a file.
+const MOST_PAPERS: u16 = 9999;
+
+/// The greatest number that a deadline may be.
+const LAST_DEADLINE: u32 = 200000;
+
+/// The most days of a temporary certificate, and of an extension once the permit is issued (IBC 2018, section 105.5).
+const LONGEST_TERM: u32 = 180;
+
+/// The most days of an extension before the permit is issued (IBC 2018, section 105.3.2).
+const LONGEST_REVIEW_EXTENSION: u32 = 90;
 
 /// A test of a command: whether it fails the command, and the reason that is then answered.
 type Test = (bool, Reason);
@@ -70,47 +108,7 @@ fn has_certificates(kind: Kind) -> bool
     !matches!(kind, Kind::Repair | Kind::Demolish)
 }
 
-/// The stages in which a reviewer is assigned.
-const REVIEWING: [Stage; 3] = [Stage::Filed, Stage::Review, Stage::Returned];
-
-/// The stages in which an inspector is assigned.
-const INSPECTING: [Stage; 3] = [Stage::Approved, Stage::Issued, Stage::Working];
-
-/// The stages with a deadline, before it is past.
-const OPEN: [Stage; 6] = [
-    Stage::Filed,
-    Stage::Review,
-    Stage::Returned,
-    Stage::Approved,
-    Stage::Issued,
-    Stage::Working,
-];
-
-/// The stages in which work is stopped, and a stop lifted.
-const STOPPABLE: [Stage; 5] = [
-    Stage::Issued,
-    Stage::Working,
-    Stage::Lapsed,
-    Stage::Revoked,
-    Stage::Finaled,
-];
-
-/// The stages in which a permit is revoked.
-const REVOCABLE: [Stage; 3] = [Stage::Issued, Stage::Working, Stage::Lapsed];
-
-/// The most papers of a file.
-const MOST_PAPERS: u16 = 9999;
-
-/// The greatest number that a deadline may be.
-const LAST_DEADLINE: u32 = 200000;
-
-/// The most days of a temporary certificate, and of an extension once the permit is issued (IBC 2018, section 105.5).
-const LONGEST_TERM: u32 = 180;
-
-/// The most days of an extension before the permit is issued (IBC 2018, section 105.3.2).
-const LONGEST_REVIEW_EXTENSION: u32 = 90;
-
-/// There is no party of the name, or it isn't of the role.
+/// The named party isn't there, or isn't of the role.
 fn no_party_of_role(role: Role, people: &People) -> Test
     ensures { result ≡ RowTests.no_party_of_role role people.now }
 {
@@ -137,16 +135,6 @@ fn is_with_interest(named: Option<NamedParty>) -> bool
     }
 }
 
-/// Whether there is a number and it is this one.
-fn is(named: Option<PartyId>, party: PartyId) -> bool
-    ensures { result ≡ is_number named party }
-{
-    match named {
-        Some(other) => other.get() == party.get(),
-        None => false,
-    }
-}
-
 impl FileState {
     /// The stage on the day is none of these.
     fn not_in(&self, day: Day, stages: &[Stage]) -> Test
@@ -156,7 +144,7 @@ impl FileState {
     }
 
     /// A stop work order stands.
-    fn stopped_test(&self) -> Test
+    fn order_stands(&self) -> Test
         ensures { result ≡ RowTests.stopped self.now }
     {
         (self.is_stopped(), Reason::Stopped)
@@ -167,8 +155,8 @@ impl FileState {
         ensures { result ≡ RowTests.interested self.now party people.now }
     {
         let is_interested = self.applicant().get() == party.get()
-            || is(self.contractor(), party)
-            || is(people.owner, party)
+            || is_party(self.contractor(), party)
+            || is_party(people.owner, party)
             || is_with_interest(people.named);
         (is_interested, Reason::Interested)
     }
@@ -207,8 +195,16 @@ impl FileState {
     }
 
     /// What stands against a reviewer or an inspector being assigned.
-    fn against_assignment(&self, day: Day, stages: &[Stage], role: Role, party: PartyId, people: &People) -> Option<Reason>
-        ensures { result ≡ Admission.first_failing (RowTests.not_in day self.now stages.now ∷ RowTests.no_party_of_role role people.now ∷ RowTests.interested self.now party people.now ∷ []) }
+    fn against_assignment(
+        &self,
+        day: Day,
+        stages: &[Stage],
+        role: Role,
+        party: PartyId,
+        people: &People,
+    ) -> Option<Reason>
+        ensures { result ≡ Admission.first_failing (RowTests.not_in day self.now stages.now
+            ∷ RowTests.no_party_of_role role people.now ∷ RowTests.interested self.now party people.now ∷ []) }
     {
         first_failing(&[
             self.not_in(day, stages),
@@ -219,9 +215,12 @@ impl FileState {
 
     /// What stands against a contractor being named.
     fn against_naming(&self, day: Day, people: &People) -> Option<Reason>
-        ensures { result ≡ Admission.first_failing (RowTests.not_in day self.now open_stages ∷ RowTests.no_party people.now ∷ []) }
+        ensures { (party : ℕ) → result ≡ Admission.first_failing (row_tests day self.now people.now (NameContractor party)) }
     {
-        first_failing(&[self.not_in(day, &OPEN), (people.named.is_none(), Reason::Person)])
+        first_failing(&[
+            self.not_in(day, &OPEN),
+            (people.named.is_none(), Reason::Person),
+        ])
     }
 
     /// What stands against a command that makes a paper and asks nothing but its stages.
@@ -233,7 +232,7 @@ impl FileState {
 
     /// What stands against an extension being asked for.
     fn against_ask(&self, day: Day, days: Days) -> Option<Reason>
-        ensures { result ≡ Admission.first_failing (RowTests.not_in day self.now open_stages ∷ Admission.days_above (Admission.ask_limit (row_stage day self.now)) days ∷ RowTests.ask_pending self.now ∷ RowTests.papers_full self.now ∷ []) }
+        ensures { (people : People) (text : List ℕ) → result ≡ Admission.first_failing (row_tests day self.now people (AskExtension days text)) }
     {
         first_failing(&[
             self.not_in(day, &OPEN),
@@ -245,7 +244,7 @@ impl FileState {
 
     /// What stands against the pending ask being granted.
     fn against_grant(&self, day: Day) -> Option<Reason>
-        ensures { result ≡ Admission.first_failing (RowTests.not_in day self.now open_stages ∷ RowTests.no_ask_pending self.now ∷ RowTests.papers_full self.now ∷ RowTests.too_far self.now ∷ []) }
+        ensures { (people : People) → result ≡ Admission.first_failing (row_tests day self.now people GrantExtension) }
     {
         first_failing(&[
             self.not_in(day, &OPEN),
@@ -257,7 +256,7 @@ impl FileState {
 
     /// What stands against the pending ask being refused.
     fn against_refusal(&self, day: Day) -> Option<Reason>
-        ensures { result ≡ Admission.first_failing (RowTests.not_in day self.now open_stages ∷ RowTests.no_ask_pending self.now ∷ RowTests.papers_full self.now ∷ []) }
+        ensures { (people : People) (text : List ℕ) → result ≡ Admission.first_failing (row_tests day self.now people (RefuseExtension text)) }
     {
         first_failing(&[
             self.not_in(day, &OPEN),
@@ -268,11 +267,11 @@ impl FileState {
 
     /// What stands against an inspection of a step being requested (IBC 2018, sections 110.5 and 110.6).
     fn against_request(&self, day: Day, step: Step) -> Option<Reason>
-        ensures { result ≡ Admission.first_failing (RowTests.not_in day self.now (stage.Working ∷ []) ∷ RowTests.stopped self.now ∷ RowTests.request_pending self.now ∷ RowTests.not_the_next self.now step ∷ []) }
+        ensures { (people : People) → result ≡ Admission.first_failing (row_tests day self.now people (RequestInspection step)) }
     {
         first_failing(&[
             self.not_in(day, &[Stage::Working]),
-            self.stopped_test(),
+            self.order_stands(),
             (self.request().is_some(), Reason::Pending),
             (!is_the_step(self.next_step(), step), Reason::Step),
         ])
@@ -280,11 +279,11 @@ impl FileState {
 
     /// What stands against a step being approved (IBC 2018, section 110.6).
     fn against_approval(&self, day: Day, step: Step) -> Option<Reason>
-        ensures { result ≡ Admission.first_failing (RowTests.not_in day self.now (stage.Working ∷ []) ∷ RowTests.stopped self.now ∷ RowTests.no_request_pending self.now ∷ RowTests.not_the_requested self.now step ∷ RowTests.notice_open self.now ∷ []) }
+        ensures { (people : People) → result ≡ Admission.first_failing (row_tests day self.now people (ApproveStep step)) }
     {
         first_failing(&[
             self.not_in(day, &[Stage::Working]),
-            self.stopped_test(),
+            self.order_stands(),
             (self.request().is_none(), Reason::NothingPending),
             (!is_the_step(self.request(), step), Reason::Step),
             self.notice_open(),
@@ -293,7 +292,7 @@ impl FileState {
 
     /// What stands against a correction notice.
     fn against_notice(&self, day: Day) -> Option<Reason>
-        ensures { result ≡ Admission.first_failing (RowTests.not_in day self.now (stage.Working ∷ []) ∷ RowTests.no_request_pending self.now ∷ RowTests.papers_full self.now ∷ []) }
+        ensures { (people : People) (text : List ℕ) → result ≡ Admission.first_failing (row_tests day self.now people (Notice text)) }
     {
         first_failing(&[
             self.not_in(day, &[Stage::Working]),
@@ -304,24 +303,31 @@ impl FileState {
 
     /// What stands against a notice being cleared.
     fn against_clearing(&self, day: Day, people: &People) -> Option<Reason>
-        ensures { result ≡ Admission.first_failing (RowTests.not_in day self.now (stage.Working ∷ []) ∷ RowTests.no_such_notice self.now people.now ∷ []) }
+        ensures { (paper : ℕ) → result ≡ Admission.first_failing (row_tests day self.now people.now (ClearNotice paper)) }
     {
         first_failing(&[
             self.not_in(day, &[Stage::Working]),
-            (!(people.is_open_notice && self.notices() > 0), Reason::NoSuchNotice),
+            (
+                !(people.is_open_notice && self.notices() > 0),
+                Reason::NoSuchNotice,
+            ),
         ])
     }
 
     /// What stands against a stop work order (IBC 2018, section 115).
     fn against_stop(&self, day: Day) -> Option<Reason>
-        ensures { result ≡ Admission.first_failing (RowTests.not_in day self.now stoppable_stages ∷ RowTests.stopped self.now ∷ RowTests.papers_full self.now ∷ []) }
+        ensures { (people : People) (text conditions : List ℕ) → result ≡ Admission.first_failing (row_tests day self.now people (Stop text conditions)) }
     {
-        first_failing(&[self.not_in(day, &STOPPABLE), self.stopped_test(), self.papers_full()])
+        first_failing(&[
+            self.not_in(day, &STOPPABLE),
+            self.order_stands(),
+            self.papers_full(),
+        ])
     }
 
     /// What stands against a stop work order being lifted.
     fn against_lift(&self, day: Day) -> Option<Reason>
-        ensures { result ≡ Admission.first_failing (RowTests.not_in day self.now stoppable_stages ∷ RowTests.not_stopped self.now ∷ RowTests.papers_full self.now ∷ []) }
+        ensures { (people : People) → result ≡ Admission.first_failing (row_tests day self.now people Lift) }
     {
         first_failing(&[
             self.not_in(day, &STOPPABLE),
@@ -332,11 +338,11 @@ impl FileState {
 
     /// What stands against a temporary certificate (IBC 2018, section 111).
     fn against_temporary(&self, day: Day, days: Days) -> Option<Reason>
-        ensures { result ≡ Admission.first_failing (RowTests.not_in day self.now (stage.Working ∷ []) ∷ RowTests.stopped self.now ∷ Admission.days_above 180 days ∷ RowTests.notice_open self.now ∷ RowTests.no_certificates self.now ∷ RowTests.papers_full self.now ∷ []) }
+        ensures { (people : People) (text : List ℕ) → result ≡ Admission.first_failing (row_tests day self.now people (Temporary days text)) }
     {
         first_failing(&[
             self.not_in(day, &[Stage::Working]),
-            self.stopped_test(),
+            self.order_stands(),
             (days.get() > LONGEST_TERM, Reason::Days),
             self.notice_open(),
             self.no_certificates(),
@@ -346,11 +352,11 @@ impl FileState {
 
     /// What stands against the certificate of occupancy (IBC 2018, section 111).
     fn against_certificate(&self, day: Day) -> Option<Reason>
-        ensures { result ≡ Admission.first_failing (RowTests.not_in day self.now (stage.Finaled ∷ []) ∷ RowTests.stopped self.now ∷ RowTests.no_certificates self.now ∷ RowTests.papers_full self.now ∷ []) }
+        ensures { (people : People) → result ≡ Admission.first_failing (row_tests day self.now people Certify) }
     {
         first_failing(&[
             self.not_in(day, &[Stage::Finaled]),
-            self.stopped_test(),
+            self.order_stands(),
             self.no_certificates(),
             self.papers_full(),
         ])
@@ -361,8 +367,20 @@ impl FileState {
         ensures { result ≡ Admission.first_failing (row_tests day self.now people.now command.now) }
     {
         match command {
-            Command::AssignReviewer { party } => self.against_assignment(day, &REVIEWING, Role::Reviewer, *party, people),
-            Command::AssignInspector { party } => self.against_assignment(day, &INSPECTING, Role::Inspector, *party, people),
+            Command::AssignReviewer { party } => self.against_assignment(
+                day,
+                &REVIEWING,
+                Role::Reviewer,
+                *party,
+                people,
+            ),
+            Command::AssignInspector { party } => self.against_assignment(
+                day,
+                &INSPECTING,
+                Role::Inspector,
+                *party,
+                people,
+            ),
             Command::NameContractor { .. } => self.against_naming(day, people),
             Command::StartReview => first_failing(&[self.not_in(day, &[Stage::Filed])]),
             Command::Return { .. } => self.against_decision(day, &[Stage::Review]),
@@ -373,7 +391,10 @@ impl FileState {
             Command::AskExtension { days, .. } => self.against_ask(day, *days),
             Command::GrantExtension => self.against_grant(day),
             Command::RefuseExtension { .. } => self.against_refusal(day),
-            Command::BeginWork => first_failing(&[self.not_in(day, &[Stage::Issued]), self.stopped_test()]),
+            Command::BeginWork => first_failing(&[
+                self.not_in(day, &[Stage::Issued]),
+                self.order_stands(),
+            ]),
             Command::RequestInspection { step } => self.against_request(day, *step),
             Command::ApproveStep { step } => self.against_approval(day, *step),
             Command::Notice { .. } => self.against_notice(day),

@@ -85,7 +85,12 @@ fn moved_by_activity(day: Day, deadline: Option<u32>) -> u32
 }
 
 /// The deadline after a command of the day, from the pending ask and the deadline before it.
-fn deadline_after(command: &Command, day: Day, ask: Option<Days>, deadline: Option<u32>) -> Option<u32>
+fn deadline_after(
+    command: &Command,
+    day: Day,
+    ask: Option<Days>,
+    deadline: Option<u32>,
+) -> Option<u32>
     ensures { FitsGrant command.now ask deadline → result ≡ RowAfter.deadline_after command.now day ask deadline }
 {
     match command {
@@ -230,6 +235,8 @@ impl FileState {
     /// Makes the state what an admitted command of the caller on the day makes of it.
     pub fn apply(&mut self, day: Day, command: &Command, caller: PartyId)
         requires admitted { IsAdmitted day self.old command.now }
+
+        // Every open notice is a paper, and a file has at most 9999 of these.
         ensures row { self.old.notices ≤ self.old.papers → self.new ≡ row_after day command.now self.old }
         ensures model { (h : History) (id : ℕ) (file : CaseFile) → IsHistory h → case_numbered h id ≡ Some file → last_day h ≤ day
             → self.old ≡ state_of file → reason_against h day caller (OnFile id command.now) ≡ None

@@ -1,6 +1,7 @@
 //! The people about a command, which a file's row does not say.
 
 ghost use Rattle.std.specs.Prelude.{◌≡◌};
+ghost use Rattle.permit_model.specs.Search.{is_number};
 ghost use Rattle.permit_core.specs.Naming;
 
 use permit_base::request::Command;
@@ -23,7 +24,8 @@ pub struct People {
     pub named: Option<NamedParty>,
     /// The owner of the file's parcel.
     pub owner: Option<PartyId>,
-    /// Whether the paper that a clearing names is an open notice of the file.
+    /// Whether the paper that a clearing names is an open notice of the file; a row that counts no open notice admits
+    /// no clearing, whatever stands here.
     pub is_open_notice: bool,
 }
 
@@ -46,5 +48,15 @@ pub fn named_paper(command: &Command) -> Option<PaperNumber>
     match command {
         Command::ClearNotice { paper } => Some(*paper),
         _ => None,
+    }
+}
+
+/// Whether there is a party and it is this one.
+pub(crate) fn is_party(named: Option<PartyId>, party: PartyId) -> bool
+    ensures { result ≡ is_number named party }
+{
+    match named {
+        Some(other) => other.get() == party.get(),
+        None => false,
     }
 }

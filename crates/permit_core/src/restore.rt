@@ -64,14 +64,25 @@ impl Model for StateFields {
 fn is_stored(stage: Stage) -> bool
     ensures { result ≡ SoundState.is_stored stage }
 {
-    !matches!(stage, Stage::Abandoned | Stage::Lapsed | Stage::New | Stage::Office)
+    !matches!(
+        stage,
+        Stage::Abandoned | Stage::Lapsed | Stage::New | Stage::Office
+    )
 }
 
 /// Whether a deadline stands in the stage.
 fn is_timed(stage: Stage) -> bool
     ensures { result ≡ SoundState.is_timed stage }
 {
-    matches!(stage, Stage::Filed | Stage::Review | Stage::Returned | Stage::Approved | Stage::Issued | Stage::Working)
+    matches!(
+        stage,
+        Stage::Filed
+            | Stage::Review
+            | Stage::Returned
+            | Stage::Approved
+            | Stage::Issued
+            | Stage::Working
+    )
 }
 
 /// Whether the work is over, with every step approved.

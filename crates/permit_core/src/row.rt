@@ -31,7 +31,12 @@ impl FileRow {
         ensures { IfOk result (λ p. p ≡ self.now) }
     {
         let description = self.description.copy()?;
-        Ok(FileRow { id: self.id, state: self.state, valuation: self.valuation, description })
+        Ok(FileRow {
+            id: self.id,
+            state: self.state,
+            valuation: self.valuation,
+            description,
+        })
     }
 }
 

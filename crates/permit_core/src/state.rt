@@ -1,19 +1,21 @@
 //! The state of a file.
 
-ghost use Rattle.std.specs.Prelude.{◌≡◌, ℕ, List, Option, Some};
-ghost use Rattle.permit_model.specs.Search.{is_number};
+ghost use Rattle.std.specs.Prelude.{◌≡◌, ℕ, List, [], Option, Some, false, IsTrue, length};
 ghost use Rattle.permit_model.specs.History.{History};
 ghost use Rattle.permit_model.specs.Machine.{IsHistory};
 ghost use Rattle.permit_model.specs.Files.{CaseFile, case_numbered};
 ghost use Rattle.permit_model.specs.Parcels;
 ghost use Rattle.permit_model.specs.Parcels.{has_interest};
 ghost use Rattle.permit_model.specs.Facts.{stage_on, timing_of, relations_to_file};
-ghost use Rattle.permit_model.specs.Work.{next_of};
+ghost use Rattle.permit_model.specs.Steps.{required_steps};
+ghost use Rattle.permit_model.specs.Work.{approved_steps, next_of, open_notices, is_stopped};
 ghost use Rattle.permit_model.specs.Deadline.{deadline};
 ghost use Rattle.permit_model.specs.Tables.{state_of, next_in_row};
+ghost use Rattle.permit_model.specs.SoundState;
 ghost use Rattle.permit_model.specs.SoundState.{IsSoundState};
 ghost use Rattle.permit_core.specs.Views.{filed_by, row_stage, row_timing, row_relations};
 
+use crate::people::is_party;
 use crate::restore::StateFields;
 use crate::steps::step_at;
 use permit_base::values::{Day, Days, ParcelId, PartyId};
@@ -70,16 +72,6 @@ fn past_stage(stage: Stage) -> Stage
         Stage::Filed | Stage::Review | Stage::Returned | Stage::Approved => Stage::Abandoned,
         Stage::Issued | Stage::Working => Stage::Lapsed,
         other => other,
-    }
-}
-
-/// Whether there is a number and it is this one.
-fn is(named: Option<PartyId>, caller: PartyId) -> bool
-    ensures { result ≡ is_number named caller }
-{
-    match named {
-        Some(party) => party.get() == caller.get(),
-        None => false,
     }
 }
 
@@ -155,6 +147,19 @@ impl FileState {
         step_at(self.kind, self.done)
     }
 
+    /// Whether the certificate of occupancy was given (IBC 2018, section 111): then every required step is approved in
+    /// order, no notice is open and no stop work order stands.
+    pub fn is_certified(&self) -> bool
+        ensures stage { result ≡ SoundState.is_certified self.now.stage }
+        ensures steps { IsTrue result → self.now.done ≡ length (required_steps self.now.kind) }
+        ensures notices { IsTrue result → self.now.notices ≡ 0 }
+        ensures stopped { IsTrue result → self.now.stopped ≡ false }
+        ensures model { (h : History) (id : ℕ) (file : CaseFile) → IsHistory h → case_numbered h id ≡ Some file → self.now ≡ state_of file
+            → IsTrue result → (approved_steps file.acts ≡ required_steps file.filing.kind) × (open_notices file.acts ≡ []) × (is_stopped file.acts ≡ false) }
+    {
+        self.stage == Stage::Certified
+    }
+
     /// What the caller is to the file, by the parcel's owner and whether the caller has an interest in it.
     pub fn relations(&self, caller: PartyId, owner: Option<PartyId>, conflict: bool) -> Relations
         ensures row { result ≡ row_relations self.now caller owner conflict }
@@ -164,10 +169,10 @@ impl FileState {
     {
         Relations {
             applicant: self.applicant.get() == caller.get(),
-            contractor: is(self.contractor, caller),
-            owner: is(owner, caller),
-            assigned_reviewer: is(self.reviewer, caller),
-            assigned_inspector: is(self.inspector, caller),
+            contractor: is_party(self.contractor, caller),
+            owner: is_party(owner, caller),
+            assigned_reviewer: is_party(self.reviewer, caller),
+            assigned_inspector: is_party(self.inspector, caller),
             conflict,
         }
     }

@@ -10,7 +10,13 @@ pub fn required_steps(kind: Kind) -> &'static [Step]
     ensures { result.now ≡ Steps.required_steps kind }
 {
     match kind {
-        Kind::Construct | Kind::Enlarge => &[Step::Footing, Step::Slab, Step::Frame, Step::Lath, Step::Final],
+        Kind::Construct | Kind::Enlarge => &[
+            Step::Footing,
+            Step::Slab,
+            Step::Frame,
+            Step::Lath,
+            Step::Final,
+        ],
         Kind::Alter => &[Step::Frame, Step::Lath, Step::Final],
         Kind::Repair => &[Step::Frame, Step::Final],
         Kind::Move => &[Step::Footing, Step::Frame, Step::Final],

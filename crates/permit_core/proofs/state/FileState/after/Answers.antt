@@ -1,5 +1,5 @@
 -- The fields after the command are those of the row after it; a sound row stays sound.
-use Rattle.std.proofs.Common.{◌≡◌, ◌≤◌, ◌<◌, ℕ, true, refl, sym, ◌∙◌, ap, subst, arith}
+use Rattle.std.proofs.Common.{◌≡◌, ◌≤◌, ◌<◌, true, sym, ◌∙◌, ap, subst, arith}
 use Rattle.permit_model.specs.Tables.{State}
 use Rattle.permit_model.specs.Work.{makes_paper}
 use Rattle.permit_model.specs.SoundState.{IsSoundState}

@@ -1,5 +1,5 @@
 use Rattle.std.proofs.Common.{◌≤◌, sym, ◌∙◌, ap, subst}
-use Rattle.permit_model.specs.Tables.{State, state_of}
+use Rattle.permit_model.specs.Tables.{State}
 use Rattle.permit_core.specs.RowAfter.{row_after}
 use Rattle.permit_core.proofs.RowMore.{row_more, notices_within}
 use Rattle.permit_core.proofs.state.FileState.apply.Goals as goal
