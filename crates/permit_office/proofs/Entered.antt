@@ -53,7 +53,7 @@ plain_papers : (h : History) (id caller day number : ℕ) (command : Command) (m
 plain_papers h id caller day number command made same numbered plain unnamed =
     let later : History = command_entry caller day id command made ∷ h in
     ap (λ ps. add_last ps (paper_by id (open_in later id) (act_now caller day command made) (acts_on id h)))
-        (papers_stay later h (λ file. open_after caller day id command made h file ∙ unopened (id == file) command made (open_in h file) same) h)
+    (papers_stay later h (λ file. open_after caller day id command made h file ∙ unopened (id == file) command made (open_in h file) same) h)
     ∙ sorted id caller day number command made (open_in later id) (acts_on id h) (papers_made h h) (paper_sort command) refl numbered plain unnamed
 
 -- ---- a notice
@@ -89,7 +89,7 @@ papers_after_command h id caller day (Notice text) is = notice_papers h id calle
 papers_after_command h id caller day (ClearNotice cleared) is = clearing_papers h id caller day (paper_count (acts_on id h) + 1) cleared (when (makes_paper (ClearNotice cleared)) (paper_count (acts_on id h) + 1))
 papers_after_command h id caller day command is =
     plain_papers h id caller day (paper_count (acts_on id h) + 1) command (when (makes_paper command) (paper_count (acts_on id h) + 1))
-        (λ n o. refl) (next_paper command (paper_count (acts_on id h)) (makes_paper command)) (λ s e. cc) refl
+    (λ n o. refl) (next_paper command (paper_count (acts_on id h)) (makes_paper command)) (λ s e. cc) refl
 
 -- ---- the tables
 
@@ -125,7 +125,7 @@ command_at h day caller command f is found papers e =
     ∙ ap (λ cs. record (tables h) { desk = record (tables h).desk { last = day }; files = map file_row cs; papers = papers }) (sym (case_files-command caller day f.id command number h))
     ∙ ap (λ k. record (tables h) { desk = record (tables h).desk { last = day; files = k }; files = map file_row (case_files later); papers = papers }) count
     ∙ ap (λ ps. record (tables h) { desk = record (tables h).desk { last = day; files = length (case_files later) }; files = map file_row (case_files later); papers = ps })
-        (e ∙ counted f.id day caller command act (acts_on f.id h) (papers_made h h) (paper_sort command) ∙ sym (papers_after_command h f.id caller day command is))
+    (e ∙ counted f.id day caller command act (acts_on f.id h) (papers_made h h) (paper_sort command) ∙ sym (papers_after_command h f.id caller day command is))
 
 -- the tables after a command on a file are the tables with the file's new row and its effect on the papers
 abbrev pub IsEntered : History → ℕ → ℕ → Command → ℕ → State → List Paper → Type 0
@@ -149,9 +149,9 @@ command_more h day caller id command one is there state s papers e =
     let c : IsCase h id one = case_found h id one there in
     let acts : one.acts ≡ acts_on c.filing.id h = ap (λ (x : CaseFile). x.acts) (sym c.is) in
     subst (λ n. find (λ (g : Filing). g.id == n) (filings h) ≡ Some c.filing → papers ≡ papers_entered n state.papers day caller command one.acts (paper_sort command) (named_paper command) (papers_made h h) → IsEntered h day caller command n state papers) c.named
-        (λ found given. command_of h day caller command c.filing is found state (s ∙ ap (λ x. state_of (file_after day command caller x)) (sym c.is)) papers
-            (given ∙ ap (λ x. papers_entered c.filing.id state.papers day caller command x (paper_sort command) (named_paper command) (papers_made h h)) acts))
-        c.found e
+    (λ found given. command_of h day caller command c.filing is found state (s ∙ ap (λ x. state_of (file_after day command caller x)) (sym c.is)) papers
+    (given ∙ ap (λ x. papers_entered c.filing.id state.papers day caller command x (paper_sort command) (named_paper command) (papers_made h h)) acts))
+    c.found e
 
 -- ---- the change suits the tables
 
@@ -160,8 +160,8 @@ pub row_suits : (h : History) (id : ℕ) (one : CaseFile) (after : State) (effec
     IsTrue (suits_effect (tables h) (state_of one) after effect) → IsTrue (suits_row (tables h) (find (λ (r : FileRow). r.id == id) (tables h).files) after effect)
 row_suits h id one after effect there parcel applicant suits =
     subst (λ (o : Option FileRow). IsTrue (suits_row (tables h) o after effect)) (sym (rows_found h id ∙ ap (option_map file_row) there))
-        (all_three (after.parcel == one.filing.parcel) (after.applicant == one.filing.applicant) (suits_effect (tables h) (state_of one) after effect)
-            (eq-eqb after.parcel one.filing.parcel parcel) (eq-eqb after.applicant one.filing.applicant applicant) suits)
+    (all_three (after.parcel == one.filing.parcel) (after.applicant == one.filing.applicant) (suits_effect (tables h) (state_of one) after effect)
+    (eq-eqb after.parcel one.filing.parcel parcel) (eq-eqb after.applicant one.filing.applicant applicant) suits)
 
 -- the count of papers after a command
 pub papers_counted : (act : Act) (before : List Act) → paper_count (act ∷ before) ≡ papers_after act.command (paper_count before)

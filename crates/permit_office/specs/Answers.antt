@@ -1,5 +1,5 @@
 -- What an answer of the office says of the machine.
-use Rattle.std.specs.Prelude.{◌≡◌, ◌⊎◌, ◌≢◌, ◌∷◌, ℕ, Bool, true, false, List, Result, Ok, Err, Option, Some, None, if◌then◌else◌, not, IsTrue}
+use Rattle.std.specs.Prelude.{◌≡◌, ◌⊎◌, ◌≢◌, [], ◌∷◌, ℕ, Bool, true, false, List, Result, Ok, Err, Option, Some, None, if◌then◌else◌, not, IsTrue}
 use Rattle.permit_base.specs.declared.outcome.Refusal.TheVariants as refusal
 use Rattle.permit_base.specs.declared.request.Request.{Request}
 use Rattle.permit_base.specs.declared.request.Request.TheVariants as request
@@ -47,6 +47,17 @@ Committed (Err e) old new = (new ≡ old) ⊎ (new ≡ next_count old)
 abbrev pub CommittedBy : Given → ℕ → ℕ → Type 0
 CommittedBy (given.Refused refusal.Store) old new = (new ≡ old) ⊎ (new ≡ next_count old)
 CommittedBy reply old new = new ≡ commits_after reply old
+
+-- ---- failed calls
+
+-- the count of failed calls after a reply: the store's refusal stands for one, any other reply for none
+abbrev pub failed_by : Given → ℕ → ℕ
+failed_by reply n = if is_store_refusal reply then next_count n else n
+
+-- the same after replies, in order
+abbrev pub failed_over : List Given → ℕ → ℕ
+failed_over [] n = n
+failed_over (reply ∷ replies) n = failed_over replies (failed_by reply n)
 
 -- ---- file rows handed out
 

@@ -45,7 +45,10 @@ fn named<S: Store>(store: &mut S, parcel: ParcelId, command: &Command) -> Got<Op
         return Ok(None);
     };
     let has_interest = store.interest(parcel, party)?;
-    Ok(Some(NamedParty { role: found.role, has_interest }))
+    Ok(Some(NamedParty {
+        role: found.role,
+        has_interest,
+    }))
 }
 
 /// Whether one of the papers is an open notice of the number.
@@ -87,14 +90,18 @@ fn people_about<S: Store>(store: &mut S, row: &FileRow, command: &Command) -> Go
     let named = named(store, parcel, command)?;
     let owner = owner_of(store, parcel)?;
     let is_open_notice = is_open_notice(store, row.id, command)?;
-    Ok(People { named, owner, is_open_notice })
+    Ok(People {
+        named,
+        owner,
+        is_open_notice,
+    })
 }
 
 /// What changes of the papers by a command of the author on a file of this state.
 fn effect_of<'a>(state: &FileState, author: PartyId, command: &'a Command) -> RowEffect<'a>
     ensures papers { (file number day : ℕ) (one : CaseFile) (papers : List ThePaper) → state.now ≡ state_of one
         → papers_after file number day result papers
-            ≡ papers_entered file number day author command.now one.acts (Work.paper_sort command.now) (Naming.named_paper command.now) papers }
+        ≡ papers_entered file number day author command.now one.acts (Work.paper_sort command.now) (Naming.named_paper command.now) papers }
     ensures suits { (t : Tables) (after : State) → after.papers ≡ RowAfter.papers_after command.now state.now.papers → IsTrue (is_some (find (λ p. p.id == author) t.parties))
         → (IsTrue (Work.makes_paper command.now) → IsTrue (nat_lt state.now.papers most_papers)) → IsTrue (suits_effect t state.now after result) }
 {
@@ -114,11 +121,17 @@ fn effect_of<'a>(state: &FileState, author: PartyId, command: &'a Command) -> Ro
 }
 
 /// Admits an allowed command on a file, and makes its change.
-fn perform<S: Store>(store: &mut S, caller: PartyId, row: &FileRow, command: &Command, day: Day) -> Got<Reply>
+fn perform<S: Store>(
+    store: &mut S,
+    caller: PartyId,
+    row: &FileRow,
+    command: &Command,
+    day: Day,
+) -> Got<Reply>
     ensures model { (h : History) (one : CaseFile) → IsHistory h → S.holds store.old (tables h) → case_numbered h row.now.id ≡ Some one → row.now ≡ file_row one
         → last_day h ≤ day → IsTrue (Caller.is_party h caller)
         → Attempts (S.holds store.new) result
-            (admitted h (entry_of h day caller (request.OnFile row.now.id command.now)) (reason_against h day caller (request.OnFile row.now.id command.now))) h }
+        (admitted h (entry_of h day caller (request.OnFile row.now.id command.now)) (reason_against h day caller (request.OnFile row.now.id command.now))) h }
     ensures failed { S.failed store.new ≡ failed_after result (S.failed store.old) }
     ensures commits { Committed result (S.commits store.old) (S.commits store.new) }
     ensures handed { S.handed store.new ≡ S.handed store.old }
@@ -133,11 +146,28 @@ fn perform<S: Store>(store: &mut S, caller: PartyId, row: &FileRow, command: &Co
     let effect = effect_of(&row.state, caller, command);
     let mut state = row.state;
     state.apply(day, command, caller);
-    carry_out(store, None, number, &Change::NewRow { file: row.id, state, effect }, day)
+    carry_out(
+        store,
+        None,
+        number,
+        &Change::NewRow {
+            file: row.id,
+            state,
+            effect,
+        },
+        day,
+    )
 }
 
 /// Serves a command on a file.
-pub(crate) fn on_file<S: Store>(store: &mut S, policy: &Policy, caller: &Party, file: FileId, command: &Command, day: Day) -> Got<Reply>
+pub(crate) fn on_file<S: Store>(
+    store: &mut S,
+    policy: &Policy,
+    caller: &Party,
+    file: FileId,
+    command: &Command,
+    day: Day,
+) -> Got<Reply>
     ensures model { (h : History) → IsHistory h → S.holds store.old (tables h) → last_day h ≤ day → IsTrue (Caller.is_party h caller.now.id)
         → Attempts (S.holds store.new) result (served policy.now h day caller.now (request.OnFile file command.now)) h }
     ensures failed { S.failed store.new ≡ failed_after result (S.failed store.old) }

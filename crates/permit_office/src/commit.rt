@@ -15,7 +15,13 @@ use permit_store::rows::Change;
 use permit_store::store::{Got, Store};
 
 /// Makes a change that nothing stands against.
-pub(crate) fn carry_out<S: Store>(store: &mut S, reason: Option<Reason>, number: Option<u32>, change: &Change<'_>, day: Day) -> Got<Reply>
+pub(crate) fn carry_out<S: Store>(
+    store: &mut S,
+    reason: Option<Reason>,
+    number: Option<u32>,
+    change: &Change<'_>,
+    day: Day,
+) -> Got<Reply>
     ensures model { (h : History) (entry : Entry) → S.holds store.old (tables h)
         → (reason ≡ None → (number ≡ entry.number) × Fits (tables h) change.now day × (changed (tables h) change.now day ≡ tables (entry ∷ h)))
         → Attempts (S.holds store.new) result (admitted h entry reason) h }

@@ -64,7 +64,16 @@ fn against_party<S: Store>(store: &mut S, desk: &Desk, digest: &Digest) -> Got<O
 }
 
 /// Adds a party.
-pub(crate) fn add_party<S: Store>(store: &mut S, policy: &Policy, caller: &Party, desk: &Desk, name: &Text, role: Role, token: &Token, day: Day) -> Got<Reply>
+pub(crate) fn add_party<S: Store>(
+    store: &mut S,
+    policy: &Policy,
+    caller: &Party,
+    desk: &Desk,
+    name: &Text,
+    role: Role,
+    token: &Token,
+    day: Day,
+) -> Got<Reply>
     ensures model { (h : History) → IsHistory h → S.holds store.old (tables h) → desk.now ≡ desk_of h → last_day h ≤ day
         → Attempts (S.holds store.new) result (served policy.now h day caller.now (request.AddParty name.now role token.now)) h }
     ensures failed { S.failed store.new ≡ failed_after result (S.failed store.old) }
@@ -80,5 +89,15 @@ pub(crate) fn add_party<S: Store>(store: &mut S, policy: &Policy, caller: &Party
     };
     let reason = against_party(store, desk, &digest)?;
     let number = desk.parties.wrapping_add(1);
-    carry_out(store, reason, Some(number), &Change::NewParty { name, role, digest: &digest }, day)
+    carry_out(
+        store,
+        reason,
+        Some(number),
+        &Change::NewParty {
+            name,
+            role,
+            digest: &digest,
+        },
+        day,
+    )
 }

@@ -22,7 +22,14 @@ use permit_store::rows::{Desk, Party};
 use permit_store::store::{Got, Store};
 
 /// Serves a known caller on a day that isn't below the last.
-fn serve_known<S: Store>(store: &mut S, policy: &Policy, caller: &Party, desk: &Desk, asked: &Request, day: Day) -> Got<Reply>
+fn serve_known<S: Store>(
+    store: &mut S,
+    policy: &Policy,
+    caller: &Party,
+    desk: &Desk,
+    asked: &Request,
+    day: Day,
+) -> Got<Reply>
     ensures model { (h : History) → IsHistory h → S.holds store.old (tables h) → desk.now ≡ desk_of h → last_day h ≤ day → IsTrue (Caller.is_party h caller.now.id)
         → Attempts (S.holds store.new) result (served policy.now h day caller.now asked.now) h }
     ensures failed { S.failed store.new ≡ failed_after result (S.failed store.old) }
@@ -31,9 +38,30 @@ fn serve_known<S: Store>(store: &mut S, policy: &Policy, caller: &Party, desk: &
     ensures own { IsTrue (is_built asked.now) → IfOk result IsOwn }
 {
     match asked {
-        Request::AddParty { name, role, token } => add_party(store, policy, caller, desk, name, *role, token, day),
-        Request::AddParcel { lot, address, owner } => add_parcel(store, policy, caller, desk, lot, address, *owner, day),
-        Request::File { parcel, kind, valuation, description } => file(store, policy, caller, desk, *parcel, *kind, *valuation, description, day),
+        Request::AddParty { name, role, token } => add_party(
+            store, policy, caller, desk, name, *role, token, day,
+        ),
+        Request::AddParcel {
+            lot,
+            address,
+            owner,
+        } => add_parcel(store, policy, caller, desk, lot, address, *owner, day),
+        Request::File {
+            parcel,
+            kind,
+            valuation,
+            description,
+        } => file(
+            store,
+            policy,
+            caller,
+            desk,
+            *parcel,
+            *kind,
+            *valuation,
+            description,
+            day,
+        ),
         Request::ReadParcel { parcel } => read_parcel(store, policy, caller, *parcel, day),
         Request::Declare { parcel } => declare(store, policy, caller, *parcel, day),
         Request::Transfer { parcel, to } => transfer(store, policy, caller, *parcel, *to, day),
@@ -44,7 +72,13 @@ fn serve_known<S: Store>(store: &mut S, policy: &Policy, caller: &Party, desk: &
 }
 
 /// Serves the caller that has the digest, as far as the store's calls succeed.
-pub(crate) fn attempt<S: Store>(store: &mut S, policy: &Policy, digest: &Digest, asked: &Request, day: Day) -> Got<Reply>
+pub(crate) fn attempt<S: Store>(
+    store: &mut S,
+    policy: &Policy,
+    digest: &Digest,
+    asked: &Request,
+    day: Day,
+) -> Got<Reply>
     ensures model { (h : History) → IsHistory h → S.holds store.old (tables h)
         → Attempts (S.holds store.new) result (step_as policy.now h digest.now asked.now day) h }
     ensures failed { S.failed store.new ≡ failed_after result (S.failed store.old) }

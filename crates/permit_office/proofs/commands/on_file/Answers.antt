@@ -25,7 +25,7 @@ returns-in-Some-denial-clause-model g c = λ h is held time party.
     let facts = rw c.action.ensures at (c.in_ok-facts.ensures.facts h file kept f.row_is) in
     let denied = rw facts at (sym c.in-Some-denial.is ∙ c.denial.ensures) in
     rw (command_judged a.policy.now h a.day a.caller.now a.file a.command.now file f.found
-        ∙ denied_outcome a.policy.now h a.day a.caller.now (OnFile a.file a.command.now) (decision a.policy.now (file_facts h a.day a.caller.now file (command_action a.command.now))) c.in-Some-denial.name denied)
+    ∙ denied_outcome a.policy.now h a.day a.caller.now (OnFile a.file a.command.now) (decision a.policy.now (file_facts h a.day a.caller.now file (command_action a.command.now))) c.in-Some-denial.name denied)
     (inl (refl, c.facts_on_file.ensures.kept (tables h) kept))
 
 pub returns-clause-model : goal.returns-clause-model
@@ -40,5 +40,5 @@ returns-clause-model g c = λ h is held time party.
     let caller : c.caller.inside.id ≡ a.caller.now.id = ap (λ (p : Party). p.id) c.caller.view_is in
     let done = c.perform.ensures.model h file is (c.facts_on_file.ensures.kept (tables h) kept) (ap (case_numbered h) id ∙ f.found) f.row_is time (rw caller party) in
     rw (command_judged a.policy.now h a.day a.caller.now a.file a.command.now file f.found
-        ∙ allowed_outcome a.policy.now h a.day a.caller.now (OnFile a.file a.command.now) (decision a.policy.now (file_facts h a.day a.caller.now file (command_action a.command.now))) allowed)
+    ∙ allowed_outcome a.policy.now h a.day a.caller.now (OnFile a.file a.command.now) (decision a.policy.now (file_facts h a.day a.caller.now file (command_action a.command.now))) allowed)
     (rw (id, caller) at done)

@@ -32,5 +32,5 @@ returns-clause-model g c = λ h one is held there row time party.
     let effect = c.effect_of-effect.ensures.suits (tables h) c.apply.new.self (rw state counted) party (λ makes. rw state (papers_room h a.day a.caller a.row.now.id a.command.now one there none makes)) in
     let suits = row_suits h c.row.inside.id one c.apply.new.self c.effect_of-effect.result here (ap (λ (s : State). s.parcel) after) (ap (λ (s : State). s.applicant) after) (rw state at effect) in
     let done = c.carry_out.ensures.model h (entry_of h a.day a.caller (OnFile c.row.inside.id a.command.now)) (c.people_about.ensures.kept (tables h) held)
-        (λ none. (number ∙ ap (paper_number a.command.now) (sym here), record { suits = suits; in_time = time }, more)) in
+    (λ none. (number ∙ ap (paper_number a.command.now) (sym here), record { suits = suits; in_time = time }, more)) in
     rw none (rw id at done)

@@ -31,7 +31,7 @@ returns-clause-model g c = λ h is held e t.
     let reason = c.in_ok-reason.ensures.reason h a.day a.caller.now.id a.name.now a.role a.token.now held e digest in
     let desk = ap (λ (d : Desk). d.parties) (c.desk.view_is ∙ e) in
     let done = c.carry_out.ensures.model h (entry_of h a.day a.caller.now.id (AddParty a.name.now a.role a.token.now)) (c.against_party.ensures.kept (tables h) held)
-        (λ none. let s = party_suits h a.day a.caller.now.id a.name.now a.role a.token.now _ digest (sym reason ∙ none) in
-            (wrapped c.desk.inside.parties _ desk s.1, record { suits = s.0; in_time = t }, party_more h a.day a.caller.now.id a.name.now a.role a.token.now _ digest)) in
+    (λ none. let s = party_suits h a.day a.caller.now.id a.name.now a.role a.token.now _ digest (sym reason ∙ none) in
+    (wrapped c.desk.inside.parties _ desk s.1, record { suits = s.0; in_time = t }, party_more h a.day a.caller.now.id a.name.now a.role a.token.now _ digest)) in
     rw (allowed_outcome a.policy.now h a.day a.caller.now (AddParty a.name.now a.role a.token.now) (decision a.policy.now (office_facts a.caller.now.role (adding_action a.role))) allowed)
     (rw reason at done)
