@@ -129,7 +129,14 @@ fn records_are_numbered_and_read(rt: HostRuntime) -> Result<(), Fail> {
         number_made(&mut office, alloc, Request::Declare { parcel }, 19904)?,
         None
     );
-    match office.step_as(&caller, &Request::ReadParcel { parcel }, day) {
+    let later = Day::new(19904).ok_or("a day")?;
+    assert!(rt;
+        matches!(
+            &office.step_as(&caller, &Request::ReadParcel { parcel }, day),
+            Reply::Refused(Refusal::Clock)
+        )
+    );
+    match office.step_as(&caller, &Request::ReadParcel { parcel }, later) {
         Reply::Parcel(land) => {
             assert!(rt; land.owner == first && land.lot.as_str() == "A-1");
         }
