@@ -79,7 +79,7 @@ below_command h id g caller day bound command number true e numbered there small
     let same : g ≡ id = eqb-true g id e in
     let found : IsTrue (is_some (case_numbered h id)) = subst (λ n. IsTrue (is_some (case_numbered h n))) same there in
     let next : number ≡ when (makes_paper command) (paper_count (acts_on id h) + 1) =
-        numbered ∙ ap (λ n. paper_number command (case_numbered h n)) same ∙ number_by h id command (find (λ (f : Filing). f.id == id) (filings h)) refl found in
+    numbered ∙ ap (λ n. paper_number command (case_numbered h n)) same ∙ number_by h id command (find (λ (f : Filing). f.id == id) (filings h)) refl found in
     let both = below_by (act_now caller day command number) (acts_on id h) number bound (makes_paper command) next small in
     (λ t. both.0, both.1)
 
@@ -94,7 +94,7 @@ below_first id caller day bound (Founding name digest) number is = tt
 below_first id caller day bound (Accepted request) number is = absurd is
 
 -- a file's papers have numbers below any bound above their count
-are_below : (h : History) (id bound : ℕ) → IsHistory h → paper_count (acts_on id h) < bound → AreBelow id bound h
+pub are_below : (h : History) (id bound : ℕ) → IsHistory h → paper_count (acts_on id h) < bound → AreBelow id bound h
 are_below [] id bound is small = tt
 are_below (entry ∷ []) id bound is small = (below_first id entry.caller entry.day bound entry.deed entry.number is, tt)
 are_below (entry ∷ last ∷ before) id bound is small =
@@ -131,7 +131,7 @@ stays_below : (later now : History) (id bound : ℕ) → ((file : ℕ) → open_
 stays_below later now id bound opened entry (Accepted (OnFile file command)) before below =
     ap (λ o. paper_by file o (act_of entry command) (acts_on file before)) (opened file)
     ∙ ap (λ t. paper_if file (act_of entry command) (acts_on file before) t)
-        (opened_by bound (unwrap_or entry.number 0) (open_in now file) (id == file) (λ e. below (same_way file id ∙ e)))
+    (opened_by bound (unwrap_or entry.number 0) (open_in now file) (id == file) (λ e. below (same_way file id ∙ e)))
 stays_below later now id bound opened entry _ before below = refl
 
 -- a notice of a higher number leaves the papers that are there
@@ -165,7 +165,7 @@ nothing_left true = refl
 nothing_left false = refl
 
 -- a number that is taken out is not among those left
-without : (k m : ℕ) (ns : List ℕ) → has_number (filter (λ n. not (n == k)) ns) m ≡ (if m == k then false else has_number ns m)
+pub without : (k m : ℕ) (ns : List ℕ) → has_number (filter (λ n. not (n == k)) ns) m ≡ (if m == k then false else has_number ns m)
 without k m [] = nothing_left (m == k)
 without k m (n ∷ ns) =
     without_by k m n ns (n == k)
@@ -187,16 +187,16 @@ closed_if : (file id k : ℕ) (act : Act) (before : List Act) (was : Bool) (o : 
     paper_if file act before (if (id == file) && (unwrap_or act.number 0 == k) then false else was) ≡ option_map (closed_by id k) (paper_if file act before was)
 closed_if file id k act before was None e = rw e refl
 closed_if file id k act before was (Some s) e = rw (e, same_way id file) (ap Some (closed_paper (record {
-      file = file;
-      number = unwrap_or act.number 0;
-      day = act.day;
-      author = act.caller;
-      sort = s;
-      days = paper_days act.command before;
-      text = paper_text act.command;
-      terms = paper_terms act.command;
-      is_open = false;
-    }) (is_notice s) was ((file == id) && (unwrap_or act.number 0 == k))))
+  file = file;
+  number = unwrap_or act.number 0;
+  day = act.day;
+  author = act.caller;
+  sort = s;
+  days = paper_days act.command before;
+  text = paper_text act.command;
+  terms = paper_terms act.command;
+  is_open = false;
+}) (is_notice s) was ((file == id) && (unwrap_or act.number 0 == k))))
 
 paper_closes : (later now : History) (id k : ℕ) → ((file : ℕ) → open_in later file ≡ (if id == file then filter (λ n. not (n == k)) (open_in now file) else open_in now file)) →
     (entry : Entry) (deed : Deed) (before : History) → paper_of_deed later entry deed before ≡ option_map (closed_by id k) (paper_of_deed now entry deed before)

@@ -145,7 +145,7 @@ mapped_twice f g k same (x ∷ xs) = ap (λ y. y ∷ map g (map f xs)) (same x) 
 parcels_given : (h : History) (day caller parcel to : ℕ) → map (given_to parcel to) (parcels h) ≡ parcels (entry_of h day caller (Transfer parcel to) ∷ h)
 parcels_given h day caller parcel to =
     mapped_twice (parcel_now h) (given_to parcel to) (parcel_now (entry_of h day caller (Transfer parcel to) ∷ h))
-      (λ p. given_by p parcel to p.owner (latest (λ (e : Entry). receiver_by p.id e.deed) h) (p.id == parcel) (parcel == p.id) (same_way p.id parcel)) (in_order parcel_added h)
+    (λ p. given_by p parcel to p.owner (latest (λ (e : Entry). receiver_by p.id e.deed) h) (p.id == parcel) (parcel == p.id) (same_way p.id parcel)) (in_order parcel_added h)
 
 pub transfer_more : (h : History) (day caller parcel to : ℕ) →
     record (tables h) {

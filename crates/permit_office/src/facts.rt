@@ -15,7 +15,13 @@ use permit_store::rows::{FileRow, Parcel, Party};
 use permit_store::store::{Got, Store};
 
 /// The facts of a request on a parcel.
-pub(crate) fn facts_on_parcel<S: Store>(store: &mut S, caller: &Party, land: &Parcel, word: Stage, action: Action) -> Got<Facts>
+pub(crate) fn facts_on_parcel<S: Store>(
+    store: &mut S,
+    caller: &Party,
+    land: &Parcel,
+    word: Stage,
+    action: Action,
+) -> Got<Facts>
     ensures facts { (h : History) → S.holds store.old (tables h) → parcel_numbered h land.now.id ≡ Some land.now
         → IfOk result (λ f. f ≡ parcel_facts h caller.now land.now.id word action) }
     ensures kept { (t : Tables) → S.holds store.old t → S.holds store.new t }
@@ -56,7 +62,13 @@ pub(crate) fn owner_of<S: Store>(store: &mut S, parcel: ParcelId) -> Got<Option<
 }
 
 /// The facts of a request on a file.
-pub(crate) fn facts_on_file<S: Store>(store: &mut S, caller: &Party, row: &FileRow, action: Action, day: Day) -> Got<Facts>
+pub(crate) fn facts_on_file<S: Store>(
+    store: &mut S,
+    caller: &Party,
+    row: &FileRow,
+    action: Action,
+    day: Day,
+) -> Got<Facts>
     ensures facts { (h : History) (file : CaseFile) → S.holds store.old (tables h) → row.now ≡ file_row file
         → IfOk result (λ f. f ≡ file_facts h day caller.now file action) }
     ensures kept { (t : Tables) → S.holds store.old t → S.holds store.new t }

@@ -33,7 +33,17 @@ fn against_file(desk: &Desk) -> Option<Reason>
 }
 
 /// Files an application.
-pub(crate) fn file<S: Store>(store: &mut S, policy: &Policy, caller: &Party, desk: &Desk, parcel: ParcelId, kind: Kind, valuation: Cents, description: &Text, day: Day) -> Got<Reply>
+pub(crate) fn file<S: Store>(
+    store: &mut S,
+    policy: &Policy,
+    caller: &Party,
+    desk: &Desk,
+    parcel: ParcelId,
+    kind: Kind,
+    valuation: Cents,
+    description: &Text,
+    day: Day,
+) -> Got<Reply>
     ensures model { (h : History) → IsHistory h → S.holds store.old (tables h) → desk.now ≡ desk_of h → last_day h ≤ day → IsTrue (Caller.is_party h caller.now.id)
         → Attempts (S.holds store.new) result (served policy.now h day caller.now (request.File parcel kind valuation description.now)) h }
     ensures failed { S.failed store.new ≡ failed_after result (S.failed store.old) }
@@ -51,5 +61,15 @@ pub(crate) fn file<S: Store>(store: &mut S, policy: &Policy, caller: &Party, des
     let reason = against_file(desk);
     let number = desk.files.wrapping_add(1);
     let state = FileState::file(caller.id, parcel, kind, day);
-    carry_out(store, reason, Some(number), &Change::NewFile { state, valuation, description }, day)
+    carry_out(
+        store,
+        reason,
+        Some(number),
+        &Change::NewFile {
+            state,
+            valuation,
+            description,
+        },
+        day,
+    )
 }

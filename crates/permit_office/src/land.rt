@@ -37,7 +37,12 @@ fn is_lot<S: Store>(store: &mut S, lot: &Lot) -> Got<bool>
 }
 
 /// What stands against a new parcel.
-fn against_parcel<S: Store>(store: &mut S, desk: &Desk, lot: &Lot, owner: PartyId) -> Got<Option<Reason>>
+fn against_parcel<S: Store>(
+    store: &mut S,
+    desk: &Desk,
+    lot: &Lot,
+    owner: PartyId,
+) -> Got<Option<Reason>>
     ensures reason { (h : History) (day caller : ℕ) (address : List ℕ) → S.holds store.old (tables h) → desk.now ≡ desk_of h
         → IfOk result (λ r. r ≡ reason_against h day caller (request.AddParcel lot.now address owner)) }
     ensures kept { (t : Tables) → S.holds store.old t → S.holds store.new t }
@@ -58,7 +63,16 @@ fn against_parcel<S: Store>(store: &mut S, desk: &Desk, lot: &Lot, owner: PartyI
 }
 
 /// Adds a parcel.
-pub(crate) fn add_parcel<S: Store>(store: &mut S, policy: &Policy, caller: &Party, desk: &Desk, lot: &Lot, address: &Text, owner: PartyId, day: Day) -> Got<Reply>
+pub(crate) fn add_parcel<S: Store>(
+    store: &mut S,
+    policy: &Policy,
+    caller: &Party,
+    desk: &Desk,
+    lot: &Lot,
+    address: &Text,
+    owner: PartyId,
+    day: Day,
+) -> Got<Reply>
     ensures model { (h : History) → IsHistory h → S.holds store.old (tables h) → desk.now ≡ desk_of h → last_day h ≤ day
         → Attempts (S.holds store.new) result (served policy.now h day caller.now (request.AddParcel lot.now address.now owner)) h }
     ensures failed { S.failed store.new ≡ failed_after result (S.failed store.old) }
@@ -71,11 +85,25 @@ pub(crate) fn add_parcel<S: Store>(store: &mut S, policy: &Policy, caller: &Part
     }
     let reason = against_parcel(store, desk, lot, owner)?;
     let number = desk.parcels.wrapping_add(1);
-    carry_out(store, reason, Some(number), &Change::NewParcel { lot, address, owner }, day)
+    carry_out(
+        store,
+        reason,
+        Some(number),
+        &Change::NewParcel {
+            lot,
+            address,
+            owner,
+        },
+        day,
+    )
 }
 
 /// What stands against a declaration.
-fn against_declaration<S: Store>(store: &mut S, parcel: ParcelId, caller: PartyId) -> Got<Option<Reason>>
+fn against_declaration<S: Store>(
+    store: &mut S,
+    parcel: ParcelId,
+    caller: PartyId,
+) -> Got<Option<Reason>>
     ensures reason { (h : History) (day : ℕ) → S.holds store.old (tables h)
         → IfOk result (λ r. r ≡ reason_against h day caller (request.Declare parcel)) }
     ensures kept { (t : Tables) → S.holds store.old t → S.holds store.new t }
@@ -90,7 +118,13 @@ fn against_declaration<S: Store>(store: &mut S, parcel: ParcelId, caller: PartyI
 }
 
 /// Declares an interest.
-pub(crate) fn declare<S: Store>(store: &mut S, policy: &Policy, caller: &Party, parcel: ParcelId, day: Day) -> Got<Reply>
+pub(crate) fn declare<S: Store>(
+    store: &mut S,
+    policy: &Policy,
+    caller: &Party,
+    parcel: ParcelId,
+    day: Day,
+) -> Got<Reply>
     ensures model { (h : History) → S.holds store.old (tables h) → last_day h ≤ day → IsTrue (Caller.is_party h caller.now.id)
         → Attempts (S.holds store.new) result (served policy.now h day caller.now (request.Declare parcel)) h }
     ensures failed { S.failed store.new ≡ failed_after result (S.failed store.old) }
@@ -107,7 +141,13 @@ pub(crate) fn declare<S: Store>(store: &mut S, policy: &Policy, caller: &Party, 
     }
     let party = caller.id;
     let reason = against_declaration(store, parcel, party)?;
-    carry_out(store, reason, None, &Change::NewInterest { parcel, party }, day)
+    carry_out(
+        store,
+        reason,
+        None,
+        &Change::NewInterest { parcel, party },
+        day,
+    )
 }
 
 /// What stands against a transfer.
@@ -129,7 +169,14 @@ fn against_transfer<S: Store>(store: &mut S, land: &Parcel, to: PartyId) -> Got<
 }
 
 /// Transfers a parcel.
-pub(crate) fn transfer<S: Store>(store: &mut S, policy: &Policy, caller: &Party, parcel: ParcelId, to: PartyId, day: Day) -> Got<Reply>
+pub(crate) fn transfer<S: Store>(
+    store: &mut S,
+    policy: &Policy,
+    caller: &Party,
+    parcel: ParcelId,
+    to: PartyId,
+    day: Day,
+) -> Got<Reply>
     ensures model { (h : History) → S.holds store.old (tables h) → last_day h ≤ day
         → Attempts (S.holds store.new) result (served policy.now h day caller.now (request.Transfer parcel to)) h }
     ensures failed { S.failed store.new ≡ failed_after result (S.failed store.old) }
@@ -145,5 +192,11 @@ pub(crate) fn transfer<S: Store>(store: &mut S, policy: &Policy, caller: &Party,
         return Ok(Reply::Refused(Refusal::Denied(name)));
     }
     let reason = against_transfer(store, &land, to)?;
-    carry_out(store, reason, None, &Change::NewOwner { parcel, owner: to }, day)
+    carry_out(
+        store,
+        reason,
+        None,
+        &Change::NewOwner { parcel, owner: to },
+        day,
+    )
 }

@@ -14,6 +14,7 @@ ghost use Rattle.permit_office.specs.Answers.{Attempts, Committed, IsOwn};
 
 use crate::commit::carry_out;
 use crate::reply::Reply;
+use permit_base::digests::digest;
 use permit_base::outcome::{Reason, Refusal};
 use permit_base::values::{Day, Digest, PartyId, Text, Token};
 use permit_base::words::{Action, Role};
@@ -63,20 +64,40 @@ fn against_party<S: Store>(store: &mut S, desk: &Desk, digest: &Digest) -> Got<O
 }
 
 /// Adds a party.
-pub(crate) fn add_party<S: Store>(store: &mut S, policy: &Policy, caller: &Party, desk: &Desk, name: &Text, role: Role, token: &Token, day: Day) -> Got<Reply>
+pub(crate) fn add_party<S: Store>(
+    store: &mut S,
+    policy: &Policy,
+    caller: &Party,
+    desk: &Desk,
+    name: &Text,
+    role: Role,
+    token: &Token,
+    day: Day,
+) -> Got<Reply>
     ensures model { (h : History) → IsHistory h → S.holds store.old (tables h) → desk.now ≡ desk_of h → last_day h ≤ day
         → Attempts (S.holds store.new) result (served policy.now h day caller.now (request.AddParty name.now role token.now)) h }
     ensures failed { S.failed store.new ≡ failed_after result (S.failed store.old) }
     ensures commits { Committed result (S.commits store.old) (S.commits store.new) }
     ensures handed { S.handed store.new ≡ S.handed store.old }
+    ensures own { IfOk result IsOwn }
 {
     if let Some(rule) = policy.denial(&Facts::office(caller.role, adding(role))) {
         return Ok(Reply::Refused(Refusal::Denied(rule)));
     }
-    let Some(digest) = token.digest() else {
+    let Ok(digest) = digest(token) else {
         return Ok(Reply::Refused(Refusal::Store));
     };
     let reason = against_party(store, desk, &digest)?;
     let number = desk.parties.wrapping_add(1);
-    carry_out(store, reason, Some(number), &Change::NewParty { name, role, digest: &digest }, day)
+    carry_out(
+        store,
+        reason,
+        Some(number),
+        &Change::NewParty {
+            name,
+            role,
+            digest: &digest,
+        },
+        day,
+    )
 }

@@ -18,7 +18,13 @@ use permit_store::rows::{FileView, Party};
 use permit_store::store::{Got, Store};
 
 /// Reads a file.
-pub(crate) fn read_file<S: Store>(store: &mut S, policy: &Policy, caller: &Party, file: FileId, day: Day) -> Got<Reply>
+pub(crate) fn read_file<S: Store>(
+    store: &mut S,
+    policy: &Policy,
+    caller: &Party,
+    file: FileId,
+    day: Day,
+) -> Got<Reply>
     ensures model { (h : History) → S.holds store.old (tables h)
         → Attempts (S.holds store.new) result (served policy.now h day caller.now (request.ReadFile file)) h }
     ensures failed { S.failed store.new ≡ failed_after result (S.failed store.old) }
@@ -40,7 +46,13 @@ pub(crate) fn read_file<S: Store>(store: &mut S, policy: &Policy, caller: &Party
 }
 
 /// Reads a parcel.
-pub(crate) fn read_parcel<S: Store>(store: &mut S, policy: &Policy, caller: &Party, parcel: ParcelId, day: Day) -> Got<Reply>
+pub(crate) fn read_parcel<S: Store>(
+    store: &mut S,
+    policy: &Policy,
+    caller: &Party,
+    parcel: ParcelId,
+    day: Day,
+) -> Got<Reply>
     ensures model { (h : History) → S.holds store.old (tables h)
         → Attempts (S.holds store.new) result (served policy.now h day caller.now (request.ReadParcel parcel)) h }
     ensures failed { S.failed store.new ≡ failed_after result (S.failed store.old) }

@@ -26,7 +26,7 @@ returns-in-Some-denial-clause-model g c = λ h is held e t party.
     let facts = rw named at (c.in_ok-facts.ensures.facts h kept there) in
     let denied = rw facts at (sym c.in-Some-denial.is ∙ c.denial.ensures) in
     rw (file_judged a.policy.now h a.day a.caller.now a.parcel a.kind a.valuation a.description.now c.in-Some.land (sym found)
-        ∙ denied_outcome a.policy.now h a.day a.caller.now (File a.parcel a.kind a.valuation a.description.now) (decision a.policy.now (parcel_facts h a.caller.now a.parcel New action.File)) c.in-Some-denial.name denied)
+    ∙ denied_outcome a.policy.now h a.day a.caller.now (File a.parcel a.kind a.valuation a.description.now) (decision a.policy.now (parcel_facts h a.caller.now a.parcel New action.File)) c.in-Some-denial.name denied)
     (inl (refl, c.facts_on_parcel.ensures.kept (tables h) kept))
 
 pub returns-clause-model : goal.returns-clause-model
@@ -43,9 +43,9 @@ returns-clause-model g c = λ h is held e t party.
     let caller = ap (λ (p : Party). p.id) c.caller.view_is in
     let state = rw caller at (c.file-state.ensures (length (filings h) + 1) a.valuation a.description.now) in
     let done = c.carry_out.ensures.model h (entry_of h a.day a.caller.now.id (File a.parcel a.kind a.valuation a.description.now)) (c.facts_on_parcel.ensures.kept (tables h) kept)
-        (λ none. let s = file_suits h a.day a.caller.now.id a.parcel a.kind a.valuation a.description.now c.in-Some.land (sym found) party (sym reason ∙ none) in
-            let n : length (case_files h) ≡ length (filings h) = length-map (filings h) (case_file h) in
-            (rw (← n) (wrapped c.desk.inside.files _ desk s.1), record { suits = rw state s.0; in_time = t }, rw state (file_more h a.day a.caller.now.id a.parcel a.kind a.valuation a.description.now is))) in
+    (λ none. let s = file_suits h a.day a.caller.now.id a.parcel a.kind a.valuation a.description.now c.in-Some.land (sym found) party (sym reason ∙ none) in
+    let n : length (case_files h) ≡ length (filings h) = length-map (filings h) (case_file h) in
+    (rw (← n) (wrapped c.desk.inside.files _ desk s.1), record { suits = rw state s.0; in_time = t }, rw state (file_more h a.day a.caller.now.id a.parcel a.kind a.valuation a.description.now is))) in
     rw (file_judged a.policy.now h a.day a.caller.now a.parcel a.kind a.valuation a.description.now c.in-Some.land (sym found)
-        ∙ allowed_outcome a.policy.now h a.day a.caller.now (File a.parcel a.kind a.valuation a.description.now) (decision a.policy.now (parcel_facts h a.caller.now a.parcel New action.File)) allowed)
+    ∙ allowed_outcome a.policy.now h a.day a.caller.now (File a.parcel a.kind a.valuation a.description.now) (decision a.policy.now (parcel_facts h a.caller.now a.parcel New action.File)) allowed)
     (rw reason at done)

@@ -26,7 +26,7 @@ returns-in-Some-denial-clause-model g c = λ h held t party.
     let facts = rw named at (c.in_ok-facts.ensures.facts h kept there) in
     let denied = rw facts at (sym c.in-Some-denial.is ∙ c.denial.ensures) in
     rw (declare_judged a.policy.now h a.day a.caller.now a.parcel c.in-Some.land (sym found)
-        ∙ denied_outcome a.policy.now h a.day a.caller.now (Declare a.parcel) (decision a.policy.now (parcel_facts h a.caller.now a.parcel Office action.Declare)) c.in-Some-denial.name denied)
+    ∙ denied_outcome a.policy.now h a.day a.caller.now (Declare a.parcel) (decision a.policy.now (parcel_facts h a.caller.now a.parcel Office action.Declare)) c.in-Some-denial.name denied)
     (inl (refl, c.facts_on_parcel.ensures.kept (tables h) kept))
 
 pub returns-clause-model : goal.returns-clause-model
@@ -42,8 +42,8 @@ returns-clause-model g c = λ h held t party.
     let caller = ap (λ (p : Party). p.id) c.caller.view_is in
     let reason = c.in_ok-reason.ensures.reason h a.day kept_2 in
     let done = c.carry_out.ensures.model h (entry_of h a.day a.caller.now.id (Declare a.parcel)) (c.against_declaration.ensures.kept (tables h) kept_2)
-        (λ none. let s = interest_suits h a.day a.caller.now.id a.parcel c.in-Some.land (sym found) party (rw caller at (sym reason ∙ none)) in
-            (refl, record { suits = rw caller s; in_time = t }, rw caller (interest_more h a.day a.caller.now.id a.parcel))) in
+    (λ none. let s = interest_suits h a.day a.caller.now.id a.parcel c.in-Some.land (sym found) party (rw caller at (sym reason ∙ none)) in
+    (refl, record { suits = rw caller s; in_time = t }, rw caller (interest_more h a.day a.caller.now.id a.parcel))) in
     rw (declare_judged a.policy.now h a.day a.caller.now a.parcel c.in-Some.land (sym found)
-        ∙ allowed_outcome a.policy.now h a.day a.caller.now (Declare a.parcel) (decision a.policy.now (parcel_facts h a.caller.now a.parcel Office action.Declare)) allowed)
+    ∙ allowed_outcome a.policy.now h a.day a.caller.now (Declare a.parcel) (decision a.policy.now (parcel_facts h a.caller.now a.parcel Office action.Declare)) allowed)
     (rw (reason, caller) at done)

@@ -26,7 +26,7 @@ returns-in-Some-denial-clause-model g c = λ h held t.
     let facts = rw named at (c.in_ok-facts.ensures.facts h kept there) in
     let denied = rw facts at (sym c.in-Some-denial.is ∙ c.denial.ensures) in
     rw (transfer_judged a.policy.now h a.day a.caller.now a.parcel a.to c.in-Some.land (sym found)
-        ∙ denied_outcome a.policy.now h a.day a.caller.now (Transfer a.parcel a.to) (decision a.policy.now (parcel_facts h a.caller.now a.parcel Office action.Transfer)) c.in-Some-denial.name denied)
+    ∙ denied_outcome a.policy.now h a.day a.caller.now (Transfer a.parcel a.to) (decision a.policy.now (parcel_facts h a.caller.now a.parcel Office action.Transfer)) c.in-Some-denial.name denied)
     (inl (refl, c.facts_on_parcel.ensures.kept (tables h) kept))
 
 pub returns-clause-model : goal.returns-clause-model
@@ -41,8 +41,8 @@ returns-clause-model g c = λ h held t.
     let kept_2 = c.facts_on_parcel.ensures.kept (tables h) kept in
     let reason = rw named at (c.in_ok-reason.ensures.reason h a.day a.caller.now.id kept_2 there) in
     let done = c.carry_out.ensures.model h (entry_of h a.day a.caller.now.id (Transfer a.parcel a.to)) (c.against_transfer.ensures.kept (tables h) kept_2)
-        (λ none. let s = transfer_suits h a.day a.caller.now.id a.parcel a.to c.in-Some.land (sym found) (sym reason ∙ none) in
-            (refl, record { suits = s; in_time = t }, transfer_more h a.day a.caller.now.id a.parcel a.to)) in
+    (λ none. let s = transfer_suits h a.day a.caller.now.id a.parcel a.to c.in-Some.land (sym found) (sym reason ∙ none) in
+    (refl, record { suits = s; in_time = t }, transfer_more h a.day a.caller.now.id a.parcel a.to)) in
     rw (transfer_judged a.policy.now h a.day a.caller.now a.parcel a.to c.in-Some.land (sym found)
-        ∙ allowed_outcome a.policy.now h a.day a.caller.now (Transfer a.parcel a.to) (decision a.policy.now (parcel_facts h a.caller.now a.parcel Office action.Transfer)) allowed)
+    ∙ allowed_outcome a.policy.now h a.day a.caller.now (Transfer a.parcel a.to) (decision a.policy.now (parcel_facts h a.caller.now a.parcel Office action.Transfer)) allowed)
     (rw reason at done)

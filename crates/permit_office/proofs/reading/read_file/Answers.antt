@@ -26,7 +26,7 @@ returns-in-Some-denial-clause-model g c = λ h held.
     let facts = c.in_ok-facts.ensures.facts h file kept f.row_is in
     let denied = rw facts at (sym c.in-Some-denial.is ∙ c.denial.ensures) in
     rw (read_judged a.policy.now h a.day a.caller.now a.file file f.found
-        ∙ denied_outcome a.policy.now h a.day a.caller.now (ReadFile a.file) (decision a.policy.now (file_facts h a.day a.caller.now file action.Read)) c.in-Some-denial.name denied)
+    ∙ denied_outcome a.policy.now h a.day a.caller.now (ReadFile a.file) (decision a.policy.now (file_facts h a.day a.caller.now file action.Read)) c.in-Some-denial.name denied)
     (inl (refl, c.facts_on_file.ensures.kept (tables h) kept))
 
 pub returns-clause-model : goal.returns-clause-model

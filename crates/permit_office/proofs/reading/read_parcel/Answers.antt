@@ -26,7 +26,7 @@ returns-in-Some-denial-clause-model g c = λ h held.
     let facts = rw named at (c.in_ok-facts.ensures.facts h kept there) in
     let denied = rw facts at (sym c.in-Some-denial.is ∙ c.denial.ensures) in
     rw (parcel_judged a.policy.now h a.day a.caller.now a.parcel c.in-Some.land (sym found)
-        ∙ denied_outcome a.policy.now h a.day a.caller.now (ReadParcel a.parcel) (decision a.policy.now (parcel_facts h a.caller.now a.parcel Office action.ReadParcel)) c.in-Some-denial.name denied)
+    ∙ denied_outcome a.policy.now h a.day a.caller.now (ReadParcel a.parcel) (decision a.policy.now (parcel_facts h a.caller.now a.parcel Office action.ReadParcel)) c.in-Some-denial.name denied)
     (inl (refl, c.facts_on_parcel.ensures.kept (tables h) kept))
 
 pub returns-clause-model : goal.returns-clause-model
