@@ -5,3 +5,4 @@ pub mod RowData
 pub mod Examples
 pub mod Made
 pub mod Inserted
+pub mod Objects

@@ -8,6 +8,7 @@ pub mod answer;
 pub mod examples;
 mod in_place;
 mod line;
+mod object;
 mod rows;
 mod status;
 #[cfg(test)]
