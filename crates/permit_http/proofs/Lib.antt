@@ -5,3 +5,4 @@ pub mod Lengths
 pub mod Streams
 pub mod Covered
 pub mod Given
+pub mod Unique

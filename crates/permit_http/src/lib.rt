@@ -12,6 +12,7 @@
 pub mod fault;
 mod head;
 pub mod inbox;
+pub mod laws;
 pub mod message;
 #[cfg(test)]
 mod tests;

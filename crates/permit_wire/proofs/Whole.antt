@@ -1,13 +1,12 @@
 -- What a message that came whole is on its stream.
-use Rattle.std.proofs.Common.{◌≡◌, ℕ, ◌+◌, ◌||◌, nat_le, min, List, drop, Bool, true, false, Option, Some, None, Result, Ok, Err, refl, sym, ap, ◌∙◌, subst}
+use Rattle.std.proofs.Common.{◌≡◌, ℕ, ◌+◌, ◌||◌, nat_le, min, List, drop, Bool, true, false, Option, Some, None, Result, Ok, Err, refl, sym, ap, ◌∙◌}
 use Rattle.std.specs.Io.KnownBytes.{prepend_known}
 use Rattle.permit_base.specs.declared.request.Asked.{Asked}
-use Rattle.permit_http.specs.Stream.{InboxData, stream}
-use Rattle.permit_http.specs.Message.{MessageData}
+use Rattle.permit_http.specs.Stream.{InboxData}
 use Rattle.permit_http.specs.Spans.{GivesMessage, message_at}
 use Rattle.permit_http.specs.declared.message.MessageSpans.{MessageSpans}
 use Rattle.permit_wire.specs.Asked.{asked_in}
-use Rattle.permit_wire.specs.Reading.{Reading, Request, Kept, Asks, AskedFrom, LetGo, FaultRead, RequestRead, MeansAsked, ReadsOut, closes_after, is_kept}
+use Rattle.permit_wire.specs.Reading.{Reading, Request, Kept, Asks, AskedFrom, LetGo, FaultRead, RequestRead, MeansAsked, ReadsOut, closes_after}
 use Rattle.permit_wire.specs.declared.error.WireError.{WireError}
 use Rattle.permit_wire.specs.declared.error.WireError.TheVariants.{ReadFailed, Ended, Head, Version, Length, Large, Route, Caller, Body, Memory}
 

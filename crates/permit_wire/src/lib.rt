@@ -2,5 +2,8 @@
 #![tactic(auto)]
 
 pub mod error;
+pub mod laws;
 pub mod read;
 pub mod serve;
+#[cfg(test)]
+mod tests;
