@@ -8,6 +8,8 @@ mod exchange;
 #[cfg(test)]
 mod filing;
 #[cfg(test)]
+mod limits;
+#[cfg(test)]
 mod opening;
 #[cfg(test)]
 mod oversized_and_cut;

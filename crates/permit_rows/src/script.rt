@@ -77,7 +77,7 @@ fn action(path: &str) -> &str {
 }
 
 /// The whole answer that a turn wants, but for a file that is shown.
-fn wanted(alloc: Global, turn: &Turn) -> Result<String, Fail> {
+fn answer_of(alloc: Global, turn: &Turn) -> Result<String, Fail> {
     let day = turn.day;
     let action = action(turn.path);
     match turn.wanted {
@@ -140,7 +140,7 @@ fn play_one(alloc: Global, office: &mut Office<PlainStore>, turn: &Turn) -> Resu
         }
         return Ok(());
     }
-    let wanted = wanted(alloc, turn)?;
+    let wanted = answer_of(alloc, turn)?;
     if written.as_str() == wanted.as_str() {
         Ok(())
     } else {
