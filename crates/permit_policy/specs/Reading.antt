@@ -4,6 +4,7 @@ use Rattle.permit_policy.specs.declared.fault.PolicyError.{PolicyError}
 use Rattle.permit_policy.specs.declared.fault.PolicyFault.{PolicyFault}
 use Rattle.permit_policy.specs.declared.fault.PolicyFault.TheVariants as fault
 
+-- the refusal for want of memory
 abbrev pub out_of_memory : PolicyError
 out_of_memory = record { code = fault.Memory; rule = 0 }
 
