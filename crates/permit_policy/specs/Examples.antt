@@ -1,5 +1,6 @@
 -- Worked texts of policies.
 use Rattle.std.specs.Prelude.{ℕ, zero, suc, ◌+◌, ◌/◌, ◌%◌, length, List, [], ◌∷◌, ◌++◌, codes, Ok, Err}
+use Rattle.permit_policy.specs.declared.fault.PolicyFault.{PolicyFault}
 use Rattle.permit_policy.specs.PolicyText.{Meaning}
 
 -- a line with its end
@@ -15,6 +16,10 @@ table_text name effect =
 abbrev pub good_rules : ℕ → List ℕ
 good_rules zero = []
 good_rules (suc n) = good_rules n ++ table_text ((97 + n / 8) ∷ (97 + n % 8) ∷ []) (codes "deny")
+
+-- the fault in the table at a place
+abbrev pub fault_in : PolicyFault → ℕ → Meaning
+fault_in code place = Err (record { code = code; rule = place })
 
 -- how many rules were read
 abbrev pub count_read : Meaning → ℕ

@@ -4,4 +4,4 @@ use Rattle.permit_policy.proofs.examples.policy_sizes.Goals as goal
 
 pub returns : goal.returns
 unfolding toml_on_literals
-returns c = record { no_text = refl; no_tables = refl; sixty_four = refl; sixty_five = refl }
+returns c = record { no_text = refl; no_tables = refl; no_rules_deny = λ facts. refl; sixty_four = refl; sixty_five = refl }
