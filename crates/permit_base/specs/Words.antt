@@ -1,4 +1,4 @@
--- The one spelling of each word. A timing that isn't there is spelled none.
+-- The one spelling of each word, and what a text is read as. A timing that isn't there is spelled none.
 use Rattle.std.specs.Prelude.{◌≡◌, ℕ, List, [], ◌∷◌, codes, Option, Some, bytes_eq}
 use Rattle.std.specs.List.{find}
 use Rattle.permit_base.specs.declared.words.Role.{Role}
@@ -32,6 +32,7 @@ named spelling words text = find (λ w. bytes_eq (spelling w) text) words
 abbrev pub IsReadBack : {A : Type 0} → (A → List ℕ) → List A → Type 0
 IsReadBack spelling words = (w : _) → named spelling words (spelling w) ≡ Some w
 
+-- the spelling of a role
 abbrev pub role_word : Role → List ℕ
 role_word role.Public = codes "public"
 role_word role.Clerk = codes "clerk"
@@ -39,6 +40,7 @@ role_word role.Reviewer = codes "reviewer"
 role_word role.Inspector = codes "inspector"
 role_word role.Official = codes "official"
 
+-- the spelling of a kind of work
 abbrev pub kind_word : Kind → List ℕ
 kind_word kind.Construct = codes "construct"
 kind_word kind.Enlarge = codes "enlarge"
@@ -48,6 +50,7 @@ kind_word kind.Move = codes "move"
 kind_word kind.Demolish = codes "demolish"
 kind_word kind.Occupancy = codes "occupancy"
 
+-- the spelling of an inspection
 abbrev pub step_word : Step → List ℕ
 step_word step.Footing = codes "footing"
 step_word step.Slab = codes "slab"
@@ -55,6 +58,7 @@ step_word step.Frame = codes "frame"
 step_word step.Lath = codes "lath"
 step_word step.Final = codes "final"
 
+-- the spelling of a stage
 abbrev pub stage_word : Stage → List ℕ
 stage_word stage.Filed = codes "filed"
 stage_word stage.Review = codes "review"
@@ -71,12 +75,14 @@ stage_word stage.Lapsed = codes "lapsed"
 stage_word stage.New = codes "new"
 stage_word stage.Office = codes "office"
 
+-- the spelling of a timing
 abbrev pub timing_word : Timing → List ℕ
 timing_word timing.Untimed = codes "none"
 timing_word timing.Past = codes "past"
 timing_word timing.Near = codes "near"
 timing_word timing.Ahead = codes "ahead"
 
+-- the spelling of a relation
 abbrev pub relation_word : Relation → List ℕ
 relation_word relation.Applicant = codes "applicant"
 relation_word relation.Contractor = codes "contractor"
@@ -85,6 +91,7 @@ relation_word relation.AssignedReviewer = codes "assigned-reviewer"
 relation_word relation.AssignedInspector = codes "assigned-inspector"
 relation_word relation.Conflict = codes "conflict"
 
+-- the spelling of a sort of paper
 abbrev pub sort_word : PaperSort → List ℕ
 sort_word sort.Permit = codes "permit"
 sort_word sort.Returned = codes "returned"
@@ -100,6 +107,7 @@ sort_word sort.Revoked = codes "revoked"
 sort_word sort.Temporary = codes "temporary"
 sort_word sort.Certificate = codes "certificate"
 
+-- the spelling of an action
 abbrev pub action_word : Action → List ℕ
 action_word action.AddParty = codes "add-party"
 action_word action.AddStaff = codes "add-staff"
@@ -133,15 +141,18 @@ action_word action.Revoke = codes "revoke"
 action_word action.Temporary = codes "temporary"
 action_word action.Certify = codes "certify"
 
+-- the spelling of an effect
 abbrev pub effect_word : Effect → List ℕ
 effect_word effect.Allow = codes "allow"
 effect_word effect.Deny = codes "deny"
 
+-- the spelling of a register
 abbrev pub register_word : RegisterKind → List ℕ
 register_word register.Files = codes "files"
 register_word register.Deadlines = codes "deadlines"
 register_word register.Inspections = codes "inspections"
 
+-- the spelling of a reason
 abbrev pub reason_word : Reason → List ℕ
 reason_word reason.Stage = codes "stage"
 reason_word reason.Stopped = codes "stopped"

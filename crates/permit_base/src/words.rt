@@ -152,7 +152,7 @@ pub enum Step {
     Frame,
     /// Lath, gypsum board and gypsum panel, 110.3.5.
     Lath,
-    /// The final inspection, 110.3.10.
+    /// The final inspection, after all work is done.
     Final,
 }
 
