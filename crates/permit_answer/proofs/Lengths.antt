@@ -1,6 +1,6 @@
 -- No answer in place is longer than its line.
 use Rattle.std.proofs.lemmas.Bool.Decides.{nat_tests}
-use Rattle.std.proofs.Common.{lit<, lit≤, Bool, true, false, ◌==◌, if◌then◌else◌, ◌≡◌, ◌^◌, ℕ, ◌+◌, ◌<◌, ◌≤◌, List, [], ◌∷◌, ◌++◌, length, Option, Some, None, codes, arith, length-append, append_assoc}
+use Rattle.std.proofs.Common.{lit<, lit≤, Bool, true, false, ◌==◌, if◌then◌else◌, ◌≡◌, ◌^◌, ℕ, ◌<◌, ◌≤◌, List, [], ◌∷◌, ◌++◌, length, Option, codes, arith, length-append, append_assoc}
 use Rattle.std.specs.Fmt.{decimal}
 use Rattle.std.proofs.lemmas.Fmt.{length-decimal-le}
 use Rattle.permit_base.specs.declared.words.Action.{Action}

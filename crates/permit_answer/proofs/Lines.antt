@@ -1,5 +1,5 @@
 -- Laws of the bytes that a line holds, and of what a writer was given.
-use Rattle.std.proofs.lemmas.Fmt.{length-decimal-le, decimal_step, decimal_digit}
+use Rattle.std.proofs.lemmas.Fmt.{decimal_step, decimal_digit}
 use Rattle.std.specs.Fmt.{decimal}
 use Rattle.std.proofs.Common.{lit<, lit≤, IfSome, Bool, true, false, ◌≡◌, ◌⊎◌, ◌^◌, ◌/◌, ◌%◌, append-nil, ℕ, suc, ◌+◌, ◌<◌, ◌≤◌, List, [], ◌∷◌, ◌++◌, length, get_or, take, drop, Option, Some, None, refl, sym, ap, ◌∙◌, arith, append_assoc, add-one, length-append, inl, inr}
 use Rattle.std.proofs.Math.Seq.{take-add, take-suc}

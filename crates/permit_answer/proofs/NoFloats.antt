@@ -1,15 +1,13 @@
 -- No row has a float, so that each has one text.
-use Rattle.std.proofs.Common.{◌≡◌, ℕ, Bool, true, false, List, [], ◌∷◌, map, Option, Some, None, refl, ap, ◌∙◌}
+use Rattle.std.proofs.Common.{◌≡◌, ℕ, false, List, [], ◌∷◌, Option, Some, None, refl, ap, ◌∙◌}
 use Rattle.std.specs.Prelude.{IfOk, Result, Ok, Err, String, string_bytes}
 use Rattle.std.specs.declared.alloc.Global.{Global}
-use Rattle.serde_json.specs.Data.{Data, string}
-use Rattle.serde_json.specs.View.{items_of}
+use Rattle.serde_json.specs.Data.{Data}
 use Rattle.serde_json.specs.Written.{has_float, compact_text}
 use Rattle.permit_base.specs.declared.words.Step.{Step}
-use Rattle.permit_base.specs.Words.{step_word}
 use Rattle.permit_model.specs.Tables.{next_in_row}
 use Rattle.permit_model.specs.Tables.{FileView, Paper}
-use Rattle.permit_answer.specs.RowData.{count_or_null, step_or_null, paper_data, papers_data, steps_data, done_steps, file_data}
+use Rattle.permit_answer.specs.RowData.{count_or_null, step_or_null, papers_data, steps_data, done_steps, file_data}
 
 pub count_plain : (n : Option ℕ) → has_float (count_or_null n) ≡ false
 count_plain None = refl

@@ -1,5 +1,5 @@
 -- The exact bytes of every answer.
-use Rattle.std.specs.Prelude.{ℕ, Bool, true, false, ◌==◌, if◌then◌else◌, List, [], ◌∷◌, ◌++◌, length, codes, decimal, Option, None, Some}
+use Rattle.std.specs.Prelude.{ℕ, Bool, ◌==◌, if◌then◌else◌, List, [], ◌∷◌, ◌++◌, length, codes, decimal, Option, None, Some}
 use Rattle.serde_json.specs.Written.{compact_text}
 use Rattle.permit_base.specs.declared.words.Action.{Action}
 use Rattle.permit_base.specs.declared.outcome.Refusal.{Refusal}

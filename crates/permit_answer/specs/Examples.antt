@@ -1,5 +1,5 @@
 -- Worked examples of answers, computed from what was asked of the office.
-use Rattle.std.specs.Prelude.{ℕ, List, [], ◌∷◌, ◌++◌, codes, false, true}
+use Rattle.std.specs.Prelude.{ℕ, List, false}
 use Rattle.permit_base.specs.Actions.{action_of}
 use Rattle.permit_model.specs.Examples.{Turn, last_reply, opening}
 use Rattle.permit_answer.specs.AnswerText.{AnswerData, Replied, body_text, answer_text}

@@ -1,9 +1,7 @@
 -- What goes out for an answer.
 use Rattle.std.specs.Prelude.{◌≡◌, ◌<◌, ◌⊎◌, ℕ, Bool, true, false, IsTrue, List, length, take, Option}
 use Rattle.std.specs.Io.KnownBytes.{Appends}
-use Rattle.permit_base.specs.declared.words.Action.TheVariants.{Read}
-use Rattle.permit_base.specs.declared.outcome.Refusal.TheVariants.{Store}
-use Rattle.permit_model.specs.Machine.{ParcelShown, FileShown, Listed, RegisterShown, Refused}
+use Rattle.permit_model.specs.Machine.{ParcelShown, FileShown, Listed, RegisterShown}
 use Rattle.permit_answer.specs.declared.answer.Fault.TheVariants.{Memory}
 use Rattle.permit_answer.specs.AnswerText.{AnswerData, Replied, Faulted, answer_text}
 

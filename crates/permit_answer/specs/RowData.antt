@@ -1,12 +1,12 @@
 -- Parcels, papers and files as JSON values. The keys stand in byte order.
-use Rattle.std.specs.Prelude.{ℕ, Bool, List, [], ◌∷◌, ◌++◌, map, take, codes, Option, None, Some}
-use Rattle.serde_json.specs.Data.{Data, null, boolean, number, unsigned, string, array, object, Items, no_items, item, Members, no_members, member}
+use Rattle.std.specs.Prelude.{ℕ, List, map, take, codes, Option, None, Some}
+use Rattle.serde_json.specs.Data.{Data, null, boolean, number, unsigned, string, array, object, Members, no_members, member}
 use Rattle.serde_json.specs.View.{items_of}
 use Rattle.permit_base.specs.declared.words.Step.{Step}
 use Rattle.permit_base.specs.Words.{kind_word, step_word, stage_word, timing_word, sort_word}
 use Rattle.permit_model.specs.Parcels.{Parcel}
 use Rattle.permit_model.specs.Steps.{required_steps}
-use Rattle.permit_model.specs.Tables.{State, FileRow, FileView, Paper}
+use Rattle.permit_model.specs.Tables.{State, FileView, Paper}
 use Rattle.permit_model.specs.Tables.{next_in_row}
 
 abbrev pub count : ℕ → Data

@@ -43,18 +43,13 @@ impl Narrow {
 
 impl Write for Narrow {
     fn write(&mut self, bytes: &[u8]) -> io::Result<usize> {
-        if self.fails_at <= self.len {
+        let free = self.bytes.len().min(self.fails_at).saturating_sub(self.len);
+        if free == 0 {
             return Err(io::Error::from(ErrorKind::BrokenPipe));
         }
-        let mut count = 0;
-        for byte in bytes {
-            if count == self.at_once || self.len == self.fails_at || self.len == self.bytes.len() {
-                break;
-            }
-            self.bytes[self.len] = *byte;
-            self.len += 1;
-            count += 1;
-        }
+        let count = bytes.len().min(self.at_once).min(free);
+        self.bytes[self.len..self.len + count].copy_from_slice(&bytes[..count]);
+        self.len += count;
         Ok(count)
     }
 

@@ -1,5 +1,4 @@
-use Rattle.std.proofs.Common.{◌≡◌, ◌≤◌, ◌++◌, ap, ◌∙◌, arith, length, take, codes, lit≤, length-append}
-use Rattle.permit_answer.specs.Line.{room}
+use Rattle.std.proofs.Common.{◌++◌, ap, ◌∙◌, codes}
 use Rattle.permit_answer.specs.AnswerText.{head_text}
 use Rattle.permit_answer.proofs.Lines.{whole_push}
 use Rattle.permit_answer.proofs.in_place.in_place.Goals as goal

@@ -1,4 +1,4 @@
-use Rattle.std.proofs.Common.{◌≡◌, ◌≤◌, ◌∙◌, length, lit≤}
+use Rattle.std.proofs.Common.{◌≡◌, ◌≤◌, length, lit≤}
 use Rattle.std.proofs.Math.Nat.{le_trans}
 use Rattle.permit_answer.specs.AnswerText.{refused_text}
 use Rattle.permit_answer.proofs.Lines.{push_on, push_as, push_first, fitting}

@@ -1,8 +1,6 @@
-use Rattle.std.proofs.Common.{◌≡◌, ◌++◌, ap, ◌∙◌, codes, true, length, List, ℕ}
+use Rattle.std.proofs.Common.{true}
 use Rattle.permit_answer.specs.AnswerText.{answer_text}
 use Rattle.permit_answer.proofs.Making.{made_in_place}
-use Rattle.permit_answer.specs.AnswerText.{Faulted}
-use Rattle.permit_answer.specs.declared.answer.Fault.TheVariants.{Memory}
 use Rattle.permit_answer.proofs.write.store_refusal.Goals as goal
 
 pub returns : goal.returns
