@@ -3,24 +3,28 @@
 ghost use Rattle.std.specs.Prelude.{◌≡◌, IfSome};
 ghost use Rattle.permit_base.specs.Words.{named};
 
-/// A type of words, each with one spelling.
+/// A type of words, each of which has one spelling.
+///
+/// `named` of the type's spelling and of all its words says what a text is read as.
 pub trait Word: Copy + 'static {
     ghost use Rattle.std.specs.Prelude.{ℕ, List};
     ghost use Rattle.permit_base.specs.Words.{IsReadBack};
 
+    // The bytes of a word's spelling.
     ghost spelling: { Self → List ℕ };
 
+    // Each word once, in the order of their codes.
     ghost every: { List Self };
 
     /// The one spelling of the word.
     fn word(self) -> &'static str
         ensures { result.now ≡ spelling self };
 
-    /// Each word once.
+    /// Each word once, in the order of their codes.
     fn all() -> &'static [Self]
         ensures { result.now ≡ every };
 
-    /// The word with this spelling, or none.
+    /// The word with this spelling, or none where no word is spelled so.
     final fn read(text: &str) -> Option<Self>
         ensures exact { result ≡ named spelling every text.now }
         ensures spelled { IfSome result (λ w. spelling w ≡ text.now) }
@@ -29,6 +33,7 @@ pub trait Word: Copy + 'static {
         first_spelled::<Self>(text)
     }
 
+    // Reading the spelling of a word gives the word.
     ghost is_read: { IsReadBack spelling every };
 }
 
