@@ -62,7 +62,7 @@ pub one_pass : (c : Bool) (t : Reason) → first_failing ((c, t) ∷ []) ≡ Non
 one_pass true t e = cc
 one_pass false t e = refl
 
-all_three : (a b c : Bool) → a ≡ true → b ≡ true → c ≡ true → IsTrue (a && b && c)
+pub all_three : (a b c : Bool) → a ≡ true → b ≡ true → c ≡ true → IsTrue (a && b && c)
 all_three true true true d e f = refl
 all_three false b c d e f = cc
 all_three true false c d e f = cc

@@ -6,7 +6,9 @@ use Rattle.permit_base.specs.declared.words.Kind.{Kind}
 use Rattle.permit_base.specs.declared.words.Stage.TheVariants.{New, Office}
 use Rattle.permit_base.specs.declared.words.Action.TheVariants as action
 use Rattle.permit_base.specs.declared.outcome.Refusal.TheVariants as refusal
-use Rattle.permit_base.specs.declared.request.Request.TheVariants.{File, ReadFile, ReadParcel, Declare, Transfer}
+use Rattle.permit_base.specs.declared.request.Request.TheVariants.{File, ReadFile, ReadParcel, Declare, Transfer, OnFile}
+use Rattle.permit_base.specs.declared.request.Command.{Command}
+use Rattle.permit_base.specs.Actions.{command_action}
 use Rattle.permit_base.specs.declared.words.Stage.{Stage}
 use Rattle.permit_base.specs.declared.words.Timing.{Timing}
 use Rattle.permit_core.specs.Views.{row_stage, row_timing}
@@ -47,7 +49,7 @@ pub record IsFound (h : History) (id : ℕ) (row : FileRow) : Type 0 where
   pub row_is : row ≡ file_row (case_file h filing)
   pub named : filing.id ≡ id
 
-rows_found : (h : History) (id : ℕ) → find (λ (r : FileRow). r.id == id) (tables h).files ≡ option_map file_row (case_numbered h id)
+pub rows_found : (h : History) (id : ℕ) → find (λ (r : FileRow). r.id == id) (tables h).files ≡ option_map file_row (case_numbered h id)
 rows_found h id =
     find_mapped file_row (λ (f : CaseFile). f.filing.id == id) (λ (r : FileRow). r.id == id) (λ f. refl) (case_files h)
     ∙ ap (option_map file_row) (find_mapped (case_file h) (λ (f : Filing). f.id == id) (λ (f : CaseFile). f.filing.id == id) (λ f. refl) (filings h))
@@ -118,3 +120,33 @@ pub transfer_judged : (policy : Policy) (h : History) (day : ℕ) (caller : Part
     served policy h day caller (Transfer parcel to) ≡ decided policy h day caller (Transfer parcel to) (decision policy (parcel_facts h caller parcel Office action.Transfer))
 transfer_judged policy h day caller parcel to land found =
     ap (λ (o : Option Parcel). judged policy h day caller (Transfer parcel to) (option_map (λ (p : Parcel). parcel_facts h caller parcel Office action.Transfer) o)) found
+
+-- ---- a command on a file
+
+pub command_missing : (policy : Policy) (h : History) (day : ℕ) (caller : Party) (id : ℕ) (command : Command) → None ≡ find (λ (r : FileRow). r.id == id) (tables h).files → served policy h day caller (OnFile id command) ≡ refused h refusal.Record
+command_missing policy h day caller id command none =
+    ap (λ (o : Option CaseFile). judged policy h day caller (OnFile id command) (option_map (λ file. file_facts h day caller file (command_action command)) o)) (missing_by (case_numbered h id) (none ∙ rows_found h id))
+
+pub command_judged : (policy : Policy) (h : History) (day : ℕ) (caller : Party) (id : ℕ) (command : Command) (file : CaseFile) → case_numbered h id ≡ Some file →
+    served policy h day caller (OnFile id command) ≡ decided policy h day caller (OnFile id command) (decision policy (file_facts h day caller file (command_action command)))
+command_judged policy h day caller id command file found =
+    ap (λ (o : Option CaseFile). judged policy h day caller (OnFile id command) (option_map (λ f. file_facts h day caller f (command_action command)) o)) found
+
+-- a file that is there, with its filing
+pub record IsCase (h : History) (id : ℕ) (file : CaseFile) : Type 0 where
+  pub filing : Filing
+  pub found : find (λ (f : Filing). f.id == id) (filings h) ≡ Some filing
+  pub is : case_file h filing ≡ file
+  pub named : filing.id ≡ id
+
+case_by : (h : History) (id : ℕ) (file : CaseFile) (o : Option Filing) → find (λ (f : Filing). f.id == id) (filings h) ≡ o → option_map (case_file h) o ≡ Some file → IsCase h id file
+case_by h id file None e there = cc
+case_by h id file (Some filing) e there = record {
+  filing = filing;
+  found = e;
+  is = ap (λ o. unwrap_or o (case_file h filing)) there;
+  named = found_number (λ (f : Filing). f.id) id (filings h) filing e;
+}
+
+pub case_found : (h : History) (id : ℕ) (file : CaseFile) → case_numbered h id ≡ Some file → IsCase h id file
+case_found h id file there = case_by h id file (find (λ (f : Filing). f.id == id) (filings h)) refl there

@@ -70,7 +70,7 @@ skips : (holds after : Tables → Type 0) (policy : Policy) (requests : List (As
     is_store_refusal reply ≡ true → after (tables (history_after policy (answered requests replies) h)) → Ran after policy (requests ++ request ∷ []) (replies ++ reply ∷ []) h
 skips holds after policy requests replies h request reply ran e held =
     let same : answered (requests ++ request ∷ []) (replies ++ reply ∷ []) ≡ answered requests replies =
-        answered_last requests replies request reply ran.each ∙ ap (λ (b : Bool). answered requests replies ++ (if b then [] else request ∷ [])) e ∙ nothing_more (answered requests replies) in
+    answered_last requests replies request reply ran.each ∙ ap (λ (b : Bool). answered requests replies ++ (if b then [] else request ∷ [])) e ∙ nothing_more (answered requests replies) in
     record {
       each = longer requests replies request reply ran.each;
       told = own_last replies reply ∙ ap (λ (b : Bool). own_replies replies ++ (if b then [] else reply_of reply ∷ [])) e ∙ nothing_more (own_replies replies) ∙ ran.told ∙ ap (λ xs. replies_to policy xs h) (sym same);
@@ -84,12 +84,12 @@ goes_on : (holds after : Tables → Type 0) (policy : Policy) (requests : List (
 goes_on holds after policy requests replies h request reply ran e told held =
     let done = answered requests replies in
     let same : answered (requests ++ request ∷ []) (replies ++ reply ∷ []) ≡ done ++ request ∷ [] =
-        answered_last requests replies request reply ran.each ∙ ap (λ (b : Bool). done ++ (if b then [] else request ∷ [])) e in
+    answered_last requests replies request reply ran.each ∙ ap (λ (b : Bool). done ++ (if b then [] else request ∷ [])) e in
     record {
       each = longer requests replies request reply ran.each;
       told = own_last replies reply ∙ ap (λ (b : Bool). own_replies replies ++ (if b then [] else reply_of reply ∷ [])) e
-        ∙ ap (λ xs. xs ++ reply_of reply ∷ []) ran.told ∙ ap (λ r. replies_to policy done h ++ r ∷ []) told
-        ∙ sym (replies_last policy done request h) ∙ ap (λ xs. replies_to policy xs h) (sym same);
+          ∙ ap (λ xs. xs ++ reply_of reply ∷ []) ran.told ∙ ap (λ r. replies_to policy done h ++ r ∷ []) told
+          ∙ sym (replies_last policy done request h) ∙ ap (λ xs. replies_to policy xs h) (sym same);
       held = subst (λ xs. after (tables (history_after policy xs h))) (sym same) (subst (λ x. after (tables x)) (sym (history_last policy done request h)) held);
     }
 
@@ -165,10 +165,10 @@ pub ran_more : (holds after : Tables → Type 0) (policy : Policy) (requests : L
 ran_more holds after policy requests replies h request reply is ran answers =
     let now : History = history_after policy (answered requests replies) h in
     ⊎_elim
-      (λ (a : (reply_of reply ≡ (step policy now request.0 request.1).reply) × after (tables (step policy now request.0 request.1).history)).
-        goes_on holds after policy requests replies h request reply ran (same_refusal reply ∙ ap is_store a.0 ∙ never_store policy now request) a.0 a.1)
-      (λ (a : (reply ≡ given.Refused refusal.Store) × after (tables now)). skips holds after policy requests replies h request reply ran (ap is_store_refusal a.0) a.1)
-      (answers now (run_keeps policy (answered requests replies) h is) ran.held)
+    (λ (a : (reply_of reply ≡ (step policy now request.0 request.1).reply) × after (tables (step policy now request.0 request.1).history)).
+    goes_on holds after policy requests replies h request reply ran (same_refusal reply ∙ ap is_store a.0 ∙ never_store policy now request) a.0 a.1)
+    (λ (a : (reply ≡ given.Refused refusal.Store) × after (tables now)). skips holds after policy requests replies h request reply ran (ap is_store_refusal a.0) a.1)
+    (answers now (run_keeps policy (answered requests replies) h is) ran.held)
 
 -- nothing was run yet
 pub ran_none : (holds : Tables → Type 0) (policy : Policy) (h : History) → holds (tables h) → Ran holds policy [] [] h

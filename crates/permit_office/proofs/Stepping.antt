@@ -1,6 +1,7 @@
 -- A known caller in time is served.
-use Rattle.std.proofs.Common.{◌≡◌, ◌≤◌, ℕ, Bool, true, false, List, refl, ◌≢◌, ◌+◌, ◌%◌, ◌^◌, ◌<◌, sym, ◌∙◌, ap, arith, inl}
-use Rattle.std.specs.Prelude.{Option, None, Some, nat_lt, if◌then◌else◌, IsTrue}
+use Rattle.std.proofs.Common.{◌≡◌, ◌≤◌, ℕ, Bool, true, false, List, refl, ◌≢◌, ◌+◌, ◌%◌, ◌^◌, ◌<◌, sym, ◌∙◌, ap, arith, inl, [], ◌∷◌, ◌++◌, not}
+use Rattle.std.specs.Prelude.{Option, None, Some, nat_lt, if◌then◌else◌, IsTrue, Ok, Err}
+use Rattle.permit_store.specs.declared.store.StoreError.{StoreError}
 use Rattle.std.proofs.lemmas.Bool.Decides.{nat_tests}
 use Rattle.permit_base.specs.declared.outcome.Refusal.TheVariants as refusal
 use Rattle.permit_base.specs.declared.request.Request.{Request}
@@ -11,7 +12,7 @@ use Rattle.permit_model.specs.Machine.{Outcome, known, served, refused, step_as}
 use Rattle.permit_store.specs.Counts.{next_count}
 use Rattle.permit_office.specs.declared.reply.Reply.{Reply as Given}
 use Rattle.permit_office.specs.declared.reply.Reply.TheVariants as given
-use Rattle.permit_office.specs.Answers.{CommittedBy, commits_after}
+use Rattle.permit_office.specs.Answers.{CommittedBy, commits_after, HandedBy, HandedIn, IsOwn, failed_by, failed_over, is_store_refusal}
 use Rattle.permit_model.proofs.Histories.{found_by_number}
 
 in_time : (last day : ℕ) → last ≤ day → nat_lt day last ≡ false
@@ -40,3 +41,24 @@ committed_by (given.Refused (refusal.NotAdmitted why)) old new e = e
 committed_by (given.Done number) old new e = e
 committed_by (given.Parcel p) old new e = e
 committed_by (given.File f ps) old new e = e
+
+pub handed_ok : (b : Bool) (reply : Given) (old new : ℕ) → HandedIn b (Ok reply) old new → HandedBy b reply old new
+handed_ok false reply old new e = e
+handed_ok true reply old new e = e
+
+pub handed_err : (b : Bool) (e : StoreError) (old new : ℕ) → HandedIn b (Err e) old new → HandedBy b (given.Refused refusal.Store) old new
+handed_err false e old new same = same
+handed_err true e old new either = either
+
+counts_by : (b : Bool) (old new : ℕ) → new ≡ old → not b ≡ true → new ≡ (if b then next_count old else old)
+counts_by true old new e own = cc
+counts_by false old new e own = e
+
+-- a reply of the office's own comes where no call failed
+pub own_counts : (reply : Given) (old new : ℕ) → new ≡ old → IsOwn reply → new ≡ failed_by reply old
+own_counts reply old new e own = counts_by (is_store_refusal reply) old new e own
+
+-- one reply more
+pub failed_last : (replies : List Given) (reply : Given) (n : ℕ) → failed_over (replies ++ reply ∷ []) n ≡ failed_by reply (failed_over replies n)
+failed_last [] reply n = refl
+failed_last (r ∷ replies) reply n = failed_last replies reply (failed_by r n)

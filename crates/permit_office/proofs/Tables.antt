@@ -16,7 +16,7 @@ use Rattle.permit_model.specs.Files.{Filing, Act, act_of, acts_on, filings, Case
 use Rattle.permit_model.specs.Work.{open_notices}
 use Rattle.permit_model.specs.Tables.{Desk, Tables, tables, FileRow, file_row, Paper, paper_by, papers_made, state_of}
 use Rattle.permit_model.specs.Machine.{IsHistory, entry_of}
-use Rattle.permit_office.proofs.Numbers.{parcels_below, no_transfers, files_below}
+use Rattle.permit_model.proofs.Numbers.{parcels_below, no_transfers, files_below}
 use Rattle.permit_model.proofs.Projection.{no_acts}
 
 papers_deed : (now later : History) (entry : Entry) (deed : Deed) (before : History) → ((id : ℕ) → acts_on id later ≡ acts_on id now) → papers_made later before ≡ papers_made now before →
@@ -145,7 +145,7 @@ mapped_twice f g k same (x ∷ xs) = ap (λ y. y ∷ map g (map f xs)) (same x) 
 parcels_given : (h : History) (day caller parcel to : ℕ) → map (given_to parcel to) (parcels h) ≡ parcels (entry_of h day caller (Transfer parcel to) ∷ h)
 parcels_given h day caller parcel to =
     mapped_twice (parcel_now h) (given_to parcel to) (parcel_now (entry_of h day caller (Transfer parcel to) ∷ h))
-      (λ p. given_by p parcel to p.owner (latest (λ (e : Entry). receiver_by p.id e.deed) h) (p.id == parcel) (parcel == p.id) (same_way p.id parcel)) (in_order parcel_added h)
+    (λ p. given_by p parcel to p.owner (latest (λ (e : Entry). receiver_by p.id e.deed) h) (p.id == parcel) (parcel == p.id) (same_way p.id parcel)) (in_order parcel_added h)
 
 pub transfer_more : (h : History) (day caller parcel to : ℕ) →
     record (tables h) {

@@ -1,5 +1,5 @@
 -- The values of a table and the items of an array, as lists of data.
-use Rattle.std.proofs.Common.{◌≡◌, refl, ap, sym, ◌∙◌, Bool, ◌&&◌, List, [], ◌∷◌, map, length, drop, get_or, ℕ, ◌+◌, ◌<◌, String, Global, string_bytes}
+use Rattle.std.proofs.Common.{◌≡◌, refl, ap, sym, ◌∙◌, ◌&&◌, List, [], ◌∷◌, map, length, drop, get_or, ℕ, ◌+◌, ◌<◌, String, Global, string_bytes}
 use Rattle.std.specs.List.{list_all}
 use Rattle.std.specs.Map.{keys_of}
 use Rattle.std.proofs.lemmas.List.{at_drop_more}

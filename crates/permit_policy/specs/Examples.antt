@@ -1,6 +1,5 @@
 -- Worked texts of policies.
 use Rattle.std.specs.Prelude.{ℕ, zero, suc, ◌+◌, ◌/◌, ◌%◌, length, List, [], ◌∷◌, ◌++◌, codes, Ok, Err}
-use Rattle.permit_policy.specs.declared.fault.PolicyError.{PolicyError}
 use Rattle.permit_policy.specs.declared.fault.PolicyFault.{PolicyFault}
 use Rattle.permit_policy.specs.PolicyText.{Meaning}
 

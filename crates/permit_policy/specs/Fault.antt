@@ -3,6 +3,7 @@ use Rattle.std.specs.Prelude.{ℕ}
 use Rattle.permit_policy.specs.declared.fault.PolicyFault.{PolicyFault}
 use Rattle.permit_policy.specs.declared.fault.PolicyFault.TheVariants as fault
 
+-- its number, by which the lowest is answered
 abbrev pub fault_number : PolicyFault → ℕ
 fault_number fault.TooLong = 1
 fault_number fault.Unreadable = 2

@@ -51,12 +51,15 @@ truth_at key entry = option_and_then as_bool (get key entry)
 
 -- ---- shape: the keys of a rule, and the type of each value
 
+-- the value is a text
 abbrev pub is_text : Data → Bool
 is_text value = is_some (as_str value)
 
+-- the value is true or false
 abbrev pub is_truth : Data → Bool
 is_truth value = is_some (as_bool value)
 
+-- the value is an array of texts alone
 abbrev pub is_list_of_texts : Data → Bool
 is_list_of_texts value = unwrap_or (option_map (λ items. list_all is_text (items_list items)) (as_array value)) false
 
@@ -68,12 +71,15 @@ has is_typed members key = unwrap_or (option_map is_typed (get_member key member
 abbrev pub may_have : (Data → Bool) → Members → List ℕ → Bool
 may_have is_typed members key = unwrap_or (option_map is_typed (get_member key members)) true
 
+-- the keys that each rule has
 abbrev pub text_keys : List (List ℕ)
 text_keys = codes "name" ∷ codes "effect" ∷ []
 
+-- the conditions that are lists of words
 abbrev pub list_keys : List (List ℕ)
 list_keys = codes "role" ∷ codes "relation" ∷ codes "action" ∷ codes "stage" ∷ codes "timing" ∷ []
 
+-- the known keys
 abbrev pub rule_keys : List (List ℕ)
 rule_keys = text_keys ++ list_keys ++ codes "stopped" ∷ []
 
@@ -107,6 +113,7 @@ abbrev pub first_bad_name : ℕ → List (List ℕ) → List (List ℕ) → Opti
 first_bad_name place used [] = None
 first_bad_name place used (name ∷ names) = if is_new_name used name then first_bad_name (place + 1) (used ++ name ∷ []) names else Some place
 
+-- the rule's name
 abbrev pub name_of : Data → List ℕ
 name_of entry = text_at (codes "name") entry
 
@@ -114,6 +121,7 @@ name_of entry = text_at (codes "name") entry
 abbrev pub bad_name_place : List Data → Option ℕ
 bad_name_place tables = first_bad_name 1 [] (map name_of tables)
 
+-- the effect that a text spells
 abbrev pub effect_named : List ℕ → Option Effect
 effect_named = named effect_word all_effects
 
@@ -121,6 +129,7 @@ effect_named = named effect_word all_effects
 abbrev pub has_bad_effect : Data → Bool
 has_bad_effect entry = is_none (effect_named (text_at (codes "effect") entry))
 
+-- the rule's effect, once its word is known
 abbrev pub effect_of : Data → Effect
 effect_of entry = unwrap_or (effect_named (text_at (codes "effect") entry)) Deny
 
@@ -141,6 +150,7 @@ is_bad_list read (Some (text ∷ texts)) = not (are_words read (text ∷ texts))
 abbrev pub words_of : {A : Type 0} → (List ℕ → Option A) → Option (List (List ℕ)) → Option (List A)
 words_of read texts = option_map (filter_map read) texts
 
+-- the role, relation, action, stage and timing that a text spells
 abbrev pub role_named : List ℕ → Option Role
 role_named = named role_word all_roles
 
@@ -156,6 +166,7 @@ stage_named = named stage_word all_stages
 abbrev pub timing_named : List ℕ → Option Timing
 timing_named = named timing_word all_timings
 
+-- one of the five lists is bad
 abbrev pub has_bad_list : Data → Bool
 has_bad_list entry =
     is_bad_list role_named (texts_at (codes "role") entry)
@@ -179,6 +190,7 @@ rule_of entry = record {
   stopped = truth_at (codes "stopped") entry;
 }
 
+-- the rules, or a fault with its place
 abbrev pub Meaning : Type 0
 Meaning = Result Policy PolicyError
 
@@ -205,6 +217,7 @@ meaning_of_tables tables =
     refused_at fault.List (first_place has_bad_list tables) (
     Ok (map rule_of tables)))))
 
+-- the meaning of TOML's reading of the text
 abbrev pub meaning_of_document : Members → Meaning
 meaning_of_document members = unwrap_or (option_map meaning_of_tables (tables_in members)) (refused fault.Shape)
 

@@ -1,9 +1,10 @@
 -- What the readers of a policy's parts answer.
-use Rattle.std.specs.Prelude.{◌≡◌, ◌⊎◌, ℕ, Bool, true, false, List, Option, None, Some}
+use Rattle.std.specs.Prelude.{◌≡◌, ◌⊎◌, ℕ, Bool, true, List, Option, None, Some}
 use Rattle.permit_policy.specs.declared.fault.PolicyError.{PolicyError}
 use Rattle.permit_policy.specs.declared.fault.PolicyFault.{PolicyFault}
 use Rattle.permit_policy.specs.declared.fault.PolicyFault.TheVariants as fault
 
+-- the refusal for want of memory
 abbrev pub out_of_memory : PolicyError
 out_of_memory = record { code = fault.Memory; rule = 0 }
 

@@ -1,6 +1,6 @@
 //! Worked texts of policies: functions with nothing to do, whose contracts say what the texts mean.
 
-ghost use Rattle.std.specs.Prelude.{◌≡◌, ◌<◌, ◌++◌, ℕ, List, [], length, Ok, codes};
+ghost use Rattle.std.specs.Prelude.{◌≡◌, ◌≢◌, ◌<◌, ◌++◌, ℕ, List, [], length, Ok, Err, codes};
 ghost use Rattle.permit_model.specs.Facts.{Facts};
 ghost use Rattle.permit_model.specs.Policy.{decision, default_denial};
 ghost use Rattle.permit_model.specs.StandardPolicy.{standard_policy};
@@ -13,9 +13,11 @@ pub fn standard_text_means_standard_policy()
     ensures { meaning standard_text ≡ Ok standard_policy }
 {}
 
-/// Faults that lie in no table.
+/// Faults that lie in no table. Want of memory is the meaning of no text.
 pub fn faults_of_the_whole()
     ensures too_long { (text : List ℕ) → 65536 < length text → meaning text ≡ refused fault.TooLong }
+    ensures never_memory { (text : List ℕ) (rule : ℕ) →
+        meaning text ≢ Err (record { code = fault.Memory; rule = rule }) }
     ensures unreadable { meaning (codes "rule") ≡ refused fault.Unreadable }
     ensures unknown_top { meaning (line (codes "rules = 1")) ≡ refused fault.Shape }
     ensures no_array { meaning (line (codes "rule = 1")) ≡ refused fault.Shape }

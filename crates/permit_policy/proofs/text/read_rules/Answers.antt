@@ -1,4 +1,5 @@
-use Rattle.std.proofs.Common.{◌∙◌, ◌+◌, sym}
+use Rattle.std.proofs.Common.{◌∙◌, ◌+◌, sym, map}
+use Rattle.toml.specs.View.{view}
 use Rattle.permit_base.specs.declared.words.Effect.TheVariants.{Allow}
 use Rattle.permit_policy.specs.PolicyText.{has_bad_list, name_of, effect_of, rule_of}
 use Rattle.permit_policy.proofs.Passes.{place_here, place_next, part_at, part_more, refusal_at}
@@ -20,5 +21,5 @@ loop-i-preserved c =
     let effect = part_at effect_of tables i table c.args.effects.now Allow lt is c.requires.decided in
     record {
       found = sym (place_next has_bad_list tables i table lt is c.in-Ok.ensures.sound) ∙ c.loop-i.invariant.found;
-      missing = part_more rule_of tables i table c.in-Ok.rule c.loop-i.rules.items _ _ lt is (c.in-Ok.ensures.rule name effect) c.in_ok-push-in-Ok.ensures.items c.loop-i.invariant.missing;
+      missing = part_more rule_of tables i table c.in-Ok.rule c.loop-i.rules.items c.push.new.self.items (map rule_of (map view tables)) lt is (c.in-Ok.ensures.rule name effect) c.in_ok-push-in-Ok.ensures.items c.loop-i.invariant.missing;
     }

@@ -1,5 +1,7 @@
 use Rattle.std.proofs.Common.{◌≡◌, ◌≤◌, ◌+◌, length, take}
-use Rattle.std.specs.Prelude.{vec_capacity}
+use Rattle.std.specs.Prelude.{vec_capacity, IsTrue}
+use Rattle.std.specs.List.{list_all}
+use Rattle.permit_office.specs.Answers.{is_built, failed_over}
 use Rattle.permit_model.specs.History.{History}
 use Rattle.permit_model.specs.Tables.{tables}
 use Rattle.permit_model.specs.Machine.{IsHistory}
@@ -11,5 +13,6 @@ invariant-loop-asked g l = record {
   policy : l.self.policy ≡ l.fn.self.policy;
   room : length l.requests ≤ vec_capacity l.replies;
   count : length l.replies.items ≡ l.asked-index;
+  failed : IsTrue (list_all (λ a. is_built a.0.request) (take l.asked-index l.requests)) → g.S.Store.failed l.self.store ≡ failed_over l.replies.items (g.S.Store.failed l.fn.self.store);
   ran : (h : History) → IsHistory h → g.S.Store.holds l.fn.self.store (tables h) → Ran (g.S.Store.holds l.self.store) l.fn.self.policy (take l.asked-index l.requests) l.replies.items h;
 }

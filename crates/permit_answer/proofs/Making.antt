@@ -1,0 +1,26 @@
+-- An answer's text by its parts.
+use Rattle.std.proofs.Common.{ℕ, Bool, List, ◌≡◌, ◌++◌, length, codes, ap, ◌∙◌, refl}
+use Rattle.std.specs.Prelude.{IfOk, OnErr, Result, Ok, Err}
+use Rattle.permit_answer.specs.AnswerText.{head_text}
+use Rattle.permit_answer.specs.Made.{made_bytes}
+use Rattle.permit_answer.specs.declared.write.Made.{Made}
+
+-- what was made of a status and a body is the text of these
+pub made_in_place : (status code : ℕ) (said body : List ℕ) (close : Bool) (made : List ℕ) → status ≡ code → said ≡ body
+    → made ≡ head_text status (codes "application/json") (length said) close ++ said
+    → made ≡ head_text code (codes "application/json") (length body) close ++ body
+made_in_place status code said body close made s t e =
+    e ∙ ap (λ n. head_text n (codes "application/json") (length said) close ++ said) s
+    ∙ ap (λ x. head_text code (codes "application/json") (length x) close ++ x) t
+
+-- the same of what may be made of a text
+pub made_in_memory : {E : Type 0} → (result : Result Made E) (said body : List ℕ) (close : Bool) → said ≡ body
+    → IfOk result (λ made. made_bytes made ≡ head_text 200 (codes "application/json") (length said) close ++ said)
+    → IfOk result (λ made. made_bytes made ≡ head_text 200 (codes "application/json") (length body) close ++ body)
+made_in_memory (Ok made) said body close s e = made_in_place 200 200 said body close (made_bytes made) refl s e
+made_in_memory (Err _) said body close s e = tt
+
+-- a fact that holds anyway holds at an error
+pub on_err : {A E : Type 0} → (result : Result A E) (P : Type 0) → P → OnErr result P
+on_err (Ok _) P p = tt
+on_err (Err _) P p = p

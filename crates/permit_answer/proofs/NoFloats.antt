@@ -1,0 +1,48 @@
+-- No row has a float, so that each has one text.
+use Rattle.std.proofs.Common.{◌≡◌, ℕ, false, List, [], ◌∷◌, Option, Some, None, refl, ap, ◌∙◌}
+use Rattle.std.specs.Prelude.{IfOk, Result, Ok, Err, String, string_bytes}
+use Rattle.std.specs.declared.alloc.Global.{Global}
+use Rattle.serde_json.specs.Data.{Data}
+use Rattle.serde_json.specs.Written.{has_float, compact_text}
+use Rattle.permit_base.specs.declared.words.Step.{Step}
+use Rattle.permit_model.specs.Tables.{next_in_row}
+use Rattle.permit_model.specs.Tables.{FileView, Paper}
+use Rattle.permit_answer.specs.RowData.{count_or_null, step_or_null, papers_data, steps_data, done_steps, file_data}
+
+pub count_plain : (n : Option ℕ) → has_float (count_or_null n) ≡ false
+count_plain None = refl
+count_plain (Some n) = refl
+
+pub step_plain : (s : Option Step) → has_float (step_or_null s) ≡ false
+step_plain None = refl
+step_plain (Some s) = refl
+
+pub steps_plain : (steps : List Step) → has_float (steps_data steps) ≡ false
+steps_plain [] = refl
+steps_plain (s ∷ steps) = steps_plain steps
+
+pub papers_plain : (papers : List Paper) → has_float (papers_data papers) ≡ false
+papers_plain [] = refl
+papers_plain (p ∷ papers) = papers_plain papers
+
+pub file_plain : (file : FileView) (papers : List Paper) → has_float (file_data file papers) ≡ false
+file_plain file papers =
+    rw (
+      count_plain file.row.state.ask,
+      count_plain file.row.state.contractor,
+      count_plain file.row.state.deadline,
+      steps_plain (done_steps file.row.state),
+      count_plain file.row.state.inspector,
+      step_plain (next_in_row file.row.state),
+      papers_plain papers,
+      step_plain file.row.state.request,
+      count_plain file.row.state.requested,
+      count_plain file.row.state.reviewer,
+      count_plain file.row.state.temporary,
+    ) refl
+
+-- the text of a value that was made as data with no float
+pub text_of : {E : Type 0} → (result : Result (String Global) E) (made wanted : Data) → made ≡ wanted → has_float wanted ≡ false
+    → IfOk result (λ s. has_float made ≡ false → string_bytes s ≡ compact_text made) → IfOk result (λ s. string_bytes s ≡ compact_text wanted)
+text_of (Ok s) made wanted e plain h = h (rw e plain) ∙ ap compact_text e
+text_of (Err _) made wanted e plain h = tt

@@ -1,0 +1,8 @@
+pub mod AnswerText
+pub mod Line
+pub mod Outgoing
+pub mod RowData
+pub mod Examples
+pub mod Made
+pub mod Inserted
+pub mod Objects

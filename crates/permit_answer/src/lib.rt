@@ -1,0 +1,18 @@
+//! The exact text of every answer, and writing it.
+//!
+//! An answer is a reply of the office with its request's action and day, or a fault of the bytes that came. Its text is
+//! one head of HTTP/1.1 (RFC 9112) and one body; `write_reply` writes that text, whole or a beginning of it.
+#![tactic(auto)]
+
+pub mod answer;
+pub mod examples;
+mod in_place;
+mod line;
+mod object;
+mod rows;
+mod status;
+#[cfg(test)]
+mod tests;
+mod write;
+
+pub use write::{WriteFault, write_reply};

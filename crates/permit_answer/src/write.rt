@@ -1,0 +1,134 @@
+//! Writing an answer.
+
+ghost use Rattle.std.specs.Prelude.{◌≡◌, ◌++◌, length, codes, true, IfOk, OnOk, OnErr, IsTrue};
+ghost use Rattle.std.specs.Io.KnownBytes.{Appends};
+ghost use Rattle.permit_answer.specs.AnswerText.{answer_data, answer_text, head_text, Faulted};
+ghost use Rattle.permit_answer.specs.Outgoing.{is_read_out, WroteFront, WroteAnswer, WroteFrontOfAnswer};
+ghost use Rattle.permit_answer.specs.Made.{made_bytes};
+
+use crate::answer::{Answer, Fault};
+use crate::in_place::{done_body, fault_body, head, in_place, refusal_body};
+use crate::line::Line;
+use crate::rows::{file_text, parcel_text};
+use crate::status::{fault_status, refusal_status};
+use http::StatusCode;
+use permit_office::reply::Reply;
+use std::alloc::{AllocError, Global};
+use std::io::Write;
+
+/// A write that failed, or that took no byte.
+#[derive(Debug, Clone, Copy, PartialEq, Drop)]
+pub struct WriteFault;
+
+/// Writes all the bytes.
+fn write_whole<W: Write>(writer: &mut W, bytes: &[u8]) -> Result<(), WriteFault>
+    ensures whole { OnOk result (Appends (W.contents writer.old) (W.contents writer.new) bytes.now) }
+    ensures front { OnErr result (WroteFront (W.contents writer.old) (W.contents writer.new) bytes.now) }
+{
+    let mut at = 0;
+    while at < bytes.len() {
+        match writer.write(&bytes[at..]) {
+            Ok(0) => return Err(WriteFault),
+            Ok(n) => at += n,
+            Err(_) => return Err(WriteFault),
+        }
+    }
+    Ok(())
+}
+
+/// The text of an answer: in place, or for a read in memory.
+#[derive(Drop)]
+pub enum Made {
+    InPlace(Line),
+    InMemory(Vec<u8>),
+}
+
+impl Made {
+    fn as_slice(&self) -> &[u8]
+        ensures { result.now ≡ made_bytes self.now }
+    {
+        match self {
+            Made::InPlace(line) => line.as_slice(),
+            Made::InMemory(bytes) => bytes.as_slice(),
+        }
+    }
+}
+
+/// The whole text of the answer to a read.
+fn in_memory(alloc: Global, body: &str, close: bool) -> Result<Made, AllocError>
+    ensures { IfOk result (λ made. made_bytes made ≡ head_text 200 (codes "application/json") (length body.now) close ++ body.now) }
+{
+    let head = head(StatusCode::OK, "application/json", body.len(), close);
+    let mut bytes = Vec::with_capacity(alloc, 256 + body.len())?;
+    bytes.extend_from_slice(head.as_slice())?;
+    bytes.extend_from_slice(body.as_bytes())?;
+    Ok(Made::InMemory(bytes))
+}
+
+/// The text of an answer. Only a read takes memory.
+fn make(alloc: Global, answer: &Answer, close: bool) -> Result<Made, AllocError>
+    ensures text { IfOk result (λ made. made_bytes made ≡ answer_text (answer_data answer.now) close) }
+    ensures memory { OnErr result (IsTrue (is_read_out (answer_data answer.now))) }
+{
+    match answer {
+        Answer::Fault(fault) => Ok(Made::InPlace(in_place(
+            fault_status(*fault),
+            &fault_body(*fault),
+            close,
+        ))),
+        Answer::Replied { reply, action, day } => match reply {
+            Reply::Done { number } => Ok(Made::InPlace(in_place(
+                StatusCode::OK,
+                &done_body(*day, *action, *number),
+                close,
+            ))),
+            Reply::Refused(why) => Ok(Made::InPlace(in_place(
+                refusal_status(why),
+                &refusal_body(why),
+                close,
+            ))),
+            Reply::Parcel(parcel) => in_memory(alloc, parcel_text(alloc, parcel)?.as_str(), close),
+            Reply::File(file, papers) => in_memory(
+                alloc,
+                file_text(alloc, file, papers.as_slice())?.as_str(),
+                close,
+            ),
+        },
+    }
+}
+
+/// The answer where a read finds no memory: the store's refusal, which closes the connection.
+fn store_refusal() -> Line
+    ensures { result ≡ answer_text (Faulted Fault.Memory) true }
+{
+    let body = fault_body(Fault::Memory);
+    in_place(fault_status(Fault::Memory), &body, true)
+}
+
+/// Writes the text of an answer by its own loop over `write`, and says whether the text that went out closes the connection.
+///
+/// The answer to a command, a refusal and the answer for a fault are made in an array of 512 bytes and take no memory. An
+/// answer to a read is made whole first; where memory is refused, the store's refusal with `Connection: close` goes out
+/// instead. A write that fails, also one that was interrupted, and a write that takes no byte are a fault; a beginning of
+/// the text is then out.
+pub fn write_reply<W: Write>(
+    alloc: Global,
+    answer: &Answer,
+    close: bool,
+    writer: &mut W,
+) -> Result<bool, WriteFault>
+    ensures whole { IfOk result (WroteAnswer (answer_data answer.now) close (W.contents writer.old) (W.contents writer.new)) }
+    ensures front { OnErr result (WroteFrontOfAnswer (answer_data answer.now) close (W.contents writer.old) (W.contents writer.new)) }
+{
+    match make(alloc, answer, close) {
+        Ok(text) => {
+            write_whole(writer, text.as_slice())?;
+            Ok(close)
+        }
+        Err(AllocError) => {
+            let text = store_refusal();
+            write_whole(writer, text.as_slice())?;
+            Ok(true)
+        }
+    }
+}

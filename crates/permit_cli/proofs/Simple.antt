@@ -1,0 +1,9 @@
+-- The subcommands are simple commands.
+use Rattle.std.proofs.Common.{◌≡◌, true, refl}
+use Rattle.clap.specs.Words.{is_simple}
+use Rattle.clap.proofs.OnLiterals.{clap_on_literals}
+use Rattle.permit_cli.specs.Plans.{check_policy_app}
+
+pub check_policy_simple : is_simple check_policy_app ≡ true
+unfolding check_policy_app clap_on_literals
+check_policy_simple = refl

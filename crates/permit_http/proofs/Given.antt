@@ -1,0 +1,74 @@
+-- What reading the body of a message that was found gives on the stream.
+use Rattle.std.proofs.Common.{◌≡◌, ℕ, ◌+◌, ◌-◌, ◌<◌, ◌≤◌, List, ◌++◌, length, drop, Option, Some, Err, refl, sym, ap, ◌∙◌, arith, subst, inr}
+use Rattle.std.proofs.lemmas.List.{take-append-le, drop-append-le, drop-drop, length-drop, length-append}
+use Rattle.std.specs.Io.KnownBytes.{prepend_known, IsAtEnd}
+use Rattle.httparse.specs.Grammar.{RequestHead}
+use Rattle.httparse.specs.Spans.{span_bytes}
+use Rattle.permit_http.specs.Stream.{InboxData, stream, Filled}
+use Rattle.permit_http.specs.Head.{HeadAt, IsHeadFault, judged, pairs_of}
+use Rattle.permit_http.specs.Message.{LacksBody, message_of}
+use Rattle.permit_http.specs.Spans.{Covers, AreOrdered, GivesMessage, Gives}
+use Rattle.permit_http.specs.declared.message.MessageSpans.{MessageSpans}
+use Rattle.permit_http.specs.declared.fault.MessageFault.{MessageFault}
+use Rattle.permit_http.specs.declared.fault.MessageFault.TheVariants.{ReadFailed, Ended, Head, Version, Length, Large}
+use Rattle.permit_http.proofs.Streams.{split, same_stream, at_end, head-append}
+use Rattle.permit_http.proofs.Covered.{covers-append, head_fits}
+
+module _ (i k : InboxData) (before after : Option (List ℕ)) (s : MessageSpans) (h : RequestHead)
+    (filled : Filled i k before after) (covers : Covers i.bytes s h) (ordered : AreOrdered (length i.bytes) s) where
+  covers-now : Covers k.bytes s h
+  covers-now = let P : List ℕ → Type 0 = λ bs. Covers bs s h in subst P (sym filled.grown) (covers-append i.bytes filled.more s h ordered covers)
+
+  -- the inbox stops inside the body
+  pub stops : length k.bytes < s.body.end → LacksBody k.bytes
+  stops short =
+      let now : Covers k.bytes s h = covers-now in
+      let fits = head_fits k.bytes h s.body.start now.head now.size in (
+        h,
+        drop s.body.start k.bytes,
+        s.body.end - s.body.start,
+        record { head = now.head; length = now.length },
+        omega (arith, short, fits, length-drop s.body.start k.bytes),
+      )
+
+  module _ (bytes : List ℕ) (known : stream i before ≡ Some bytes) where
+    -- the message stands there whole, and what comes behind it is the rest
+    pub whole : s.body.end ≤ length k.bytes → GivesMessage bytes k after s
+    whole enough =
+        let now : Covers k.bytes s h = covers-now in
+        let t = split k after bytes (same_stream i k before after bytes filled known) in
+        let left : List ℕ = t.0 in
+        let body : List ℕ = drop s.body.start k.bytes in
+        let n : ℕ = s.body.end - s.body.start in
+        let long : n ≤ length body = omega (arith, enough, length-drop s.body.start k.bytes) in
+        let size : n + s.body.start ≡ s.body.end = omega (arith, ordered.body) in
+        let P : List ℕ → Type 0 = λ bs. HeadAt bs h (body ++ left) in
+        let head : HeadAt bytes h (body ++ left) = subst P (sym t.1) (head-append k.bytes left body h now.head) in
+        let behind : drop n (body ++ left) ≡ drop s.body.end k.bytes ++ left =
+        drop-append-le n body left long ∙ ap (λ x. x ++ left) (drop-drop n s.body.start k.bytes ∙ ap (λ m. drop m k.bytes) (omega (arith, size))) in (
+          drop n (body ++ left),
+          (
+            h,
+            body ++ left,
+            n,
+            record { head = head; length = now.length },
+            omega (arith, long, length-append body left),
+            now.said (span_bytes k.bytes s.body) ∙ ap (message_of h) (sym (take-append-le n body left long)),
+            refl,
+          ),
+          ap (prepend_known (drop s.body.end k.bytes)) t.2 ∙ ap Some (sym behind),
+        )
+
+    -- the body isn't there whole
+    pub lacks_body : length k.bytes < s.body.end → IsAtEnd after → LacksBody bytes
+    lacks_body short end = subst LacksBody (sym (at_end k after bytes (same_stream i k before after bytes filled known) end)) (stops short)
+
+-- a fault of the head is one of the stream
+pub faulty : (bytes after : List ℕ) (new : InboxData) (left : Option (List ℕ)) (h : RequestHead) (fault : MessageFault) → HeadAt bytes h after
+    → IsHeadFault fault → judged h.minor (pairs_of h) ≡ Err fault → Gives bytes new left (Err fault)
+faulty bytes after new left h ReadFailed x k e = absurd k
+faulty bytes after new left h Ended x k e = absurd k
+faulty bytes after new left h Head x k e = absurd k
+faulty bytes after new left h Version x k e = inr (h, after, x, e)
+faulty bytes after new left h Length x k e = inr (h, after, x, e)
+faulty bytes after new left h Large x k e = inr (h, after, x, e)

@@ -1,0 +1,8 @@
+use Rattle.std.proofs.Common.{arith}
+use Rattle.permit_http.proofs.Filling.{filled_read}
+use Rattle.permit_http.proofs.inbox.Inbox.fill.Goals as goal
+
+pub returns-clause-filled : goal.returns-clause-filled
+returns-clause-filled g c =
+    rw (← c.self.view_is) (filled_read c.self.inside.bytes c.read.new.buf c.self.inside.len c.in_ok-read.read _ c.self.inside.count c.self.inside.closed _ _
+    (omega (arith, c.self.told, c.self.invariant)) c.in_ok-read.ensures.bound.0 c.in_ok-read.ensures.bytes.0)

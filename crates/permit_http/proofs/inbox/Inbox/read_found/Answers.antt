@@ -1,0 +1,45 @@
+use Rattle.std.proofs.Common.{inr}
+use Rattle.permit_http.proofs.Streams.{on_stream}
+use Rattle.permit_http.proofs.Given.{stops, whole, lacks_body, faulty}
+use Rattle.permit_http.proofs.inbox.Inbox.read_found.Goals as goal
+
+pub returns-in-Err-clause-gives : goal.returns-in-Err-clause-gives
+returns-in-Err-clause-gives g c = λ bytes e.
+    let x = c.requires.found in
+    let at = on_stream c.args.self.now (g.R.Read.remaining c.args.reader.now) bytes _ x.0 e x.1.head in
+    faulty bytes at.0 c.args.self.now (g.R.Read.remaining c.args.reader.now) x.0 c.in-Err.fault at.1 c.in-Err.ensures.kind (c.in-Err.ensures.fault x.0 (rw c.as_slice.ensures x.1))
+
+pub returns-in-Ok-true-clause-gives : goal.returns-in-Ok-true-clause-gives
+returns-in-Ok-true-clause-gives g c = λ bytes e.
+    let x = c.requires.found in
+    let covers = rw c.as_slice.ensures at (c.in-Ok.ensures.parts x.0 (rw c.as_slice.ensures x.1)) in
+    let there = rw c.in-Ok-true.field-0-test at c.in-Ok-true.ensures.there in
+    let ordered = rw c.as_slice.ensures at c.in-Ok.ensures.ordered in
+    whole c.args.self.now c.fill_to.new.self (g.R.Read.remaining c.args.reader.now) (g.R.Read.remaining c.fill_to.new.reader) c.in-Ok.parts x.0
+    c.fill_to.ensures.filled covers ordered bytes e there
+
+pub returns-in-Ok-false-clause-gives : goal.returns-in-Ok-false-clause-gives
+returns-in-Ok-false-clause-gives g c = λ bytes e.
+    let x = c.requires.found in
+    let covers = rw c.as_slice.ensures at (c.in-Ok.ensures.parts x.0 (rw c.as_slice.ensures x.1)) in
+    let there = rw c.in-Ok-false.field-0-test at c.in-Ok-false.ensures.there in
+    let ordered = rw c.as_slice.ensures at c.in-Ok.ensures.ordered in
+    inr (lacks_body c.args.self.now c.fill_to.new.self (g.R.Read.remaining c.args.reader.now) (g.R.Read.remaining c.fill_to.new.reader) c.in-Ok.parts x.0
+    c.fill_to.ensures.filled covers ordered bytes e there.0 there.1)
+
+pub returns-in-Ok-false-clause-unfinished : goal.returns-in-Ok-false-clause-unfinished
+returns-in-Ok-false-clause-unfinished g c =
+    let x = c.requires.found in
+    let covers = rw c.as_slice.ensures at (c.in-Ok.ensures.parts x.0 (rw c.as_slice.ensures x.1)) in
+    let there = rw c.in-Ok-false.field-0-test at c.in-Ok-false.ensures.there in
+    let ordered = rw c.as_slice.ensures at c.in-Ok.ensures.ordered in
+    inr (stops c.args.self.now c.fill_to.new.self (g.R.Read.remaining c.args.reader.now) (g.R.Read.remaining c.fill_to.new.reader) c.in-Ok.parts x.0
+    c.fill_to.ensures.filled covers ordered there.0)
+
+pub returns-in-Err-fill_to-clause-unfinished : goal.returns-in-Err-fill_to-clause-unfinished
+returns-in-Err-fill_to-clause-unfinished g c =
+    let x = c.requires.found in
+    let covers = rw c.as_slice.ensures at (c.in-Ok.ensures.parts x.0 (rw c.as_slice.ensures x.1)) in
+    let ordered = rw c.as_slice.ensures at c.in-Ok.ensures.ordered in
+    inr (stops c.args.self.now c.fill_to.new.self (g.R.Read.remaining c.args.reader.now) (g.R.Read.remaining c.fill_to.new.reader) c.in-Ok.parts x.0
+    c.fill_to.ensures.filled covers ordered c.in-Err-fill_to.ensures.failed)

@@ -1,0 +1,4 @@
+pub mod Stream
+pub mod Head
+pub mod Message
+pub mod Spans

@@ -1,0 +1,172 @@
+//! One message of a connection: its parts, lent from the inbox.
+
+ghost use Rattle.std.specs.Prelude.{◌≡◌, ◌+◌, ◌||◌, drop, min, nat_le, true, false, ⊤, Ok, None, OnErr, OnOk, IfOk, IfErr, IfSome};
+ghost use Rattle.std.specs.Io.KnownBytes.{Keeps};
+ghost use Rattle.permit_http.specs.Stream.{Filled};
+ghost use Rattle.permit_http.specs.Spans.{GivesHead, GivesMessage, Holds, ReadsMessage, StopsAt, message_at, view_of, IsFound};
+ghost use Rattle.httparse.specs.Grammar.{RequestHead};
+
+use crate::fault::MessageFault;
+use crate::head::{Look, look_at, parts_of};
+use crate::inbox::Inbox;
+use httparse::spans::{EMPTY_HEADER_SPAN, HeaderSpan, RequestSpans, Span};
+use std::io::Read;
+
+/// Where the parts of a message stand among the bytes of an inbox.
+#[derive(Clone, Copy, Debug)]
+pub struct MessageSpans {
+    pub method: Span,
+    pub path: Span,
+    /// The value of the field `Authorization`, where there is exactly one.
+    pub authorization: Option<Span>,
+    /// Whether the head asks to close the connection.
+    pub closes: bool,
+    pub body: Span,
+}
+
+/// The parts of a message.
+#[derive(Clone, Copy, Debug)]
+pub struct Message<'a> {
+    pub method: &'a [u8],
+    pub path: &'a [u8],
+    /// The value of the field `Authorization`, where there is exactly one.
+    pub authorization: Option<&'a [u8]>,
+    /// Whether the head asks to close the connection.
+    pub closes: bool,
+    pub body: &'a [u8],
+}
+
+/// What reading for a head gave.
+#[derive(Clone, Copy)]
+pub enum Sought {
+    Head(RequestSpans),
+    /// No head within the limits can come.
+    Refused,
+    Ended,
+    Failed,
+}
+
+impl Inbox {
+    /// Reads until a head stands at the front, or none can.
+    fn head<R: Read>(&mut self, reader: &mut R, headers: &mut [HeaderSpan; 32]) -> Sought
+        ensures filled { Filled self.old self.new (R.remaining reader.old) (R.remaining reader.new) }
+        ensures sought { GivesHead self.new.bytes (R.remaining reader.new) headers.new result }
+    {
+        loop {
+            match look_at(self.as_slice(), headers) {
+                Look::Found(spans) => return Sought::Head(spans),
+                Look::Never => return Sought::Refused,
+                Look::Open => {}
+            }
+            match self.fill(reader) {
+                Ok(0) => return Sought::Ended,
+                Ok(_) => {}
+                Err(_) => return Sought::Failed,
+            }
+        }
+    }
+
+    /// Judges the head at the front, and then reads the body behind it.
+    fn read_found<R: Read>(
+        &mut self,
+        reader: &mut R,
+        headers: &[HeaderSpan; 32],
+        found: RequestSpans,
+    ) -> Result<Option<MessageSpans>, MessageFault>
+        requires found { (h : RequestHead) × IsFound self.old.bytes headers.now found h }
+        ensures filled { Filled self.old self.new (R.remaining reader.old) (R.remaining reader.new) }
+        ensures gives { ReadsMessage self.old self.new (R.remaining reader.old) (R.remaining reader.new) result }
+        ensures unfinished { IfErr result (StopsAt self.new.bytes) }
+        ensures held { IfOk result (λ o. IfSome o (λ s. Holds self.new s)) }
+        ensures some { result ≡ Ok None → ⊥ }
+    {
+        let parts = match parts_of(self.as_slice(), headers, found) {
+            Ok(parts) => parts,
+            Err(fault) => return Err(fault),
+        };
+        match self.fill_to(reader, parts.body.end) {
+            Ok(true) => Ok(Some(parts)),
+            Ok(false) => Err(MessageFault::Ended),
+            Err(_) => Err(MessageFault::ReadFailed),
+        }
+    }
+
+    /// Reads the next message of a connection that is not closed.
+    fn read_open<R: Read>(&mut self, reader: &mut R) -> Result<Option<MessageSpans>, MessageFault>
+        ensures filled { Filled self.old self.new (R.remaining reader.old) (R.remaining reader.new) }
+        ensures gives { ReadsMessage self.old self.new (R.remaining reader.old) (R.remaining reader.new) result }
+        ensures unfinished { IfErr result (StopsAt self.new.bytes) }
+        ensures held { IfOk result (λ o. IfSome o (λ s. Holds self.new s)) }
+        ensures ended { result ≡ Ok None → self.new ≡ self.old }
+    {
+        let mut headers = [EMPTY_HEADER_SPAN; 32];
+        match self.head(reader, &mut headers) {
+            Sought::Head(found) => self.read_found(reader, &headers, found),
+            Sought::Refused => Err(MessageFault::Head),
+            Sought::Ended => {
+                if self.as_slice().is_empty() {
+                    Ok(None)
+                } else {
+                    Err(MessageFault::Ended)
+                }
+            }
+            Sought::Failed => Err(MessageFault::ReadFailed),
+        }
+    }
+
+    /// Reads until a whole message stands at the front of the inbox, and says where its parts are; `None` where the
+    /// input ends before any byte of it, or the connection is closed. The first fault of a head is told without
+    /// waiting for the body; after any fault the connection is closed. It takes no memory.
+    pub fn read_message<R: Read>(
+        &mut self,
+        reader: &mut R,
+    ) -> Result<Option<MessageSpans>, MessageFault>
+        ensures shut { self.old.closed ≡ true → (result ≡ Ok None) × Keeps (R.remaining reader.old) (R.remaining reader.new) }
+        ensures gives { self.old.closed ≡ false → ReadsMessage self.old self.new (R.remaining reader.old) (R.remaining reader.new) result }
+        ensures unfinished { IfErr result (StopsAt self.new.bytes) }
+        ensures held { IfOk result (λ o. IfSome o (λ s. Holds self.new s)) }
+        ensures ended { result ≡ Ok None → self.new ≡ self.old }
+        ensures stays { OnOk result (self.new.closed ≡ self.old.closed) }
+        ensures closes { OnErr result (self.new.closed ≡ true) }
+        ensures count { self.new.count ≡ self.old.count }
+    {
+        if self.is_closed() {
+            return Ok(None);
+        }
+        let read = self.read_open(reader);
+        if read.is_err() {
+            self.close();
+        }
+        read
+    }
+
+    /// The parts of a message that stands in the inbox.
+    pub fn message(&self, spans: &MessageSpans) -> Message<'_>
+        requires { Holds self.now spans.now }
+        ensures { view_of result ≡ message_at self.now.bytes spans.now }
+    {
+        let bytes = self.as_slice();
+        Message {
+            method: spans.method.of(bytes),
+            path: spans.path.of(bytes),
+            authorization: match spans.authorization {
+                None => None,
+                Some(value) => Some(value.of(bytes)),
+            },
+            closes: spans.closes,
+            body: spans.body.of(bytes),
+        }
+    }
+
+    /// Lets the bytes of a message go, those behind it stay. The request counts among the 100 answers of its
+    /// connection, which closes with the 100th, and where the head asks for it.
+    pub fn let_go(&mut self, spans: &MessageSpans)
+        requires { Holds self.old spans.now }
+        ensures bytes { self.new.bytes ≡ drop spans.now.body.end self.old.bytes }
+        ensures count { self.new.count ≡ min 100 (self.old.count + 1) }
+        ensures closed { self.new.closed ≡ (self.old.closed || spans.now.closes || nat_le 100 (self.old.count + 1)) }
+    {
+        self.consume(spans.body.end);
+        self.count_answer(spans.closes);
+    }
+}

@@ -1,0 +1,186 @@
+//! The commands on a file that is there.
+
+ghost use Rattle.std.specs.Prelude.{◌≡◌, ◌≤◌, ◌==◌, ◌&&◌, ℕ, List, Option, Some, None, IsTrue, IfOk, find, is_some, nat_lt};
+ghost use Rattle.std.specs.List.{list_any};
+ghost use Rattle.permit_base.specs.declared.request.Request.TheVariants as request;
+ghost use Rattle.permit_model.specs.Caller;
+ghost use Rattle.permit_model.specs.History.{History, last_day};
+ghost use Rattle.permit_model.specs.Files.{CaseFile, case_numbered};
+ghost use Rattle.permit_model.specs.Work;
+ghost use Rattle.permit_model.specs.Admission.{most_papers, reason_against};
+ghost use Rattle.permit_model.specs.Tables.{Paper as ThePaper, State, Tables, tables, file_row, state_of};
+ghost use Rattle.permit_model.specs.Machine.{IsHistory, admitted, entry_of, served};
+ghost use Rattle.permit_core.specs.Naming;
+ghost use Rattle.permit_core.specs.RowAfter;
+ghost use Rattle.permit_store.specs.Changes.{papers_after, suits_effect};
+ghost use Rattle.permit_store.specs.Counts.{failed_after};
+ghost use Rattle.permit_office.specs.Answers.{Attempts, Committed, Handed, IsDecided, IsOwn};
+ghost use Rattle.permit_office.specs.Effects.{papers_entered};
+
+use crate::commit::carry_out;
+use crate::facts::{facts_on_file, owner_of};
+use crate::reply::Reply;
+use permit_base::outcome::Refusal;
+use permit_base::request::Command;
+use permit_base::values::{Day, FileId, PaperNumber, ParcelId, PartyId};
+use permit_core::paper::{paper_sort, paper_terms, paper_text};
+use permit_core::people::{NamedParty, People, named_paper, named_party};
+use permit_core::state::FileState;
+use permit_policy::Policy;
+use permit_store::rows::{Change, FileRow, NewPaper, Paper, Party, RowEffect};
+use permit_store::store::{Got, Store};
+
+/// The party that a command names, where it is there, with its interest in the parcel.
+fn named<S: Store>(store: &mut S, parcel: ParcelId, command: &Command) -> Got<Option<NamedParty>>
+    ensures named { (h : History) → S.holds store.old (tables h) → IfOk result (λ p. p ≡ Naming.party_known h parcel (Naming.named_party command.now)) }
+    ensures kept { (t : Tables) → S.holds store.old t → S.holds store.new t }
+    ensures failed { S.failed store.new ≡ failed_after result (S.failed store.old) }
+    ensures commits { S.commits store.new ≡ S.commits store.old }
+    ensures handed { S.handed store.new ≡ S.handed store.old }
+{
+    let Some(party) = named_party(command) else {
+        return Ok(None);
+    };
+    let Some(found) = store.party(party)? else {
+        return Ok(None);
+    };
+    let has_interest = store.interest(parcel, party)?;
+    Ok(Some(NamedParty {
+        role: found.role,
+        has_interest,
+    }))
+}
+
+/// Whether one of the papers is an open notice of the number.
+fn has_open_notice(papers: &[Paper], number: PaperNumber) -> bool
+    ensures { result ≡ list_any (λ p. p.is_open && (p.number == number)) papers.now }
+{
+    papers.iter().any(|paper| {
+        let paper: &Paper = paper;
+        paper.is_open && paper.number.get() == number.get()
+    })
+}
+
+/// Whether the paper that a command names is an open notice of the file.
+fn is_open_notice<S: Store>(store: &mut S, file: FileId, command: &Command) -> Got<bool>
+    ensures open { (h : History) (one : CaseFile) → IsHistory h → S.holds store.old (tables h) → case_numbered h file ≡ Some one
+        → IfOk result (λ b. b ≡ Naming.is_notice_open one (Naming.named_paper command.now)) }
+    ensures kept { (t : Tables) → S.holds store.old t → S.holds store.new t }
+    ensures failed { S.failed store.new ≡ failed_after result (S.failed store.old) }
+    ensures commits { S.commits store.new ≡ S.commits store.old }
+    ensures handed { S.handed store.new ≡ S.handed store.old }
+{
+    let Some(number) = named_paper(command) else {
+        return Ok(false);
+    };
+    let papers = store.papers(file)?;
+    Ok(has_open_notice(&papers, number))
+}
+
+/// The people about a command on a file.
+fn people_about<S: Store>(store: &mut S, row: &FileRow, command: &Command) -> Got<People>
+    ensures people { (h : History) (one : CaseFile) → IsHistory h → S.holds store.old (tables h) → case_numbered h row.now.id ≡ Some one → row.now ≡ file_row one
+        → IfOk result (λ p. p ≡ Naming.people_of h one command.now) }
+    ensures kept { (t : Tables) → S.holds store.old t → S.holds store.new t }
+    ensures failed { S.failed store.new ≡ failed_after result (S.failed store.old) }
+    ensures commits { S.commits store.new ≡ S.commits store.old }
+    ensures handed { S.handed store.new ≡ S.handed store.old }
+{
+    let parcel = row.state.parcel();
+    let named = named(store, parcel, command)?;
+    let owner = owner_of(store, parcel)?;
+    let is_open_notice = is_open_notice(store, row.id, command)?;
+    Ok(People {
+        named,
+        owner,
+        is_open_notice,
+    })
+}
+
+/// What changes of the papers by a command of the author on a file of this state.
+fn effect_of<'a>(state: &FileState, author: PartyId, command: &'a Command) -> RowEffect<'a>
+    ensures papers { (file number day : ℕ) (one : CaseFile) (papers : List ThePaper) → state.now ≡ state_of one
+        → papers_after file number day result papers
+        ≡ papers_entered file number day author command.now one.acts (Work.paper_sort command.now) (Naming.named_paper command.now) papers }
+    ensures suits { (t : Tables) (after : State) → after.papers ≡ RowAfter.papers_after command.now state.now.papers → IsTrue (is_some (find (λ p. p.id == author) t.parties))
+        → (IsTrue (Work.makes_paper command.now) → IsTrue (nat_lt state.now.papers most_papers)) → IsTrue (suits_effect t state.now after result) }
+{
+    if let Some(sort) = paper_sort(command) {
+        return RowEffect::Paper(NewPaper {
+            author,
+            sort,
+            days: state.paper_days(command),
+            text: paper_text(command),
+            terms: paper_terms(command),
+        });
+    }
+    match named_paper(command) {
+        Some(paper) => RowEffect::NoticeClosed(paper),
+        None => RowEffect::None,
+    }
+}
+
+/// Admits an allowed command on a file, and makes its change.
+fn perform<S: Store>(
+    store: &mut S,
+    caller: PartyId,
+    row: &FileRow,
+    command: &Command,
+    day: Day,
+) -> Got<Reply>
+    ensures model { (h : History) (one : CaseFile) → IsHistory h → S.holds store.old (tables h) → case_numbered h row.now.id ≡ Some one → row.now ≡ file_row one
+        → last_day h ≤ day → IsTrue (Caller.is_party h caller)
+        → Attempts (S.holds store.new) result
+        (admitted h (entry_of h day caller (request.OnFile row.now.id command.now)) (reason_against h day caller (request.OnFile row.now.id command.now))) h }
+    ensures failed { S.failed store.new ≡ failed_after result (S.failed store.old) }
+    ensures commits { Committed result (S.commits store.old) (S.commits store.new) }
+    ensures handed { S.handed store.new ≡ S.handed store.old }
+    ensures decided { IfOk result IsDecided }
+    ensures own { IfOk result IsOwn }
+{
+    let people = people_about(store, row, command)?;
+    if let Err(reason) = row.state.admit(day, command, &people) {
+        return Ok(Reply::Refused(Refusal::NotAdmitted(reason)));
+    }
+    let number = row.state.paper_number(command);
+    let effect = effect_of(&row.state, caller, command);
+    let mut state = row.state;
+    state.apply(day, command, caller);
+    carry_out(
+        store,
+        None,
+        number,
+        &Change::NewRow {
+            file: row.id,
+            state,
+            effect,
+        },
+        day,
+    )
+}
+
+/// Serves a command on a file.
+pub(crate) fn on_file<S: Store>(
+    store: &mut S,
+    policy: &Policy,
+    caller: &Party,
+    file: FileId,
+    command: &Command,
+    day: Day,
+) -> Got<Reply>
+    ensures model { (h : History) → IsHistory h → S.holds store.old (tables h) → last_day h ≤ day → IsTrue (Caller.is_party h caller.now.id)
+        → Attempts (S.holds store.new) result (served policy.now h day caller.now (request.OnFile file command.now)) h }
+    ensures failed { S.failed store.new ≡ failed_after result (S.failed store.old) }
+    ensures commits { Committed result (S.commits store.old) (S.commits store.new) }
+    ensures handed { Handed result (S.handed store.old) (S.handed store.new) }
+    ensures own { IfOk result IsOwn }
+{
+    let Some(row) = store.file(file)? else {
+        return Ok(Reply::Refused(Refusal::Record));
+    };
+    let facts = facts_on_file(store, caller, &row, command.action(), day)?;
+    if let Some(name) = policy.denial(&facts) {
+        return Ok(Reply::Refused(Refusal::Denied(name)));
+    }
+    perform(store, caller.id, &row, command, day)
+}

@@ -1,0 +1,32 @@
+use Rattle.std.proofs.Common.{refl}
+use Rattle.matchit.proofs.OnLiterals.{matchit_on_literals}
+use Rattle.permit_routes.specs.Routes.{post_rows, get_rows}
+use Rattle.permit_routes.proofs.laws.worked_targets.Goals as goal
+
+pub returns-clause-a_party : goal.returns-clause-a_party
+unfolding matchit_on_literals post_rows get_rows
+returns-clause-a_party c = refl
+
+pub returns-clause-a_transfer : goal.returns-clause-a_transfer
+unfolding matchit_on_literals post_rows get_rows
+returns-clause-a_transfer c = refl
+
+pub returns-clause-an_interest : goal.returns-clause-an_interest
+unfolding matchit_on_literals post_rows get_rows
+returns-clause-an_interest c = refl
+
+pub returns-clause-a_parcel : goal.returns-clause-a_parcel
+unfolding matchit_on_literals post_rows get_rows
+returns-clause-a_parcel c = refl
+
+pub returns-clause-an_issue : goal.returns-clause-an_issue
+unfolding matchit_on_literals post_rows get_rows
+returns-clause-an_issue c = refl
+
+pub returns-clause-a_file : goal.returns-clause-a_file
+unfolding matchit_on_literals post_rows get_rows
+returns-clause-a_file c = refl
+
+pub returns-clause-the_last_file : goal.returns-clause-the_last_file
+unfolding matchit_on_literals post_rows get_rows
+returns-clause-the_last_file c = refl

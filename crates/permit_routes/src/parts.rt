@@ -1,0 +1,99 @@
+//! The parts that the parameters of a path took: the number of a parcel or a file, and an action's word.
+
+ghost use Rattle.std.specs.Prelude.{◌≡◌, ◌<◌, IfSome, option_map, IsAscii};
+ghost use Rattle.std.specs.List.{list_all};
+ghost use Rattle.std.specs.Char.{is_ascii_digit};
+ghost use Rattle.matchit.specs.Params.{walk, named};
+ghost use Rattle.permit_routes.specs.Ids.{is_plain_number, id_in, starts_with_zero};
+ghost use Rattle.permit_routes.specs.Targets.{id_of, action_of, is_command};
+
+use matchit::Params;
+use permit_base::values::{FileId, ParcelId};
+use permit_base::words::{Action, Word};
+
+/// What a parameter took of an ASCII path, under an ASCII route.
+fn part<'p>(params: &Params<'_, 'p>, key: &str) -> Option<&'p str>
+    requires text { IsAscii params.now.text.now }
+    requires path { IsAscii params.now.path.now }
+    ensures { option_map (λ s. s.now) result ≡ named key.now (walk params.now.pattern.now params.now.text.now params.now.path.now params.now.names.now 0 0) }
+{
+    params.get(key)
+}
+
+fn are_digits(word: &[u8]) -> bool
+    ensures { result ≡ list_all is_ascii_digit word.now }
+{
+    word.iter().all(|b| b.is_ascii_digit())
+}
+
+fn starts_with_zero(word: &[u8]) -> bool
+    ensures { result ≡ starts_with_zero word.now }
+{
+    matches!(word, [b'0', ..])
+}
+
+/// Whether these are digits without a leading zero.
+fn is_plain_number(word: &str) -> bool
+    ensures { result ≡ is_plain_number word.now }
+{
+    !word.is_empty() && are_digits(word.as_bytes()) && !starts_with_zero(word.as_bytes())
+}
+
+/// The number from 1 to 99999 that a word spells without leading zeros.
+fn id(word: &str) -> Option<u32>
+    ensures number { result ≡ id_in word.now }
+    ensures within { IfSome result (λ n. (0 < n) × (n < 100000)) }
+{
+    if !is_plain_number(word) {
+        return None;
+    }
+    match word.parse::<u32>() {
+        Ok(number) if 1 <= number && number <= 99999 => Some(number),
+        _ => None,
+    }
+}
+
+/// The file that the parameter `id` names.
+pub fn file_of(params: &Params<'_, '_>) -> Option<FileId>
+    requires text { IsAscii params.now.text.now }
+    requires path { IsAscii params.now.path.now }
+    ensures { result ≡ id_of (walk params.now.pattern.now params.now.text.now params.now.path.now params.now.names.now 0 0) }
+{
+    FileId::new(id(part(params, "id")?)?)
+}
+
+/// The parcel that the parameter `id` names.
+pub fn parcel_of(params: &Params<'_, '_>) -> Option<ParcelId>
+    requires text { IsAscii params.now.text.now }
+    requires path { IsAscii params.now.path.now }
+    ensures { result ≡ id_of (walk params.now.pattern.now params.now.text.now params.now.path.now params.now.names.now 0 0) }
+{
+    ParcelId::new(id(part(params, "id")?)?)
+}
+
+/// The action that the parameter `action` names.
+pub fn action_of(params: &Params<'_, '_>) -> Option<Action>
+    requires text { IsAscii params.now.text.now }
+    requires path { IsAscii params.now.path.now }
+    ensures { result ≡ action_of (walk params.now.pattern.now params.now.text.now params.now.path.now params.now.names.now 0 0) }
+{
+    Action::read(part(params, "action")?)
+}
+
+/// Whether an action is one of the 22 commands on a file.
+pub fn is_command(action: Action) -> bool
+    ensures { result ≡ is_command action }
+{
+    !matches!(
+        action,
+        Action::AddParty
+            | Action::AddStaff
+            | Action::AddParcel
+            | Action::Transfer
+            | Action::Declare
+            | Action::ReadParcel
+            | Action::File
+            | Action::Read
+            | Action::List
+    )
+}

@@ -1,0 +1,195 @@
+//! Limits of text and deadline, a clock that goes back, and policy faults.
+
+use crate::exchange::{answer, asked};
+use crate::opening::{TOKENS, day, founded, opened};
+use permit_base::outcome::{Reason, Refusal};
+use permit_base::request::{Asked, Command, Request};
+use permit_base::values::{Days, Lot, ParcelId, PartyId, Text, Token};
+use permit_base::words::{Kind, Stage};
+use permit_core::people::People;
+use permit_core::restore::StateFields;
+use permit_core::state::FileState;
+use permit_office::reply::Reply;
+use permit_policy::fault::PolicyFault;
+use permit_policy::text::read_policy;
+use std::alloc::Global;
+use std::test::Fail;
+
+/// The body of a filing whose description has so many bytes.
+fn filing_of(alloc: Global, size: usize) -> Result<String, Fail> {
+    let mut description = String::new(alloc);
+    for _ in 0..size {
+        description.push_str("a")?;
+    }
+    Ok(format!(in alloc;
+        "{{\"parcel\":1,\"kind\":\"construct\",\"valuation\":1,\"description\":\"{description}\"}}"
+    )?)
+}
+
+#[test]
+fn limits_of_text(rt: HostRuntime) -> Result<(), Fail> {
+    let alloc = rt.alloc();
+    let mut office = opened(alloc)?;
+    let long = asked(
+        alloc,
+        &mut office,
+        "POST",
+        "/files",
+        TOKENS[4],
+        filing_of(alloc, 2001)?.as_str(),
+        day(19723)?,
+    )?;
+    assert_eq!(rt;
+        long.as_str(),
+        answer(alloc, "400 Bad Request", "{\"refused\":\"syntax\"}")?.as_str()
+    );
+    let full = asked(
+        alloc,
+        &mut office,
+        "POST",
+        "/files",
+        TOKENS[4],
+        filing_of(alloc, 2000)?.as_str(),
+        day(19723)?,
+    )?;
+    assert_eq!(rt;
+        full.as_str(),
+        answer(
+            alloc,
+            "200 OK",
+            "{\"day\":19723,\"done\":\"file\",\"number\":1}"
+        )?
+        .as_str()
+    );
+    Ok(())
+}
+
+/// A file in work with the deadline 199900 and an ask of so many days.
+fn far_file(ask: u32) -> Result<FileState, Fail> {
+    Ok(FileState::restore(StateFields {
+        parcel: ParcelId::new(1).ok_or("a parcel")?,
+        applicant: PartyId::new(5).ok_or("a party")?,
+        contractor: None,
+        reviewer: None,
+        inspector: None,
+        kind: Kind::Construct,
+        filed: day(19723)?,
+        stage: Stage::Working,
+        deadline: Some(199_900),
+        done: 0,
+        request: None,
+        requested: None,
+        ask: Days::new(ask),
+        stopped: false,
+        notices: 0,
+        papers: 3,
+        temporary: None,
+    })
+    .ok_or("a sound row")?)
+}
+
+#[test]
+fn limits_of_deadline(rt: HostRuntime) -> Result<(), Fail> {
+    let nobody = People {
+        named: None,
+        owner: None,
+        is_open_notice: false,
+    };
+    let official = PartyId::new(1).ok_or("a party")?;
+    let mut file = far_file(100)?;
+    let granted = file.admit(day(20000)?, &Command::GrantExtension, &nobody);
+    assert_eq!(rt; granted, Ok(()));
+    file.apply(day(20000)?, &Command::GrantExtension, official);
+    assert_eq!(rt; file.deadline(), Some(200_000));
+    let refused = far_file(101)?.admit(day(20000)?, &Command::GrantExtension, &nobody);
+    assert_eq!(rt; refused, Err(Reason::Far));
+    Ok(())
+}
+
+/// A request of the official: a parcel of party 1 on a lot.
+fn parcel_on(alloc: Global, lot: &str) -> Result<Asked, Fail> {
+    Ok(Asked {
+        token: Token::new(String::from_str(alloc, TOKENS[0])?).ok_or("a token")?,
+        request: Request::AddParcel {
+            lot: Lot::new(String::from_str(alloc, lot)?).ok_or("a lot")?,
+            address: Text::new(String::from_str(alloc, "1 High St")?).ok_or("an address")?,
+            owner: PartyId::new(1).ok_or("a party")?,
+        },
+    })
+}
+
+/// A request of the official to read parcel 1.
+fn read_parcel(alloc: Global) -> Result<Asked, Fail> {
+    Ok(Asked {
+        token: Token::new(String::from_str(alloc, TOKENS[0])?).ok_or("a token")?,
+        request: Request::ReadParcel {
+            parcel: ParcelId::new(1).ok_or("a parcel")?,
+        },
+    })
+}
+
+/// What a reply is, in a word.
+fn word_of(reply: &Reply) -> &'static str {
+    match reply {
+        Reply::Done { .. } => "done",
+        Reply::Parcel(_) => "parcel",
+        Reply::File(..) => "file",
+        Reply::Refused(Refusal::Clock) => "clock",
+        Reply::Refused(_) => "refused",
+    }
+}
+
+#[test]
+fn clock_that_goes_back(rt: HostRuntime) -> Result<(), Fail> {
+    let alloc = rt.alloc();
+    let mut office = founded(alloc)?;
+    let mut requests = Vec::new(alloc);
+    requests.push((parcel_on(alloc, "B-1")?, day(20000)?))?;
+    requests.push((parcel_on(alloc, "B-2")?, day(19990)?))?;
+    requests.push((read_parcel(alloc)?, day(20001)?))?;
+    requests.push((read_parcel(alloc)?, day(20000)?))?;
+    let replies = office.run(alloc, requests.as_slice())?;
+    let mut words = Vec::new(alloc);
+    for reply in &replies {
+        words.push(word_of(reply))?;
+    }
+    assert_eq!(rt;
+        words.as_slice(),
+        ["done", "clock", "parcel", "parcel"].as_slice()
+    );
+    Ok(())
+}
+
+/// The code and the place of a policy's fault.
+fn fault_of(alloc: Global, text: &str) -> Option<(PolicyFault, usize)> {
+    match read_policy(alloc, text) {
+        Ok(_) => None,
+        Err(error) => Some((error.code, error.rule)),
+    }
+}
+
+#[test]
+fn policy_faults(rt: HostRuntime) -> Result<(), Fail> {
+    let alloc = rt.alloc();
+    assert_eq!(rt;
+        fault_of(alloc, "[[rule]]\nname = \"default\"\neffect = \"deny\"\n"),
+        Some((PolicyFault::Name, 1))
+    );
+    assert_eq!(rt;
+        fault_of(
+            alloc,
+            "[[rule]]\nname = \"a\"\neffect = \"deny\"\nrole = []\n"
+        ),
+        Some((PolicyFault::List, 1))
+    );
+    let mut many = String::new(alloc);
+    for number in 1..66u32 {
+        let rule = format!(in alloc; "[[rule]]\nname = \"rule-{number}\"\neffect = \"deny\"\n")?;
+        many.push_str(rule.as_str())?;
+    }
+    assert_eq!(rt;
+        fault_of(alloc, many.as_str()),
+        Some((PolicyFault::TooMany, 0))
+    );
+    Ok(())
+}

@@ -1,0 +1,95 @@
+-- What serving one request of a connection does.
+use Rattle.std.specs.Prelude.{◌≡◌, ◌⊎◌, ℕ, Bool, true, false, List, Option, Some, None, Ok}
+use Rattle.permit_base.specs.Actions.{action_of}
+use Rattle.permit_base.specs.declared.request.Asked.{Asked}
+use Rattle.permit_model.specs.History.{History}
+use Rattle.permit_model.specs.Policy.{Policy}
+use Rattle.permit_model.specs.Tables.{Tables}
+use Rattle.permit_model.specs.Machine.{step}
+use Rattle.permit_office.specs.Answers.{Answers, reply_of}
+use Rattle.permit_office.specs.Office.{OfficeView}
+use Rattle.permit_office.specs.declared.reply.Reply.{Reply}
+use Rattle.permit_http.specs.Stream.{InboxData}
+use Rattle.permit_answer.specs.declared.answer.Fault.{Fault}
+use Rattle.permit_answer.specs.declared.answer.Fault.TheVariants as fault
+use Rattle.permit_answer.specs.AnswerText.{AnswerData, Replied, Faulted}
+use Rattle.permit_answer.specs.Outgoing.{WroteAnswer, WroteFrontOfAnswer}
+use Rattle.permit_wire.specs.Reading.{AskedFrom, Nothing, RequestRead, FaultRead, is_kept}
+use Rattle.permit_wire.specs.declared.error.WireError.{WireError}
+use Rattle.permit_wire.specs.declared.error.WireError.TheVariants as error
+use Rattle.permit_wire.specs.declared.serve.Served.{Served}
+use Rattle.permit_wire.specs.declared.serve.Served.TheVariants.{Kept, Closed, Ended, ReadFailed, WriteFailed}
+
+-- the fault that is answered, where one is
+abbrev pub fault_of : WireError → Option Fault
+fault_of error.ReadFailed = None
+fault_of error.Ended = None
+fault_of error.Head = Some fault.Head
+fault_of error.Version = Some fault.Version
+fault_of error.Length = Some fault.Length
+fault_of error.Large = Some fault.Large
+fault_of error.Route = Some fault.Route
+fault_of error.Caller = Some fault.Caller
+fault_of error.Body = Some fault.Body
+fault_of error.Memory = Some fault.Memory
+
+-- what went out for an answer: its whole text, which keeps or closes the connection, or a beginning of it
+abbrev pub GoesOutAs : AnswerData → Bool → Option (List ℕ) → Option (List ℕ) → Served → Type 0
+GoesOutAs answer close before after Kept = WroteAnswer answer close before after false
+GoesOutAs answer close before after Closed = WroteAnswer answer close before after true
+GoesOutAs answer close before after WriteFailed = WroteFrontOfAnswer answer close before after
+GoesOutAs answer close before after Ended = ⊥
+GoesOutAs answer close before after ReadFailed = ⊥
+
+-- the connection stays open only where an answer that keeps it went out whole
+abbrev pub is_shut : Served → Bool
+is_shut Kept = false
+is_shut _ = true
+
+-- a request was read, the office made one step of the machine for it, and the reply's text went out
+pub record ServesRequest (holds : Tables → Type 0) (policy : Policy) (h : History) (day : ℕ) (bytes : List ℕ) (old new : InboxData)
+    (left before after : Option (List ℕ)) (served : Served) : Type 0 where
+  pub asked : Asked
+  pub reply : Reply
+  pub between : InboxData
+  pub comes_in : RequestRead bytes old between left (Ok (Some asked))
+  pub answered : Answers holds reply (step policy h asked day) h
+  pub goes_out : GoesOutAs (Replied (reply_of reply) (action_of asked.request) day) between.closed before after served
+  pub shut : new ≡ record between { closed = is_shut served }
+
+-- a fault was read, and its text went out; one that isn't kept closes the connection
+pub record ServesFault (bytes : List ℕ) (old new : InboxData) (left before after : Option (List ℕ)) (served : Served) : Type 0 where
+  pub why : WireError
+  pub told : Fault
+  pub is_told : fault_of why ≡ Some told
+  pub between : InboxData
+  pub comes_in : FaultRead bytes old between left why
+  pub closes : is_kept why ≡ false → between.closed ≡ true
+  pub goes_out : GoesOutAs (Faulted told) between.closed before after served
+  pub shut : new ≡ record between { closed = is_shut served }
+
+-- a request was served, or a fault, which leaves the office
+abbrev pub ServesEither : {S : Type 0} → (Tables → Type 0) → History → ℕ → OfficeView S → OfficeView S → List ℕ → InboxData → InboxData
+    → Option (List ℕ) → Option (List ℕ) → Option (List ℕ) → Served → Type 0
+ServesEither holds h day office office' bytes old new left before after served =
+    ServesRequest holds office.policy h day bytes old new left before after served
+    ⊎ (ServesFault bytes old new left before after served × (office' ≡ office))
+
+-- what was served of a stream of these bytes
+abbrev pub Serves : {S : Type 0} → (Tables → Type 0) → History → ℕ → OfficeView S → OfficeView S → List ℕ → InboxData → InboxData
+    → Option (List ℕ) → Option (List ℕ) → Option (List ℕ) → Served → Type 0
+Serves holds h day office office' bytes old new left before after Ended = AskedFrom old.closed bytes Nothing
+Serves holds h day office office' bytes old new left before after ReadFailed = Unit {0}
+Serves holds h day office office' bytes old new left before after served =
+    ServesEither holds h day office office' bytes old new left before after served
+
+-- whatever the reader told, the office is as it was, or one step of the machine was made
+abbrev pub Moves : {S : Type 0} → (Tables → Type 0) → History → ℕ → OfficeView S → OfficeView S → Type 0
+Moves holds h day office office' =
+    (office' ≡ office) ⊎ ((asked : Asked) × (reply : Reply) × Answers holds reply (step office.policy h asked day) h)
+
+-- nothing was answered
+abbrev pub is_silent : Served → Bool
+is_silent Ended = true
+is_silent ReadFailed = true
+is_silent _ = false

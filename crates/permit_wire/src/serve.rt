@@ -1,0 +1,116 @@
+//! Serving one request of a connection.
+
+ghost use Rattle.std.specs.Prelude.{◌≡◌, ◌≢◌, ℕ, List, Some, true};
+ghost use Rattle.permit_model.specs.History.{History};
+ghost use Rattle.permit_model.specs.Machine.{IsHistory};
+ghost use Rattle.permit_model.specs.Tables.{tables};
+ghost use Rattle.permit_http.specs.Stream.{stream};
+ghost use Rattle.permit_answer.specs.AnswerText.{answer_data};
+ghost use Rattle.permit_wire.specs.Serving.{GoesOutAs, Moves, Serves, fault_of, is_shut, is_silent};
+
+use crate::error::WireError;
+use crate::read::read_request;
+use permit_answer::answer::{Answer, Fault};
+use permit_answer::write_reply;
+use permit_base::request::action;
+use permit_base::values::Day;
+use permit_http::inbox::Inbox;
+use permit_office::office::Office;
+use permit_store::store::Store;
+use std::alloc::Global;
+use std::io::{Read, Write};
+
+/// How serving one request ended.
+#[derive(Clone, Copy, Debug, PartialEq, Eq)]
+pub enum Served {
+    /// An answer went out whole, and the connection stays open.
+    Kept,
+    /// An answer went out whole, and the connection closes.
+    Closed,
+    /// The input ended before a request, or the connection was closed.
+    Ended,
+    /// The reader failed, or the input ended inside a request. Nothing was answered.
+    ReadFailed,
+    /// The writer failed. A beginning of the answer is out; what the office accepted stands.
+    WriteFailed,
+}
+
+impl WireError {
+    /// The fault that is answered, where one is.
+    fn fault(self) -> Option<Fault>
+        ensures { result ≡ fault_of self }
+    {
+        match self {
+            WireError::ReadFailed | WireError::Ended => None,
+            WireError::Head => Some(Fault::Head),
+            WireError::Version => Some(Fault::Version),
+            WireError::Length => Some(Fault::Length),
+            WireError::Large => Some(Fault::Large),
+            WireError::Route => Some(Fault::Route),
+            WireError::Caller => Some(Fault::Caller),
+            WireError::Body => Some(Fault::Body),
+            WireError::Memory => Some(Fault::Memory),
+        }
+    }
+}
+
+/// Writes an answer, and closes the connection where the text that went out closes it, or none went out whole.
+fn answer_with<W: Write>(
+    alloc: Global,
+    inbox: &mut Inbox,
+    answer: &Answer,
+    writer: &mut W,
+) -> Served
+    ensures goes_out { GoesOutAs (answer_data answer.now) inbox.old.closed (W.contents writer.old) (W.contents writer.new) result }
+    ensures shut { inbox.new ≡ record inbox.old { closed = is_shut result } }
+{
+    match write_reply(alloc, answer, inbox.is_closed(), writer) {
+        Ok(false) => Served::Kept,
+        Ok(true) => {
+            inbox.close();
+            Served::Closed
+        }
+        Err(_) => {
+            inbox.close();
+            Served::WriteFailed
+        }
+    }
+}
+
+/// Reads one request of a connection, serves it on the day, and writes the answer, or that to the fault that was read.
+///
+/// The bytes behind the request stay in the inbox. A fault leaves the office as it was. After `Closed`, `ReadFailed`
+/// and `WriteFailed` the connection is closed: a further call reads nothing and answers `Ended`.
+pub fn serve_one<S: Store + Drop, R: Read, W: Write>(
+    alloc: Global,
+    office: &mut Office<S>,
+    inbox: &mut Inbox,
+    reader: &mut R,
+    writer: &mut W,
+    day: Day,
+) -> Served
+    ensures serves { (h : History) (bytes : List ℕ) → IsHistory h → S.holds office.old.store (tables h) → stream inbox.old (R.remaining reader.old) ≡ Some bytes
+        → Serves (S.holds office.new.store) h day office.old office.new bytes inbox.old inbox.new (R.remaining reader.new) (W.contents writer.old) (W.contents writer.new) result }
+    ensures moves { (h : History) → IsHistory h → S.holds office.old.store (tables h) → Moves (S.holds office.new.store) h day office.old office.new }
+    ensures policy { office.new.policy ≡ office.old.policy }
+    ensures silent { is_silent result ≡ true → (office.new ≡ office.old) × (W.contents writer.new ≡ W.contents writer.old) }
+    ensures ended { result ≡ Served.Ended → inbox.new ≡ inbox.old }
+    ensures shut { result ≢ Served.Ended → inbox.new.closed ≡ is_shut result }
+{
+    match read_request(alloc, inbox, reader) {
+        Ok(Some(asked)) => {
+            let reply = office.step(&asked, day);
+            let answer = Answer::Replied {
+                reply,
+                action: action(&asked.request),
+                day,
+            };
+            answer_with(alloc, inbox, &answer, writer)
+        }
+        Ok(None) => Served::Ended,
+        Err(error) => match error.fault() {
+            Some(fault) => answer_with(alloc, inbox, &Answer::Fault(fault), writer),
+            None => Served::ReadFailed,
+        },
+    }
+}
