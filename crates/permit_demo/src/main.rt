@@ -1,5 +1,6 @@
-//! Shows the office at work, in memory: it is founded, a party and a parcel are added, an application is filed and the
-//! file read back. What goes in and what comes out are the bytes of HTTP.
+//! Shows the office at work, in memory: it is founded, parties and a parcel are added, an application is filed and read
+//! back, and the file goes through review, issuance and inspections to its certificate. What goes in and what comes out
+//! are the bytes of HTTP.
 #![tactic(auto)]
 
 mod office;
@@ -23,9 +24,16 @@ struct Turn {
 
 const OFFICIAL: &str = "abcdefghijklmnopqrstuvwxyz";
 
+const CLERK: &str = "clerk2clerk2clerk2";
+
+const REVIEWER: &str = "reviewer3reviewer3";
+
+const INSPECTOR: &str = "inspector4inspector4";
+
 const PUBLIC: &str = "public5public5public5";
 
-const TURNS: [Turn; 7] = [
+/// One file from its filing to its certificate.
+const TURNS: [Turn; 25] = [
     Turn {
         day: 19700,
         token: OFFICIAL,
@@ -71,6 +79,132 @@ const TURNS: [Turn; 7] = [
     Turn {
         day: 19903,
         token: OFFICIAL,
+        method: "GET",
+        path: "/files/1",
+        body: "",
+    },
+    Turn {
+        day: 19903,
+        token: CLERK,
+        method: "POST",
+        path: "/files/1/assign-reviewer",
+        body: "{\"party\":3}",
+    },
+    Turn {
+        day: 19903,
+        token: REVIEWER,
+        method: "POST",
+        path: "/files/1/start-review",
+        body: "",
+    },
+    Turn {
+        day: 19903,
+        token: REVIEWER,
+        method: "POST",
+        path: "/files/1/approve-plans",
+        body: "",
+    },
+    Turn {
+        day: 19903,
+        token: CLERK,
+        method: "POST",
+        path: "/files/1/assign-inspector",
+        body: "{\"party\":4}",
+    },
+    Turn {
+        day: 19903,
+        token: OFFICIAL,
+        method: "POST",
+        path: "/files/1/issue",
+        body: "",
+    },
+    Turn {
+        day: 19910,
+        token: PUBLIC,
+        method: "POST",
+        path: "/files/1/begin-work",
+        body: "",
+    },
+    Turn {
+        day: 19920,
+        token: PUBLIC,
+        method: "POST",
+        path: "/files/1/request-inspection",
+        body: "{\"step\":\"footing\"}",
+    },
+    Turn {
+        day: 19921,
+        token: INSPECTOR,
+        method: "POST",
+        path: "/files/1/approve-step",
+        body: "{\"step\":\"footing\"}",
+    },
+    Turn {
+        day: 19925,
+        token: PUBLIC,
+        method: "POST",
+        path: "/files/1/request-inspection",
+        body: "{\"step\":\"slab\"}",
+    },
+    Turn {
+        day: 19926,
+        token: INSPECTOR,
+        method: "POST",
+        path: "/files/1/approve-step",
+        body: "{\"step\":\"slab\"}",
+    },
+    Turn {
+        day: 19930,
+        token: PUBLIC,
+        method: "POST",
+        path: "/files/1/request-inspection",
+        body: "{\"step\":\"frame\"}",
+    },
+    Turn {
+        day: 19931,
+        token: INSPECTOR,
+        method: "POST",
+        path: "/files/1/approve-step",
+        body: "{\"step\":\"frame\"}",
+    },
+    Turn {
+        day: 19935,
+        token: PUBLIC,
+        method: "POST",
+        path: "/files/1/request-inspection",
+        body: "{\"step\":\"lath\"}",
+    },
+    Turn {
+        day: 19936,
+        token: INSPECTOR,
+        method: "POST",
+        path: "/files/1/approve-step",
+        body: "{\"step\":\"lath\"}",
+    },
+    Turn {
+        day: 19940,
+        token: PUBLIC,
+        method: "POST",
+        path: "/files/1/request-inspection",
+        body: "{\"step\":\"final\"}",
+    },
+    Turn {
+        day: 19941,
+        token: INSPECTOR,
+        method: "POST",
+        path: "/files/1/approve-step",
+        body: "{\"step\":\"final\"}",
+    },
+    Turn {
+        day: 19950,
+        token: OFFICIAL,
+        method: "POST",
+        path: "/files/1/certify",
+        body: "",
+    },
+    Turn {
+        day: 19950,
+        token: PUBLIC,
         method: "GET",
         path: "/files/1",
         body: "",

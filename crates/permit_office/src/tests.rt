@@ -5,8 +5,10 @@ use crate::reply::Reply;
 use permit_base::digests::digest;
 use permit_base::outcome::Refusal;
 use permit_base::request::{Asked, Command, Request};
-use permit_base::values::{Cents, Day, Days, FileId, Lot, ParcelId, PartyId, Text, Token};
-use permit_base::words::{Kind, Role, Stage};
+use permit_base::values::{
+    Cents, Day, Days, FileId, Lot, PaperNumber, ParcelId, PartyId, Text, Token,
+};
+use permit_base::words::{Kind, Role, Stage, Step};
 use permit_policy::read_policy;
 use permit_store::founder::Founder;
 use permit_store::plain::PlainStore;
@@ -194,6 +196,43 @@ fn commands_on_a_file_make_its_papers(rt: HostRuntime) -> Result<(), Fail> {
     let papers = store.papers(file)?;
     assert_eq!(rt; papers.len(), 4);
     assert!(rt; papers[2].days == 60 && papers[2].text.as_str() == "Steel is late");
+    Ok(())
+}
+
+/// A correction notice is open until it is cleared.
+#[test]
+fn notices_are_cleared(rt: HostRuntime) -> Result<(), Fail> {
+    let alloc = rt.alloc();
+    let mut office = with_file(alloc)?;
+    let file = FileId::new(1).ok_or("a file")?;
+    let paper = PaperNumber::new(2).ok_or("a number")?;
+    for (command, number) in [
+        (Command::StartReview, None),
+        (Command::ApprovePlans, None),
+        (Command::Issue, Some(1)),
+        (Command::BeginWork, None),
+        (
+            Command::RequestInspection {
+                step: Step::Footing,
+            },
+            None,
+        ),
+        (
+            Command::Notice {
+                text: text(alloc, "No rebar")?,
+            },
+            Some(2),
+        ),
+        (Command::ClearNotice { paper }, None),
+    ] {
+        let request = Request::OnFile { file, command };
+        assert_eq!(rt; number_made(&mut office, alloc, request, 19740)?, number);
+    }
+    let mut store = office.into_store();
+    let row = store.file(file)?.ok_or("file 1")?;
+    assert!(rt; row.state.notices() == 0 && row.state.papers() == 2);
+    let papers = store.papers(file)?;
+    assert!(rt; papers.iter().all(|paper| !paper.is_open));
     Ok(())
 }
 

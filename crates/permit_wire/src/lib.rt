@@ -1,4 +1,9 @@
-//! From the bytes of a connection to a request of the office.
+//! HTTP in front of the office: from the bytes of a connection to the bytes of its answers (RFC 9110, RFC 9112).
+//!
+//! `read_request` reads the next request of a connection from an inbox and a reader, `serve_one` also has the office
+//! serve it and writes the answer. What a stream's beginning asks is `AskedOf` (specs/Reading.antt): a request and the
+//! rest, a fault, or the end. What serving does is `Serves` (specs/Serving.antt): one step of the machine for the
+//! request that the stream asks, and its reply's text goes out.
 #![tactic(auto)]
 
 pub mod error;
@@ -7,3 +12,10 @@ pub mod read;
 pub mod serve;
 #[cfg(test)]
 mod tests;
+
+pub use error::WireError;
+pub use permit_answer::answer::{Answer, Fault};
+pub use permit_answer::{WriteFault, write_reply};
+pub use permit_http::inbox::Inbox;
+pub use read::read_request;
+pub use serve::{Served, answer_with, serve_one};

@@ -36,8 +36,8 @@ pub enum Served {
 }
 
 impl WireError {
-    /// The fault that is answered, where one is.
-    fn fault(self) -> Option<Fault>
+    /// The fault that is answered. To a reader that failed, and to an input that ended, nothing is.
+    pub fn fault(self) -> Option<Fault>
         ensures { result ≡ fault_of self }
     {
         match self {
@@ -54,8 +54,9 @@ impl WireError {
     }
 }
 
-/// Writes an answer, and closes the connection where the text that went out closes it, or none went out whole.
-fn answer_with<W: Write>(
+/// Writes the answer to the request that was read last from the connection, or to its fault, and closes the connection
+/// where the text that went out closes it, or none went out whole.
+pub fn answer_with<W: Write>(
     alloc: Global,
     inbox: &mut Inbox,
     answer: &Answer,

@@ -1,5 +1,5 @@
 use Rattle.std.proofs.Common.{inl}
-use Rattle.permit_wire.proofs.Served.{serves}
+use Rattle.permit_wire.proofs.Ending.{serves}
 use Rattle.permit_wire.proofs.serve.serve_one.Goals as goal
 
 pub returns-in-Ok-Some-clause-serves : goal.returns-in-Ok-Some-clause-serves
