@@ -70,16 +70,14 @@ fn add(
 pub fn opened(alloc: Global) -> Result<Office<PlainStore>, Fail> {
     let mut office = founded(alloc)?;
     let parties = [
-        ("Cal", "clerk"),
-        ("Rae", "reviewer"),
-        ("Ian", "inspector"),
-        ("Sam", "public"),
-        ("Pat", "public"),
-        ("Ivy", "inspector"),
+        (2, "Cal", "clerk"),
+        (3, "Rae", "reviewer"),
+        (4, "Ian", "inspector"),
+        (5, "Sam", "public"),
+        (6, "Pat", "public"),
+        (7, "Ivy", "inspector"),
     ];
-    let mut number = 1;
-    for ((name, role), token) in parties.iter().zip(&TOKENS[1..]) {
-        number += 1;
+    for ((number, name, role), token) in parties.iter().zip(&TOKENS[1..]) {
         let body = format!(in alloc;
             "{{\"name\":\"{name}\",\"role\":\"{role}\",\"token\":\"{token}\"}}"
         )?;
@@ -94,7 +92,7 @@ pub fn opened(alloc: Global) -> Result<Office<PlainStore>, Fail> {
             "/parties",
             body.as_str(),
             action,
-            number,
+            *number,
         )?;
     }
     add(

@@ -131,12 +131,11 @@ fn play_one(alloc: Global, office: &mut Office<PlainStore>, turn: &Turn) -> Resu
     let path = turn.path;
     let date = turn.day;
     if let Wanted::Shown(members) = turn.wanted {
-        for member in members {
-            if !written.as_str().contains(*member) {
-                return Err(Fail::new(format!(in alloc;
-                    "day {date} {path}: wanted {member} in {written}"
-                )?));
-            }
+        let text = written.as_str();
+        if let Some(member) = members.iter().find(|member| !text.contains(**member)) {
+            return Err(Fail::new(format!(in alloc;
+                "day {date} {path}: wanted {member} in {written}"
+            )?));
         }
         return Ok(());
     }
