@@ -1,16 +1,27 @@
 -- What a file's row says on a day and to a caller.
-use Rattle.std.specs.Prelude.{ℕ, Bool, if◌then◌else◌, ◌==◌, Option}
+use Rattle.std.specs.Prelude.{ℕ, Bool, if◌then◌else◌, ◌==◌, List, [], Option}
+use Rattle.permit_base.specs.declared.words.Kind.{Kind}
 use Rattle.permit_base.specs.declared.words.Stage.{Stage}
 use Rattle.permit_base.specs.declared.words.Timing.{Timing}
 use Rattle.permit_base.specs.declared.words.Relations.{Relations}
 use Rattle.permit_model.specs.Search.{is_number}
 use Rattle.permit_model.specs.Days.{timing_on, is_past}
+use Rattle.permit_model.specs.Files.{CaseFile}
 use Rattle.permit_model.specs.Facts.{past_stage}
 use Rattle.permit_model.specs.Tables.{State}
 
+-- a file as it is filed: nothing was done to it
+abbrev pub filed_by : ℕ → ℕ → Kind → ℕ → ℕ → ℕ → List ℕ → CaseFile
+filed_by applicant parcel kind day id valuation description = record {
+  filing = record { id = id; parcel = parcel; applicant = applicant; kind = kind; valuation = valuation; description = description; filed = day };
+  acts = [];
+}
+
+-- the stage on a day: the stored one, or what it becomes once the deadline is past
 abbrev pub row_stage : ℕ → State → Stage
 row_stage day s = if is_past day s.deadline then past_stage s.stage else s.stage
 
+-- the timing on a day
 abbrev pub row_timing : ℕ → State → Timing
 row_timing day s = timing_on day s.deadline
 

@@ -1,18 +1,31 @@
 //! The state of a file.
 
-ghost use Rattle.std.specs.Prelude.{◌≡◌, ℕ, List, [], Option};
+ghost use Rattle.std.specs.Prelude.{◌≡◌, ℕ, List, Option, Some};
 ghost use Rattle.permit_model.specs.Search.{is_number};
-ghost use Rattle.permit_model.specs.Files.{CaseFile};
-ghost use Rattle.permit_model.specs.Facts.{stage_on, timing_of};
+ghost use Rattle.permit_model.specs.History.{History};
+ghost use Rattle.permit_model.specs.Machine.{IsHistory};
+ghost use Rattle.permit_model.specs.Files.{CaseFile, case_numbered};
+ghost use Rattle.permit_model.specs.Parcels;
+ghost use Rattle.permit_model.specs.Parcels.{has_interest};
+ghost use Rattle.permit_model.specs.Facts.{stage_on, timing_of, relations_to_file};
+ghost use Rattle.permit_model.specs.Work.{next_of};
 ghost use Rattle.permit_model.specs.Deadline.{deadline};
-ghost use Rattle.permit_model.specs.Tables.{state_of};
-ghost use Rattle.permit_core.specs.Views.{row_stage, row_timing, row_relations};
+ghost use Rattle.permit_model.specs.Tables.{state_of, next_in_row};
+ghost use Rattle.permit_model.specs.SoundState.{IsSoundState};
+ghost use Rattle.permit_core.specs.Views.{filed_by, row_stage, row_timing, row_relations};
 
+use crate::restore::StateFields;
+use crate::steps::step_at;
 use permit_base::values::{Day, Days, ParcelId, PartyId};
 use permit_base::words::{Kind, Relations, Stage, Step, Timing};
 use std::marker::Model;
 
 /// The row of a file without its number, valuation and description.
+///
+/// Each value keeps to these facts: its stage is a stored one; no more steps are approved than its kind requires; a
+/// deadline stands exactly in the stages filed, review, returned, approved, issued and working; a pending request has
+/// its day and is for the next step; a finaled or certified file has all steps approved and no open notice; a
+/// certified file has no standing stop order.
 #[derive(Clone, Copy)]
 pub struct FileState {
     parcel: ParcelId,
@@ -41,6 +54,11 @@ impl Model for FileState {
 
     ghost view = { λ s. record { parcel = s.parcel; applicant = s.applicant; contractor = s.contractor; reviewer = s.reviewer; inspector = s.inspector; kind = s.kind; filed = s.filed; stage = s.stage; deadline = s.deadline; done = s.done; request = s.request; requested = s.requested; ask = s.ask; stopped = s.stopped; notices = s.notices; papers = s.papers; temporary = s.temporary } };
 
+    ghost use Rattle.std.specs.Prelude.{IsTrue};
+    ghost use Rattle.permit_model.specs.SoundState.{is_sound_state};
+
+    ghost invariant = { λ s. IsTrue (is_sound_state (record { parcel = s.parcel; applicant = s.applicant; contractor = s.contractor; reviewer = s.reviewer; inspector = s.inspector; kind = s.kind; filed = s.filed; stage = s.stage; deadline = s.deadline; done = s.done; request = s.request; requested = s.requested; ask = s.ask; stopped = s.stopped; notices = s.notices; papers = s.papers; temporary = s.temporary })) };
+
     ghost inverse = { λ s. record { parcel = s.parcel; applicant = s.applicant; contractor = s.contractor; reviewer = s.reviewer; inspector = s.inspector; kind = s.kind; filed = s.filed; stage = s.stage; deadline = s.deadline; done = s.done; request = s.request; requested = s.requested; ask = s.ask; stopped = s.stopped; notices = s.notices; papers = s.papers; temporary = s.temporary } };
 }
 
@@ -66,9 +84,9 @@ fn is(named: Option<PartyId>, caller: PartyId) -> bool
 }
 
 impl FileState {
-    /// A new file.
+    /// The state of an application filed on a day: its deadline is 180 days later (IBC 2018, section 105.3.2).
     pub fn file(applicant: PartyId, parcel: ParcelId, kind: Kind, day: Day) -> FileState
-        ensures { (id valuation : ℕ) (description : List ℕ) → result ≡ state_of (record { filing = record { id = id; parcel = parcel; applicant = applicant; kind = kind; valuation = valuation; description = description; filed = day }; acts = [] }) }
+        ensures { (id valuation : ℕ) (description : List ℕ) → result ≡ state_of (filed_by applicant parcel kind day id valuation description) }
     {
         FileState {
             parcel,
@@ -91,7 +109,7 @@ impl FileState {
         }
     }
 
-    /// The stage on a day.
+    /// The stage on a day: abandoned or lapsed from the day after the deadline on, else the stored one.
     pub fn stage(&self, day: Day) -> Stage
         ensures row { result ≡ row_stage day self.now }
         ensures model { (file : CaseFile) → self.now ≡ state_of file → result ≡ stage_on day file }
@@ -102,7 +120,7 @@ impl FileState {
         }
     }
 
-    /// The timing on a day.
+    /// The timing on a day: past from the day after the deadline on, near with 0 to 30 days left, ahead with more.
     pub fn timing(&self, day: Day) -> Timing
         ensures row { result ≡ row_timing day self.now }
         ensures model { (file : CaseFile) → self.now ≡ state_of file → result ≡ timing_of day file }
@@ -121,6 +139,7 @@ impl FileState {
         }
     }
 
+    /// The deadline, a count of days since 1970-01-01: the last day on which the file is open.
     pub fn deadline(&self) -> Option<u32>
         ensures row { result ≡ self.now.deadline }
         ensures model { (file : CaseFile) → self.now ≡ state_of file → result ≡ deadline file }
@@ -128,21 +147,20 @@ impl FileState {
         self.deadline
     }
 
-    pub fn parcel(&self) -> ParcelId
-        ensures { result ≡ self.now.parcel }
+    /// The first required step that isn't approved.
+    pub fn next_step(&self) -> Option<Step>
+        ensures row { result ≡ next_in_row self.now }
+        ensures model { (h : History) (id : ℕ) (file : CaseFile) → IsHistory h → case_numbered h id ≡ Some file → self.now ≡ state_of file → result ≡ next_of file }
     {
-        self.parcel
-    }
-
-    pub fn is_stopped(&self) -> bool
-        ensures { result ≡ self.now.stopped }
-    {
-        self.stopped
+        step_at(self.kind, self.done)
     }
 
     /// What the caller is to the file, by the parcel's owner and whether the caller has an interest in it.
     pub fn relations(&self, caller: PartyId, owner: Option<PartyId>, conflict: bool) -> Relations
-        ensures { result ≡ row_relations self.now caller owner conflict }
+        ensures row { result ≡ row_relations self.now caller owner conflict }
+        ensures model { (h : History) (file : CaseFile) → self.now ≡ state_of file
+            → owner ≡ Parcels.owner h file.filing.parcel → conflict ≡ has_interest h file.filing.parcel caller
+            → result ≡ relations_to_file h caller file }
     {
         Relations {
             applicant: self.applicant.get() == caller.get(),
@@ -151,6 +169,170 @@ impl FileState {
             assigned_reviewer: is(self.reviewer, caller),
             assigned_inspector: is(self.inspector, caller),
             conflict,
+        }
+    }
+
+    /// The parcel that the application names.
+    pub fn parcel(&self) -> ParcelId
+        ensures { result ≡ self.now.parcel }
+    {
+        self.parcel
+    }
+
+    /// Who filed the application.
+    pub fn applicant(&self) -> PartyId
+        ensures { result ≡ self.now.applicant }
+    {
+        self.applicant
+    }
+
+    /// The contractor last named.
+    pub fn contractor(&self) -> Option<PartyId>
+        ensures { result ≡ self.now.contractor }
+    {
+        self.contractor
+    }
+
+    /// The reviewer last assigned.
+    pub fn reviewer(&self) -> Option<PartyId>
+        ensures { result ≡ self.now.reviewer }
+    {
+        self.reviewer
+    }
+
+    /// The inspector last assigned.
+    pub fn inspector(&self) -> Option<PartyId>
+        ensures { result ≡ self.now.inspector }
+    {
+        self.inspector
+    }
+
+    /// The kind of work.
+    pub fn kind(&self) -> Kind
+        ensures { result ≡ self.now.kind }
+    {
+        self.kind
+    }
+
+    /// The day of the filing.
+    pub fn filed(&self) -> Day
+        ensures { result ≡ self.now.filed }
+    {
+        self.filed
+    }
+
+    /// The stored stage, which no day moves: never abandoned or lapsed. [`FileState::stage`] gives the stage on a day.
+    pub fn stored_stage(&self) -> Stage
+        ensures { result ≡ self.now.stage }
+    {
+        self.stage
+    }
+
+    /// How many steps are approved: the first so many of those that the kind requires.
+    pub fn done(&self) -> u8
+        ensures { result ≡ self.now.done }
+    {
+        self.done
+    }
+
+    /// The step whose inspection is requested and neither approved nor answered by a notice.
+    pub fn request(&self) -> Option<Step>
+        ensures { result ≡ self.now.request }
+    {
+        self.request
+    }
+
+    /// The day of the pending request.
+    pub fn requested(&self) -> Option<Day>
+        ensures { result ≡ self.now.requested }
+    {
+        self.requested
+    }
+
+    /// The days of the pending ask for an extension.
+    pub fn ask(&self) -> Option<Days>
+        ensures { result ≡ self.now.ask }
+    {
+        self.ask
+    }
+
+    /// Whether a stop work order stands (IBC 2018, section 115).
+    pub fn is_stopped(&self) -> bool
+        ensures { result ≡ self.now.stopped }
+    {
+        self.stopped
+    }
+
+    /// How many correction notices are open.
+    pub fn notices(&self) -> u16
+        ensures { result ≡ self.now.notices }
+    {
+        self.notices
+    }
+
+    /// How many papers the file has, which is the number of the last one.
+    pub fn papers(&self) -> u16
+        ensures { result ≡ self.now.papers }
+    {
+        self.papers
+    }
+
+    /// The day until which the last temporary certificate runs.
+    pub fn temporary(&self) -> Option<u32>
+        ensures { result ≡ self.now.temporary }
+    {
+        self.temporary
+    }
+
+    /// The fields of the row.
+    pub fn fields(&self) -> StateFields
+        ensures same { result ≡ self.now }
+        ensures sound { IsSoundState result }
+    {
+        StateFields {
+            parcel: self.parcel,
+            applicant: self.applicant,
+            contractor: self.contractor,
+            reviewer: self.reviewer,
+            inspector: self.inspector,
+            kind: self.kind,
+            filed: self.filed,
+            stage: self.stage,
+            deadline: self.deadline,
+            done: self.done,
+            request: self.request,
+            requested: self.requested,
+            ask: self.ask,
+            stopped: self.stopped,
+            notices: self.notices,
+            papers: self.papers,
+            temporary: self.temporary,
+        }
+    }
+
+    /// The state with the fields, which keep to the facts of the type.
+    pub(crate) fn with_fields(fields: StateFields) -> FileState
+        requires { IsSoundState fields }
+        ensures { result ≡ fields }
+    {
+        FileState {
+            parcel: fields.parcel,
+            applicant: fields.applicant,
+            contractor: fields.contractor,
+            reviewer: fields.reviewer,
+            inspector: fields.inspector,
+            kind: fields.kind,
+            filed: fields.filed,
+            stage: fields.stage,
+            deadline: fields.deadline,
+            done: fields.done,
+            request: fields.request,
+            requested: fields.requested,
+            ask: fields.ask,
+            stopped: fields.stopped,
+            notices: fields.notices,
+            papers: fields.papers,
+            temporary: fields.temporary,
         }
     }
 }

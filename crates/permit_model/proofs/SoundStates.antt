@@ -97,7 +97,7 @@ stands_in _ filed acts late = refl
 
 -- ---- the pending request
 
-same_as_itself : (step : Step) → is_step step step ≡ true
+pub same_as_itself : (step : Step) → is_step step step ≡ true
 same_as_itself step = eq-eqb (step_code step) (step_code step) refl
 
 for_next : (request next : Option Step) → ((step : Step) → request ≡ Some step → next ≡ Some step) → is_for request next ≡ true
@@ -116,7 +116,7 @@ front_length kind steps front =
 -- ---- finaled and certified files
 
 -- the step final is the last
-final_last : (kind : Kind) (n : ℕ) → slice_get (required_steps kind) n ≡ Some Final → suc n ≡ length (required_steps kind)
+pub final_last : (kind : Kind) (n : ℕ) → slice_get (required_steps kind) n ≡ Some Final → suc n ≡ length (required_steps kind)
 final_last Construct zero e = cc
 final_last Construct (suc zero) e = cc
 final_last Construct (suc (suc zero)) e = cc

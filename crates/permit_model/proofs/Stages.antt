@@ -29,12 +29,12 @@ pub same_stage : (a b : Stage) → is_stage a b ≡ true → a ≡ b
 same_stage a b e = sym (coded_back a) ∙ ap stage_coded (eqb-true (stage_code a) (stage_code b) e) ∙ coded_back b
 
 -- the only one of the list
-only_one : (s wanted : Stage) (b : Bool) → is_stage s wanted ≡ b → not (b || false) ≡ false → s ≡ wanted
+pub only_one : (s wanted : Stage) (b : Bool) → is_stage s wanted ≡ b → not (b || false) ≡ false → s ≡ wanted
 only_one s wanted true e h = same_stage s wanted e
 only_one s wanted false e h = cc
 
 -- a stored stage on the day is the stage whatever the day is
-unpassed : (s wanted : Stage) (past : Bool) → is_stored wanted ≡ true → (if past then past_stage s else s) ≡ wanted → s ≡ wanted
+pub unpassed : (s wanted : Stage) (past : Bool) → is_stored wanted ≡ true → (if past then past_stage s else s) ≡ wanted → s ≡ wanted
 unpassed s wanted false stored e = e
 unpassed stage.Filed wanted true stored e = let bad : false ≡ true = ap is_stored e ∙ stored in cc
 unpassed stage.Review wanted true stored e = let bad : false ≡ true = ap is_stored e ∙ stored in cc

@@ -1,6 +1,7 @@
 -- A known caller in time is served.
 use Rattle.std.proofs.Common.{◌≡◌, ◌≤◌, ℕ, Bool, true, false, List, refl, ◌≢◌, ◌+◌, ◌%◌, ◌^◌, ◌<◌, sym, ◌∙◌, ap, arith, inl}
-use Rattle.std.specs.Prelude.{Option, None, Some, nat_lt, if◌then◌else◌, IsTrue}
+use Rattle.std.specs.Prelude.{Option, None, Some, nat_lt, if◌then◌else◌, IsTrue, Ok, Err}
+use Rattle.permit_store.specs.declared.store.StoreError.{StoreError}
 use Rattle.std.proofs.lemmas.Bool.Decides.{nat_tests}
 use Rattle.permit_base.specs.declared.outcome.Refusal.TheVariants as refusal
 use Rattle.permit_base.specs.declared.request.Request.{Request}
@@ -11,7 +12,7 @@ use Rattle.permit_model.specs.Machine.{Outcome, known, served, refused, step_as}
 use Rattle.permit_store.specs.Counts.{next_count}
 use Rattle.permit_office.specs.declared.reply.Reply.{Reply as Given}
 use Rattle.permit_office.specs.declared.reply.Reply.TheVariants as given
-use Rattle.permit_office.specs.Answers.{CommittedBy, commits_after}
+use Rattle.permit_office.specs.Answers.{CommittedBy, commits_after, HandedBy, HandedIn}
 use Rattle.permit_model.proofs.Histories.{found_by_number}
 
 in_time : (last day : ℕ) → last ≤ day → nat_lt day last ≡ false
@@ -40,3 +41,11 @@ committed_by (given.Refused (refusal.NotAdmitted why)) old new e = e
 committed_by (given.Done number) old new e = e
 committed_by (given.Parcel p) old new e = e
 committed_by (given.File f ps) old new e = e
+
+pub handed_ok : (b : Bool) (reply : Given) (old new : ℕ) → HandedIn b (Ok reply) old new → HandedBy b reply old new
+handed_ok false reply old new e = e
+handed_ok true reply old new e = e
+
+pub handed_err : (b : Bool) (e : StoreError) (old new : ℕ) → HandedIn b (Err e) old new → HandedBy b (given.Refused refusal.Store) old new
+handed_err false e old new same = same
+handed_err true e old new either = either

@@ -16,7 +16,7 @@ use Rattle.permit_model.specs.Files.{Filing, Act, act_of, acts_on, filings, Case
 use Rattle.permit_model.specs.Work.{open_notices}
 use Rattle.permit_model.specs.Tables.{Desk, Tables, tables, FileRow, file_row, Paper, paper_by, papers_made, state_of}
 use Rattle.permit_model.specs.Machine.{IsHistory, entry_of}
-use Rattle.permit_office.proofs.Numbers.{parcels_below, no_transfers, files_below}
+use Rattle.permit_model.proofs.Numbers.{parcels_below, no_transfers, files_below}
 use Rattle.permit_model.proofs.Projection.{no_acts}
 
 papers_deed : (now later : History) (entry : Entry) (deed : Deed) (before : History) → ((id : ℕ) → acts_on id later ≡ acts_on id now) → papers_made later before ≡ papers_made now before →

@@ -48,15 +48,47 @@ abbrev pub CommittedBy : Given → ℕ → ℕ → Type 0
 CommittedBy (given.Refused refusal.Store) old new = (new ≡ old) ⊎ (new ≡ next_count old)
 CommittedBy reply old new = new ≡ commits_after reply old
 
--- reads of one record, and the commands that make no party: the office takes no memory of its own for them
-abbrev pub is_plain : Request → Bool
-is_plain (request.AddParcel lot address owner) = true
-is_plain (request.File parcel kind valuation description) = true
-is_plain (request.ReadFile file) = true
-is_plain (request.ReadParcel parcel) = true
-is_plain (request.Declare parcel) = true
-is_plain (request.Transfer parcel to) = true
-is_plain _ = false
+-- ---- file rows handed out
+
+-- a request on a file looks its row up
+abbrev pub is_on_file : Request → Bool
+is_on_file (request.ReadFile file) = true
+is_on_file (request.OnFile file command) = true
+is_on_file _ = false
+
+-- a request on a file that is there hands one row out, any other request none; with the store's refusal it may have
+abbrev pub HandedBy : Bool → Given → ℕ → ℕ → Type 0
+HandedBy false reply old new = new ≡ old
+HandedBy true (given.Refused refusal.Caller) old new = new ≡ old
+HandedBy true (given.Refused refusal.Clock) old new = new ≡ old
+HandedBy true (given.Refused refusal.Record) old new = new ≡ old
+HandedBy true (given.Refused refusal.Store) old new = (new ≡ old) ⊎ (new ≡ next_count old)
+HandedBy true reply old new = new ≡ next_count old
+
+-- the same of an attempt at a request on a file
+abbrev pub Handed : Result Given StoreError → ℕ → ℕ → Type 0
+Handed (Ok reply) old new = HandedBy true reply old new
+Handed (Err e) old new = (new ≡ old) ⊎ (new ≡ next_count old)
+
+abbrev pub HandedIn : Bool → Result Given StoreError → ℕ → ℕ → Type 0
+HandedIn false result old new = new ≡ old
+HandedIn true result old new = Handed result old new
+
+-- ---- what is built
+
+-- the requests that the office serves; listings, registers and the commands on a file it doesn't yet, nor does it
+-- say when it refuses a new party for the store
+abbrev pub is_built : Request → Bool
+is_built (request.AddParty name role token) = false
+is_built (request.AddParcel lot address owner) = true
+is_built (request.Transfer parcel to) = true
+is_built (request.Declare parcel) = true
+is_built (request.ReadParcel parcel) = true
+is_built (request.File parcel kind valuation description) = true
+is_built (request.ReadFile file) = true
+is_built (request.ListFiles wanted) = false
+is_built (request.Register kind) = false
+is_built (request.OnFile file command) = false
 
 -- a reply that isn't the store's refusal
 abbrev pub IsOwn : Given → Type 0

@@ -1,13 +1,18 @@
 //! The rows of the tables as typed values, and the changes of the tables.
 
-use permit_base::values::{Cents, Day, Digest, FileId, Lot, PaperNumber, ParcelId, PartyId, Text};
+ghost use Rattle.std.specs.Prelude.{◌≡◌, IfOk};
+
+pub use crate::change::{Change, NewPaper, RowEffect};
+use permit_base::values::{Day, Digest, FileId, Lot, PaperNumber, ParcelId, PartyId, Text};
 use permit_base::words::{PaperSort, Role};
-use permit_core::state::FileState;
+pub use permit_core::row::{FileRow, FileView};
+use std::alloc::AllocError;
 use std::marker::Model;
 
-/// The last day and the counts.
+/// The last day and the counts of rows.
 #[derive(Clone, Copy)]
 pub struct Desk {
+    /// The day of the last accepted command.
     pub last: Day,
     pub parties: u32,
     pub parcels: u32,
@@ -24,11 +29,13 @@ impl Model for Desk {
     ghost inverse = { λ d. record { last = d.last; parties = d.parties; parcels = d.parcels; files = d.files } };
 }
 
+/// A party: who may ask the office for something.
 #[derive(Drop)]
 pub struct Party {
     pub id: PartyId,
     pub name: Text,
     pub role: Role,
+    /// The digest of the party's token.
     pub digest: Digest,
 }
 
@@ -40,6 +47,22 @@ impl Model for Party {
     ghost view = { λ p. record { id = p.id; name = p.name; role = p.role; digest = p.digest } };
 }
 
+impl Party {
+    /// A copy.
+    pub(crate) fn copy(&self) -> Result<Party, AllocError>
+        ensures { IfOk result (λ p. p ≡ self.now) }
+    {
+        let name = self.name.copy()?;
+        Ok(Party {
+            id: self.id,
+            name,
+            role: self.role,
+            digest: self.digest,
+        })
+    }
+}
+
+/// A parcel of land.
 #[derive(Drop)]
 pub struct Parcel {
     pub id: ParcelId,
@@ -56,7 +79,40 @@ impl Model for Parcel {
     ghost view = { λ p. record { id = p.id; lot = p.lot; address = p.address; owner = p.owner } };
 }
 
-/// A paper. Its text and its terms may be empty.
+impl Parcel {
+    /// A copy.
+    pub(crate) fn copy(&self) -> Result<Parcel, AllocError>
+        ensures { IfOk result (λ p. p ≡ self.now) }
+    {
+        let lot = self.lot.copy()?;
+        let address = self.address.copy()?;
+        Ok(Parcel {
+            id: self.id,
+            lot,
+            address,
+            owner: self.owner,
+        })
+    }
+}
+
+/// A declared interest of a party in a parcel.
+#[derive(Clone, Copy)]
+pub(crate) struct Interest {
+    pub(crate) parcel: ParcelId,
+    pub(crate) party: PartyId,
+}
+
+impl Model for Interest {
+    ghost use Rattle.permit_model.specs.Parcels.{Interest as TheInterest};
+
+    ghost Value = { TheInterest };
+
+    ghost view = { λ r. record { parcel = r.parcel; party = r.party } };
+
+    ghost inverse = { λ r. record { parcel = r.parcel; party = r.party } };
+}
+
+/// A paper of a file. Its text and its terms may be empty.
 #[derive(Drop)]
 pub struct Paper {
     pub file: FileId,
@@ -64,9 +120,12 @@ pub struct Paper {
     pub day: Day,
     pub author: PartyId,
     pub sort: PaperSort,
+    /// The days asked, granted or given; else 0.
     pub days: u32,
     pub text: String,
+    /// The conditions of a stop work order.
     pub terms: String,
+    /// Whether it is a notice that isn't cleared.
     pub is_open: bool,
 }
 
@@ -79,30 +138,23 @@ impl Model for Paper {
     ghost view = { λ p. record { file = p.file; number = p.number; day = p.day; author = p.author; sort = p.sort; days = p.days; text = string_bytes p.text; terms = string_bytes p.terms; is_open = p.is_open } };
 }
 
-/// A change of the tables. It borrows its texts.
-#[derive(Clone, Copy)]
-pub enum Change<'a> {
-    NewParty {
-        name: &'a Text,
-        role: Role,
-        digest: &'a Digest,
-    },
-    NewParcel {
-        lot: &'a Lot,
-        address: &'a Text,
-        owner: PartyId,
-    },
-    NewOwner {
-        parcel: ParcelId,
-        owner: PartyId,
-    },
-    NewInterest {
-        parcel: ParcelId,
-        party: PartyId,
-    },
-    NewFile {
-        state: FileState,
-        valuation: Cents,
-        description: &'a Text,
-    },
+impl Paper {
+    /// A copy.
+    pub(crate) fn copy(&self) -> Result<Paper, AllocError>
+        ensures { IfOk result (λ p. p ≡ self.now) }
+    {
+        let text = self.text.clone()?;
+        let terms = self.terms.clone()?;
+        Ok(Paper {
+            file: self.file,
+            number: self.number,
+            day: self.day,
+            author: self.author,
+            sort: self.sort,
+            days: self.days,
+            text,
+            terms,
+            is_open: self.is_open,
+        })
+    }
 }

@@ -1,36 +1,56 @@
 //! What every store promises.
 
-ghost use Rattle.std.specs.Prelude.{◌≡◌, ℕ, Bool, IfOk, ◌==◌, ◌&&◌, find, filter, bytes_eq, OnOk, OnErr, ◌⊎◌};
+ghost use Rattle.std.specs.Prelude.{◌≡◌, ℕ, IfOk, ◌==◌, ◌&&◌, find, filter, bytes_eq, OnOk, OnErr};
 ghost use Rattle.std.specs.List.{list_any};
 ghost use Rattle.permit_model.specs.Tables.{Tables};
 ghost use Rattle.permit_store.specs.Counts.{next_count, failed_after, handed_after};
 ghost use Rattle.permit_store.specs.Changes.{changed, Fits};
 
-use crate::rows::{Change, Desk, Paper, Parcel, Party};
+use crate::rows::{Change, Desk, FileRow, Paper, Parcel, Party};
 use permit_base::values::{Day, Digest, FileId, Lot, ParcelId, PartyId};
-use permit_core::row::FileRow;
 
-/// A call of a store failed.
-#[derive(Clone, Copy, Debug)]
+/// A call of a store failed: memory was refused, or what keeps the tables doesn't answer.
+#[derive(Clone, Copy, Debug, PartialEq, Eq)]
 pub struct StoreError;
 
+/// What a call of a store answers.
 pub type Got<T> = Result<T, StoreError>;
 
-/// Tables that are kept. What is said of the tables is said of all tables that the store holds: a store
-/// that can't be read any more holds any.
+/// Why a store, or an office over one, isn't opened or made.
+#[derive(Clone, Copy, Debug, PartialEq, Eq)]
+pub enum OpenError {
+    /// The rows are out of their limits, or don't agree with one another.
+    Damaged,
+    /// The tables are of another version.
+    Version,
+    /// A call failed.
+    Store,
+    /// There are tables already.
+    Exists,
+}
+
+/// Tables that are kept.
+///
+/// What a store holds is a relation to the model's tables: what a call promises of the tables, it promises of
+/// all tables that the store holds. A store that can't be read any more holds any tables, and each call of it
+/// fails. A call that answers an error leaves what the store holds.
+///
+/// Each call says by these clauses: `found`, what it answers; `kept`, that what the store holds stays; `failed`,
+/// `commits` and `handed`, how the three counts move.
 pub trait Store {
     /// The store holds these tables.
     ghost holds: { Self → Tables → Type 0 };
 
-    /// How many file rows were handed out, going round.
+    /// How many file rows were handed out; the count has 64 bits and goes round.
     ghost handed: { Self → ℕ };
 
-    /// How many calls failed, going round.
+    /// How many calls failed; the count has 64 bits and goes round.
     ghost failed: { Self → ℕ };
 
-    /// How many commits were called, going round.
+    /// How many commits were called; the count has 64 bits and goes round.
     ghost commits: { Self → ℕ };
 
+    /// The last day and the counts of parties, parcels and files.
     fn desk(&mut self) -> Got<Desk>
         ensures found { (t : Tables) → holds self.old t → IfOk result (λ d. d ≡ t.desk) }
         ensures kept { (t : Tables) → holds self.old t → holds self.new t }
@@ -38,6 +58,7 @@ pub trait Store {
         ensures commits { commits self.new ≡ commits self.old }
         ensures handed { handed self.new ≡ handed self.old };
 
+    /// The party that keeps the digest.
     fn party_by_token(&mut self, digest: &Digest) -> Got<Option<Party>>
         ensures found { (t : Tables) → holds self.old t → IfOk result (λ p. p ≡ find (λ p. bytes_eq p.digest digest.now) t.parties) }
         ensures kept { (t : Tables) → holds self.old t → holds self.new t }
@@ -45,6 +66,7 @@ pub trait Store {
         ensures commits { commits self.new ≡ commits self.old }
         ensures handed { handed self.new ≡ handed self.old };
 
+    /// The party of the number.
     fn party(&mut self, party: PartyId) -> Got<Option<Party>>
         ensures found { (t : Tables) → holds self.old t → IfOk result (λ p. p ≡ find (λ p. p.id == party) t.parties) }
         ensures kept { (t : Tables) → holds self.old t → holds self.new t }
@@ -52,6 +74,7 @@ pub trait Store {
         ensures commits { commits self.new ≡ commits self.old }
         ensures handed { handed self.new ≡ handed self.old };
 
+    /// The parcel of the number.
     fn parcel(&mut self, parcel: ParcelId) -> Got<Option<Parcel>>
         ensures found { (t : Tables) → holds self.old t → IfOk result (λ p. p ≡ find (λ p. p.id == parcel) t.parcels) }
         ensures kept { (t : Tables) → holds self.old t → holds self.new t }
@@ -59,6 +82,7 @@ pub trait Store {
         ensures commits { commits self.new ≡ commits self.old }
         ensures handed { handed self.new ≡ handed self.old };
 
+    /// The parcel of the lot.
     fn parcel_by_lot(&mut self, lot: &Lot) -> Got<Option<Parcel>>
         ensures found { (t : Tables) → holds self.old t → IfOk result (λ p. p ≡ find (λ p. bytes_eq p.lot lot.now) t.parcels) }
         ensures kept { (t : Tables) → holds self.old t → holds self.new t }
@@ -66,6 +90,7 @@ pub trait Store {
         ensures commits { commits self.new ≡ commits self.old }
         ensures handed { handed self.new ≡ handed self.old };
 
+    /// Whether the party has declared an interest in the parcel.
     fn interest(&mut self, parcel: ParcelId, party: PartyId) -> Got<bool>
         ensures found { (t : Tables) → holds self.old t → IfOk result (λ b. b ≡ list_any (λ i. (i.parcel == parcel) && (i.party == party)) t.interests) }
         ensures kept { (t : Tables) → holds self.old t → holds self.new t }
@@ -73,6 +98,7 @@ pub trait Store {
         ensures commits { commits self.new ≡ commits self.old }
         ensures handed { handed self.new ≡ handed self.old };
 
+    /// The row of the file of the number, which counts as handed out.
     fn file(&mut self, file: FileId) -> Got<Option<FileRow>>
         ensures found { (t : Tables) → holds self.old t → IfOk result (λ f. f ≡ find (λ f. f.id == file) t.files) }
         ensures kept { (t : Tables) → holds self.old t → holds self.new t }
@@ -80,6 +106,7 @@ pub trait Store {
         ensures commits { commits self.new ≡ commits self.old }
         ensures handed { handed self.new ≡ handed_after result (handed self.old) };
 
+    /// The papers of a file, in rising number.
     fn papers(&mut self, file: FileId) -> Got<Vec<Paper>>
         ensures found { (t : Tables) → holds self.old t → IfOk result (λ v. v.items ≡ filter (λ p. p.file == file) t.papers) }
         ensures kept { (t : Tables) → holds self.old t → holds self.new t }
@@ -87,6 +114,8 @@ pub trait Store {
         ensures commits { commits self.new ≡ commits self.old }
         ensures handed { handed self.new ≡ handed self.old };
 
+    /// Makes exactly the change and sets the last day, or answers an error and changes nothing. Of a change that
+    /// doesn't fit the tables, a success promises nothing.
     fn commit(&mut self, change: &Change<'_>, day: Day) -> Got<()>
         ensures made { (t : Tables) → holds self.old t → Fits t change.now day → OnOk result (holds self.new (changed t change.now day)) }
         ensures kept { (t : Tables) → holds self.old t → OnErr result (holds self.new t) }

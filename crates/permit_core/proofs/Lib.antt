@@ -1,0 +1,3 @@
+pub mod SameReasons
+pub mod RowSounds
+pub mod RowMore

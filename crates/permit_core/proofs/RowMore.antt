@@ -1,0 +1,163 @@
+-- The row of a file after one more command is what the command makes of its row.
+use Rattle.std.proofs.Common.{◌≡◌, ◌≤◌, ◌<◌, ℕ, zero, suc, ◌+◌, ◌-◌, Bool, true, false, not, cond, List, [], ◌∷◌, ◌++◌, length, refl, sym, ◌∙◌, ap, arith, length-append}
+use Rattle.std.specs.Prelude.{Option, None, Some, option_map, unwrap_or, nat_lt, IsTrue, filter, if◌then◌else◌}
+use Rattle.std.proofs.lemmas.Bool.{lt-ltb, le-ltb, ltb-true, ltb-false as not_below}
+use Rattle.permit_base.specs.declared.words.Step.{Step}
+use Rattle.permit_base.specs.declared.words.Step.TheVariants.{Final}
+use Rattle.permit_base.specs.declared.request.Command.{Command}
+use Rattle.permit_base.specs.declared.request.Command.TheVariants.{Reject, Issue, AskExtension, GrantExtension, RefuseExtension, BeginWork, RequestInspection, ApproveStep, Notice, ClearNotice, Stop, Lift, Revoke, Certify}
+use Rattle.permit_base.specs.declared.request.Request.TheVariants.{OnFile}
+use Rattle.permit_model.specs.Search.{add_last, has_number, how_many, when}
+use Rattle.permit_model.specs.History.{History, last_day}
+use Rattle.permit_model.specs.Files.{Filing, Act, CaseFile, case_numbered}
+use Rattle.permit_model.specs.Work as work
+use Rattle.permit_model.specs.Work.{approved_steps, step_approved, pending_step, requested_day, pending_ask, open_notices, is_stop, is_lift, is_stopped, makes_paper, paper_count}
+use Rattle.permit_model.specs.BaseStage.{stage_given, base_stage}
+use Rattle.permit_model.specs.Deadline.{deadline}
+use Rattle.permit_model.specs.Admission.{first_failing, file_tests, tests_on, reason_against}
+use Rattle.permit_model.specs.Tables.{State, state_of}
+use Rattle.permit_model.specs.Machine.{IsHistory, paper_number}
+use Rattle.permit_model.proofs.Appending.{base_stage-more, FallFrom, open_fall, length-cleared}
+use Rattle.permit_model.proofs.Projection.{last_touched, WasAdmitted, WereAdmitted, DoneTo, done_to}
+use Rattle.permit_model.proofs.Fronts.{AllPass, all_pass, are_numbered}
+use Rattle.permit_model.proofs.Deadlines as deadlines
+use Rattle.permit_model.proofs.Deadlines.{act_by, case_of, tests_passed, unanchored, deadline_more}
+use Rattle.permit_core.specs.RowAfter.{deadline_after, done_after, request_after, requested_after, ask_after, stopped_after, notices_after, papers_after, row_after, file_after}
+
+-- ---- the deadline
+
+same_deadline : (command : Command) (day : ℕ) (ask old : Option ℕ) → deadlines.deadline_after command day ask old ≡ deadline_after command day ask old
+same_deadline Issue day ask old = refl
+same_deadline BeginWork day ask old = refl
+same_deadline (RequestInspection step) day ask old = refl
+same_deadline (ApproveStep Final) day ask old = refl
+same_deadline (ApproveStep step) day ask old = refl
+same_deadline (Notice text) day ask old = refl
+same_deadline GrantExtension day ask old = refl
+same_deadline (Reject text) day ask old = refl
+same_deadline (Revoke text) day ask old = refl
+same_deadline Certify day ask old = refl
+same_deadline _ day ask old = refl
+
+-- ---- steps, requests and asks
+
+done_more : (command : Command) (steps : List Step) → length (add_last steps (step_approved command)) ≡ done_after command (length steps)
+done_more (ApproveStep step) steps = length-append steps (step ∷ [])
+done_more _ steps = refl
+
+request_more : (caller day : ℕ) (command : Command) (number : Option ℕ) (before : List Act) → pending_step (act_by caller day command number ∷ before) ≡ request_after command (pending_step before)
+request_more caller day (RequestInspection step) number before = refl
+request_more caller day (ApproveStep step) number before = refl
+request_more caller day (Notice text) number before = refl
+request_more caller day _ number before = refl
+
+requested_more : (caller day : ℕ) (command : Command) (number : Option ℕ) (before : List Act) → requested_day (act_by caller day command number ∷ before) ≡ requested_after day command (requested_day before)
+requested_more caller day (RequestInspection step) number before = refl
+requested_more caller day (ApproveStep step) number before = refl
+requested_more caller day (Notice text) number before = refl
+requested_more caller day _ number before = refl
+
+ask_more : (caller day : ℕ) (command : Command) (number : Option ℕ) (before : List Act) → pending_ask (act_by caller day command number ∷ before) ≡ ask_after command (pending_ask before)
+ask_more caller day (AskExtension days text) number before = refl
+ask_more caller day GrantExtension number before = refl
+ask_more caller day (RefuseExtension text) number before = refl
+ask_more caller day Issue number before = refl
+ask_more caller day _ number before = refl
+
+-- ---- stop work orders
+
+not_false : (b : Bool) → not b ≡ false → b ≡ true
+not_false true e = refl
+not_false false e = cc
+
+abbrev pub stops : List Act → ℕ
+stops acts = how_many (λ act. is_stop act.command) acts
+
+abbrev pub lifts : List Act → ℕ
+lifts acts = how_many (λ act. is_lift act.command) acts
+
+-- at most one more stop work order than lifts, and no fewer
+pub record Balanced (acts : List Act) : Type 0 where
+  pub no_more_lifts : lifts acts ≤ stops acts
+  pub one_more_stop : stops acts ≤ lifts acts + 1
+
+balanced_more : (filing : Filing) (caller day : ℕ) (command : Command) (number : Option ℕ) (before : List Act) →
+    WasAdmitted filing (act_by caller day command number) before → Balanced before → Balanced (act_by caller day command number ∷ before)
+balanced_more filing caller day (Stop text conditions) number before w b =
+    let free : stops before ≤ lifts before = not_below (lifts before) (stops before) (tests_passed filing (act_by caller day (Stop text conditions) number) before w).1.0 in
+    record { no_more_lifts = omega (arith, b.no_more_lifts); one_more_stop = omega (arith, free) }
+balanced_more filing caller day Lift number before w b =
+    let standing : is_stopped before ≡ true = not_false (is_stopped before) (tests_passed filing (act_by caller day Lift number) before w).1.0 in
+    let more : lifts before < stops before = ltb-true (lifts before) (stops before) standing in
+    record { no_more_lifts = omega (arith, more); one_more_stop = omega (arith, b.one_more_stop) }
+balanced_more filing caller day _ number before w b = record { no_more_lifts = b.no_more_lifts; one_more_stop = b.one_more_stop }
+
+pub balanced : (filing : Filing) (acts : List Act) → WereAdmitted filing acts → Balanced acts
+balanced filing [] w = record { no_more_lifts = omega arith; one_more_stop = omega arith }
+balanced filing (act ∷ before) w = balanced_more filing act.caller act.day act.command act.number before w.0 (balanced filing before w.1)
+
+stopped_more : (caller day : ℕ) (command : Command) (number : Option ℕ) (before : List Act) → Balanced before → is_stopped (act_by caller day command number ∷ before) ≡ stopped_after command (is_stopped before)
+stopped_more caller day (Stop text conditions) number before b = lt-ltb (lifts before) (suc (stops before)) (omega (arith, b.no_more_lifts))
+stopped_more caller day Lift number before b = le-ltb (suc (lifts before)) (stops before) (omega (arith, b.one_more_stop))
+stopped_more caller day _ number before b = refl
+
+-- ---- papers and notices
+
+counted_more : {A : Type 0} (x : A) (xs : List A) (b : Bool) → length (cond b (x ∷ xs) xs) ≡ (if b then length xs + 1 else length xs)
+counted_more x xs true = omega arith
+counted_more x xs false = refl
+
+papers_more : (act : Act) (before : List Act) → paper_count (act ∷ before) ≡ papers_after act.command (paper_count before)
+papers_more act before = counted_more act (filter (λ a. makes_paper a.command) before) (makes_paper act.command)
+
+-- numbers that fall from a bound are no more than it
+falling_few : (bound : ℕ) (ns : List ℕ) → FallFrom bound ns → length ns ≤ bound
+falling_few bound [] f = omega arith
+falling_few bound (n ∷ ns) f = omega (arith, falling_few (n - 1) ns f.2, f.0, f.1)
+
+-- no more notices are open than the file has papers
+pub notices_few : (filing : Filing) (acts : List Act) → WereAdmitted filing acts → length (open_notices acts) ≤ paper_count acts
+notices_few filing acts w = falling_few (paper_count acts) (open_notices acts) (open_fall acts (are_numbered filing acts w))
+
+notices_more : (filing : Filing) (caller day : ℕ) (command : Command) (number : Option ℕ) (before : List Act) → WasAdmitted filing (act_by caller day command number) before → WereAdmitted filing before →
+    length (open_notices (act_by caller day command number ∷ before)) ≡ notices_after command (length (open_notices before))
+notices_more filing caller day (Notice text) number before w all = rw (w.numbered) (omega arith)
+notices_more filing caller day (ClearNotice paper) number before w all =
+    let there : has_number (open_notices before) paper ≡ true = not_false (has_number (open_notices before) paper) (tests_passed filing (act_by caller day (ClearNotice paper) number) before w).1.0 in
+    omega (arith, length-cleared (paper_count before) paper (open_notices before) (open_fall before (are_numbered filing before all)) there)
+notices_more filing caller day _ number before w all = refl
+
+-- ---- the whole row
+
+same_row : (a b : State) → a.parcel ≡ b.parcel → a.applicant ≡ b.applicant → a.contractor ≡ b.contractor → a.reviewer ≡ b.reviewer → a.inspector ≡ b.inspector → a.kind ≡ b.kind → a.filed ≡ b.filed → a.stage ≡ b.stage → a.deadline ≡ b.deadline →
+    a.done ≡ b.done → a.request ≡ b.request → a.requested ≡ b.requested → a.ask ≡ b.ask → a.stopped ≡ b.stopped → a.notices ≡ b.notices → a.papers ≡ b.papers → a.temporary ≡ b.temporary → a ≡ b
+same_row a b e1 e2 e3 e4 e5 e6 e7 e8 e9 e10 e11 e12 e13 e14 e15 e16 e17 = λ i. record { parcel = e1 i; applicant = e2 i; contractor = e3 i; reviewer = e4 i; inspector = e5 i; kind = e6 i; filed = e7 i; stage = e8 i; deadline = e9 i; done = e10 i; request = e11 i; requested = e12 i; ask = e13 i; stopped = e14 i; notices = e15 i; papers = e16 i; temporary = e17 i }
+
+row_of_act : (filing : Filing) (caller day : ℕ) (command : Command) (number : Option ℕ) (before : List Act) → WasAdmitted filing (act_by caller day command number) before → WereAdmitted filing before →
+    state_of (case_of filing (act_by caller day command number ∷ before)) ≡ row_after day command (state_of (case_of filing before))
+row_of_act filing caller day command number before w all =
+    same_row (state_of (case_of filing (act_by caller day command number ∷ before))) (row_after day command (state_of (case_of filing before)))
+    refl refl refl refl refl refl refl
+    (base_stage-more (act_by caller day command number) before)
+    (deadline_more filing caller day command number before w (unanchored filing before all) ∙ same_deadline command day (pending_ask before) (deadline (case_of filing before)))
+    (done_more command (approved_steps before))
+    (request_more caller day command number before)
+    (requested_more caller day command number before)
+    (ask_more caller day command number before)
+    (stopped_more caller day command number before (balanced filing before all))
+    (notices_more filing caller day command number before w all)
+    (papers_more (act_by caller day command number) before)
+    refl
+
+-- what an admitted command of a history makes of a file's row
+pub row_more : (h : History) (id day caller : ℕ) (file : CaseFile) (command : Command) → IsHistory h → case_numbered h id ≡ Some file → last_day h ≤ day → reason_against h day caller (OnFile id command) ≡ None →
+    state_of (file_after day command caller file) ≡ row_after day command (state_of file)
+row_more h id day caller file command is there later admitted =
+    let done : DoneTo h file = done_to h id file is there in
+    let none : first_failing (file_tests h day file command) ≡ None = sym (ap (λ (o : Option CaseFile). first_failing (tests_on h day o command)) there) ∙ admitted in
+    row_of_act file.filing caller day command (paper_number command (Some file)) file.acts
+    (record { history = h; admitted = none; numbered = refl; in_time = omega (arith, done.until, later) }) done.admitted
+
+-- the open notices of a file of a history are no more than its papers
+pub notices_within : (h : History) (id : ℕ) (file : CaseFile) → IsHistory h → case_numbered h id ≡ Some file → (state_of file).notices ≤ (state_of file).papers
+notices_within h id file is there = notices_few file.filing file.acts (done_to h id file is there).admitted

@@ -1,0 +1,117 @@
+-- What stands against a command on a file, read off its row and the people about it.
+use Rattle.std.specs.Prelude.{◌≡◌, Result, Ok, Err, ℕ, Bool, false, not, ◌||◌, ◌&&◌, ◌==◌, ◌+◌, nat_lt, nat_le, List, [], ◌∷◌, Option, None, Some, unwrap_or, is_some, is_none}
+use Rattle.permit_base.specs.declared.words.Role.{Role}
+use Rattle.permit_base.specs.declared.words.Role.TheVariants.{Reviewer, Inspector}
+use Rattle.permit_base.specs.declared.words.Step.{Step}
+use Rattle.permit_base.specs.declared.words.Stage.{Stage}
+use Rattle.permit_base.specs.declared.words.Stage.TheVariants as stage
+use Rattle.permit_base.specs.declared.outcome.Reason.{Reason}
+use Rattle.permit_base.specs.declared.outcome.Reason.TheVariants as reason
+use Rattle.permit_base.specs.declared.request.Command.{Command}
+use Rattle.permit_base.specs.declared.request.Command.TheVariants.{AssignReviewer, AssignInspector, NameContractor, StartReview, Return, Resubmit, ApprovePlans, Reject, Issue, AskExtension, GrantExtension, RefuseExtension, BeginWork, RequestInspection, ApproveStep, Notice, ClearNotice, Stop, Lift, Revoke, Temporary, Certify}
+use Rattle.permit_core.specs.declared.people.NamedParty.{NamedParty}
+use Rattle.permit_core.specs.declared.people.People.{People}
+use Rattle.permit_model.specs.Search.{is_number}
+use Rattle.permit_model.specs.Codes.{is_role, is_stage_among}
+use Rattle.permit_model.specs.Days.{last_deadline}
+use Rattle.permit_model.specs.Steps.{has_certificates}
+use Rattle.permit_model.specs.Admission.{Test, first_failing, reviewing_stages, inspecting_stages, open_stages, stoppable_stages, revocable_stages, ask_limit, is_the_step, most_papers, days_above}
+use Rattle.permit_model.specs.Tables.{State, next_in_row}
+use Rattle.permit_core.specs.Views.{row_stage}
+
+-- the stage on the day is none of these
+abbrev pub not_in : ℕ → State → List Stage → Test
+not_in day s stages = (not (is_stage_among stages (row_stage day s)), reason.Stage)
+
+abbrev pub stopped : State → Test
+stopped s = (s.stopped, reason.Stopped)
+
+abbrev pub not_stopped : State → Test
+not_stopped s = (not s.stopped, reason.NothingPending)
+
+abbrev pub no_party : People → Test
+no_party people = (not (is_some people.named), reason.Person)
+
+abbrev pub is_of_role : Role → Option NamedParty → Bool
+is_of_role role None = false
+is_of_role role (Some p) = is_role role p.role
+
+abbrev pub no_party_of_role : Role → People → Test
+no_party_of_role role people = (not (is_of_role role people.named), reason.Person)
+
+abbrev pub is_with_interest : Option NamedParty → Bool
+is_with_interest None = false
+is_with_interest (Some p) = p.has_interest
+
+-- the file's applicant or contractor, the parcel's owner, or one with an interest in the parcel
+abbrev pub interested : State → ℕ → People → Test
+interested s party people = ((s.applicant == party) || is_number s.contractor party || is_number people.owner party || is_with_interest people.named, reason.Interested)
+
+abbrev pub ask_pending : State → Test
+ask_pending s = (is_some s.ask, reason.Pending)
+
+abbrev pub no_ask_pending : State → Test
+no_ask_pending s = (is_none s.ask, reason.NothingPending)
+
+abbrev pub request_pending : State → Test
+request_pending s = (is_some s.request, reason.Pending)
+
+abbrev pub no_request_pending : State → Test
+no_request_pending s = (is_none s.request, reason.NothingPending)
+
+abbrev pub not_the_next : State → Step → Test
+not_the_next s step = (not (is_the_step (next_in_row s) step), reason.Step)
+
+abbrev pub not_the_requested : State → Step → Test
+not_the_requested s step = (not (is_the_step s.request step), reason.Step)
+
+abbrev pub notice_open : State → Test
+notice_open s = (nat_lt 0 s.notices, reason.NoticeOpen)
+
+-- a row without open notices has none of any number
+abbrev pub no_such_notice : State → People → Test
+no_such_notice s people = (not (people.is_open_notice && nat_lt 0 s.notices), reason.NoSuchNotice)
+
+abbrev pub no_certificates : State → Test
+no_certificates s = (not (has_certificates s.kind), reason.Kind)
+
+abbrev pub papers_full : State → Test
+papers_full s = (nat_le most_papers s.papers, reason.Full)
+
+-- the deadline with the asked days is too far
+abbrev pub too_far : State → Test
+too_far s = (nat_lt last_deadline (unwrap_or s.deadline 0 + unwrap_or s.ask 0), reason.Far)
+
+-- the tests of each command, in the order of the reasons
+abbrev pub row_tests : ℕ → State → People → Command → List Test
+row_tests day s people (AssignReviewer party) = not_in day s reviewing_stages ∷ no_party_of_role Reviewer people ∷ interested s party people ∷ []
+row_tests day s people (AssignInspector party) = not_in day s inspecting_stages ∷ no_party_of_role Inspector people ∷ interested s party people ∷ []
+row_tests day s people (NameContractor party) = not_in day s open_stages ∷ no_party people ∷ []
+row_tests day s people StartReview = not_in day s (stage.Filed ∷ []) ∷ []
+row_tests day s people (Return text) = not_in day s (stage.Review ∷ []) ∷ papers_full s ∷ []
+row_tests day s people (Resubmit text) = not_in day s (stage.Returned ∷ []) ∷ papers_full s ∷ []
+row_tests day s people ApprovePlans = not_in day s (stage.Review ∷ []) ∷ []
+row_tests day s people (Reject text) = not_in day s (stage.Review ∷ []) ∷ papers_full s ∷ []
+row_tests day s people Issue = not_in day s (stage.Approved ∷ []) ∷ papers_full s ∷ []
+row_tests day s people (AskExtension days text) = not_in day s open_stages ∷ days_above (ask_limit (row_stage day s)) days ∷ ask_pending s ∷ papers_full s ∷ []
+row_tests day s people GrantExtension = not_in day s open_stages ∷ no_ask_pending s ∷ papers_full s ∷ too_far s ∷ []
+row_tests day s people (RefuseExtension text) = not_in day s open_stages ∷ no_ask_pending s ∷ papers_full s ∷ []
+row_tests day s people BeginWork = not_in day s (stage.Issued ∷ []) ∷ stopped s ∷ []
+row_tests day s people (RequestInspection step) = not_in day s (stage.Working ∷ []) ∷ stopped s ∷ request_pending s ∷ not_the_next s step ∷ []
+row_tests day s people (ApproveStep step) = not_in day s (stage.Working ∷ []) ∷ stopped s ∷ no_request_pending s ∷ not_the_requested s step ∷ notice_open s ∷ []
+row_tests day s people (Notice text) = not_in day s (stage.Working ∷ []) ∷ no_request_pending s ∷ papers_full s ∷ []
+row_tests day s people (ClearNotice paper) = not_in day s (stage.Working ∷ []) ∷ no_such_notice s people ∷ []
+row_tests day s people (Stop text conditions) = not_in day s stoppable_stages ∷ stopped s ∷ papers_full s ∷ []
+row_tests day s people Lift = not_in day s stoppable_stages ∷ not_stopped s ∷ papers_full s ∷ []
+row_tests day s people (Revoke text) = not_in day s revocable_stages ∷ papers_full s ∷ []
+row_tests day s people (Temporary days text) = not_in day s (stage.Working ∷ []) ∷ stopped s ∷ days_above 180 days ∷ notice_open s ∷ no_certificates s ∷ papers_full s ∷ []
+row_tests day s people Certify = not_in day s (stage.Finaled ∷ []) ∷ stopped s ∷ no_certificates s ∷ papers_full s ∷ []
+
+-- the answer to a command: done where nothing stands against it, else the reason
+abbrev pub Answers : Result Unit Reason → Option Reason → Type 0
+Answers (Ok done) against = against ≡ None
+Answers (Err reason) against = against ≡ Some reason
+
+-- the command is admitted on the day, with some people about it
+abbrev pub IsAdmitted : ℕ → State → Command → Type 0
+IsAdmitted day s command = (people : People) × (first_failing (row_tests day s people command) ≡ None)

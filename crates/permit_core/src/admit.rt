@@ -1,0 +1,401 @@
+//! What is admitted on a file: the department's table of commands, with the reasons in their numbered order.
+
+ghost use Rattle.std.specs.Prelude.{◌≡◌, ℕ, not, Some, [], ◌∷◌};
+ghost use Rattle.permit_model.specs.Codes;
+ghost use Rattle.permit_model.specs.Steps;
+ghost use Rattle.permit_model.specs.Search.{is_number};
+ghost use Rattle.permit_model.specs.Admission;
+ghost use Rattle.permit_model.specs.Admission.{reviewing_stages, inspecting_stages, open_stages, stoppable_stages, revocable_stages};
+ghost use Rattle.permit_base.specs.declared.request.Request.TheVariants.{OnFile};
+ghost use Rattle.permit_model.specs.History.{History};
+ghost use Rattle.permit_model.specs.Files.{CaseFile, case_numbered};
+ghost use Rattle.permit_model.specs.Machine.{IsHistory};
+ghost use Rattle.permit_model.specs.Tables.{state_of};
+ghost use Rattle.permit_core.specs.Naming.{people_of};
+ghost use Rattle.permit_core.specs.RowTests;
+ghost use Rattle.permit_base.specs.declared.words.Stage.TheVariants as stage;
+ghost use Rattle.permit_core.specs.RowTests.{row_tests, Answers};
+ghost use Rattle.permit_core.specs.Views.{row_stage};
+
+use crate::people::{NamedParty, People};
+use crate::state::FileState;
+use permit_base::outcome::Reason;
+use permit_base::request::Command;
+use permit_base::values::{Day, Days, PartyId};
+use permit_base::words::{Kind, Role, Stage, Step};
+
+/// A test of a command: whether it fails the command, and the reason that is then answered.
+type Test = (bool, Reason);
+
+/// The reason of the first test that fails.
+fn first_failing(tests: &[Test]) -> Option<Reason>
+    ensures { result ≡ Admission.first_failing tests.now }
+{
+    for (fails, reason) in tests {
+        if *fails {
+            return Some(*reason);
+        }
+    }
+    None
+}
+
+/// Whether the stage is among these.
+fn is_among(stages: &[Stage], stage: Stage) -> bool
+    ensures { result ≡ Codes.is_stage_among stages.now stage }
+{
+    stages.iter().any(|one| stage == *one)
+}
+
+/// Whether the step is there and is this one.
+fn is_the_step(step: Option<Step>, other: Step) -> bool
+    ensures { result ≡ Admission.is_the_step step other }
+{
+    step == Some(other)
+}
+
+/// Whether there is a named party of the role.
+fn is_of_role(role: Role, named: Option<NamedParty>) -> bool
+    ensures { result ≡ RowTests.is_of_role role named }
+{
+    match named {
+        Some(party) => party.role == role,
+        None => false,
+    }
+}
+
+/// Whether certificates, final and temporary, are given for the kind.
+fn has_certificates(kind: Kind) -> bool
+    ensures { result ≡ Steps.has_certificates kind }
+{
+    !matches!(kind, Kind::Repair | Kind::Demolish)
+}
+
+/// The stages in which a reviewer is assigned.
+const REVIEWING: [Stage; 3] = [Stage::Filed, Stage::Review, Stage::Returned];
+
+/// The stages in which an inspector is assigned.
+const INSPECTING: [Stage; 3] = [Stage::Approved, Stage::Issued, Stage::Working];
+
+/// The stages with a deadline, before it is past.
+const OPEN: [Stage; 6] = [
+    Stage::Filed,
+    Stage::Review,
+    Stage::Returned,
+    Stage::Approved,
+    Stage::Issued,
+    Stage::Working,
+];
+
+/// The stages in which work is stopped, and a stop lifted.
+const STOPPABLE: [Stage; 5] = [
+    Stage::Issued,
+    Stage::Working,
+    Stage::Lapsed,
+    Stage::Revoked,
+    Stage::Finaled,
+];
+
+/// The stages in which a permit is revoked.
+const REVOCABLE: [Stage; 3] = [Stage::Issued, Stage::Working, Stage::Lapsed];
+
+/// The most papers of a file.
+const MOST_PAPERS: u16 = 9999;
+
+/// The greatest number that a deadline may be.
+const LAST_DEADLINE: u32 = 200000;
+
+/// The most days of a temporary certificate, and of an extension once the permit is issued (IBC 2018, section 105.5).
+const LONGEST_TERM: u32 = 180;
+
+/// The most days of an extension before the permit is issued (IBC 2018, section 105.3.2).
+const LONGEST_REVIEW_EXTENSION: u32 = 90;
+
+/// There is no party of the name, or it isn't of the role.
+fn no_party_of_role(role: Role, people: &People) -> Test
+    ensures { result ≡ RowTests.no_party_of_role role people.now }
+{
+    (!is_of_role(role, people.named), Reason::Person)
+}
+
+/// The most days that may be asked in a stage.
+fn ask_limit(stage: Stage) -> u32
+    ensures { result ≡ Admission.ask_limit stage }
+{
+    match stage {
+        Stage::Issued | Stage::Working => LONGEST_TERM,
+        _ => LONGEST_REVIEW_EXTENSION,
+    }
+}
+
+/// Whether the party is there and has an interest in the parcel.
+fn is_with_interest(named: Option<NamedParty>) -> bool
+    ensures { result ≡ RowTests.is_with_interest named }
+{
+    match named {
+        Some(party) => party.has_interest,
+        None => false,
+    }
+}
+
+/// Whether there is a number and it is this one.
+fn is(named: Option<PartyId>, party: PartyId) -> bool
+    ensures { result ≡ is_number named party }
+{
+    match named {
+        Some(other) => other.get() == party.get(),
+        None => false,
+    }
+}
+
+impl FileState {
+    /// The stage on the day is none of these.
+    fn not_in(&self, day: Day, stages: &[Stage]) -> Test
+        ensures { result ≡ RowTests.not_in day self.now stages.now }
+    {
+        (!is_among(stages, self.stage(day)), Reason::Stage)
+    }
+
+    /// A stop work order stands.
+    fn stopped_test(&self) -> Test
+        ensures { result ≡ RowTests.stopped self.now }
+    {
+        (self.is_stopped(), Reason::Stopped)
+    }
+
+    /// The party is the applicant, the contractor or the parcel's owner, or has an interest in the parcel.
+    fn interested(&self, party: PartyId, people: &People) -> Test
+        ensures { result ≡ RowTests.interested self.now party people.now }
+    {
+        let is_interested = self.applicant().get() == party.get()
+            || is(self.contractor(), party)
+            || is(people.owner, party)
+            || is_with_interest(people.named);
+        (is_interested, Reason::Interested)
+    }
+
+    /// No certificates are given for the kind.
+    fn no_certificates(&self) -> Test
+        ensures { result ≡ RowTests.no_certificates self.now }
+    {
+        (!has_certificates(self.kind()), Reason::Kind)
+    }
+
+    /// A notice is open.
+    fn notice_open(&self) -> Test
+        ensures { result ≡ RowTests.notice_open self.now }
+    {
+        (self.notices() > 0, Reason::NoticeOpen)
+    }
+
+    /// The limit of papers is reached.
+    fn papers_full(&self) -> Test
+        ensures { result ≡ RowTests.papers_full self.now }
+    {
+        (self.papers() >= MOST_PAPERS, Reason::Full)
+    }
+
+    /// The deadline with the asked days is too far.
+    fn too_far(&self) -> Test
+        ensures { result ≡ RowTests.too_far self.now }
+    {
+        let asked = match self.ask() {
+            Some(days) => days.get(),
+            None => 0,
+        };
+        let deadline = self.deadline().unwrap_or(0);
+        (deadline.saturating_add(asked) > LAST_DEADLINE, Reason::Far)
+    }
+
+    /// What stands against a reviewer or an inspector being assigned.
+    fn against_assignment(&self, day: Day, stages: &[Stage], role: Role, party: PartyId, people: &People) -> Option<Reason>
+        ensures { result ≡ Admission.first_failing (RowTests.not_in day self.now stages.now ∷ RowTests.no_party_of_role role people.now ∷ RowTests.interested self.now party people.now ∷ []) }
+    {
+        first_failing(&[
+            self.not_in(day, stages),
+            no_party_of_role(role, people),
+            self.interested(party, people),
+        ])
+    }
+
+    /// What stands against a contractor being named.
+    fn against_naming(&self, day: Day, people: &People) -> Option<Reason>
+        ensures { result ≡ Admission.first_failing (RowTests.not_in day self.now open_stages ∷ RowTests.no_party people.now ∷ []) }
+    {
+        first_failing(&[self.not_in(day, &OPEN), (people.named.is_none(), Reason::Person)])
+    }
+
+    /// What stands against a command that makes a paper and asks nothing but its stages.
+    fn against_decision(&self, day: Day, stages: &[Stage]) -> Option<Reason>
+        ensures { result ≡ Admission.first_failing (RowTests.not_in day self.now stages.now ∷ RowTests.papers_full self.now ∷ []) }
+    {
+        first_failing(&[self.not_in(day, stages), self.papers_full()])
+    }
+
+    /// What stands against an extension being asked for.
+    fn against_ask(&self, day: Day, days: Days) -> Option<Reason>
+        ensures { result ≡ Admission.first_failing (RowTests.not_in day self.now open_stages ∷ Admission.days_above (Admission.ask_limit (row_stage day self.now)) days ∷ RowTests.ask_pending self.now ∷ RowTests.papers_full self.now ∷ []) }
+    {
+        first_failing(&[
+            self.not_in(day, &OPEN),
+            (days.get() > ask_limit(self.stage(day)), Reason::Days),
+            (self.ask().is_some(), Reason::Pending),
+            self.papers_full(),
+        ])
+    }
+
+    /// What stands against the pending ask being granted.
+    fn against_grant(&self, day: Day) -> Option<Reason>
+        ensures { result ≡ Admission.first_failing (RowTests.not_in day self.now open_stages ∷ RowTests.no_ask_pending self.now ∷ RowTests.papers_full self.now ∷ RowTests.too_far self.now ∷ []) }
+    {
+        first_failing(&[
+            self.not_in(day, &OPEN),
+            (self.ask().is_none(), Reason::NothingPending),
+            self.papers_full(),
+            self.too_far(),
+        ])
+    }
+
+    /// What stands against the pending ask being refused.
+    fn against_refusal(&self, day: Day) -> Option<Reason>
+        ensures { result ≡ Admission.first_failing (RowTests.not_in day self.now open_stages ∷ RowTests.no_ask_pending self.now ∷ RowTests.papers_full self.now ∷ []) }
+    {
+        first_failing(&[
+            self.not_in(day, &OPEN),
+            (self.ask().is_none(), Reason::NothingPending),
+            self.papers_full(),
+        ])
+    }
+
+    /// What stands against an inspection of a step being requested (IBC 2018, sections 110.5 and 110.6).
+    fn against_request(&self, day: Day, step: Step) -> Option<Reason>
+        ensures { result ≡ Admission.first_failing (RowTests.not_in day self.now (stage.Working ∷ []) ∷ RowTests.stopped self.now ∷ RowTests.request_pending self.now ∷ RowTests.not_the_next self.now step ∷ []) }
+    {
+        first_failing(&[
+            self.not_in(day, &[Stage::Working]),
+            self.stopped_test(),
+            (self.request().is_some(), Reason::Pending),
+            (!is_the_step(self.next_step(), step), Reason::Step),
+        ])
+    }
+
+    /// What stands against a step being approved (IBC 2018, section 110.6).
+    fn against_approval(&self, day: Day, step: Step) -> Option<Reason>
+        ensures { result ≡ Admission.first_failing (RowTests.not_in day self.now (stage.Working ∷ []) ∷ RowTests.stopped self.now ∷ RowTests.no_request_pending self.now ∷ RowTests.not_the_requested self.now step ∷ RowTests.notice_open self.now ∷ []) }
+    {
+        first_failing(&[
+            self.not_in(day, &[Stage::Working]),
+            self.stopped_test(),
+            (self.request().is_none(), Reason::NothingPending),
+            (!is_the_step(self.request(), step), Reason::Step),
+            self.notice_open(),
+        ])
+    }
+
+    /// What stands against a correction notice.
+    fn against_notice(&self, day: Day) -> Option<Reason>
+        ensures { result ≡ Admission.first_failing (RowTests.not_in day self.now (stage.Working ∷ []) ∷ RowTests.no_request_pending self.now ∷ RowTests.papers_full self.now ∷ []) }
+    {
+        first_failing(&[
+            self.not_in(day, &[Stage::Working]),
+            (self.request().is_none(), Reason::NothingPending),
+            self.papers_full(),
+        ])
+    }
+
+    /// What stands against a notice being cleared.
+    fn against_clearing(&self, day: Day, people: &People) -> Option<Reason>
+        ensures { result ≡ Admission.first_failing (RowTests.not_in day self.now (stage.Working ∷ []) ∷ RowTests.no_such_notice self.now people.now ∷ []) }
+    {
+        first_failing(&[
+            self.not_in(day, &[Stage::Working]),
+            (!(people.is_open_notice && self.notices() > 0), Reason::NoSuchNotice),
+        ])
+    }
+
+    /// What stands against a stop work order (IBC 2018, section 115).
+    fn against_stop(&self, day: Day) -> Option<Reason>
+        ensures { result ≡ Admission.first_failing (RowTests.not_in day self.now stoppable_stages ∷ RowTests.stopped self.now ∷ RowTests.papers_full self.now ∷ []) }
+    {
+        first_failing(&[self.not_in(day, &STOPPABLE), self.stopped_test(), self.papers_full()])
+    }
+
+    /// What stands against a stop work order being lifted.
+    fn against_lift(&self, day: Day) -> Option<Reason>
+        ensures { result ≡ Admission.first_failing (RowTests.not_in day self.now stoppable_stages ∷ RowTests.not_stopped self.now ∷ RowTests.papers_full self.now ∷ []) }
+    {
+        first_failing(&[
+            self.not_in(day, &STOPPABLE),
+            (!self.is_stopped(), Reason::NothingPending),
+            self.papers_full(),
+        ])
+    }
+
+    /// What stands against a temporary certificate (IBC 2018, section 111).
+    fn against_temporary(&self, day: Day, days: Days) -> Option<Reason>
+        ensures { result ≡ Admission.first_failing (RowTests.not_in day self.now (stage.Working ∷ []) ∷ RowTests.stopped self.now ∷ Admission.days_above 180 days ∷ RowTests.notice_open self.now ∷ RowTests.no_certificates self.now ∷ RowTests.papers_full self.now ∷ []) }
+    {
+        first_failing(&[
+            self.not_in(day, &[Stage::Working]),
+            self.stopped_test(),
+            (days.get() > LONGEST_TERM, Reason::Days),
+            self.notice_open(),
+            self.no_certificates(),
+            self.papers_full(),
+        ])
+    }
+
+    /// What stands against the certificate of occupancy (IBC 2018, section 111).
+    fn against_certificate(&self, day: Day) -> Option<Reason>
+        ensures { result ≡ Admission.first_failing (RowTests.not_in day self.now (stage.Finaled ∷ []) ∷ RowTests.stopped self.now ∷ RowTests.no_certificates self.now ∷ RowTests.papers_full self.now ∷ []) }
+    {
+        first_failing(&[
+            self.not_in(day, &[Stage::Finaled]),
+            self.stopped_test(),
+            self.no_certificates(),
+            self.papers_full(),
+        ])
+    }
+
+    /// The first reason, in their numbered order, that stands against a command on the day.
+    fn reason_against(&self, day: Day, command: &Command, people: &People) -> Option<Reason>
+        ensures { result ≡ Admission.first_failing (row_tests day self.now people.now command.now) }
+    {
+        match command {
+            Command::AssignReviewer { party } => self.against_assignment(day, &REVIEWING, Role::Reviewer, *party, people),
+            Command::AssignInspector { party } => self.against_assignment(day, &INSPECTING, Role::Inspector, *party, people),
+            Command::NameContractor { .. } => self.against_naming(day, people),
+            Command::StartReview => first_failing(&[self.not_in(day, &[Stage::Filed])]),
+            Command::Return { .. } => self.against_decision(day, &[Stage::Review]),
+            Command::Resubmit { .. } => self.against_decision(day, &[Stage::Returned]),
+            Command::ApprovePlans => first_failing(&[self.not_in(day, &[Stage::Review])]),
+            Command::Reject { .. } => self.against_decision(day, &[Stage::Review]),
+            Command::Issue => self.against_decision(day, &[Stage::Approved]),
+            Command::AskExtension { days, .. } => self.against_ask(day, *days),
+            Command::GrantExtension => self.against_grant(day),
+            Command::RefuseExtension { .. } => self.against_refusal(day),
+            Command::BeginWork => first_failing(&[self.not_in(day, &[Stage::Issued]), self.stopped_test()]),
+            Command::RequestInspection { step } => self.against_request(day, *step),
+            Command::ApproveStep { step } => self.against_approval(day, *step),
+            Command::Notice { .. } => self.against_notice(day),
+            Command::ClearNotice { .. } => self.against_clearing(day, people),
+            Command::Stop { .. } => self.against_stop(day),
+            Command::Lift => self.against_lift(day),
+            Command::Revoke { .. } => self.against_decision(day, &REVOCABLE),
+            Command::Temporary { days, .. } => self.against_temporary(day, *days),
+            Command::Certify => self.against_certificate(day),
+        }
+    }
+
+    /// Whether a command is admitted on a day: Ok, or the first reason, in their numbered order, that stands against it.
+    pub fn admit(&self, day: Day, command: &Command, people: &People) -> Result<(), Reason>
+        ensures row { Answers result (Admission.first_failing (row_tests day self.now people.now command.now)) }
+        ensures model { (h : History) (id caller : ℕ) (file : CaseFile) → IsHistory h → case_numbered h id ≡ Some file
+            → self.now ≡ state_of file → people.now ≡ people_of h file command.now
+            → Answers result (Admission.reason_against h day caller (OnFile id command.now)) }
+    {
+        match self.reason_against(day, command, people) {
+            Some(reason) => Err(reason),
+            None => Ok(()),
+        }
+    }
+}

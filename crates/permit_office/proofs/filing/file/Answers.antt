@@ -1,0 +1,51 @@
+use Rattle.std.proofs.Common.{◌≡◌, ◌+◌, length, ap, ◌∙◌, sym, refl, inl, inr, arith}
+use Rattle.permit_base.specs.declared.request.Request.TheVariants.{File}
+use Rattle.permit_base.specs.declared.words.Stage.TheVariants.{New}
+use Rattle.permit_base.specs.declared.words.Action.TheVariants as action
+use Rattle.permit_model.specs.Caller.{Party}
+use Rattle.permit_model.specs.Parcels.{Parcel, parcels, parcel_numbered}
+use Rattle.std.specs.Prelude.{Some}
+use Rattle.std.proofs.lemmas.List.{length-map}
+use Rattle.permit_model.specs.Files.{filings, case_file, case_files}
+use Rattle.permit_model.specs.Tables.{Desk, tables}
+use Rattle.permit_model.specs.Facts.{parcel_facts}
+use Rattle.permit_model.specs.Policy.{decision}
+use Rattle.permit_model.specs.Machine.{entry_of}
+use Rattle.permit_office.proofs.Deciding.{denied_outcome, allowed_outcome, file_suits, wrapped}
+use Rattle.permit_office.proofs.Finding.{found_number, file_judged}
+use Rattle.permit_office.proofs.Tables.{file_more}
+use Rattle.permit_office.proofs.filing.file.Goals as goal
+
+pub returns-in-Some-denial-clause-model : goal.returns-in-Some-denial-clause-model
+returns-in-Some-denial-clause-model g c = λ h is held e t party.
+    let a = c.args in
+    let found = sym c.in-Some.is ∙ c.in_ok-land.ensures.found (tables h) held in
+    let named = found_number (λ (p : Parcel). p.id) a.parcel (parcels h) c.in-Some.land (sym found) in
+    let kept = c.parcel.ensures.kept (tables h) held in
+    let there : parcel_numbered h c.in-Some.land.id ≡ Some c.in-Some.land = ap (parcel_numbered h) named ∙ sym found in
+    let facts = rw named at (c.in_ok-facts.ensures.facts h kept there) in
+    let denied = rw facts at (sym c.in-Some-denial.is ∙ c.denial.ensures) in
+    rw (file_judged a.policy.now h a.day a.caller.now a.parcel a.kind a.valuation a.description.now c.in-Some.land (sym found)
+        ∙ denied_outcome a.policy.now h a.day a.caller.now (File a.parcel a.kind a.valuation a.description.now) (decision a.policy.now (parcel_facts h a.caller.now a.parcel New action.File)) c.in-Some-denial.name denied)
+    (inl (refl, c.facts_on_parcel.ensures.kept (tables h) kept))
+
+pub returns-clause-model : goal.returns-clause-model
+returns-clause-model g c = λ h is held e t party.
+    let a = c.args in
+    let found = sym c.in-Some.is ∙ c.in_ok-land.ensures.found (tables h) held in
+    let named = found_number (λ (p : Parcel). p.id) a.parcel (parcels h) c.in-Some.land (sym found) in
+    let kept = c.parcel.ensures.kept (tables h) held in
+    let there : parcel_numbered h c.in-Some.land.id ≡ Some c.in-Some.land = ap (parcel_numbered h) named ∙ sym found in
+    let facts = rw named at (c.in_ok-facts.ensures.facts h kept there) in
+    let allowed = rw facts at (sym c.in_default-denial.is ∙ c.denial.ensures) in
+    let reason = c.against_file-reason.ensures h a.day a.caller.now.id a.parcel a.kind a.valuation a.description.now e in
+    let desk = ap (λ (d : Desk). d.files) (c.desk.view_is ∙ e) in
+    let caller = ap (λ (p : Party). p.id) c.caller.view_is in
+    let state = rw caller at (c.file-state.ensures (length (filings h) + 1) a.valuation a.description.now) in
+    let done = c.carry_out.ensures.model h (entry_of h a.day a.caller.now.id (File a.parcel a.kind a.valuation a.description.now)) (c.facts_on_parcel.ensures.kept (tables h) kept)
+        (λ none. let s = file_suits h a.day a.caller.now.id a.parcel a.kind a.valuation a.description.now c.in-Some.land (sym found) party (sym reason ∙ none) in
+            let n : length (case_files h) ≡ length (filings h) = length-map (filings h) (case_file h) in
+            (rw (← n) (wrapped c.desk.inside.files _ desk s.1), record { suits = rw state s.0; in_time = t }, rw state (file_more h a.day a.caller.now.id a.parcel a.kind a.valuation a.description.now is))) in
+    rw (file_judged a.policy.now h a.day a.caller.now a.parcel a.kind a.valuation a.description.now c.in-Some.land (sym found)
+        ∙ allowed_outcome a.policy.now h a.day a.caller.now (File a.parcel a.kind a.valuation a.description.now) (decision a.policy.now (parcel_facts h a.caller.now a.parcel New action.File)) allowed)
+    (rw reason at done)

@@ -1,0 +1,32 @@
+use Rattle.std.proofs.Common.{◌≡◌, ap, ◌∙◌, sym, refl, inl, inr, arith}
+use Rattle.permit_base.specs.declared.request.Request.TheVariants.{AddParcel}
+use Rattle.permit_base.specs.declared.words.Action.TheVariants as action
+use Rattle.permit_model.specs.Caller.{Party}
+use Rattle.permit_model.specs.Tables.{Desk, tables}
+use Rattle.permit_model.specs.Facts.{office_facts}
+use Rattle.permit_model.specs.Policy.{decision}
+use Rattle.permit_model.specs.Machine.{entry_of}
+use Rattle.permit_office.proofs.Deciding.{denied_outcome, allowed_outcome, parcel_suits, wrapped}
+use Rattle.permit_office.proofs.Tables.{parcel_more}
+use Rattle.permit_office.proofs.land.add_parcel.Goals as goal
+
+pub returns-in-Some-clause-model : goal.returns-in-Some-clause-model
+returns-in-Some-clause-model g c = λ h is held e t.
+    let role = ap (λ (p : Party). p.role) c.caller.view_is in
+    let denied = rw (c.office.ensures, role) at (sym c.in-Some.is ∙ c.denial.ensures) in
+    let a = c.args in
+    rw (denied_outcome a.policy.now h a.day a.caller.now (AddParcel a.lot.now a.address.now a.owner) (decision a.policy.now (office_facts a.caller.now.role action.AddParcel)) c.in-Some.name denied)
+    (inl (refl, held))
+
+pub returns-clause-model : goal.returns-clause-model
+returns-clause-model g c = λ h is held e t.
+    let role = ap (λ (p : Party). p.role) c.caller.view_is in
+    let a = c.args in
+    let allowed = rw (c.office.ensures, role) at (sym c.in_default.is ∙ c.denial.ensures) in
+    let reason = c.in_ok-reason.ensures.reason h a.day a.caller.now.id a.address.now held e in
+    let desk = ap (λ (d : Desk). d.parcels) (c.desk.view_is ∙ e) in
+    let done = c.carry_out.ensures.model h (entry_of h a.day a.caller.now.id (AddParcel a.lot.now a.address.now a.owner)) (c.against_parcel.ensures.kept (tables h) held)
+        (λ none. let s = parcel_suits h a.day a.caller.now.id a.lot.now a.address.now a.owner (sym reason ∙ none) in
+            (wrapped c.desk.inside.parcels _ desk s.1, record { suits = s.0; in_time = t }, parcel_more h a.day a.caller.now.id a.lot.now a.address.now a.owner is)) in
+    rw (allowed_outcome a.policy.now h a.day a.caller.now (AddParcel a.lot.now a.address.now a.owner) (decision a.policy.now (office_facts a.caller.now.role action.AddParcel)) allowed)
+    (rw reason at done)

@@ -1,0 +1,14 @@
+use Rattle.std.proofs.Common.{◌≡◌, ap, ◌∙◌, sym, refl, arith}
+use Rattle.permit_model.specs.Tables.{Desk, tables}
+use Rattle.permit_office.proofs.Stepping.{stepped, caller_there}
+use Rattle.permit_office.proofs.serve.attempt.Goals as goal
+
+pub returns-clause-model : goal.returns-clause-model
+returns-clause-model g c = λ h is held.
+    let a = c.args in
+    let found = sym c.in-Some.is ∙ c.in_ok-caller.ensures.found (tables h) held in
+    let kept = c.party_by_token.ensures.kept (tables h) held in
+    let desk = c.in_ok-desk.ensures.found (tables h) kept in
+    let last = ap (λ (d : Desk). d.last) (c.desk-2.view_is ∙ desk) in
+    rw (stepped a.policy.now h a.digest.now a.asked.now a.day c.in-Some.caller found (omega arith))
+    (c.serve_known.ensures.model h is (c.desk.ensures.kept (tables h) kept) desk (omega arith) (caller_there h a.digest.now c.in-Some.caller found))

@@ -1,0 +1,34 @@
+//! The one place that commits.
+
+ghost use Rattle.std.specs.Prelude.{◌≡◌, ◌∷◌, Option, Some, None, IfOk};
+ghost use Rattle.permit_model.specs.History.{History, Entry};
+ghost use Rattle.permit_model.specs.Tables.{tables};
+ghost use Rattle.permit_model.specs.Machine.{admitted};
+ghost use Rattle.permit_store.specs.Counts.{failed_after};
+ghost use Rattle.permit_store.specs.Changes.{Fits, changed};
+ghost use Rattle.permit_office.specs.Answers.{Attempts, Committed, IsOwn};
+
+use crate::reply::Reply;
+use permit_base::outcome::{Reason, Refusal};
+use permit_base::values::Day;
+use permit_store::rows::Change;
+use permit_store::store::{Got, Store};
+
+/// Makes a change that nothing stands against.
+pub(crate) fn carry_out<S: Store>(store: &mut S, reason: Option<Reason>, number: Option<u32>, change: &Change<'_>, day: Day) -> Got<Reply>
+    ensures model { (h : History) (entry : Entry) → S.holds store.old (tables h)
+        → (reason ≡ None → (number ≡ entry.number) × Fits (tables h) change.now day × (changed (tables h) change.now day ≡ tables (entry ∷ h)))
+        → Attempts (S.holds store.new) result (admitted h entry reason) h }
+    ensures failed { S.failed store.new ≡ failed_after result (S.failed store.old) }
+    ensures commits { Committed result (S.commits store.old) (S.commits store.new) }
+    ensures handed { S.handed store.new ≡ S.handed store.old }
+    ensures own { IfOk result IsOwn }
+{
+    match reason {
+        Some(reason) => Ok(Reply::Refused(Refusal::NotAdmitted(reason))),
+        None => {
+            store.commit(change, day)?;
+            Ok(Reply::Done { number })
+        }
+    }
+}

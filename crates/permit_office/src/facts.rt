@@ -1,0 +1,78 @@
+//! The facts by which the policy decides, from the rows of a parcel or a file.
+
+ghost use Rattle.std.specs.Prelude.{◌≡◌, Option, Some, None, IfOk};
+ghost use Rattle.permit_model.specs.History.{History};
+ghost use Rattle.permit_model.specs.Parcels.{parcel_numbered, owner};
+ghost use Rattle.permit_model.specs.Files.{CaseFile};
+ghost use Rattle.permit_model.specs.Facts.{file_facts, parcel_facts};
+ghost use Rattle.permit_model.specs.Tables.{Tables, tables, file_row};
+ghost use Rattle.permit_store.specs.Counts.{failed_after};
+
+use permit_base::values::{Day, ParcelId, PartyId};
+use permit_base::words::{Action, Relations, Stage, Timing};
+use permit_policy::Facts;
+use permit_store::rows::{FileRow, Parcel, Party};
+use permit_store::store::{Got, Store};
+
+/// The facts of a request on a parcel.
+pub(crate) fn facts_on_parcel<S: Store>(store: &mut S, caller: &Party, land: &Parcel, word: Stage, action: Action) -> Got<Facts>
+    ensures facts { (h : History) → S.holds store.old (tables h) → parcel_numbered h land.now.id ≡ Some land.now
+        → IfOk result (λ f. f ≡ parcel_facts h caller.now land.now.id word action) }
+    ensures kept { (t : Tables) → S.holds store.old t → S.holds store.new t }
+    ensures failed { S.failed store.new ≡ failed_after result (S.failed store.old) }
+    ensures commits { S.commits store.new ≡ S.commits store.old }
+    ensures handed { S.handed store.new ≡ S.handed store.old }
+{
+    let conflict = store.interest(land.id, caller.id)?;
+    Ok(Facts {
+        role: caller.role,
+        relations: Relations {
+            applicant: false,
+            contractor: false,
+            owner: land.owner.get() == caller.id.get(),
+            assigned_reviewer: false,
+            assigned_inspector: false,
+            conflict,
+        },
+        action,
+        stage: word,
+        stopped: false,
+        timing: Timing::Untimed,
+    })
+}
+
+/// The owner of a parcel, if it is there.
+pub(crate) fn owner_of<S: Store>(store: &mut S, parcel: ParcelId) -> Got<Option<PartyId>>
+    ensures owner { (h : History) → S.holds store.old (tables h) → IfOk result (λ o. o ≡ owner h parcel) }
+    ensures kept { (t : Tables) → S.holds store.old t → S.holds store.new t }
+    ensures failed { S.failed store.new ≡ failed_after result (S.failed store.old) }
+    ensures commits { S.commits store.new ≡ S.commits store.old }
+    ensures handed { S.handed store.new ≡ S.handed store.old }
+{
+    match store.parcel(parcel)? {
+        Some(land) => Ok(Some(land.owner)),
+        None => Ok(None),
+    }
+}
+
+/// The facts of a request on a file.
+pub(crate) fn facts_on_file<S: Store>(store: &mut S, caller: &Party, row: &FileRow, action: Action, day: Day) -> Got<Facts>
+    ensures facts { (h : History) (file : CaseFile) → S.holds store.old (tables h) → row.now ≡ file_row file
+        → IfOk result (λ f. f ≡ file_facts h day caller.now file action) }
+    ensures kept { (t : Tables) → S.holds store.old t → S.holds store.new t }
+    ensures failed { S.failed store.new ≡ failed_after result (S.failed store.old) }
+    ensures commits { S.commits store.new ≡ S.commits store.old }
+    ensures handed { S.handed store.new ≡ S.handed store.old }
+{
+    let parcel = row.state.parcel();
+    let owner = owner_of(store, parcel)?;
+    let conflict = store.interest(parcel, caller.id)?;
+    Ok(Facts {
+        role: caller.role,
+        relations: row.state.relations(caller.id, owner, conflict),
+        action,
+        stage: row.state.stage(day),
+        stopped: row.state.is_stopped(),
+        timing: row.state.timing(day),
+    })
+}

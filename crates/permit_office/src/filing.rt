@@ -1,0 +1,55 @@
+//! New files.
+
+ghost use Rattle.std.specs.Prelude.{◌≡◌, ◌≤◌, ℕ, Option, Some, None, List, IsTrue, IfOk};
+ghost use Rattle.permit_base.specs.declared.request.Request.TheVariants as request;
+ghost use Rattle.permit_model.specs.Caller;
+ghost use Rattle.permit_model.specs.History.{History, last_day};
+ghost use Rattle.permit_model.specs.Admission.{reason_against};
+ghost use Rattle.permit_model.specs.Tables.{tables, desk_of};
+ghost use Rattle.permit_model.specs.Machine.{IsHistory, served};
+ghost use Rattle.permit_store.specs.Counts.{failed_after};
+ghost use Rattle.permit_office.specs.Answers.{Attempts, Committed, IsOwn};
+
+use crate::commit::carry_out;
+use crate::facts::facts_on_parcel;
+use crate::reply::Reply;
+use permit_base::outcome::{Reason, Refusal};
+use permit_base::values::{Cents, Day, ParcelId, Text};
+use permit_base::words::{Action, Kind, Stage};
+use permit_core::state::FileState;
+use permit_policy::Policy;
+use permit_store::rows::{Change, Desk, Party};
+use permit_store::store::{Got, Store};
+
+/// What stands against a new file.
+fn against_file(desk: &Desk) -> Option<Reason>
+    ensures { (h : History) (day caller parcel : ℕ) (kind : Kind) (valuation : ℕ) (description : List ℕ) → desk.now ≡ desk_of h
+        → result ≡ reason_against h day caller (request.File parcel kind valuation description) }
+{
+    if desk.files >= 99999 {
+        return Some(Reason::Full);
+    }
+    None
+}
+
+/// Files an application.
+pub(crate) fn file<S: Store>(store: &mut S, policy: &Policy, caller: &Party, desk: &Desk, parcel: ParcelId, kind: Kind, valuation: Cents, description: &Text, day: Day) -> Got<Reply>
+    ensures model { (h : History) → IsHistory h → S.holds store.old (tables h) → desk.now ≡ desk_of h → last_day h ≤ day → IsTrue (Caller.is_party h caller.now.id)
+        → Attempts (S.holds store.new) result (served policy.now h day caller.now (request.File parcel kind valuation description.now)) h }
+    ensures failed { S.failed store.new ≡ failed_after result (S.failed store.old) }
+    ensures commits { Committed result (S.commits store.old) (S.commits store.new) }
+    ensures handed { S.handed store.new ≡ S.handed store.old }
+    ensures own { IfOk result IsOwn }
+{
+    let Some(land) = store.parcel(parcel)? else {
+        return Ok(Reply::Refused(Refusal::Record));
+    };
+    let facts = facts_on_parcel(store, caller, &land, Stage::New, Action::File)?;
+    if let Some(name) = policy.denial(&facts) {
+        return Ok(Reply::Refused(Refusal::Denied(name)));
+    }
+    let reason = against_file(desk);
+    let number = desk.files.wrapping_add(1);
+    let state = FileState::file(caller.id, parcel, kind, day);
+    carry_out(store, reason, Some(number), &Change::NewFile { state, valuation, description }, day)
+}

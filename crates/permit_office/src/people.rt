@@ -1,0 +1,82 @@
+//! New parties.
+
+ghost use Rattle.std.specs.Prelude.{◌≡◌, ◌≤◌, ℕ, Option, Some, None, List, IfOk};
+ghost use Rattle.permit_base.specs.Actions.{adding_action};
+ghost use Rattle.permit_base.specs.Digests.{digest_of};
+ghost use Rattle.permit_base.specs.declared.request.Request.TheVariants as request;
+ghost use Rattle.permit_model.specs.Caller;
+ghost use Rattle.permit_model.specs.History.{History, last_day};
+ghost use Rattle.permit_model.specs.Admission.{reason_against};
+ghost use Rattle.permit_model.specs.Tables.{Tables, tables, desk_of};
+ghost use Rattle.permit_model.specs.Machine.{IsHistory, served};
+ghost use Rattle.permit_store.specs.Counts.{failed_after};
+ghost use Rattle.permit_office.specs.Answers.{Attempts, Committed, IsOwn};
+
+use crate::commit::carry_out;
+use crate::reply::Reply;
+use permit_base::outcome::{Reason, Refusal};
+use permit_base::values::{Day, Digest, PartyId, Text, Token};
+use permit_base::words::{Action, Role};
+use permit_policy::{Facts, Policy};
+use permit_store::rows::{Change, Desk, Party};
+use permit_store::store::{Got, Store};
+
+/// The action by which a party of the role is added.
+fn adding(role: Role) -> Action
+    ensures { result ≡ adding_action role }
+{
+    match role {
+        Role::Public => Action::AddParty,
+        _ => Action::AddStaff,
+    }
+}
+
+/// Whether there is such a party.
+pub(crate) fn is_party<S: Store>(store: &mut S, party: PartyId) -> Got<bool>
+    ensures there { (h : History) → S.holds store.old (tables h) → IfOk result (λ b. b ≡ Caller.is_party h party) }
+    ensures kept { (t : Tables) → S.holds store.old t → S.holds store.new t }
+    ensures failed { S.failed store.new ≡ failed_after result (S.failed store.old) }
+    ensures commits { S.commits store.new ≡ S.commits store.old }
+    ensures handed { S.handed store.new ≡ S.handed store.old }
+{
+    let found = store.party(party)?;
+    Ok(found.is_some())
+}
+
+/// What stands against a new party.
+fn against_party<S: Store>(store: &mut S, desk: &Desk, digest: &Digest) -> Got<Option<Reason>>
+    ensures reason { (h : History) (day caller : ℕ) (name : List ℕ) (role : Role) (token : List ℕ) → S.holds store.old (tables h) → desk.now ≡ desk_of h
+        → digest.now ≡ digest_of token
+        → IfOk result (λ r. r ≡ reason_against h day caller (request.AddParty name role token)) }
+    ensures kept { (t : Tables) → S.holds store.old t → S.holds store.new t }
+    ensures failed { S.failed store.new ≡ failed_after result (S.failed store.old) }
+    ensures commits { S.commits store.new ≡ S.commits store.old }
+    ensures handed { S.handed store.new ≡ S.handed store.old }
+{
+    if store.party_by_token(digest)?.is_some() {
+        return Ok(Some(Reason::Taken));
+    }
+    if desk.parties >= 99999 {
+        return Ok(Some(Reason::Full));
+    }
+    Ok(None)
+}
+
+/// Adds a party.
+pub(crate) fn add_party<S: Store>(store: &mut S, policy: &Policy, caller: &Party, desk: &Desk, name: &Text, role: Role, token: &Token, day: Day) -> Got<Reply>
+    ensures model { (h : History) → IsHistory h → S.holds store.old (tables h) → desk.now ≡ desk_of h → last_day h ≤ day
+        → Attempts (S.holds store.new) result (served policy.now h day caller.now (request.AddParty name.now role token.now)) h }
+    ensures failed { S.failed store.new ≡ failed_after result (S.failed store.old) }
+    ensures commits { Committed result (S.commits store.old) (S.commits store.new) }
+    ensures handed { S.handed store.new ≡ S.handed store.old }
+{
+    if let Some(rule) = policy.denial(&Facts::office(caller.role, adding(role))) {
+        return Ok(Reply::Refused(Refusal::Denied(rule)));
+    }
+    let Some(digest) = token.digest() else {
+        return Ok(Reply::Refused(Refusal::Store));
+    };
+    let reason = against_party(store, desk, &digest)?;
+    let number = desk.parties.wrapping_add(1);
+    carry_out(store, reason, Some(number), &Change::NewParty { name, role, digest: &digest }, day)
+}

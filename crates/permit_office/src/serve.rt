@@ -1,0 +1,61 @@
+//! From a caller's digest to the request: who asks, whether the clock goes on, and what is asked.
+
+ghost use Rattle.std.specs.Prelude.{◌≡◌, ◌≤◌, IsTrue, IfOk};
+ghost use Rattle.permit_model.specs.Caller;
+ghost use Rattle.permit_model.specs.History.{History, last_day};
+ghost use Rattle.permit_model.specs.Tables.{tables, desk_of};
+ghost use Rattle.permit_model.specs.Machine.{IsHistory, served, step_as};
+ghost use Rattle.permit_store.specs.Counts.{failed_after};
+ghost use Rattle.permit_office.specs.Answers.{Attempts, Committed, HandedIn, is_built, is_on_file, IsOwn};
+
+use crate::filing::file;
+use crate::land::{add_parcel, declare, transfer};
+use crate::people::add_party;
+use crate::reading::{read_file, read_parcel};
+use crate::reply::Reply;
+use permit_base::outcome::Refusal;
+use permit_base::request::Request;
+use permit_base::values::{Day, Digest};
+use permit_policy::Policy;
+use permit_store::rows::{Desk, Party};
+use permit_store::store::{Got, Store};
+
+/// Serves a known caller on a day that isn't below the last.
+fn serve_known<S: Store>(store: &mut S, policy: &Policy, caller: &Party, desk: &Desk, asked: &Request, day: Day) -> Got<Reply>
+    ensures model { (h : History) → IsHistory h → S.holds store.old (tables h) → desk.now ≡ desk_of h → last_day h ≤ day → IsTrue (Caller.is_party h caller.now.id)
+        → Attempts (S.holds store.new) result (served policy.now h day caller.now asked.now) h }
+    ensures failed { S.failed store.new ≡ failed_after result (S.failed store.old) }
+    ensures commits { Committed result (S.commits store.old) (S.commits store.new) }
+    ensures handed { HandedIn (is_on_file asked.now) result (S.handed store.old) (S.handed store.new) }
+    ensures own { IsTrue (is_built asked.now) → IfOk result IsOwn }
+{
+    match asked {
+        Request::AddParty { name, role, token } => add_party(store, policy, caller, desk, name, *role, token, day),
+        Request::AddParcel { lot, address, owner } => add_parcel(store, policy, caller, desk, lot, address, *owner, day),
+        Request::File { parcel, kind, valuation, description } => file(store, policy, caller, desk, *parcel, *kind, *valuation, description, day),
+        Request::ReadParcel { parcel } => read_parcel(store, policy, caller, *parcel, day),
+        Request::Declare { parcel } => declare(store, policy, caller, *parcel, day),
+        Request::Transfer { parcel, to } => transfer(store, policy, caller, *parcel, *to, day),
+        Request::ReadFile { file } => read_file(store, policy, caller, *file, day),
+        Request::ListFiles { .. } | Request::Register { .. } | Request::OnFile { .. } => Ok(Reply::Refused(Refusal::Store)),
+    }
+}
+
+/// Serves the caller that has the digest, as far as the store's calls succeed.
+pub(crate) fn attempt<S: Store>(store: &mut S, policy: &Policy, digest: &Digest, asked: &Request, day: Day) -> Got<Reply>
+    ensures model { (h : History) → IsHistory h → S.holds store.old (tables h)
+        → Attempts (S.holds store.new) result (step_as policy.now h digest.now asked.now day) h }
+    ensures failed { S.failed store.new ≡ failed_after result (S.failed store.old) }
+    ensures commits { Committed result (S.commits store.old) (S.commits store.new) }
+    ensures handed { HandedIn (is_on_file asked.now) result (S.handed store.old) (S.handed store.new) }
+    ensures own { IsTrue (is_built asked.now) → IfOk result IsOwn }
+{
+    let Some(caller) = store.party_by_token(digest)? else {
+        return Ok(Reply::Refused(Refusal::Caller));
+    };
+    let desk = store.desk()?;
+    if day.get() < desk.last.get() {
+        return Ok(Reply::Refused(Refusal::Clock));
+    }
+    serve_known(store, policy, &caller, &desk, asked, day)
+}

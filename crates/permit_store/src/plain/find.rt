@@ -1,0 +1,142 @@
+//! What is looked for in the rows.
+
+ghost use Rattle.std.specs.Prelude.{◌≡◌, IfOk, ◌==◌, ◌&&◌, find, filter, bytes_eq, option_map};
+ghost use Rattle.std.specs.List.{list_any};
+
+use crate::rows::{FileRow, Interest, Paper, Parcel, Party};
+use permit_base::values::{Digest, FileId, Lot, ParcelId, PartyId};
+use std::alloc::{AllocError, Global};
+
+fn party_numbered(parties: &[Party], id: PartyId) -> Option<&Party>
+    ensures { option_map (λ p. p.now) result ≡ find (λ p. p.id == id) parties.now }
+{
+    parties.iter().find(|party| {
+        let party: &Party = party;
+        party.id.get() == id.get()
+    })
+}
+
+fn party_with<'a>(parties: &'a [Party], digest: &Digest) -> Option<&'a Party>
+    ensures { option_map (λ p. p.now) result ≡ find (λ p. bytes_eq p.digest digest.now) parties.now }
+{
+    parties.iter().find(|party| {
+        let party: &Party = party;
+        party.digest.is(digest)
+    })
+}
+
+fn parcel_numbered(parcels: &[Parcel], id: ParcelId) -> Option<&Parcel>
+    ensures { option_map (λ p. p.now) result ≡ find (λ p. p.id == id) parcels.now }
+{
+    parcels.iter().find(|parcel| {
+        let parcel: &Parcel = parcel;
+        parcel.id.get() == id.get()
+    })
+}
+
+fn parcel_with<'a>(parcels: &'a [Parcel], lot: &Lot) -> Option<&'a Parcel>
+    ensures { option_map (λ p. p.now) result ≡ find (λ p. bytes_eq p.lot lot.now) parcels.now }
+{
+    parcels.iter().find(|parcel| {
+        let parcel: &Parcel = parcel;
+        parcel.lot.is(lot)
+    })
+}
+
+fn file_numbered(files: &[FileRow], id: FileId) -> Option<&FileRow>
+    ensures { option_map (λ p. p.now) result ≡ find (λ p. p.id == id) files.now }
+{
+    files.iter().find(|file| {
+        let file: &FileRow = file;
+        file.id.get() == id.get()
+    })
+}
+
+/// Whether the party has declared an interest in the parcel.
+pub(crate) fn has_interest(interests: &[Interest], parcel: ParcelId, party: PartyId) -> bool
+    ensures { result ≡ list_any (λ i. (i.parcel == parcel) && (i.party == party)) interests.now }
+{
+    interests.iter().any(|i| i.parcel.get() == parcel.get() && i.party.get() == party.get())
+}
+
+fn copy_party(found: Option<&Party>) -> Result<Option<Party>, AllocError>
+    ensures { IfOk result (λ p. p ≡ option_map (λ q. q.now) found.entry) }
+{
+    match found {
+        None => Ok(None),
+        Some(party) => Ok(Some(party.copy()?)),
+    }
+}
+
+fn copy_parcel(found: Option<&Parcel>) -> Result<Option<Parcel>, AllocError>
+    ensures { IfOk result (λ p. p ≡ option_map (λ q. q.now) found.entry) }
+{
+    match found {
+        None => Ok(None),
+        Some(parcel) => Ok(Some(parcel.copy()?)),
+    }
+}
+
+fn copy_file(found: Option<&FileRow>) -> Result<Option<FileRow>, AllocError>
+    ensures { IfOk result (λ p. p ≡ option_map (λ q. q.now) found.entry) }
+{
+    match found {
+        None => Ok(None),
+        Some(row) => Ok(Some(row.copy()?)),
+    }
+}
+
+/// The party of the number.
+pub(crate) fn find_party(parties: &[Party], id: PartyId) -> Result<Option<Party>, AllocError>
+    ensures { IfOk result (λ p. p ≡ find (λ p. p.id == id) parties.now) }
+{
+    copy_party(party_numbered(parties, id))
+}
+
+/// The party that keeps the digest.
+pub(crate) fn find_party_with(
+    parties: &[Party],
+    digest: &Digest,
+) -> Result<Option<Party>, AllocError>
+    ensures { IfOk result (λ p. p ≡ find (λ p. bytes_eq p.digest digest.now) parties.now) }
+{
+    copy_party(party_with(parties, digest))
+}
+
+/// The parcel of the number.
+pub(crate) fn find_parcel(parcels: &[Parcel], id: ParcelId) -> Result<Option<Parcel>, AllocError>
+    ensures { IfOk result (λ p. p ≡ find (λ p. p.id == id) parcels.now) }
+{
+    copy_parcel(parcel_numbered(parcels, id))
+}
+
+/// The parcel of the lot.
+pub(crate) fn find_parcel_with(parcels: &[Parcel], lot: &Lot) -> Result<Option<Parcel>, AllocError>
+    ensures { IfOk result (λ p. p ≡ find (λ p. bytes_eq p.lot lot.now) parcels.now) }
+{
+    copy_parcel(parcel_with(parcels, lot))
+}
+
+/// The file of the number.
+pub(crate) fn find_file(files: &[FileRow], id: FileId) -> Result<Option<FileRow>, AllocError>
+    ensures { IfOk result (λ p. p ≡ find (λ p. p.id == id) files.now) }
+{
+    copy_file(file_numbered(files, id))
+}
+
+/// The papers of a file.
+pub(crate) fn papers_of(
+    alloc: Global,
+    papers: &[Paper],
+    file: FileId,
+) -> Result<Vec<Paper>, AllocError>
+    ensures { IfOk result (λ v. v.items ≡ filter (λ p. p.file == file) papers.now) }
+{
+    let mut found = Vec::new(alloc);
+    for paper in papers {
+        if paper.file.get() == file.get() {
+            found.push(paper.copy()?)?;
+        }
+    }
+    Ok(found)
+}

@@ -1,0 +1,214 @@
+//! What the vectors gain, and what changes in them. Each call that answers false has left them as they were.
+
+ghost use Rattle.std.specs.Prelude.{◌≡◌, ◌≤◌, [], ◌∷◌, ◌++◌, ◌+◌, length, map, IsTrue, false, IfOk, IfSome, string_bytes};
+ghost use Rattle.permit_store.specs.Changes.{given_to, with_state, closed_by, text_of, paper_of};
+
+use crate::rows::{FileRow, Interest, NewPaper, Paper, Parcel, Party};
+use permit_base::values::{Cents, Day, Digest, FileId, Lot, PaperNumber, ParcelId, PartyId, Text};
+use permit_base::words::{PaperSort, Role};
+use permit_core::state::FileState;
+use std::alloc::{AllocError, Global};
+
+/// The number after a count, where it is at most 99999.
+fn number_after(count: usize) -> Option<u32>
+    ensures { IfSome result (λ n. (n ≡ count + 1) × (n ≤ 99999)) }
+{
+    if count < 99999 {
+        Some(count as u32 + 1)
+    } else {
+        None
+    }
+}
+
+pub(crate) fn push_party(parties: &mut Vec<Party>, name: &Text, role: Role, digest: &Digest) -> bool
+    ensures made { IsTrue result → parties.new.items ≡ parties.old.items ++ (record { id = length parties.old.items + 1; name = name.now; role = role; digest = digest.now }) ∷ [] }
+    ensures few { length parties.old.items ≤ 99999 → length parties.new.items ≤ 99999 }
+    ensures kept { result ≡ false → parties.new.items ≡ parties.old.items }
+{
+    let Some(number) = number_after(parties.len()) else {
+        return false;
+    };
+    let Some(id) = PartyId::new(number) else {
+        return false;
+    };
+    let Ok(name) = name.copy() else {
+        return false;
+    };
+    parties
+        .push(Party {
+            id,
+            name,
+            role,
+            digest: *digest,
+        })
+        .is_ok()
+}
+
+pub(crate) fn push_parcel(
+    parcels: &mut Vec<Parcel>,
+    lot: &Lot,
+    address: &Text,
+    owner: PartyId,
+) -> bool
+    ensures made { IsTrue result → parcels.new.items ≡ parcels.old.items ++ (record { id = length parcels.old.items + 1; lot = lot.now; address = address.now; owner = owner }) ∷ [] }
+    ensures few { length parcels.old.items ≤ 99999 → length parcels.new.items ≤ 99999 }
+    ensures kept { result ≡ false → parcels.new.items ≡ parcels.old.items }
+{
+    let Some(number) = number_after(parcels.len()) else {
+        return false;
+    };
+    let Some(id) = ParcelId::new(number) else {
+        return false;
+    };
+    let Ok(lot) = lot.copy() else {
+        return false;
+    };
+    let Ok(address) = address.copy() else {
+        return false;
+    };
+    parcels
+        .push(Parcel {
+            id,
+            lot,
+            address,
+            owner,
+        })
+        .is_ok()
+}
+
+pub(crate) fn push_file(
+    files: &mut Vec<FileRow>,
+    state: FileState,
+    valuation: Cents,
+    description: &Text,
+) -> bool
+    ensures made { IsTrue result → files.new.items ≡ files.old.items ++ (record { id = length files.old.items + 1; state = state; valuation = valuation; description = description.now }) ∷ [] }
+    ensures few { length files.old.items ≤ 99999 → length files.new.items ≤ 99999 }
+    ensures kept { result ≡ false → files.new.items ≡ files.old.items }
+{
+    let Some(number) = number_after(files.len()) else {
+        return false;
+    };
+    let Some(id) = FileId::new(number) else {
+        return false;
+    };
+    let Ok(description) = description.copy() else {
+        return false;
+    };
+    files
+        .push(FileRow {
+            id,
+            state,
+            valuation,
+            description,
+        })
+        .is_ok()
+}
+
+pub(crate) fn push_interest(interests: &mut Vec<Interest>, parcel: ParcelId, party: PartyId) -> bool
+    ensures made { IsTrue result → interests.new.items ≡ interests.old.items ++ (record { parcel = parcel; party = party }) ∷ [] }
+    ensures kept { result ≡ false → interests.new.items ≡ interests.old.items }
+{
+    interests.push(Interest { parcel, party }).is_ok()
+}
+
+/// A copy of a text, or the empty text.
+fn copied(alloc: Global, text: Option<&Text>) -> Result<String, AllocError>
+    ensures { IfOk result (λ s. string_bytes s ≡ text_of text.entry) }
+{
+    match text {
+        None => Ok(String::new(alloc)),
+        Some(text) => String::from_str(alloc, text.as_str()),
+    }
+}
+
+/// A paper of the file, with the number that is the count of papers in the file's new row.
+pub(crate) fn push_paper(
+    alloc: Global,
+    papers: &mut Vec<Paper>,
+    file: FileId,
+    count: u16,
+    day: Day,
+    paper: &NewPaper<'_>,
+) -> bool
+    ensures made { IsTrue result → papers.new.items ≡ papers.old.items ++ paper_of file count day paper.now ∷ [] }
+    ensures kept { result ≡ false → papers.new.items ≡ papers.old.items }
+{
+    let Some(number) = PaperNumber::new(count as u32) else {
+        return false;
+    };
+    let Ok(text) = copied(alloc, paper.text) else {
+        return false;
+    };
+    let Ok(terms) = copied(alloc, paper.terms) else {
+        return false;
+    };
+    let is_open = matches!(&paper.sort, PaperSort::Notice);
+    papers
+        .push(Paper {
+            file,
+            number,
+            day,
+            author: paper.author,
+            sort: paper.sort,
+            days: paper.days,
+            text,
+            terms,
+            is_open,
+        })
+        .is_ok()
+}
+
+/// Gives the parcel another owner if it has the number.
+fn give(parcel: &mut Parcel, id: ParcelId, owner: PartyId)
+    ensures { parcel.new ≡ given_to id owner parcel.old }
+{
+    if parcel.id.get() == id.get() {
+        parcel.owner = owner;
+    }
+}
+
+/// Gives a parcel another owner.
+pub(crate) fn give_parcel(parcels: &mut [Parcel], id: ParcelId, owner: PartyId)
+    ensures { parcels.new ≡ map (given_to id owner) parcels.old }
+{
+    for parcel in parcels {
+        give(parcel, id, owner);
+    }
+}
+
+/// Gives the file another state if it has the number.
+fn renew(file: &mut FileRow, id: FileId, state: FileState)
+    ensures { file.new ≡ with_state id state file.old }
+{
+    if file.id.get() == id.get() {
+        file.state = state;
+    }
+}
+
+/// Gives a file another state.
+pub(crate) fn renew_file(files: &mut [FileRow], id: FileId, state: FileState)
+    ensures { files.new ≡ map (with_state id state) files.old }
+{
+    for file in files {
+        renew(file, id, state);
+    }
+}
+
+/// Closes the paper if it is the file's of the number.
+fn close(paper: &mut Paper, file: FileId, number: PaperNumber)
+    ensures { paper.new ≡ closed_by file number paper.old }
+{
+    if paper.file.get() == file.get() && paper.number.get() == number.get() {
+        paper.is_open = false;
+    }
+}
+
+/// Closes a paper of a file.
+pub(crate) fn close_paper(papers: &mut [Paper], file: FileId, number: PaperNumber)
+    ensures { papers.new ≡ map (closed_by file number) papers.old }
+{
+    for paper in papers {
+        close(paper, file, number);
+    }
+}
