@@ -1,0 +1,6 @@
+pub mod Permuted
+pub mod Lookups
+pub mod QueryTexts
+pub mod WriteTexts
+pub mod WriteLemmas
+pub mod KeptLemmas
