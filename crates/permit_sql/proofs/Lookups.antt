@@ -13,7 +13,7 @@ use Rattle.sqlite_value.specs.declared.keys.Key.{Key}
 use Rattle.sqlite_value.specs.declared.keys.Collation.TheVariants.{Binary}
 use Rattle.sqlite_sql.specs.declared.ops.BinaryOp.TheVariants.{Compare}
 use Rattle.sqlite_sql.specs.declared.ops.CompareOp.TheVariants.{Eq}
-use Rattle.sqlite_sql.specs.Ops.{binary, is_true}
+use Rattle.sqlite_sql.specs.Ops.{binary, is_true, from_truth}
 use Rattle.sqlite_sql.specs.Term.{Term, Env, lit, col, op2, eval, eval_all, holds}
 use Rattle.sqlite_sql.specs.Query.{Query, Join, inner, end, IsAnswer, Output, output, output_cmp, matches}
 use Rattle.sqlite_trees.specs.Tree.{Trees, rowid}
@@ -44,7 +44,7 @@ pub eq_is : (a b : ℕ) → is_true (binary (Compare Eq Binary) (int a) (int b))
 unfolding binary
 eq_is a b = rw value_cmp-Int (grind (arith, nat_tests))
 
-truth_of : (b : Bool) → is_true (Int (pos (cond b 1 0))) ≡ b
+truth_of : (b : Bool) → is_true (from_truth (Some b)) ≡ b
 truth_of true = refl
 truth_of false = refl
 
