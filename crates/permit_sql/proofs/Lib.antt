@@ -1,7 +1,10 @@
+pub mod Coded
 pub mod Permuted
 pub mod Lookups
 pub mod QueryTexts
 pub mod WriteTexts
 pub mod ReadLemmas
 pub mod WriteLemmas
+pub mod Effects
+pub mod Writes
 pub mod KeptLemmas

@@ -46,6 +46,10 @@ on_office db = record { schema = office_schema; trees = db }
 no_actions : (tree : ℕ) (olds : List Row) (new : Row) → works office_schema Enforced 0 tree olds (new ∷ []) ≡ []
 no_actions tree olds new = refl
 
+-- nor does an edit that has no row
+no_rows : (tree : ℕ) → works office_schema Enforced 0 tree [] [] ≡ []
+no_rows tree = refl
+
 module _ (limit : Option ℕ) (mode : Mode) (table : Table) (uncounted : table.is_counted ≡ false) (params : Row) (db : Trees) (tally : Tally) (after : Database) where
   pub inserted : (at : ℕ) (from : Source) → OnRows (task_on limit table params) mode None (Insert at from) db (Ok (tally, after))
       → (rows : List Row) × IsSource (on_office db) (stamped table params) from rows × Applies office_schema Enforced db (edit_of db table [] Chosen 0 rows) after.trees × (after.schema ≡ office_schema)
@@ -67,7 +71,8 @@ module _ (limit : Option ℕ) (mode : Mode) (table : Table) (uncounted : table.i
 
   pub updated : (at : ℕ) (q : Program) → OnRows (task_on limit table params) mode None (Update at q) db (Ok (tally, after))
       → (rows : List Row) × Answers (on_office db) q params rows × (after.schema ≡ office_schema)
-      × ((new : Row) → (edit_of db table (ids_of rows) Given 1 rows).news ≡ new ∷ [] → Applies office_schema Enforced db (edit_of db table (ids_of rows) Given 1 rows) after.trees)
+      × ((rows ≡ [] → Applies office_schema Enforced db (edit_of db table [] Given 1 []) after.trees)
+      × ((new : Row) → (edit_of db table (ids_of rows) Given 1 rows).news ≡ new ∷ [] → Applies office_schema Enforced db (edit_of db table (ids_of rows) Given 1 rows) after.trees))
   updated at q h =
       let done = went h in
       let now = ap (λ (p : Tally × Database). p.1) (same_value (went (went done.2).2).2) in
@@ -75,5 +80,8 @@ module _ (limit : Option ℕ) (mode : Mode) (table : Table) (uncounted : table.i
       let written = went given.2 in
       let trees : after.trees ≡ written.0 = ap (λ (d : Database). d.trees) now ∙ ap (λ (it : Written). it.trees) (same_value written.2) in
       let edit = edit_of db table (ids_of given.0) Given 1 given.0 in
-      (given.0, given.1, ap (λ (d : Database). d.schema) now, λ new is. subst (Applies office_schema Enforced db edit) (sym trees)
-      (one_step office_schema Enforced db written.0 edit (subst (λ ns. works office_schema Enforced 0 table.tree (taken_by db edit) ns ≡ []) (sym is) (no_actions table.tree (taken_by db edit) new)) written.1))
+      (given.0, given.1, ap (λ (d : Database). d.schema) now,
+      (λ none. subst (Applies office_schema Enforced db (edit_of db table [] Given 1 [])) (sym trees)
+      (one_step office_schema Enforced db written.0 (edit_of db table [] Given 1 []) (no_rows table.tree) (subst (λ rows. Edited office_schema Enforced db (edit_of db table (ids_of rows) Given 1 rows) (Ok written.0)) none written.1)),
+      λ new is. subst (Applies office_schema Enforced db edit) (sym trees)
+      (one_step office_schema Enforced db written.0 edit (subst (λ ns. works office_schema Enforced 0 table.tree (taken_by db edit) ns ≡ []) (sym is) (no_actions table.tree (taken_by db edit) new)) written.1)))

@@ -1,18 +1,25 @@
 -- The tables that a database keeps.
-use Rattle.std.specs.Prelude.{◌≡◌, ◌≤◌, ◌<◌, ℕ, ℤ, List, [], ◌∷◌, map, filter, find, drop, length, Bool, ◌==◌, ◌&&◌, bytes_eq, option_map, unwrap_or, IsTrue, IsPermutation}
+use Rattle.std.specs.Prelude.{◌≡◌, ◌≢◌, Some, ◌≤◌, ◌<◌, ℕ, ℤ, List, [], ◌∷◌, map, filter, find, drop, length, Bool, ◌==◌, ◌&&◌, bytes_eq, option_map, unwrap_or, IsTrue, IsPermutation}
 use Rattle.std.specs.List.{AllByRecursion}
 use Rattle.sqlite_trees.specs.Tree.{Trees, IsAscending, has_rowid}
 use Rattle.sqlite_trees.specs.declared.store.Store.{Ghosts}
 use Rattle.sqlite.specs.Effect.{Database}
 use Rattle.sqlite.specs.State.{State, HasCleanDisk}
 use Rattle.sqlite.specs.Held.{Held, state}
-use Rattle.permit_model.specs.Tables.{Tables, FileRow}
+use Rattle.permit_model.specs.Tables.{Tables, State as FileState, FileRow}
 use Rattle.permit_sql.specs.Schema.{office_schema}
 use Rattle.permit_sql.specs.Rows.{desk_row, party_row, parcel_row, file_row, shown_interest, shown_paper}
 
 -- the count of papers in the file's row, or 0 where there is no such file
 abbrev pub papers_counted : ℕ → List FileRow → ℕ
 papers_counted file files = unwrap_or (option_map (λ f. f.state.papers) (find (λ f. f.id == file) files)) 0
+
+-- Of none of these is a number 0, which stands for none.
+pub record IsNamed (s : FileState) : Type 0 where
+  pub contractor : s.contractor ≢ Some 0
+  pub reviewer : s.reviewer ≢ Some 0
+  pub inspector : s.inspector ≢ Some 0
+  pub ask : s.ask ≢ Some 0
 
 -- No number, digest and lot comes twice, and a file's papers stand in rising number, none above the count in the file's row.
 pub record AreKeyed (t : Tables) : Type 0 where
@@ -21,6 +28,7 @@ pub record AreKeyed (t : Tables) : Type 0 where
   pub parcels : (id : ℕ) → length (filter (λ p. p.id == id) t.parcels) ≤ 1
   pub lots : (lot : List ℕ) → length (filter (λ p. bytes_eq p.lot lot) t.parcels) ≤ 1
   pub files : (id : ℕ) → length (filter (λ f. f.id == id) t.files) ≤ 1
+  pub named : AllByRecursion (λ f. IsNamed f.state) t.files
   pub papers : (file : ℕ) → IsAscending (λ a b. a.number < b.number) (filter (λ p. p.file == file) t.papers)
   pub counted : (file : ℕ) → AllByRecursion (λ p. p.number ≤ papers_counted file t.files) (filter (λ p. p.file == file) t.papers)
 

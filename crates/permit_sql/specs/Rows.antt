@@ -1,5 +1,5 @@
 -- The rows of the tables as they are stored: none is 0 for a party and for an ask, and -1 elsewhere.
-use Rattle.std.specs.Prelude.{ℕ, pos, negsuc, List, [], ◌∷◌, Option, Some, None, Bool, true, false}
+use Rattle.std.specs.Prelude.{ℕ, pos, negsuc, List, [], ◌∷◌, Option, Some, None, option_map, Bool, true, false}
 use Rattle.sqlite.specs.declared.types.Value.{Value}
 use Rattle.sqlite.specs.declared.types.Value.TheVariants.{Null, Int, Text}
 use Rattle.sqlite_value.specs.Order.{Row}
@@ -27,8 +27,7 @@ or_less (Some n) = int n
 
 -- a step by its code; -1 stands for none
 abbrev pub step_value : Option Step → Value
-step_value None = Int (negsuc 0)
-step_value (Some s) = int (step_code s)
+step_value step = or_less (option_map step_code step)
 
 -- 1 or 0
 abbrev pub flag : Bool → Value
