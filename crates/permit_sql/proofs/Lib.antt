@@ -1,4 +1,5 @@
 pub mod Coded
+pub mod Stated
 pub mod Permuted
 pub mod Lookups
 pub mod QueryTexts

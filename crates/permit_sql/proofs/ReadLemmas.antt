@@ -1,7 +1,7 @@
 -- What the texts that read show of the tables.
-use Rattle.std.proofs.Common.{◌≡◌, ℕ, suc, pos, ◌+◌, ◌<◌, ◌≤◌, Bool, true, false, cond, eqb, not, List, [], ◌∷◌, ◌++◌, map, filter, find, drop, length, slice_get, Option, Some, None, option_map, refl, sym, ap, ap₂, subst, ◌∙◌, arith, IsPermutation, IsSorted, Less}
-use Rattle.std.specs.Prelude.{◌&&◌, bytes_eq}
-use Rattle.std.specs.List.{flat_map, list_all, list_any}
+use Rattle.std.proofs.Common.{◌≡◌, take, ℕ, zero, suc, pos, ◌+◌, ◌<◌, ◌≤◌, Bool, true, false, cond, eqb, not, List, [], ◌∷◌, ◌++◌, map, filter, find, drop, length, slice_get, Option, Some, None, option_map, refl, sym, ap, ap₂, subst, ◌∙◌, arith, IsPermutation, IsSorted, Less}
+use Rattle.std.specs.Prelude.{◌&&◌, bytes_eq, IfSome}
+use Rattle.std.specs.List.{flat_map, list_all, list_any, AllByRecursion}
 use Rattle.std.proofs.lemmas.Bool.Decides.{nat_tests}
 use Rattle.std.proofs.lemmas.List.Sorted.{length_permutation, IsPermutation-map, IsPermutation-trans, IsPermutation-sym}
 use Rattle.sqlite.specs.declared.types.Value.TheVariants.{Null, Int, Text}
@@ -137,3 +137,27 @@ first_of shown test xs = go shown (filter test xs) ∙ ap (option_map shown) (sl
     go : {X : Type 0} (shown : X → Row) (ys : List X) → slice_get (map shown ys) 0 ≡ option_map shown (slice_get ys 0)
     go shown [] = refl
     go shown (y ∷ ys) = refl
+
+pub all_found : {X : Type 0} (test : X → Bool) (P : X → Type 0) (xs : List X) → AllByRecursion P xs → IfSome (find test xs) P
+all_found test P [] all = tt
+all_found test P (x ∷ xs) all = go (test x) (all_found test P xs all.1)
+  where
+    go : (b : Bool) → IfSome (find test xs) P → IfSome (cond b (Some x) (find test xs)) P
+    go true more = all.0
+    go false more = more
+
+-- ---- the papers that were read so far
+
+pub one_more : (papers : List Paper) (rows : List Row) (at : ℕ) (row : Row) (paper : Paper) → rows ≡ map shown_paper papers → slice_get rows at ≡ Some row → ((is : Paper) → row ≡ shown_paper is → paper ≡ is) → take at papers ++ paper ∷ [] ≡ take (at + 1) papers
+one_more papers rows at row paper are here is = go at papers (subst (λ l. slice_get l at ≡ Some row) are here)
+  where
+    some : {A : Type 0} {a b : A} → Some a ≡ Some b → a ≡ b
+    some e = cc
+
+    go : (n : ℕ) (ps : List Paper) → slice_get (map shown_paper ps) n ≡ Some row → take n ps ++ paper ∷ [] ≡ take (n + 1) ps
+    go n [] e = absurd cc
+    go zero (p ∷ ps) e = ap (λ x. x ∷ []) (is p (sym (some e)))
+    go (suc n) (p ∷ ps) e =
+        let more : n + 1 ≡ suc n = omega arith in
+        let last : suc n + 1 ≡ suc (suc n) = omega arith in
+        rw last (ap (λ l. p ∷ l) (go n ps e ∙ ap (λ m. take m ps) more))

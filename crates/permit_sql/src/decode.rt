@@ -7,8 +7,8 @@ ghost use Rattle.permit_model.specs.Tables.{Desk as TheDesk, FileRow as TheRow, 
 ghost use Rattle.permit_sql.specs.Rows.{shown_desk, shown_party, shown_parcel, shown_file, shown_paper};
 ghost use Rattle.permit_sql.specs.Kept.{IsNamed};
 
-use crate::fields::{kind, long_number, number, number_or_less, number_or_zero, role, sort, stage, step_or_less, string, truth};
-use permit_base::values::{Cents, Day, Days, Digest, FileId, Lot, PaperNumber, ParcelId, PartyId, Text};
+use crate::fields::{day, day_or_less, days_or_zero, kind, long_number, number, number_or_less, parcel_number, party_number, party_or_zero, role, short_number, small_number, sort, stage, step_or_less, string, truth};
+use permit_base::values::{Cents, Day, Digest, FileId, Lot, PaperNumber, ParcelId, PartyId, Text};
 use permit_core::restore::StateFields;
 use permit_core::state::FileState;
 use permit_store::rows::{Desk, FileRow, Paper, Parcel, Party};
@@ -67,73 +67,29 @@ pub(crate) fn paper_in(row: &Row) -> Option<Paper>
     })
 }
 
-/// A party's number, where there is one.
-fn party_or_none(number: Option<u32>) -> Option<Option<PartyId>>
-    ensures { IfSome result (λ p. p ≡ number) }
-{
-    match number {
-        None => Some(None),
-        Some(number) => Some(Some(PartyId::new(number)?)),
-    }
-}
-
-/// A day, where there is one.
-fn day_or_none(number: Option<u32>) -> Option<Option<Day>>
-    ensures { IfSome result (λ d. d ≡ number) }
-{
-    match number {
-        None => Some(None),
-        Some(number) => Some(Some(Day::new(number)?)),
-    }
-}
-
-/// A count of days, where there is one.
-fn days_or_none(number: Option<u32>) -> Option<Option<Days>>
-    ensures { IfSome result (λ d. d ≡ number) }
-{
-    match number {
-        None => Some(None),
-        Some(number) => Some(Some(Days::new(number)?)),
-    }
-}
-
 /// What of a file's row its state keeps.
 fn fields_in(row: &Row) -> Option<StateFields>
     ensures { (is : TheRow) → IsNamed is.state → row.now ≡ shown_file is → IfSome result (λ f. f ≡ is.state) }
 {
     Some(StateFields {
-        parcel: ParcelId::new(number(row, 1)?)?,
-        applicant: PartyId::new(number(row, 2)?)?,
-        contractor: party_or_none(number_or_zero(row, 3)?)?,
-        reviewer: party_or_none(number_or_zero(row, 4)?)?,
-        inspector: party_or_none(number_or_zero(row, 5)?)?,
+        parcel: parcel_number(row, 1)?,
+        applicant: party_number(row, 2)?,
+        contractor: party_or_zero(row, 3)?,
+        reviewer: party_or_zero(row, 4)?,
+        inspector: party_or_zero(row, 5)?,
         kind: kind(row, 6)?,
-        filed: Day::new(number(row, 9)?)?,
+        filed: day(row, 9)?,
         stage: stage(row, 10)?,
         deadline: number_or_less(row, 11)?,
-        done: small(number(row, 12)?)?,
+        done: small_number(row, 12)?,
         request: step_or_less(row, 13)?,
-        requested: day_or_none(number_or_less(row, 14)?)?,
-        ask: days_or_none(number_or_zero(row, 15)?)?,
+        requested: day_or_less(row, 14)?,
+        ask: days_or_zero(row, 15)?,
         stopped: truth(row, 16)?,
-        notices: short(number(row, 17)?)?,
-        papers: short(number(row, 18)?)?,
+        notices: short_number(row, 17)?,
+        papers: short_number(row, 18)?,
         temporary: number_or_less(row, 19)?,
     })
-}
-
-/// The number, where 8 bits hold it.
-fn small(number: u32) -> Option<u8>
-    ensures { IfSome result (λ n. n ≡ number) }
-{
-    u8::try_from(number).ok()
-}
-
-/// The number, where 16 bits hold it.
-fn short(number: u32) -> Option<u16>
-    ensures { IfSome result (λ n. n ≡ number) }
-{
-    u16::try_from(number).ok()
 }
 
 /// A file's row.

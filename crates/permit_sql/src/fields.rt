@@ -7,6 +7,7 @@ ghost use Rattle.permit_base.specs.declared.words.Step.{Step as TheStep};
 ghost use Rattle.permit_sql.specs.Rows.{int, or_zero, or_less, step_value, flag};
 ghost use Rattle.permit_model.specs.Codes.{role_code, kind_code, stage_code, sort_code, step_code};
 
+use permit_base::values::{Day, Days, ParcelId, PartyId};
 use permit_base::words::{Kind, PaperSort, Role, Stage, Step, Word};
 use sqlite::Row;
 
@@ -44,6 +45,71 @@ pub(crate) fn number_or_zero(row: &Row, at: usize) -> Option<Option<u32>>
         return Some(None);
     }
     Some(Some(code))
+}
+
+/// A number of up to 8 bits.
+pub(crate) fn small_number(row: &Row, at: usize) -> Option<u8>
+    ensures { (n : ℕ) → column row.now at ≡ int n → IfSome result (λ x. x ≡ n) }
+{
+    u8::try_from(number(row, at)?).ok()
+}
+
+/// A number of up to 16 bits.
+pub(crate) fn short_number(row: &Row, at: usize) -> Option<u16>
+    ensures { (n : ℕ) → column row.now at ≡ int n → IfSome result (λ x. x ≡ n) }
+{
+    u16::try_from(number(row, at)?).ok()
+}
+
+/// The number of a party.
+pub(crate) fn party_number(row: &Row, at: usize) -> Option<PartyId>
+    ensures { (n : ℕ) → column row.now at ≡ int n → IfSome result (λ x. x ≡ n) }
+{
+    PartyId::new(number(row, at)?)
+}
+
+/// The number of a parcel.
+pub(crate) fn parcel_number(row: &Row, at: usize) -> Option<ParcelId>
+    ensures { (n : ℕ) → column row.now at ≡ int n → IfSome result (λ x. x ≡ n) }
+{
+    ParcelId::new(number(row, at)?)
+}
+
+/// A day.
+pub(crate) fn day(row: &Row, at: usize) -> Option<Day>
+    ensures { (n : ℕ) → column row.now at ≡ int n → IfSome result (λ x. x ≡ n) }
+{
+    Day::new(number(row, at)?)
+}
+
+/// The number of a party, where 0 stands for none.
+pub(crate) fn party_or_zero(row: &Row, at: usize) -> Option<Option<PartyId>>
+    ensures { (o : Option ℕ) → o ≢ Some 0 → column row.now at ≡ or_zero o → IfSome result (λ x. x ≡ o) }
+{
+    match number_or_zero(row, at)? {
+        None => Some(None),
+        Some(number) => Some(Some(PartyId::new(number)?)),
+    }
+}
+
+/// A count of days, where 0 stands for none.
+pub(crate) fn days_or_zero(row: &Row, at: usize) -> Option<Option<Days>>
+    ensures { (o : Option ℕ) → o ≢ Some 0 → column row.now at ≡ or_zero o → IfSome result (λ x. x ≡ o) }
+{
+    match number_or_zero(row, at)? {
+        None => Some(None),
+        Some(number) => Some(Some(Days::new(number)?)),
+    }
+}
+
+/// A day, where -1 stands for none.
+pub(crate) fn day_or_less(row: &Row, at: usize) -> Option<Option<Day>>
+    ensures { (o : Option ℕ) → column row.now at ≡ or_less o → IfSome result (λ x. x ≡ o) }
+{
+    match number_or_less(row, at)? {
+        None => Some(None),
+        Some(number) => Some(Some(Day::new(number)?)),
+    }
 }
 
 /// A text, which may be empty.

@@ -4,4 +4,5 @@
 mod decode;
 mod fields;
 mod query;
+mod read;
 mod steps;
