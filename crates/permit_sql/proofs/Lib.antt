@@ -8,4 +8,7 @@ pub mod ReadLemmas
 pub mod WriteLemmas
 pub mod Effects
 pub mod Writes
+pub mod Keeping
+pub mod Creating
+pub mod Commits
 pub mod KeptLemmas

@@ -1,5 +1,5 @@
 -- What the texts that read show of the tables.
-use Rattle.std.proofs.Common.{◌≡◌, take, ℕ, zero, suc, pos, ◌+◌, ◌<◌, ◌≤◌, Bool, true, false, cond, eqb, not, List, [], ◌∷◌, ◌++◌, map, filter, find, drop, length, slice_get, Option, Some, None, option_map, refl, sym, ap, ap₂, subst, ◌∙◌, arith, IsPermutation, IsSorted, Less}
+use Rattle.std.proofs.Common.{◌≡◌, get_or, take, ℕ, zero, suc, pos, ◌+◌, ◌<◌, ◌≤◌, Bool, true, false, cond, eqb, not, List, [], ◌∷◌, ◌++◌, map, filter, find, drop, length, slice_get, Option, Some, None, option_map, refl, sym, ap, ap₂, subst, ◌∙◌, arith, IsPermutation, IsSorted, Less}
 use Rattle.std.specs.Prelude.{◌&&◌, bytes_eq, IfSome}
 use Rattle.std.specs.List.{flat_map, list_all, list_any, AllByRecursion}
 use Rattle.std.proofs.lemmas.Bool.Decides.{nat_tests}
@@ -148,16 +148,13 @@ all_found test P (x ∷ xs) all = go (test x) (all_found test P xs all.1)
 
 -- ---- the papers that were read so far
 
-pub one_more : (papers : List Paper) (rows : List Row) (at : ℕ) (row : Row) (paper : Paper) → rows ≡ map shown_paper papers → slice_get rows at ≡ Some row → ((is : Paper) → row ≡ shown_paper is → paper ≡ is) → take at papers ++ paper ∷ [] ≡ take (at + 1) papers
-one_more papers rows at row paper are here is = go at papers (subst (λ l. slice_get l at ≡ Some row) are here)
+pub one_more : (papers : List Paper) (rows : List Row) (at : ℕ) (row : Row) (paper : Paper) → rows ≡ map shown_paper papers → at < length rows → row ≡ get_or rows at row → ((is : Paper) → row ≡ shown_paper is → paper ≡ is) → take at papers ++ paper ∷ [] ≡ take (at + 1) papers
+one_more papers rows at row paper are low here is = go at papers (subst (λ l. at < length l) are low) (subst (λ l. row ≡ get_or l at row) are here)
   where
-    some : {A : Type 0} {a b : A} → Some a ≡ Some b → a ≡ b
-    some e = cc
-
-    go : (n : ℕ) (ps : List Paper) → slice_get (map shown_paper ps) n ≡ Some row → take n ps ++ paper ∷ [] ≡ take (n + 1) ps
-    go n [] e = absurd cc
-    go zero (p ∷ ps) e = ap (λ x. x ∷ []) (is p (sym (some e)))
-    go (suc n) (p ∷ ps) e =
+    go : (n : ℕ) (ps : List Paper) → n < length (map shown_paper ps) → row ≡ get_or (map shown_paper ps) n row → take n ps ++ paper ∷ [] ≡ take (n + 1) ps
+    go n [] low e = absurd (omega (arith, low))
+    go zero (p ∷ ps) low e = ap (λ x. x ∷ []) (is p e)
+    go (suc n) (p ∷ ps) low e =
         let more : n + 1 ≡ suc n = omega arith in
         let last : suc n + 1 ≡ suc (suc n) = omega arith in
-        rw last (ap (λ l. p ∷ l) (go n ps e ∙ ap (λ m. take m ps) more))
+        rw last (ap (λ l. p ∷ l) (go n ps (omega (arith, low)) e ∙ ap (λ m. take m ps) more))

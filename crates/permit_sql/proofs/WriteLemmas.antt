@@ -47,8 +47,8 @@ no_actions : (tree : ℕ) (olds : List Row) (new : Row) → works office_schema 
 no_actions tree olds new = refl
 
 -- nor does an edit that has no row
-no_rows : (tree : ℕ) → works office_schema Enforced 0 tree [] [] ≡ []
-no_rows tree = refl
+none_set : (tree : ℕ) → works office_schema Enforced 0 tree [] [] ≡ []
+none_set tree = refl
 
 module _ (limit : Option ℕ) (mode : Mode) (table : Table) (uncounted : table.is_counted ≡ false) (params : Row) (db : Trees) (tally : Tally) (after : Database) where
   pub inserted : (at : ℕ) (from : Source) → OnRows (task_on limit table params) mode None (Insert at from) db (Ok (tally, after))
@@ -82,6 +82,6 @@ module _ (limit : Option ℕ) (mode : Mode) (table : Table) (uncounted : table.i
       let edit = edit_of db table (ids_of given.0) Given 1 given.0 in
       (given.0, given.1, ap (λ (d : Database). d.schema) now,
       (λ none. subst (Applies office_schema Enforced db (edit_of db table [] Given 1 [])) (sym trees)
-      (one_step office_schema Enforced db written.0 (edit_of db table [] Given 1 []) (no_rows table.tree) (subst (λ rows. Edited office_schema Enforced db (edit_of db table (ids_of rows) Given 1 rows) (Ok written.0)) none written.1)),
+      (one_step office_schema Enforced db written.0 (edit_of db table [] Given 1 []) (none_set table.tree) (subst (λ rows. Edited office_schema Enforced db (edit_of db table (ids_of rows) Given 1 rows) (Ok written.0)) none written.1)),
       λ new is. subst (Applies office_schema Enforced db edit) (sym trees)
       (one_step office_schema Enforced db written.0 edit (subst (λ ns. works office_schema Enforced 0 table.tree (taken_by db edit) ns ≡ []) (sym is) (no_actions table.tree (taken_by db edit) new)) written.1)))

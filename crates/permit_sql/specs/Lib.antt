@@ -4,3 +4,4 @@ pub mod Rows
 pub mod Kept
 pub mod Steps
 pub mod StepOf
+pub mod Founding

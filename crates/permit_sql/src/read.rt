@@ -1,6 +1,6 @@
 //! What is read of the tables, over a connection.
 
-ghost use Rattle.std.specs.Prelude.{◌≡◌, ◌==◌, ◌&&◌, false, not, List, [], ◌∷◌, map, filter, find, length, option_map, slice_get, bytes_eq, Option, IfOk, IfSome};
+ghost use Rattle.std.specs.Prelude.{◌≡◌, ◌==◌, ◌&&◌, false, not, List, [], ◌∷◌, ◌++◌, map, filter, find, length, option_map, slice_get, bytes_eq, Option, IfOk, OnOk, IfSome};
 ghost use Rattle.std.specs.List.{list_any};
 ghost use Rattle.sqlite.specs.State.{HasCleanDisk, Survives};
 ghost use Rattle.sqlite.specs.Held.{state};
@@ -243,6 +243,16 @@ pub(crate) fn read_file<S: Alter>(conn: &mut Connection<S>, file: FileId) -> Got
     first_file(&rows)
 }
 
+/// A paper more.
+fn push_paper(papers: &mut Vec<Paper>, paper: Paper) -> Got<()>
+    ensures { OnOk result (papers.new.items ≡ papers.old.items ++ paper ∷ []) }
+{
+    match papers.push(paper) {
+        Ok(()) => Ok(()),
+        Err(_) => Err(StoreError),
+    }
+}
+
 /// The rows as papers.
 fn all_papers(alloc: Global, rows: &[Row]) -> Got<Vec<Paper>>
     ensures { (papers : List ThePaper) → rows.now ≡ map shown_paper papers → IfOk result (λ v. v.items ≡ papers) }
@@ -252,9 +262,7 @@ fn all_papers(alloc: Global, rows: &[Row]) -> Got<Vec<Paper>>
         let Some(paper) = paper_in(row) else {
             return Err(StoreError);
         };
-        if papers.push(paper).is_err() {
-            return Err(StoreError);
-        }
+        push_paper(&mut papers, paper)?;
     }
     Ok(papers)
 }

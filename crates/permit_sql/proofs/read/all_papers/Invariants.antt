@@ -5,4 +5,4 @@ use Rattle.permit_sql.proofs.read.all_papers.Given as goal
 
 -- the rows so far are as many papers
 abbrev pub invariant-rows : goal.invariant-rows
-invariant-rows l = (papers : List Paper) → l.rows.now ≡ map shown_paper papers → l.papers.items ≡ take l.row-index papers
+invariant-rows l = (papers : List Paper) → l.rows ≡ map shown_paper papers → l.papers.items ≡ take l.row-index papers
