@@ -45,14 +45,30 @@ ended mid last count t d schema rows keyed h =
 
 found_number : {X : Type 0} (key : X → ℕ) (id : ℕ) (xs : List X) (x : X) → find (λ y. eqb (key y) id) xs ≡ Some x → key x ≡ id
 found_number key id [] x e = absurd cc
-found_number {X} key id (y ∷ ys) x e = go (eqb (key y) id) refl e
+found_number {X} key id (y ∷ ys) x e = go (eqb (key y) id) refl e (found_number key id ys x)
   where
     some : {A : Type 0} {a b : A} → Some a ≡ Some b → a ≡ b
     some e = cc
 
-    go : (b : Bool) → eqb (key y) id ≡ b → cond b (Some y) (find (λ z. eqb (key z) id) ys) ≡ Some x → key x ≡ id
-    go true is e = let same : key y ≡ id = grind (arith, nat_tests) in ap key (sym (some e)) ∙ same
-    go false is e = found_number key id ys x e
+    go : (b : Bool) → eqb (key y) id ≡ b → cond b (Some y) (find (λ z. eqb (key z) id) ys) ≡ Some x → (find (λ z. eqb (key z) id) ys ≡ Some x → key x ≡ id) → key x ≡ id
+    go true is e more = let same : key y ≡ id = grind (arith, nat_tests) in ap key (sym (some e)) ∙ same
+    go false is e more = more e
+
+-- a file's row is set
+pub row_set : (old new : State) (count : ℕ) (t : Tables) (k : Keeps t old.now) (id : ℕ) (s : FileState) (f : FileRow) → find (λ q. eqb q.id id) t.files ≡ Some f → s.parcel ≡ f.state.parcel → s.applicant ≡ f.state.applicant
+    → f.state.papers ≤ s.papers → IsNamed s → Executes write_file (row_params id s) old new (Ok count) → Keeps (record t { files = map (with_state id s) t.files }) new.now
+row_set old new count t k id s f found parcel applicant more named h =
+    let only = only_found (λ (q : FileRow). eqb q.id id) t.files f found (k.keyed.files id) in
+    let number = found_number (λ (q : FileRow). q.id) id t.files f found in
+    let first = sets_file old new count k.schema t k id s f only number parcel applicant h in
+    let xs = map (with_state id s) t.files in
+    let here : with_state id s f ≡ record f { state = s } = set number in
+    let there = put_changed (λ (q : FileRow). q.id) file_row (λ q. refl) id (with_state id s) f t.files (old.now.trees 7) (λ y apart. ap (λ c. cond c (record y { state = s }) y) apart) (ap (λ (q : FileRow). q.id) here ∙ number) only k.rows.files in
+    let row = subst (IsPermutation (map file_row xs)) (ap (λ q. put_row (file_row q) (without_rowid (pos id) (old.now.trees 7))) here ∙ sym first.1) there in
+    record { schema = first.0.schema; keyed = keyed_row t k.keyed id s f only more named; rows = keeps_files old.now new.now t k.rows xs first.0 row }
+  where
+    set : f.id ≡ id → with_state id s f ≡ record f { state = s }
+    set e = let is : eqb f.id id ≡ true = grind (arith, nat_tests) in ap (λ c. cond c (record f { state = s }) f) is
 
 module _ {S : Type 0} (g : Ghosts S) (old : Held S) (db : Database) (t : Tables) (k : Keeps t (state g old).now) (d : Desk) where
   pub party_made : (p : Party) → find (λ q. bytes_eq q.digest p.digest) t.parties ≡ None → RanAll g ((add_party, shown_party p) ∷ desk_step d ∷ []) old db → Keeps (record t { desk = d; parties = t.parties ++ p ∷ [] }) db
@@ -144,5 +160,19 @@ module _ {S : Type 0} (g : Ghosts S) (old : Held S) (db : Database) (t : Tables)
       let rows = keeps_files begun.now a.now t k.rows xs first.leaves there in
       let keyed = keyed_file t k.keyed f (key_free (λ (q : FileRow). q.id) file_row (λ q. refl) f t.files (begun.now.trees 7) first.fresh k.rows.files) named in
       let done = ended a b two.1 (record t { files = xs }) d first.leaves.schema rows keyed two.2 in
+      let same : db ≡ b.now = ran.is ∙ ap (λ (h : Held _). (state g h).now) two.3 in
+      subst (Keeps (record t { desk = d; files = xs })) (sym same) done
+
+  pub row_made : (id : ℕ) (s : FileState) (f : FileRow) → find (λ q. eqb q.id id) t.files ≡ Some f → s.parcel ≡ f.state.parcel → s.applicant ≡ f.state.applicant → f.state.papers ≤ s.papers → IsNamed s
+      → RanAll g ((write_file, row_params id s) ∷ desk_step d ∷ []) old db → Keeps (record t { desk = d; files = map (with_state id s) t.files }) db
+  row_made id s f found parcel applicant more named ran =
+      let one = ran.ran in
+      let two = one.3 in
+      let begun = state g (record old { in_transaction = true }) in
+      let a = state g one.0 in
+      let b = state g two.0 in
+      let first = row_set begun a one.1 t k id s f found parcel applicant more named one.2 in
+      let xs = map (with_state id s) t.files in
+      let done = ended a b two.1 (record t { files = xs }) d first.schema first.rows first.keyed two.2 in
       let same : db ≡ b.now = ran.is ∙ ap (λ (h : Held _). (state g h).now) two.3 in
       subst (Keeps (record t { desk = d; files = xs })) (sym same) done
