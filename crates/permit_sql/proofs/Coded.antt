@@ -1,5 +1,5 @@
 -- Each word stands at its code among the words of its type.
-use Rattle.std.proofs.Common.{◌≡◌, ℕ, refl, Some, None, Option, slice_get}
+use Rattle.std.proofs.Common.{◌≡◌, refl, Some, slice_get}
 use Rattle.permit_base.specs.declared.words.Role.{Role}
 use Rattle.permit_base.specs.declared.words.Role.TheVariants as role
 use Rattle.permit_base.specs.declared.words.Kind.{Kind}

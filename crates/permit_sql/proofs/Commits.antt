@@ -1,9 +1,8 @@
 -- What the statements of a commit make of the tables.
-use Rattle.std.proofs.Common.{◌≡◌, ℕ, pos, ◌+◌, ◌<◌, ◌≤◌, Bool, true, false, cond, eqb, List, [], ◌∷◌, ◌++◌, map, filter, find, drop, length, Option, Some, None, Ok, refl, sym, ap, subst, ◌∙◌, arith, IsPermutation}
+use Rattle.std.proofs.Common.{◌≡◌, ℕ, pos, ◌≤◌, Bool, true, false, cond, eqb, List, [], ◌∷◌, ◌++◌, map, find, drop, Some, None, Ok, refl, sym, ap, subst, ◌∙◌, arith, IsPermutation}
 use Rattle.std.specs.Prelude.{bytes_eq}
-use Rattle.std.specs.List.{AllByRecursion}
 use Rattle.std.proofs.lemmas.Bool.Decides.{nat_tests}
-use Rattle.std.proofs.lemmas.List.Sorted.{IsPermutation-map, IsPermutation-trans, IsPermutation-sym}
+use Rattle.std.proofs.lemmas.List.Sorted.{IsPermutation-map, IsPermutation-trans}
 use Rattle.sqlite.specs.declared.types.Value.TheVariants.{Int}
 use Rattle.sqlite_value.specs.Order.{Row}
 use Rattle.sqlite_trees.specs.Tree.{put_row, without_rowid}
@@ -15,7 +14,7 @@ use Rattle.sqlite.specs.Held.{Held, state}
 use Rattle.permit_model.specs.Codes.{kind_code, stage_code}
 use Rattle.permit_model.specs.Caller.{Party}
 use Rattle.permit_model.specs.Parcels.{Parcel, Interest}
-use Rattle.permit_model.specs.Tables.{Desk, State as FileState, FileRow, Paper, Tables}
+use Rattle.permit_model.specs.Tables.{Desk, State as FileState, FileRow, Tables}
 use Rattle.permit_store.specs.Changes.{given_to, with_state}
 use Rattle.permit_sql.specs.Schema.{office_schema}
 use Rattle.permit_sql.specs.Rows.{int, or_zero, or_less, step_value, flag, party_row, parcel_row, file_row, shown_party, shown_parcel, shown_file, shown_interest}

@@ -1,5 +1,5 @@
 -- What the statements of a creation make of an empty database.
-use Rattle.std.proofs.Common.{◌≡◌, ◌≢◌, ◌⊎◌, inl, inr, ℕ, ℤ, pos, ◌+◌, ◌≤◌, length, filter, arith, IsPermutation, Bool, true, false, List, [], ◌∷◌, ◌++◌, map, drop, Some, None, Ok, Err, Result, refl, sym, ap, subst, ◌∙◌}
+use Rattle.std.proofs.Common.{◌≡◌, ℕ, arith, IsPermutation, true, false, List, [], ◌∷◌, ◌++◌, map, drop, None, Ok, Result, refl, sym, ap, subst, ◌∙◌}
 use Rattle.sqlite_tied.specs.Compute.{everything}
 use Rattle.sqlite.specs.Listing.{understood}
 use Rattle.sqlite_resolve.specs.Compile.{table_defined_by, index_defined_by}
@@ -9,8 +9,7 @@ use Rattle.sqlite_schema.specs.declared.schema.Schema.{Schema}
 use Rattle.sqlite_schema.specs.declared.schema.Index.{Index}
 use Rattle.sqlite_schema.specs.declared.command.Command.TheVariants.{CreateTable, CreateIndex}
 use Rattle.std.specs.List.{AllByRecursion}
-use Rattle.sqlite_value.specs.Order.{Row}
-use Rattle.sqlite_trees.specs.Tree.{Trees, put_row, has_rowid}
+use Rattle.sqlite_trees.specs.Tree.{Trees, put_row}
 use Rattle.sqlite_trees.specs.declared.store.Store.{Ghosts}
 use Rattle.sqlite_keyed.proofs.ListLemmas.{IsPermutation-same}
 use Rattle.sqlite.specs.Effect.{Database}
@@ -21,13 +20,12 @@ use Rattle.sqlite.proofs.Callers.{runs_as, command_of, statement_of, IsPlain}
 use Rattle.permit_model.specs.Caller.{Party}
 use Rattle.permit_model.specs.Tables.{Desk, Tables}
 use Rattle.permit_sql.specs.Schema.{desk_table, party_table, parcel_table, interest_table, file_table, paper_table, all_tables, key_indexes, cell_index, applicant_index, contractor_index, reviewer_index, inspector_index, parcel_index, owner_index, interested_index, office_schema, empty_schema, table_schema}
-use Rattle.permit_sql.specs.Rows.{int, desk_row, party_row, shown_party, shown_interest, shown_paper}
+use Rattle.permit_sql.specs.Rows.{int, desk_row, party_row, shown_party}
 use Rattle.permit_sql.specs.Kept.{AreKeyed, AreInTrees, Keeps}
 use Rattle.permit_sql.specs.Steps.{RanAll}
 use Rattle.permit_sql.specs.Founding.{founding_steps}
 use Rattle.permit_sql.specs.Texts.{create_desk, create_party, create_parcel, create_interest, create_file, create_paper, index_cell, index_applicant, index_contractor, index_reviewer, index_inspector, index_parcel, index_owner, index_interested}
 use Rattle.permit_sql.proofs.Permuted.{put_more}
-use Rattle.permit_sql.proofs.Effects.{Leaves}
 use Rattle.permit_sql.proofs.Writes.{founds_desk, adds_party}
 use Rattle.permit_sql.proofs.Keeping.{Apart, keeps_parties, keyed_party}
 use Rattle.permit_sql.proofs.WriteLemmas.{went, same_value}
@@ -448,16 +446,18 @@ desk_founded old new last count was h =
     let e3 : new.now.trees 3 ≡ [] = o.1.1.0 (λ e. absurd (omega (arith, e))) ∙ b.1.1.0 in
     let e5 : new.now.trees 5 ≡ [] = o.1.1.1.0 (λ e. absurd (omega (arith, e))) ∙ b.1.1.1.0 in
     let e7 : new.now.trees 7 ≡ [] = o.1.1.1.1.0 (λ e. absurd (omega (arith, e))) ∙ b.1.1.1.1.0 in
-    let e8 : new.now.trees 8 ≡ [] = o.1.1.1.1.1.0 (λ e. absurd (omega (arith, e))) ∙ b.1.1.1.1.1.0 in
-    (it.leaves.schema, record {
-      desk = it.row ∙ ap (put_row (desk_row (record { last = last; parties = 1; parcels = 0; files = 0 }))) b.0;
-      parties = IsPermutation-same _ _ (sym e1);
-      parcels = IsPermutation-same _ _ (sym e3);
-      interests = IsPermutation-same _ _ (sym (ap (map (drop 1)) e5));
-      files = IsPermutation-same _ _ (sym e7);
-      papers = IsPermutation-same _ _ (sym (ap (map (drop 1)) e8));
-      apart = subst Apart (sym e8) (λ id. omega arith);
-    })
+    let e8 : new.now.trees 8 ≡ [] = o.1.1.1.1.1.0 (λ e. absurd (omega (arith, e))) ∙ b.1.1.1.1.1.0 in (
+      it.leaves.schema,
+      record {
+        desk = it.row ∙ ap (put_row (desk_row (record { last = last; parties = 1; parcels = 0; files = 0 }))) b.0;
+        parties = IsPermutation-same _ _ (sym e1);
+        parcels = IsPermutation-same _ _ (sym e3);
+        interests = IsPermutation-same _ _ (sym (ap (map (drop 1)) e5));
+        files = IsPermutation-same _ _ (sym e7);
+        papers = IsPermutation-same _ _ (sym (ap (map (drop 1)) e8));
+        apart = subst Apart (sym e8) (λ id. omega arith);
+      },
+    )
 
 pub founding_made : {S : Type 0} (g : Ghosts S) (old : Held S) (db : Database) (last : ℕ) (p : Party) → (state g old).now.schema ≡ empty_schema
     → RanAll g (founding_steps (int last ∷ []) (shown_party p)) old db → Keeps (record (no_rows (record { last = last; parties = 1; parcels = 0; files = 0 })) { parties = p ∷ [] }) db

@@ -1,16 +1,15 @@
 -- What a text that writes makes of the trees.
-use Rattle.std.proofs.Common.{◌≡◌, ◌≢◌, ℕ, suc, ℤ, pos, negsuc, ◌/◌, Bool, true, false, cond, List, [], ◌∷◌, ◌++◌, length, map, drop, Option, Some, None, Ok, refl, sym, ap, subst, ◌∙◌}
+use Rattle.std.proofs.Common.{◌≡◌, ◌≢◌, ℕ, ℤ, negsuc, ◌/◌, Bool, true, false, cond, List, [], ◌∷◌, length, Option, Some, None, Ok, refl, ap, subst, ◌∙◌}
 use Rattle.std.specs.List.{AllByRecursion}
 use Rattle.sqlite.specs.declared.types.Value.{Value}
-use Rattle.sqlite.specs.declared.types.Value.TheVariants.{Null, Int, Text}
+use Rattle.sqlite.specs.declared.types.Value.TheVariants.{Null, Int}
 use Rattle.sqlite_value.specs.Order.{Row}
-use Rattle.sqlite_trees.specs.Tree.{Trees, put_row, without_rowid}
+use Rattle.sqlite_trees.specs.Tree.{put_row, without_rowid}
 use Rattle.sqlite_sql.specs.Term.{Term}
 use Rattle.sqlite_sql.specs.Query.{Query}
 use Rattle.sqlite_sql.specs.Ops.{unary}
 use Rattle.sqlite_schema.specs.declared.schema.Kind.TheVariants.{Integer}
 use Rattle.sqlite_schema.specs.declared.schema.Table.{Table}
-use Rattle.sqlite_schema.specs.declared.schema.Keys.TheVariants.{Enforced}
 use Rattle.sqlite_schema.specs.declared.command.Command.TheVariants.{Insert, Update}
 use Rattle.sqlite_schema.specs.declared.command.Source.TheVariants.{Values}
 use Rattle.sqlite_rules.specs.declared.error.Rowids.TheVariants.{Chosen, Given}
@@ -122,7 +121,7 @@ module _ (text : List ℕ) (at : ℕ) (table : Table) (query : Query)
         answer = it.1;
         none = λ e. let step = it.3.0 e in (record { schema = it.2; others = step.tables }, step.rows);
         one = λ id made stays e.
-          let news : (edit_of db table (ids_of it.0) Given 1 it.0).news ≡ made ∷ [] = ap (λ rows. (edit_of db table (ids_of rows) Given 1 rows).news) e ∙ ap (λ r. r ∷ []) stays in
-          let step = it.3.1 made news in
-          (record { schema = it.2; others = step.tables }, step.rows ∙ ap (λ rows. edited db (edit_of db table (ids_of rows) Given 1 rows)) e ∙ ap (λ r. put_row r (without_rowid id (db table.tree))) stays);
+            let news : (edit_of db table (ids_of it.0) Given 1 it.0).news ≡ made ∷ [] = ap (λ rows. (edit_of db table (ids_of rows) Given 1 rows).news) e ∙ ap (λ r. r ∷ []) stays in
+            let step = it.3.1 made news in
+            (record { schema = it.2; others = step.tables }, step.rows ∙ ap (λ rows. edited db (edit_of db table (ids_of rows) Given 1 rows)) e ∙ ap (λ r. put_row r (without_rowid id (db table.tree))) stays);
       }

@@ -1,12 +1,12 @@
 -- What is kept of the tables as one table turns into another.
-use Rattle.std.proofs.Common.{◌≡◌, ◌≢◌, ℕ, zero, suc, ℤ, pos, ◌+◌, ◌-◌, ◌<◌, ◌≤◌, Bool, true, false, cond, eqb, not, List, [], ◌∷◌, ◌++◌, map, filter, find, drop, length, slice_get, Option, Some, None, option_map, unwrap_or, refl, sym, ap, ap₂, subst, ◌∙◌, arith, IsPermutation}
+use Rattle.std.proofs.Common.{◌≡◌, ℕ, suc, ℤ, ◌<◌, ◌≤◌, Bool, true, false, cond, eqb, List, [], ◌∷◌, ◌++◌, map, filter, find, drop, length, Some, option_map, unwrap_or, refl, sym, ap, subst, ◌∙◌, arith, IsPermutation}
 use Rattle.std.specs.Prelude.{◌&&◌, bytes_eq}
-use Rattle.std.specs.List.{AllByRecursion, list_any}
+use Rattle.std.specs.List.{AllByRecursion}
 use Rattle.std.proofs.lemmas.Bool.Decides.{nat_tests}
 use Rattle.std.proofs.lemmas.Slice.Eq.{bytes_eq-Decides}
-use Rattle.sqlite_keyed.proofs.ListLemmas.{filter-map, filter_same, all_kept, ascending-map, ascending_weaker, map_same}
+use Rattle.sqlite_keyed.proofs.ListLemmas.{filter-map, filter_same, all_kept, ascending-map, ascending_weaker}
 use Rattle.sqlite.specs.Effect.{Database}
-use Rattle.sqlite_trees.specs.Tree.{Trees, IsAscending, has_rowid}
+use Rattle.sqlite_trees.specs.Tree.{IsAscending, has_rowid}
 use Rattle.permit_model.specs.Caller.{Party}
 use Rattle.permit_model.specs.Parcels.{Parcel, Interest}
 use Rattle.permit_model.specs.Tables.{Desk, State, FileRow, Paper, Tables}
@@ -14,7 +14,7 @@ use Rattle.permit_store.specs.Changes.{given_to, with_state, closed_by}
 use Rattle.permit_sql.specs.Schema.{desk_table, party_table, parcel_table, interest_table, file_table, paper_table}
 use Rattle.permit_sql.specs.Rows.{desk_row, party_row, parcel_row, file_row, shown_interest, shown_paper}
 use Rattle.permit_sql.specs.Kept.{papers_counted, IsNamed, AreKeyed, AreInTrees}
-use Rattle.permit_sql.proofs.Permuted.{once_more, not_found}
+use Rattle.permit_sql.proofs.Permuted.{once_more}
 use Rattle.permit_sql.proofs.Effects.{Leaves}
 
 -- ---- the trees: one is changed
@@ -110,21 +110,36 @@ module _ (t : Tables) (k : AreKeyed t) where
   keyed_party p free new = record {
     parties = λ id. once_more (λ q. eqb q.id id) t.parties p (k.parties id) (λ e. subst (λ n. filter (λ q. eqb q.id n) t.parties ≡ []) (same_number p.id id e) free);
     digests = λ d. once_more (λ q. bytes_eq q.digest d) t.parties p (k.digests d) (λ e. subst (λ b. filter (λ q. bytes_eq q.digest b) t.parties ≡ []) (same_bytes p.digest d e) new);
-    parcels = k.parcels; lots = k.lots; files = k.files; named = k.named; papers = k.papers; counted = k.counted;
+    parcels = k.parcels;
+    lots = k.lots;
+    files = k.files;
+    named = k.named;
+    papers = k.papers;
+    counted = k.counted;
   }
 
   pub keyed_parcel : (p : Parcel) → filter (λ q. eqb q.id p.id) t.parcels ≡ [] → filter (λ q. bytes_eq q.lot p.lot) t.parcels ≡ [] → AreKeyed (record t { parcels = t.parcels ++ p ∷ [] })
   keyed_parcel p free new = record {
     parcels = λ id. once_more (λ q. eqb q.id id) t.parcels p (k.parcels id) (λ e. subst (λ n. filter (λ q. eqb q.id n) t.parcels ≡ []) (same_number p.id id e) free);
     lots = λ d. once_more (λ q. bytes_eq q.lot d) t.parcels p (k.lots d) (λ e. subst (λ b. filter (λ q. bytes_eq q.lot b) t.parcels ≡ []) (same_bytes p.lot d e) new);
-    parties = k.parties; digests = k.digests; files = k.files; named = k.named; papers = k.papers; counted = k.counted;
+    parties = k.parties;
+    digests = k.digests;
+    files = k.files;
+    named = k.named;
+    papers = k.papers;
+    counted = k.counted;
   }
 
   pub keyed_owner : (id owner : ℕ) → AreKeyed (record t { parcels = map (given_to id owner) t.parcels })
   keyed_owner id owner = record {
     parcels = λ n. as_many (λ q. eqb q.id n) (given_to id owner) (λ q. ap (λ m. eqb m n) (still q)) t.parcels (k.parcels n);
     lots = λ d. as_many (λ q. bytes_eq q.lot d) (given_to id owner) (λ q. ap (λ l. bytes_eq l d) (lot_still q)) t.parcels (k.lots d);
-    parties = k.parties; digests = k.digests; files = k.files; named = k.named; papers = k.papers; counted = k.counted;
+    parties = k.parties;
+    digests = k.digests;
+    files = k.files;
+    named = k.named;
+    papers = k.papers;
+    counted = k.counted;
   }
     where
       still : (q : Parcel) → (given_to id owner q).id ≡ q.id
@@ -203,7 +218,10 @@ named_set id s (x ∷ fs) is all = (go (eqb x.id id), named_set id s fs is all.1
 module _ (t : Tables) (k : AreKeyed t) where
   pub keyed_file : (f : FileRow) → filter (λ q. eqb q.id f.id) t.files ≡ [] → IsNamed f.state → AreKeyed (record t { files = t.files ++ f ∷ [] })
   keyed_file f free is = record {
-    parties = k.parties; digests = k.digests; parcels = k.parcels; lots = k.lots;
+    parties = k.parties;
+    digests = k.digests;
+    parcels = k.parcels;
+    lots = k.lots;
     files = λ id. once_more (λ q. eqb q.id id) t.files f (k.files id) (λ e. subst (λ n. filter (λ q. eqb q.id n) t.files ≡ []) (same_number f.id id e) free);
     named = all_last (λ (x : FileRow). IsNamed x.state) t.files f k.named is;
     papers = k.papers;
@@ -212,12 +230,15 @@ module _ (t : Tables) (k : AreKeyed t) where
 
   pub keyed_row : (id : ℕ) (s : State) (f : FileRow) → filter (λ q. eqb q.id id) t.files ≡ f ∷ [] → f.state.papers ≤ s.papers → IsNamed s → AreKeyed (record t { files = map (with_state id s) t.files })
   keyed_row id s f one low is = record {
-    parties = k.parties; digests = k.digests; parcels = k.parcels; lots = k.lots;
+    parties = k.parties;
+    digests = k.digests;
+    parcels = k.parcels;
+    lots = k.lots;
     files = λ n. as_many (λ q. eqb q.id n) (with_state id s) (λ q. ap (λ m. eqb m n) (still_id id s q)) t.files (k.files n);
     named = named_set id s t.files is k.named;
     papers = k.papers;
     counted = λ file. raised (papers_counted file t.files) (papers_counted file (map (with_state id s) t.files)) _
-      (counted_set file id s t.files (all_kept (λ (x : FileRow). x.state.papers ≤ s.papers) (λ q. eqb q.id id) t.files (subst (AllByRecursion (λ (x : FileRow). x.state.papers ≤ s.papers)) (sym one) (low, tt)))) (k.counted file);
+        (counted_set file id s t.files (all_kept (λ (x : FileRow). x.state.papers ≤ s.papers) (λ q. eqb q.id id) t.files (subst (AllByRecursion (λ (x : FileRow). x.state.papers ≤ s.papers)) (sym one) (low, tt)))) (k.counted file);
   }
 
 -- ---- papers
@@ -246,7 +267,12 @@ module _ (t : Tables) (k : AreKeyed t) where
   -- a paper of the file, with the number after all of its papers
   pub keyed_paper : (p : Paper) → AllByRecursion (λ (x : Paper). x.number < p.number) (filter (λ (x : Paper). eqb x.file p.file) t.papers) → p.number ≤ papers_counted p.file t.files → AreKeyed (record t { papers = t.papers ++ p ∷ [] })
   keyed_paper p above low = record {
-    parties = k.parties; digests = k.digests; parcels = k.parcels; lots = k.lots; files = k.files; named = k.named;
+    parties = k.parties;
+    digests = k.digests;
+    parcels = k.parcels;
+    lots = k.lots;
+    files = k.files;
+    named = k.named;
     papers = λ file. subst (IsAscending (λ (a b : Paper). a.number < b.number)) (sym (filter_last (λ (x : Paper). eqb x.file file) t.papers p)) (rises file (eqb p.file file) refl);
     counted = λ file. subst (AllByRecursion (λ (x : Paper). x.number ≤ papers_counted file t.files)) (sym (filter_last (λ (x : Paper). eqb x.file file) t.papers p)) (counts file (eqb p.file file) refl);
   }
@@ -279,9 +305,14 @@ module _ (t : Tables) (k : AreKeyed t) where
 
   pub keyed_closed : (file number : ℕ) → AreKeyed (record t { papers = map (closed_by file number) t.papers })
   keyed_closed file number = record {
-    parties = k.parties; digests = k.digests; parcels = k.parcels; lots = k.lots; files = k.files; named = k.named;
+    parties = k.parties;
+    digests = k.digests;
+    parcels = k.parcels;
+    lots = k.lots;
+    files = k.files;
+    named = k.named;
     papers = λ f. subst (IsAscending (λ (a b : Paper). a.number < b.number)) (sym (kept f))
-      (ascending-map (λ (a b : Paper). a.number < b.number) (closed_by file number) _ (ascending_weaker _ _ (λ a b low. subst (λ n. n < (closed_by file number b).number) (sym (closed_number file number a)) (subst (λ n. a.number < n) (sym (closed_number file number b)) low)) _ (k.papers f)));
+        (ascending-map (λ (a b : Paper). a.number < b.number) (closed_by file number) _ (ascending_weaker _ _ (λ a b low. subst (λ n. n < (closed_by file number b).number) (sym (closed_number file number a)) (subst (λ n. a.number < n) (sym (closed_number file number b)) low)) _ (k.papers f)));
     counted = λ f. subst (AllByRecursion (λ (x : Paper). x.number ≤ papers_counted f t.files)) (sym (kept f)) (closed_all _ file number _ (k.counted f));
   }
     where

@@ -1,23 +1,21 @@
 -- What a query over one table shows, with no group, no DISTINCT and no LIMIT.
-use Rattle.std.proofs.Common.{◌≡◌, ℕ, suc, pos, negsuc, ◌+◌, ◌<◌, ◌≤◌, Bool, true, false, cond, eqb, not, List, [], ◌∷◌, ◌++◌, map, filter, find, drop, length, slice_get, Option, Some, None, option_map, refl, sym, ap, ap₂, subst, ◌∙◌, arith, IsPermutation, IsSorted, Less, is_eq}
+use Rattle.std.proofs.Common.{◌≡◌, ℕ, suc, pos, negsuc, ◌≤◌, Bool, true, false, cond, eqb, List, [], ◌∷◌, ◌++◌, map, filter, length, Some, None, refl, sym, ap, ap₂, subst, ◌∙◌, arith, IsPermutation, IsSorted, is_eq}
 use Rattle.std.specs.Prelude.{◌&&◌, bytes_eq}
 use Rattle.std.specs.List.{flat_map, list_all, list_any, AllByRecursion}
 use Rattle.std.proofs.lemmas.Bool.Decides.{nat_tests}
 use Rattle.std.proofs.lemmas.Map.Text.{is_eq-slice_cmp}
-use Rattle.std.proofs.lemmas.List.Sorted.{length_permutation, IsPermutation-map, IsPermutation-trans}
-use Rattle.sqlite.specs.declared.types.Value.{Value}
-use Rattle.sqlite.specs.declared.types.Value.TheVariants.{Null, Int, Text}
-use Rattle.sqlite_value.specs.Order.{Row, value_cmp}
+use Rattle.std.proofs.lemmas.List.Sorted.{IsPermutation-map, IsPermutation-trans}
+use Rattle.sqlite.specs.declared.types.Value.TheVariants.{Int, Text}
+use Rattle.sqlite_value.specs.Order.{Row}
 use Rattle.sqlite_value.proofs.OrderLemmas.{value_cmp-Int, value_cmp-Text}
 use Rattle.sqlite_value.specs.declared.keys.Key.{Key}
 use Rattle.sqlite_value.specs.declared.keys.Collation.TheVariants.{Binary}
 use Rattle.sqlite_sql.specs.declared.ops.BinaryOp.TheVariants.{Compare}
 use Rattle.sqlite_sql.specs.declared.ops.CompareOp.TheVariants.{Eq}
 use Rattle.sqlite_sql.specs.Ops.{binary, is_true, from_truth}
-use Rattle.sqlite_sql.specs.Term.{Term, Env, lit, col, op2, eval, eval_all, holds}
+use Rattle.sqlite_sql.specs.Term.{Term, lit, op2, eval_all, holds}
 use Rattle.sqlite_sql.specs.Query.{Query, Join, inner, end, IsAnswer, Output, output, output_cmp, matches}
-use Rattle.sqlite_trees.specs.Tree.{Trees, rowid}
-use Rattle.sqlite_tied.proofs.RuleLemmas.{and_true}
+use Rattle.sqlite_trees.specs.Tree.{Trees}
 use Rattle.sqlite_keyed.proofs.ListLemmas.{IsPermutation-flat_map, flat_map-map, map-flat_map, flat_map_same_on, filter_as_flat_map, map-map}
 use Rattle.permit_sql.specs.Rows.{int}
 use Rattle.permit_sql.proofs.Permuted.{one_order}
@@ -106,11 +104,11 @@ module _ {X : Type 0} (enc : X → Row) (shown : X → Row) (tree : ℕ) (filter
       let got = answers (inner tree end) filter project [] db params rows a in
       let out : X → Output = λ x. output by_test (params ∷ enc x ∷ []) in
       let there = subst (λ l. IsPermutation l (flat_map (put_out by_test params) (db tree))) (put_all_out (put_out by_test params) enc test out (λ x. put_out_is by_test params (enc x) (test x) (out x) (tests x) refl) xs)
-          (IsPermutation-flat_map (put_out by_test params) _ _ kept) in
+      (IsPermutation-flat_map (put_out by_test params) _ _ kept) in
       let same = IsPermutation-trans _ _ _ there (subst (λ l. IsPermutation l got.0) (spread by_test params (db tree)) got.1) in
       let seen = IsPermutation-map (λ (o : Output). o.1) _ _ same in
       let plain : map (λ (o : Output). o.1) (map out (Rattle.std.specs.Prelude.filter test xs)) ≡ map shown (Rattle.std.specs.Prelude.filter test xs) =
-          map-map (λ (o : Output). o.1) out _ ∙ Rattle.sqlite_keyed.proofs.ListLemmas.map_same (λ x. (out x).1) shown shows _ in
+      map-map (λ (o : Output). o.1) out _ ∙ Rattle.sqlite_keyed.proofs.ListLemmas.map_same (λ x. (out x).1) shown shows _ in
       subst (IsPermutation (map shown (Rattle.std.specs.Prelude.filter test xs))) (sym got.3) (subst (λ l. IsPermutation l (map (λ (o : Output). o.1) got.0)) plain seen)
 
   -- where at most one passes, there is no order to speak of

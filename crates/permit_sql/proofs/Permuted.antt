@@ -1,6 +1,6 @@
 -- Rows in any order: a new row among them, and one that is replaced.
-use Rattle.std.proofs.Common.{◌≡◌, ◌⊎◌, inl, inr, ℕ, zero, suc, ℤ, pos, ◌+◌, ◌<◌, ◌≤◌, length, map, eqb, slice_get, Option, Some, None, arith, ◌&&◌, ◌||◌, cond, Bool, true, false, not, List, [], ◌∷◌, ◌++◌, filter, find, option_map, refl, sym, ap, ap₂, subst, ◌∙◌, Ordering, Less, Equal, Greater, is_eq, IsPermutation, true≢false, append-nil}
-use Rattle.std.specs.List.{AllByRecursion, list_any, flat_map}
+use Rattle.std.proofs.Common.{◌≡◌, ℕ, ℤ, pos, ◌+◌, ◌≤◌, length, map, eqb, slice_get, Some, None, arith, ◌&&◌, ◌||◌, cond, Bool, true, false, not, List, [], ◌∷◌, ◌++◌, filter, find, refl, sym, ap, ap₂, subst, ◌∙◌, Ordering, Less, Equal, Greater, is_eq, IsPermutation, true≢false, append-nil}
+use Rattle.std.specs.List.{AllByRecursion, list_any}
 use Rattle.std.specs.Ordering.{match_ordering}
 use Rattle.std.proofs.lemmas.Bool.Decides.{nat_tests}
 use Rattle.std.proofs.lemmas.List.Sorted.{IsPermutation-refl, IsPermutation-cons, IsPermutation-trans, IsPermutation-sym, IsPermutation-middle, length_permutation, IsPermutation-map}
@@ -114,7 +114,7 @@ module _ {X : Type 0} (test : X → Bool) (f : X → X) where
           → IsPermutation (f x ∷ map f xs) (f old ∷ cond (not b) (x ∷ rest xs) (rest xs))
       go true is one more = IsPermutation-same _ _ (ap₂ ◌∷◌ (ap f (head one)) (map_none xs stays.1 (tail one)))
       go false is one more = IsPermutation-trans _ _ _ (IsPermutation-cons (f x) _ _ (more one))
-        (subst (λ y. IsPermutation (f x ∷ f old ∷ rest xs) (f old ∷ y ∷ rest xs)) (stays.0 is) (IsPermutation-middle (f x ∷ []) (f old) (rest xs)))
+          (subst (λ y. IsPermutation (f x ∷ f old ∷ rest xs) (f old ∷ y ∷ rest xs)) (stays.0 is) (IsPermutation-middle (f x ∷ []) (f old) (rest xs)))
 
 -- An UPDATE of the one row with a rowid.
 pub updates : (id : ℤ) (f : Row → Row) (old new : Row) (rows : List Row) → AllByRecursion (λ r. has_rowid id r ≡ false → f r ≡ r) rows → filter (has_rowid id) rows ≡ old ∷ [] → f old ≡ new → rowid new ≡ Int id
@@ -198,7 +198,7 @@ module _ {X : Type 0} (key : X → ℕ) (enc : X → Row) (keyed : (x : X) → r
   put_changed id f x xs tree stays same one kept =
       let gone = IsPermutation-filter (λ r. not (has_rowid (pos id) r)) _ _ kept in
       let left : filter (λ r. not (has_rowid (pos id) r)) (map enc xs) ≡ map enc (filter (λ y. not (eqb (key y) id)) xs) =
-          filter-map (λ r. not (has_rowid (pos id) r)) enc xs ∙ ap (map enc) (Rattle.sqlite_keyed.proofs.ListLemmas.filter_same _ _ (λ y. ap not (has_key id y)) xs) in
+      filter-map (λ r. not (has_rowid (pos id) r)) enc xs ∙ ap (map enc) (Rattle.sqlite_keyed.proofs.ListLemmas.filter_same _ _ (λ y. ap not (has_key id y)) xs) in
       let changed = IsPermutation-map enc _ _ (map_one (λ y. eqb (key y) id) f x xs (all xs) one) in
       IsPermutation-trans _ _ _ changed
       (IsPermutation-trans _ _ _ (IsPermutation-cons (enc (f x)) _ _ (subst (λ l. IsPermutation l (without_rowid (pos id) tree)) left gone))

@@ -1,34 +1,26 @@
 -- What the texts that read show of the tables.
-use Rattle.std.proofs.Common.{◌≡◌, get_or, take, ℕ, zero, suc, pos, ◌+◌, ◌<◌, ◌≤◌, Bool, true, false, cond, eqb, not, List, [], ◌∷◌, ◌++◌, map, filter, find, drop, length, slice_get, Option, Some, None, option_map, refl, sym, ap, ap₂, subst, ◌∙◌, arith, IsPermutation, IsSorted, Less}
+use Rattle.std.proofs.Common.{◌≡◌, get_or, take, ℕ, zero, suc, ◌+◌, ◌<◌, Bool, true, false, cond, eqb, not, List, [], ◌∷◌, ◌++◌, map, filter, find, drop, length, slice_get, Some, option_map, refl, sym, ap, ap₂, subst, ◌∙◌, arith, IsPermutation, Less}
 use Rattle.std.specs.Prelude.{◌&&◌, bytes_eq, IfSome}
-use Rattle.std.specs.List.{flat_map, list_all, list_any, AllByRecursion}
+use Rattle.std.specs.List.{flat_map, list_any, AllByRecursion}
 use Rattle.std.proofs.lemmas.Bool.Decides.{nat_tests}
-use Rattle.std.proofs.lemmas.List.Sorted.{length_permutation, IsPermutation-map, IsPermutation-trans, IsPermutation-sym}
-use Rattle.sqlite.specs.declared.types.Value.TheVariants.{Null, Int, Text}
-use Rattle.sqlite_value.specs.Order.{Row, column, value_cmp}
+use Rattle.std.proofs.lemmas.List.Sorted.{length_permutation, IsPermutation-trans}
+use Rattle.sqlite.specs.declared.types.Value.TheVariants.{Null, Text}
+use Rattle.sqlite_value.specs.Order.{Row, value_cmp}
 use Rattle.sqlite_value.proofs.OrderLemmas.{value_cmp-Int}
-use Rattle.sqlite_value.specs.declared.keys.Collation.TheVariants.{Binary}
-use Rattle.sqlite_sql.specs.declared.ops.BinaryOp.TheVariants.{Compare}
-use Rattle.sqlite_sql.specs.declared.ops.CompareOp.TheVariants.{Eq}
-use Rattle.sqlite_sql.specs.Ops.{binary, is_true}
-use Rattle.sqlite_sql.specs.Term.{Term, Env, eval_all, holds}
-use Rattle.sqlite_sql.specs.Query.{Query, IsAnswer, Output, output, output_cmp}
+use Rattle.sqlite_sql.specs.Query.{Output, output, output_cmp}
 use Rattle.sqlite_sql.specs.Program.{overlay}
 use Rattle.sqlite_sql.proofs.QueryLemmas.{output_cmp_total}
-use Rattle.sqlite_trees.specs.Tree.{Trees, IsAscending}
-use Rattle.sqlite_keyed.proofs.ListLemmas.{IsPermutation-flat_map, IsPermutation-filter, flat_map-map, flat_map_same_on, map-map, map_same, none_counted, ascending-map, ascending_weaker, slice_get-filter, IsPermutation-same}
+use Rattle.sqlite_keyed.proofs.ListLemmas.{IsPermutation-flat_map, flat_map-map, flat_map_same_on, map-map, none_counted, ascending-map, ascending_weaker, slice_get-filter, IsPermutation-same}
 use Rattle.sqlite_keyed.proofs.SortLemmas.{sorted_unique}
-use Rattle.sqlite.specs.Effect.{Database}
 use Rattle.sqlite.specs.State.{State, Shown}
-use Rattle.sqlite.proofs.Callers.{reads_as, one_permutation}
-use Rattle.permit_model.specs.Caller.{Party}
-use Rattle.permit_model.specs.Parcels.{Parcel, Interest}
-use Rattle.permit_model.specs.Tables.{Tables, FileRow, Paper}
+use Rattle.sqlite.proofs.Callers.{reads_as}
+use Rattle.permit_model.specs.Parcels.{Interest}
+use Rattle.permit_model.specs.Tables.{Tables, Paper}
 use Rattle.permit_sql.specs.Schema.{office_schema}
 use Rattle.permit_sql.specs.Rows.{int, desk_row, party_row, parcel_row, file_row, shown_desk, shown_party, shown_parcel, shown_file, shown_interest, shown_paper}
 use Rattle.permit_sql.specs.Kept.{Keeps}
 use Rattle.permit_sql.specs.Texts.{read_desk, read_party, find_party, read_parcel, find_parcel, find_interest, read_file, read_papers}
-use Rattle.permit_sql.proofs.Lookups.{answers, put_out, spread, put_all_out, put_out_is, one_test, eq_is, text_is, finds, finds_one}
+use Rattle.permit_sql.proofs.Lookups.{answers, put_out, spread, put_all_out, put_out_is, one_test, eq_is, text_is, finds_one}
 use Rattle.permit_sql.proofs.QueryTexts.{read_desk_query, read_desk_is, read_desk_plain, read_desk_unlisted, read_party_query, read_party_is, read_party_plain, read_party_unlisted, find_party_query, find_party_is, find_party_plain, find_party_unlisted, read_parcel_query, read_parcel_is, read_parcel_plain, read_parcel_unlisted, find_parcel_query, find_parcel_is, find_parcel_plain, find_parcel_unlisted, find_interest_query, find_interest_is, find_interest_plain, find_interest_unlisted, read_file_query, read_file_is, read_file_plain, read_file_unlisted, read_papers_query, read_papers_is, read_papers_plain, read_papers_unlisted}
 
 module _ (old new : State) (t : Tables) (rows : List Row) (k : Keeps t old.now) where
@@ -80,10 +72,10 @@ module _ (old new : State) (t : Tables) (rows : List Row) (k : Keeps t old.now) 
       let out : Interest → Output = λ i. output find_interest_query (params ∷ (Null ∷ shown_interest i) ∷ []) in
       let part : Row → List Output = λ c. put_out find_interest_query params (Null ∷ c) in
       let over : flat_map (put_out find_interest_query params) (db 5) ≡ flat_map part (map (drop 1) (db 5)) =
-          flat_map_same_on _ _ (cut parcel party) (db 5) ∙ sym (flat_map-map part (drop 1) (db 5)) in
+      flat_map_same_on _ _ (cut parcel party) (db 5) ∙ sym (flat_map-map part (drop 1) (db 5)) in
       let there = subst (λ l. IsPermutation l (flat_map part (map (drop 1) (db 5)))) (put_all_out part shown_interest test out
-          (λ i. put_out_is find_interest_query params (Null ∷ shown_interest i) (test i) (out i) (ap₂ ◌&&◌ (eq_is i.parcel parcel) (one_test _ ∙ eq_is i.party party)) refl) t.interests)
-          (IsPermutation-flat_map part _ _ k.rows.interests) in
+      (λ i. put_out_is find_interest_query params (Null ∷ shown_interest i) (test i) (out i) (ap₂ ◌&&◌ (eq_is i.parcel parcel) (one_test _ ∙ eq_is i.party party)) refl) t.interests)
+      (IsPermutation-flat_map part _ _ k.rows.interests) in
       let same = IsPermutation-trans _ _ _ there (subst (λ l. IsPermutation l got.0) (spread find_interest_query params (db 5) ∙ over) got.1) in
       let counted : length rows ≡ length (filter test t.interests) = ap length got.3 ∙ long_map (λ (o : Output). o.1) got.0 ∙ length_permutation _ _ same ∙ long_map out _ in
       ap (λ n. not (eqb n 0)) counted ∙ ap not (none_counted test t.interests) ∙ twice _
@@ -110,8 +102,8 @@ module _ (old new : State) (t : Tables) (rows : List Row) (k : Keeps t old.now) 
       let part : Row → List Output = λ c. put_out read_papers_query params (Null ∷ c) in
       let over : flat_map (put_out read_papers_query params) (db 8) ≡ flat_map part (map (drop 1) (db 8)) = flat_map_same_on _ _ (cut file) (db 8) ∙ sym (flat_map-map part (drop 1) (db 8)) in
       let there = subst (λ l. IsPermutation l (flat_map part (map (drop 1) (db 8)))) (put_all_out part shown_paper test out
-          (λ p. put_out_is read_papers_query params (Null ∷ shown_paper p) (test p) (out p) (one_test _ ∙ eq_is p.file file) refl) t.papers)
-          (IsPermutation-flat_map part _ _ k.rows.papers) in
+      (λ p. put_out_is read_papers_query params (Null ∷ shown_paper p) (test p) (out p) (one_test _ ∙ eq_is p.file file) refl) t.papers)
+      (IsPermutation-flat_map part _ _ k.rows.papers) in
       let same = IsPermutation-trans _ _ _ there (subst (λ l. IsPermutation l got.0) (spread read_papers_query params (db 8) ∙ over) got.1) in
       let up = ascending-map (λ a b. output_cmp read_papers_query a b ≡ Less) out _ (ascending_weaker _ _ (λ a b low. rise a b low) _ (k.keyed.papers file)) in
       got.3 ∙ ap (map (λ (o : Output). o.1)) (sorted_unique (output_cmp read_papers_query) (output_cmp_total read_papers_query) (map out (filter test t.papers)) got.0 up same got.2)

@@ -1,25 +1,21 @@
 -- What an INSERT of values and an UPDATE make of the tables of the office.
-use Rattle.std.proofs.Common.{◌≡◌, ◌≢◌, ◌⊎◌, inl, inr, ℕ, suc, ℤ, pos, negsuc, ◌/◌, Bool, true, false, cond, List, [], ◌∷◌, ◌++◌, length, map, slice_get, Option, Some, None, Ok, Err, Result, MatchBool, int_cmp, is_lt, refl, sym, ap, subst, ◌∙◌}
+use Rattle.std.proofs.Common.{◌≡◌, ◌⊎◌, inl, inr, ℕ, false, cond, List, [], ◌∷◌, Option, None, Ok, Err, Result, MatchBool, int_cmp, is_lt, refl, sym, ap, subst, ◌∙◌}
 use Rattle.std.specs.List.{AllByRecursion}
-use Rattle.sqlite.specs.declared.types.Value.{Value}
-use Rattle.sqlite.specs.declared.types.Value.TheVariants.{Null, Int, Text}
-use Rattle.sqlite_value.specs.Order.{Row, column}
-use Rattle.sqlite_trees.specs.Tree.{Trees, rowid}
-use Rattle.sqlite_sql.specs.Term.{Term}
+use Rattle.sqlite_value.specs.Order.{Row}
+use Rattle.sqlite_trees.specs.Tree.{Trees}
 use Rattle.sqlite_schema.specs.declared.schema.Table.{Table}
 use Rattle.sqlite_schema.specs.declared.schema.Keys.TheVariants.{Enforced}
 use Rattle.sqlite_schema.specs.declared.program.Program.{Program}
-use Rattle.sqlite_schema.specs.declared.command.Command.{Command}
 use Rattle.sqlite_schema.specs.declared.command.Command.TheVariants.{Insert, Update}
 use Rattle.sqlite_schema.specs.declared.command.Source.{Source}
 use Rattle.sqlite_rules.specs.declared.error.Rowids.TheVariants.{Chosen, Given, Above}
-use Rattle.sqlite_rules.specs.Edit.{Edit, edit_of, edited, taken_by, Applies}
+use Rattle.sqlite_rules.specs.Edit.{edit_of, taken_by, Applies}
 use Rattle.sqlite_rules.specs.Action.{works}
 use Rattle.sqlite_rules.specs.Calls.{ids_of}
 use Rattle.sqlite_rules.proofs.ActionLemmas.{no_works}
 use Rattle.sqlite.specs.Effect.{Database, IsSource, Answers}
-use Rattle.sqlite.specs.Rows.{Task, Written, Outcome, Edited, Counter, Counts, CountsIn, sequence, rowids_for, count_of, higher, stamped}
-use Rattle.sqlite.specs.Does.{Tally, Does, OnRows}
+use Rattle.sqlite.specs.Rows.{Task, Written, Outcome, Edited, CountsIn, sequence, rowids_for, count_of, higher, stamped}
+use Rattle.sqlite.specs.Does.{Tally, OnRows}
 use Rattle.sqlite.specs.declared.run.Mode.{Mode}
 use Rattle.sqlite.proofs.Callers.{one_step}
 use Rattle.permit_sql.specs.Schema.{office_schema}
@@ -79,9 +75,14 @@ module _ (limit : Option ℕ) (mode : Mode) (table : Table) (uncounted : table.i
       let given = went done.1 in
       let written = went given.2 in
       let trees : after.trees ≡ written.0 = ap (λ (d : Database). d.trees) now ∙ ap (λ (it : Written). it.trees) (same_value written.2) in
-      let edit = edit_of db table (ids_of given.0) Given 1 given.0 in
-      (given.0, given.1, ap (λ (d : Database). d.schema) now,
-      (λ none. subst (Applies office_schema Enforced db (edit_of db table [] Given 1 [])) (sym trees)
-      (one_step office_schema Enforced db written.0 (edit_of db table [] Given 1 []) (none_set table.tree) (subst (λ rows. Edited office_schema Enforced db (edit_of db table (ids_of rows) Given 1 rows) (Ok written.0)) none written.1)),
-      λ new is. subst (Applies office_schema Enforced db edit) (sym trees)
-      (one_step office_schema Enforced db written.0 edit (subst (λ ns. works office_schema Enforced 0 table.tree (taken_by db edit) ns ≡ []) (sym is) (no_actions table.tree (taken_by db edit) new)) written.1)))
+      let edit = edit_of db table (ids_of given.0) Given 1 given.0 in (
+        given.0,
+        given.1,
+        ap (λ (d : Database). d.schema) now,
+        (
+          λ none. subst (Applies office_schema Enforced db (edit_of db table [] Given 1 [])) (sym trees)
+              (one_step office_schema Enforced db written.0 (edit_of db table [] Given 1 []) (none_set table.tree) (subst (λ rows. Edited office_schema Enforced db (edit_of db table (ids_of rows) Given 1 rows) (Ok written.0)) none written.1)),
+          λ new is. subst (Applies office_schema Enforced db edit) (sym trees)
+              (one_step office_schema Enforced db written.0 edit (subst (λ ns. works office_schema Enforced 0 table.tree (taken_by db edit) ns ≡ []) (sym is) (no_actions table.tree (taken_by db edit) new)) written.1),
+        ),
+      )

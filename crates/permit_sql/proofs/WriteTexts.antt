@@ -1,5 +1,5 @@
 -- What the texts that write mean.
-use Rattle.std.proofs.Common.{◌≡◌, refl, List, [], ◌∷◌, ℕ, pos}
+use Rattle.std.proofs.Common.{◌≡◌, refl, List, [], ◌∷◌, pos}
 use Rattle.sqlite_tied.specs.Compute.{everything}
 use Rattle.sqlite.specs.Listing.{understood}
 use Rattle.sqlite.specs.declared.types.Value.TheVariants.{Null, Int}

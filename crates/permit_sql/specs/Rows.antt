@@ -1,5 +1,5 @@
 -- The rows of the tables as they are stored: none is 0 for a party and for an ask, and -1 elsewhere.
-use Rattle.std.specs.Prelude.{ℕ, pos, negsuc, List, [], ◌∷◌, Option, Some, None, option_map, Bool, true, false}
+use Rattle.std.specs.Prelude.{ℕ, pos, negsuc, [], ◌∷◌, Option, Some, None, option_map, Bool, true, false}
 use Rattle.sqlite.specs.declared.types.Value.{Value}
 use Rattle.sqlite.specs.declared.types.Value.TheVariants.{Null, Int, Text}
 use Rattle.sqlite_value.specs.Order.{Row}
@@ -7,7 +7,7 @@ use Rattle.permit_base.specs.declared.words.Step.{Step}
 use Rattle.permit_model.specs.Codes.{role_code, kind_code, step_code, stage_code, sort_code}
 use Rattle.permit_model.specs.Caller.{Party}
 use Rattle.permit_model.specs.Parcels.{Parcel, Interest}
-use Rattle.permit_model.specs.Tables.{Desk, State, FileRow, Paper}
+use Rattle.permit_model.specs.Tables.{Desk, FileRow, Paper}
 
 -- ---- values
 

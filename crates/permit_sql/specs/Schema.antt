@@ -8,7 +8,6 @@ use Rattle.sqlite_schema.specs.declared.schema.Reference.{Reference}
 use Rattle.sqlite_schema.specs.declared.schema.Table.{Table}
 use Rattle.sqlite_schema.specs.declared.schema.Index.{Index}
 use Rattle.sqlite_schema.specs.declared.schema.Schema.{Schema}
-use Rattle.sqlite_schema.specs.declared.schema.Kind.{Kind}
 use Rattle.sqlite_schema.specs.declared.schema.Kind.TheVariants.{Integer, Text}
 use Rattle.sqlite_schema.specs.declared.schema.Action.TheVariants.{NoAction}
 
@@ -72,15 +71,15 @@ interest_table = paired 5 (codes "interest") (int_column (codes "parcel") ∷ in
 
 abbrev pub file_table : Table
 file_table = keyed 7 (codes "file")
-  (int_column (codes "parcel") ∷ int_column (codes "applicant") ∷ int_column (codes "contractor") ∷ int_column (codes "reviewer") ∷ int_column (codes "inspector") ∷ int_column (codes "kind")
-   ∷ int_column (codes "valuation") ∷ text_column (codes "description") ∷ int_column (codes "filed") ∷ int_column (codes "stage") ∷ int_column (codes "deadline") ∷ int_column (codes "done")
-   ∷ int_column (codes "request") ∷ int_column (codes "requested") ∷ int_column (codes "ask") ∷ int_column (codes "stopped") ∷ int_column (codes "notices") ∷ int_column (codes "papers") ∷ int_column (codes "temporary") ∷ [])
-  [] (refers 2 (codes "parcel") ∷ refers 3 (codes "party") ∷ [])
+    (int_column (codes "parcel") ∷ int_column (codes "applicant") ∷ int_column (codes "contractor") ∷ int_column (codes "reviewer") ∷ int_column (codes "inspector") ∷ int_column (codes "kind")
+    ∷ int_column (codes "valuation") ∷ text_column (codes "description") ∷ int_column (codes "filed") ∷ int_column (codes "stage") ∷ int_column (codes "deadline") ∷ int_column (codes "done")
+    ∷ int_column (codes "request") ∷ int_column (codes "requested") ∷ int_column (codes "ask") ∷ int_column (codes "stopped") ∷ int_column (codes "notices") ∷ int_column (codes "papers") ∷ int_column (codes "temporary") ∷ [])
+    [] (refers 2 (codes "parcel") ∷ refers 3 (codes "party") ∷ [])
 
 abbrev pub paper_table : Table
 paper_table = paired 8 (codes "paper")
-  (int_column (codes "file") ∷ int_column (codes "number") ∷ int_column (codes "day") ∷ int_column (codes "author") ∷ int_column (codes "sort") ∷ int_column (codes "days") ∷ text_column (codes "text") ∷ text_column (codes "terms") ∷ int_column (codes "open") ∷ [])
-  (refers 1 (codes "file") ∷ [])
+    (int_column (codes "file") ∷ int_column (codes "number") ∷ int_column (codes "day") ∷ int_column (codes "author") ∷ int_column (codes "sort") ∷ int_column (codes "days") ∷ text_column (codes "text") ∷ text_column (codes "terms") ∷ int_column (codes "open") ∷ [])
+    (refers 1 (codes "file") ∷ [])
 
 abbrev pub automatic : List ℕ → ℕ → ℕ → List ℕ → Index
 automatic name tree table places = record { name = name; tree = tree; table = table; columns = places; order = plain; is_unique = true }
@@ -118,7 +117,7 @@ all_tables = desk_table ∷ party_table ∷ parcel_table ∷ interest_table ∷ 
 
 abbrev pub key_indexes : List Index
 key_indexes = automatic (codes "sqlite_autoindex_party_1") 2 1 (4 ∷ []) ∷ automatic (codes "sqlite_autoindex_parcel_1") 4 3 (2 ∷ []) ∷ automatic (codes "sqlite_autoindex_interest_1") 6 5 (1 ∷ 2 ∷ [])
-  ∷ automatic (codes "sqlite_autoindex_paper_1") 9 8 (1 ∷ 2 ∷ []) ∷ []
+    ∷ automatic (codes "sqlite_autoindex_paper_1") 9 8 (1 ∷ 2 ∷ []) ∷ []
 
 -- the indexes that make the selections quick
 abbrev pub search_indexes : List Index

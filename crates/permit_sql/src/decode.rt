@@ -7,7 +7,11 @@ ghost use Rattle.permit_model.specs.Tables.{Desk as TheDesk, FileRow as TheRow, 
 ghost use Rattle.permit_sql.specs.Rows.{shown_desk, shown_party, shown_parcel, shown_file, shown_paper};
 ghost use Rattle.permit_sql.specs.Kept.{IsNamed};
 
-use crate::fields::{day, day_or_less, days_or_zero, kind, long_number, number, number_or_less, parcel_number, party_number, party_or_zero, role, short_number, small_number, sort, stage, step_or_less, string, truth};
+use crate::fields::{
+    day, day_or_less, days_or_zero, kind, long_number, number, number_or_less, parcel_number,
+    party_number, party_or_zero, role, short_number, small_number, sort, stage, step_or_less,
+    string, truth,
+};
 use permit_base::values::{Cents, Day, Digest, FileId, Lot, PaperNumber, ParcelId, PartyId, Text};
 use permit_core::restore::StateFields;
 use permit_core::state::FileState;

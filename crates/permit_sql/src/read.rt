@@ -26,7 +26,11 @@ fn desk_rows<S: Alter>(conn: &mut Connection<S>) -> Got<Vec<Row>>
     ensures crash { (t : Tables) → Keeps t (state S.Store conn.old).now → Survives (state S.Store conn.old) (state S.Store conn.new) (λ _. ⊥) }
     ensures calm { conn.new.in_transaction ≡ false }
 {
-    rows_of(conn, "SELECT id, version, last, parties, parcels, files FROM desk", &[])
+    rows_of(
+        conn,
+        "SELECT id, version, last, parties, parcels, files FROM desk",
+        &[],
+    )
 }
 
 /// The row of the party with the number, if there is one.
@@ -37,7 +41,11 @@ fn party_rows<S: Alter>(conn: &mut Connection<S>, party: PartyId) -> Got<Vec<Row
     ensures crash { (t : Tables) → Keeps t (state S.Store conn.old).now → Survives (state S.Store conn.old) (state S.Store conn.new) (λ _. ⊥) }
     ensures calm { conn.new.in_transaction ≡ false }
 {
-    rows_of(conn, "SELECT id, name, role, digest FROM party WHERE id = ?1", params![party.get()])
+    rows_of(
+        conn,
+        "SELECT id, name, role, digest FROM party WHERE id = ?1",
+        params![party.get()],
+    )
 }
 
 /// The row of the party that keeps the digest, if there is one.
@@ -48,7 +56,11 @@ fn digest_rows<S: Alter>(conn: &mut Connection<S>, digest: &Digest) -> Got<Vec<R
     ensures crash { (t : Tables) → Keeps t (state S.Store conn.old).now → Survives (state S.Store conn.old) (state S.Store conn.new) (λ _. ⊥) }
     ensures calm { conn.new.in_transaction ≡ false }
 {
-    rows_of(conn, "SELECT id, name, role, digest FROM party WHERE digest = ?1", params![digest.as_str()])
+    rows_of(
+        conn,
+        "SELECT id, name, role, digest FROM party WHERE digest = ?1",
+        params![digest.as_str()],
+    )
 }
 
 /// The row of the parcel with the number, if there is one.
@@ -59,7 +71,11 @@ fn parcel_rows<S: Alter>(conn: &mut Connection<S>, parcel: ParcelId) -> Got<Vec<
     ensures crash { (t : Tables) → Keeps t (state S.Store conn.old).now → Survives (state S.Store conn.old) (state S.Store conn.new) (λ _. ⊥) }
     ensures calm { conn.new.in_transaction ≡ false }
 {
-    rows_of(conn, "SELECT id, lot, address, owner FROM parcel WHERE id = ?1", params![parcel.get()])
+    rows_of(
+        conn,
+        "SELECT id, lot, address, owner FROM parcel WHERE id = ?1",
+        params![parcel.get()],
+    )
 }
 
 /// The row of the parcel of the lot, if there is one.
@@ -70,18 +86,30 @@ fn lot_rows<S: Alter>(conn: &mut Connection<S>, lot: &Lot) -> Got<Vec<Row>>
     ensures crash { (t : Tables) → Keeps t (state S.Store conn.old).now → Survives (state S.Store conn.old) (state S.Store conn.new) (λ _. ⊥) }
     ensures calm { conn.new.in_transaction ≡ false }
 {
-    rows_of(conn, "SELECT id, lot, address, owner FROM parcel WHERE lot = ?1", params![lot.as_str()])
+    rows_of(
+        conn,
+        "SELECT id, lot, address, owner FROM parcel WHERE lot = ?1",
+        params![lot.as_str()],
+    )
 }
 
 /// A row for each interest of the party in the parcel.
-fn interest_rows<S: Alter>(conn: &mut Connection<S>, parcel: ParcelId, party: PartyId) -> Got<Vec<Row>>
+fn interest_rows<S: Alter>(
+    conn: &mut Connection<S>,
+    parcel: ParcelId,
+    party: PartyId,
+) -> Got<Vec<Row>>
     requires calm { conn.old.in_transaction ≡ false }
     ensures found { (t : Tables) → HasCleanDisk (state S.Store conn.new) → Shows t (state S.Store conn.old) → IfOk result (λ rows. not (length rows.items == 0) ≡ list_any (λ i. (i.parcel == parcel) && (i.party == party)) t.interests) }
     ensures kept { (t : Tables) → HasCleanDisk (state S.Store conn.new) → Shows t (state S.Store conn.old) → Shows t (state S.Store conn.new) }
     ensures crash { (t : Tables) → Keeps t (state S.Store conn.old).now → Survives (state S.Store conn.old) (state S.Store conn.new) (λ _. ⊥) }
     ensures calm { conn.new.in_transaction ≡ false }
 {
-    rows_of(conn, "SELECT 1 FROM interest WHERE parcel = ?1 AND party = ?2", params![parcel.get(), party.get()])
+    rows_of(
+        conn,
+        "SELECT 1 FROM interest WHERE parcel = ?1 AND party = ?2",
+        params![parcel.get(), party.get()],
+    )
 }
 
 /// The row of the file with the number, if there is one.
@@ -93,7 +121,11 @@ fn file_rows<S: Alter>(conn: &mut Connection<S>, file: FileId) -> Got<Vec<Row>>
     ensures crash { (t : Tables) → Keeps t (state S.Store conn.old).now → Survives (state S.Store conn.old) (state S.Store conn.new) (λ _. ⊥) }
     ensures calm { conn.new.in_transaction ≡ false }
 {
-    rows_of(conn, "SELECT id, parcel, applicant, contractor, reviewer, inspector, kind, valuation, description, filed, stage, deadline, done, request, requested, ask, stopped, notices, papers, temporary FROM file WHERE id = ?1", params![file.get()])
+    rows_of(
+        conn,
+        "SELECT id, parcel, applicant, contractor, reviewer, inspector, kind, valuation, description, filed, stage, deadline, done, request, requested, ask, stopped, notices, papers, temporary FROM file WHERE id = ?1",
+        params![file.get()],
+    )
 }
 
 /// The rows of the papers of the file, in rising number.
@@ -104,7 +136,11 @@ fn paper_rows<S: Alter>(conn: &mut Connection<S>, file: FileId) -> Got<Vec<Row>>
     ensures crash { (t : Tables) → Keeps t (state S.Store conn.old).now → Survives (state S.Store conn.old) (state S.Store conn.new) (λ _. ⊥) }
     ensures calm { conn.new.in_transaction ≡ false }
 {
-    rows_of(conn, "SELECT file, number, day, author, sort, days, text, terms, open FROM paper WHERE file = ?1 ORDER BY number", params![file.get()])
+    rows_of(
+        conn,
+        "SELECT file, number, day, author, sort, days, text, terms, open FROM paper WHERE file = ?1 ORDER BY number",
+        params![file.get()],
+    )
 }
 
 /// The first row as a typed value, if there is a row.
@@ -196,7 +232,10 @@ pub(crate) fn find_party<S: Alter>(conn: &mut Connection<S>, digest: &Digest) ->
 }
 
 /// The parcel with the number.
-pub(crate) fn read_parcel<S: Alter>(conn: &mut Connection<S>, parcel: ParcelId) -> Got<Option<Parcel>>
+pub(crate) fn read_parcel<S: Alter>(
+    conn: &mut Connection<S>,
+    parcel: ParcelId,
+) -> Got<Option<Parcel>>
     requires calm { conn.old.in_transaction ≡ false }
     ensures found { (t : Tables) → HasCleanDisk (state S.Store conn.new) → Shows t (state S.Store conn.old) → IfOk result (λ p. p ≡ find (λ p. p.id == parcel) t.parcels) }
     ensures kept { (t : Tables) → HasCleanDisk (state S.Store conn.new) → Shows t (state S.Store conn.old) → Shows t (state S.Store conn.new) }
@@ -220,7 +259,11 @@ pub(crate) fn find_parcel<S: Alter>(conn: &mut Connection<S>, lot: &Lot) -> Got<
 }
 
 /// Whether the party has declared an interest in the parcel.
-pub(crate) fn has_interest<S: Alter>(conn: &mut Connection<S>, parcel: ParcelId, party: PartyId) -> Got<bool>
+pub(crate) fn has_interest<S: Alter>(
+    conn: &mut Connection<S>,
+    parcel: ParcelId,
+    party: PartyId,
+) -> Got<bool>
     requires calm { conn.old.in_transaction ≡ false }
     ensures found { (t : Tables) → HasCleanDisk (state S.Store conn.new) → Shows t (state S.Store conn.old) → IfOk result (λ b. b ≡ list_any (λ i. (i.parcel == parcel) && (i.party == party)) t.interests) }
     ensures kept { (t : Tables) → HasCleanDisk (state S.Store conn.new) → Shows t (state S.Store conn.old) → Shows t (state S.Store conn.new) }
@@ -268,7 +311,11 @@ fn all_papers(alloc: Global, rows: &[Row]) -> Got<Vec<Paper>>
 }
 
 /// The papers of the file, in rising number.
-pub(crate) fn read_papers<S: Alter>(conn: &mut Connection<S>, file: FileId, alloc: Global) -> Got<Vec<Paper>>
+pub(crate) fn read_papers<S: Alter>(
+    conn: &mut Connection<S>,
+    file: FileId,
+    alloc: Global,
+) -> Got<Vec<Paper>>
     requires calm { conn.old.in_transaction ≡ false }
     ensures found { (t : Tables) → HasCleanDisk (state S.Store conn.new) → Shows t (state S.Store conn.old) → IfOk result (λ v. v.items ≡ filter (λ p. p.file == file) t.papers) }
     ensures kept { (t : Tables) → HasCleanDisk (state S.Store conn.new) → Shows t (state S.Store conn.old) → Shows t (state S.Store conn.new) }
@@ -278,4 +325,3 @@ pub(crate) fn read_papers<S: Alter>(conn: &mut Connection<S>, file: FileId, allo
     let rows = paper_rows(conn, file)?;
     all_papers(alloc, &rows)
 }
-

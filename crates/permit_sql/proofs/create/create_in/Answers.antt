@@ -1,6 +1,5 @@
-use Rattle.std.proofs.Common.{◌≡◌, ℕ, List, Some, sym, subst, Result, Ok, Err, OnOk}
+use Rattle.std.proofs.Common.{ℕ, List, sym, subst, Result, Ok, Err, OnOk}
 use Rattle.std.proofs.lemmas.Result.{on_ok_weaker}
-use Rattle.sqlite.specs.Effect.{Database}
 use Rattle.sqlite.specs.Held.{state}
 use Rattle.sqlite.proofs.StateLemmas.{survives_weaker}
 use Rattle.permit_base.specs.declared.words.Role.TheVariants.{Official}
@@ -31,6 +30,10 @@ returns-clause-crash g c =
     let a = c.args in
     let f = a.founder.now in
     survives_weaker (state g.S.Store a.conn.now) (state g.S.Store c.found.new.conn) _ _
-    (λ clean trees h. (h.0, founding_made g.S.Store a.conn.now h.0 f.day (founder_of f.name f.digest) c.requires.empty
-    (rw (c.params-to_sql.ensures, c.params-to_sql-2.ensures, c.params-to_sql-3.ensures, c.params-to_sql-4.ensures, c.params-to_sql-5.ensures, c.get.ensures.same, c.as_str.ensures.same, c.as_str-2.ensures.same) at h.1), h.2))
+    (λ clean trees h. (
+      h.0,
+      founding_made g.S.Store a.conn.now h.0 f.day (founder_of f.name f.digest) c.requires.empty
+          (rw (c.params-to_sql.ensures, c.params-to_sql-2.ensures, c.params-to_sql-3.ensures, c.params-to_sql-4.ensures, c.params-to_sql-5.ensures, c.get.ensures.same, c.as_str.ensures.same, c.as_str-2.ensures.same) at h.1),
+      h.2,
+    ))
     c.found.ensures.crash

@@ -1,10 +1,9 @@
-use Rattle.std.proofs.Common.{◌≡◌, ◌∙◌, ◌∷◌, [], List, ℕ, ap₂, refl, subst, OnOk}
+use Rattle.std.proofs.Common.{◌≡◌, ◌∙◌, ◌∷◌, List, ap₂, refl, subst, OnOk}
 use Rattle.sqlite.specs.Effect.{Database}
 use Rattle.sqlite.specs.State.{Survives}
 use Rattle.sqlite.specs.Held.{state}
 use Rattle.sqlite.specs.Values.{bound}
 use Rattle.permit_sql.specs.Steps.{Step, RanAll}
-use Rattle.permit_sql.specs.Founding.{founding_steps}
 use Rattle.permit_sql.proofs.create.found.Goals as goal
 
 pub returns-clause-all : goal.returns-clause-all

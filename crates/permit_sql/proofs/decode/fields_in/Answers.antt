@@ -1,4 +1,4 @@
-use Rattle.std.proofs.Common.{◌≡◌, refl, ap}
+use Rattle.std.proofs.Common.{ap}
 use Rattle.sqlite_value.specs.Order.{column}
 use Rattle.permit_sql.proofs.Stated.{state_is}
 use Rattle.permit_sql.proofs.decode.fields_in.Goals as goal

@@ -1,4 +1,4 @@
-use Rattle.std.proofs.Common.{◌≡◌, not, Bool, true, Result, Ok, Err, IfOk, IfErr, refl, sym, ap, ◌∙◌, arith, rules}
+use Rattle.std.proofs.Common.{not, Result, Ok, Err, IfOk, IfErr, ap, ◌∙◌, arith}
 use Rattle.sqlite.specs.Values.{bound}
 use Rattle.sqlite.specs.Held.{state}
 use Rattle.sqlite.proofs.StateLemmas.{survives_weaker}
@@ -13,11 +13,12 @@ either (Err e) p q f g = g e q
 pub returns-clause-fine : goal.returns-clause-fine
 returns-clause-fine g c good =
     let old = state g.S.Store c.args.conn.now in
-    let new = state g.S.Store c.query_all.new.self in
-    (omega (arith, good.0, c.query_all.ensures.survives.clean),
-    either c.query_all.result (c.query_all.ensures.ok good.0) (c.query_all.ensures.err good.0)
-    (λ rows h. shown_open c.args.sql.now (bound c.args.params.now) old new rows.items h)
-    (λ e h. failed_open c.args.sql.now (bound c.args.params.now) old new e good.1 h))
+    let new = state g.S.Store c.query_all.new.self in (
+      omega (arith, good.0, c.query_all.ensures.survives.clean),
+      either c.query_all.result (c.query_all.ensures.ok good.0) (c.query_all.ensures.err good.0)
+          (λ rows h. shown_open c.args.sql.now (bound c.args.params.now) old new rows.items h)
+          (λ e h. failed_open c.args.sql.now (bound c.args.params.now) old new e good.1 h),
+    )
 
 pub returns-clause-same : goal.returns-clause-same
 returns-clause-same g c good plain =

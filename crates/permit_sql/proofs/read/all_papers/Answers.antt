@@ -1,4 +1,4 @@
-use Rattle.std.proofs.Common.{◌≡◌, ◌∙◌, ap, ◌++◌, ◌∷◌, [], arith}
+use Rattle.std.proofs.Common.{◌∙◌, ap, ◌++◌, ◌∷◌, [], arith}
 use Rattle.permit_sql.proofs.ReadLemmas.{one_more}
 use Rattle.permit_sql.proofs.read.all_papers.Goals as goal
 

@@ -1,8 +1,7 @@
-use Rattle.std.proofs.Common.{◌≡◌, ◌∙◌, ap, eqb, slice_get}
-use Rattle.std.specs.Prelude.{bytes_eq}
+use Rattle.std.proofs.Common.{◌∙◌, ap, eqb, slice_get}
 use Rattle.std.proofs.lemmas.Result.{IfOk-weaker}
 use Rattle.sqlite.specs.Held.{state}
-use Rattle.permit_sql.specs.Rows.{shown_party, shown_parcel, shown_file}
+use Rattle.permit_sql.specs.Rows.{shown_file}
 use Rattle.permit_sql.specs.Kept.{IsNamed}
 use Rattle.permit_sql.proofs.KeptLemmas.{shown_open}
 use Rattle.permit_sql.proofs.QueryTexts.{read_file_plain}

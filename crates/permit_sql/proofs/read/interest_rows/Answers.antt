@@ -1,11 +1,8 @@
-use Rattle.std.proofs.Common.{◌≡◌, ◌∙◌, ap, eqb, slice_get}
-use Rattle.std.specs.Prelude.{bytes_eq}
 use Rattle.std.proofs.lemmas.Result.{IfOk-weaker}
 use Rattle.sqlite.specs.Held.{state}
-use Rattle.permit_sql.specs.Rows.{shown_party, shown_parcel, shown_file}
 use Rattle.permit_sql.proofs.KeptLemmas.{shown_open}
 use Rattle.permit_sql.proofs.QueryTexts.{find_interest_plain}
-use Rattle.permit_sql.proofs.ReadLemmas.{interest_shown, first_of}
+use Rattle.permit_sql.proofs.ReadLemmas.{interest_shown}
 use Rattle.permit_sql.proofs.read.interest_rows.Goals as goal
 
 pub returns-clause-found : goal.returns-clause-found

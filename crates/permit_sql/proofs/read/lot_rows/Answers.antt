@@ -1,8 +1,8 @@
-use Rattle.std.proofs.Common.{◌≡◌, ◌∙◌, ap, eqb, slice_get}
+use Rattle.std.proofs.Common.{◌∙◌, ap, slice_get}
 use Rattle.std.specs.Prelude.{bytes_eq}
 use Rattle.std.proofs.lemmas.Result.{IfOk-weaker}
 use Rattle.sqlite.specs.Held.{state}
-use Rattle.permit_sql.specs.Rows.{shown_party, shown_parcel, shown_file}
+use Rattle.permit_sql.specs.Rows.{shown_parcel}
 use Rattle.permit_sql.proofs.KeptLemmas.{shown_open}
 use Rattle.permit_sql.proofs.QueryTexts.{find_parcel_plain}
 use Rattle.permit_sql.proofs.ReadLemmas.{lot_shown, first_of}

@@ -1,4 +1,4 @@
-use Rattle.std.proofs.Common.{◌≡◌, ◌∙◌}
+use Rattle.std.proofs.Common.{◌∙◌}
 use Rattle.permit_sql.proofs.read.read_desk.Goals as goal
 
 pub returns-clause-found : goal.returns-clause-found

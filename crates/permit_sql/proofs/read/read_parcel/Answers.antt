@@ -1,4 +1,4 @@
-use Rattle.std.proofs.Common.{◌≡◌, ◌∙◌, ap, slice_get}
+use Rattle.std.proofs.Common.{◌∙◌, ap, slice_get}
 use Rattle.permit_sql.proofs.read.read_parcel.Goals as goal
 
 pub returns-clause-found : goal.returns-clause-found

@@ -1,4 +1,4 @@
-use Rattle.std.proofs.Common.{◌≡◌, ◌+◌, List, [], ◌∷◌, ◌++◌, map, take, take_all, get_or, length, ◌≤◌, Ok, true, ℕ, refl, sym, ap, subst, ◌∙◌, arith, rules}
+use Rattle.std.proofs.Common.{◌≡◌, List, [], ◌∷◌, ◌++◌, map, take, take_all, get_or, length, ◌≤◌, Ok, true, ℕ, refl, sym, subst, ◌∙◌, arith, rules}
 use Rattle.sqlite.specs.Held.{Held, state}
 use Rattle.sqlite_trees.specs.Tree.{Trees}
 use Rattle.sqlite_trees.specs.declared.store.Store.{Ghosts}
@@ -23,14 +23,19 @@ pub steps-preserved : goal.steps-preserved
 steps-preserved g c =
     let begun = record c.args.conn.now { in_transaction = true } in
     let was = state g.S.Store c.steps.tx.conn.now in
-    let now = state g.S.Store c.execute.new.self.conn.now in
-    (search rules,
-    survives_then (state g.S.Store begun) was now _ _ (λ _. ⊥) (λ _ db none. none) (λ _ db none. none) c.steps.invariant.1 c.execute.ensures.survives,
-    λ clean.
-    let kept = c.steps.invariant.2 (omega (arith, c.execute.ensures.survives.clean)) in
-    let ran = c.in_ok-execute.ensures.runs clean kept.1 in
-    (subst (λ l. Ran g.S.Store l begun c.execute.new.self.conn.now) (sym (map_more step_of c.args.steps.now c.steps.step-index no_step (omega (arith, c.steps-test.true))))
-    (ran_more g.S.Store (map step_of (take c.steps.step-index c.args.steps.now)) (step_of (get_or c.args.steps.now c.steps.step-index no_step)) begun c.steps.tx.conn.now c.execute.new.self.conn.now c.in_ok-execute.field-0 kept.0 ran.0), search rules, ran.1.committed_is ∙ kept.2, λ shows. kept.3 ran.1.was_open))
+    let now = state g.S.Store c.execute.new.self.conn.now in (
+      search rules,
+      survives_then (state g.S.Store begun) was now _ _ (λ _. ⊥) (λ _ db none. none) (λ _ db none. none) c.steps.invariant.1 c.execute.ensures.survives,
+      λ clean.
+          let kept = c.steps.invariant.2 (omega (arith, c.execute.ensures.survives.clean)) in
+          let ran = c.in_ok-execute.ensures.runs clean kept.1 in (
+            subst (λ l. Ran g.S.Store l begun c.execute.new.self.conn.now) (sym (map_more step_of c.args.steps.now c.steps.step-index no_step (omega (arith, c.steps-test.true))))
+                (ran_more g.S.Store (map step_of (take c.steps.step-index c.args.steps.now)) (step_of (get_or c.args.steps.now c.steps.step-index no_step)) begun c.steps.tx.conn.now c.execute.new.self.conn.now c.in_ok-execute.field-0 kept.0 ran.0),
+            search rules,
+            ran.1.committed_is ∙ kept.2,
+            λ shows. kept.3 ran.1.was_open,
+          ),
+    )
 
 all_ran : {S : Type 0} (g : Ghosts S) (steps : List program.Step) (at : ℕ) (old last : Held S) → length steps ≤ at → Ran g (map step_of (take at steps)) (record old { in_transaction = true }) last
     → RanAll g (map step_of steps) old (state g last).now
