@@ -194,7 +194,7 @@ counted_set file id s (x ∷ fs) low =
     go false more = more
 
 -- the count in the row that is set
-counted_here : (id : ℕ) (s : State) (f : FileRow) (fs : List FileRow) → find (λ r. eqb r.id id) fs ≡ Some f → papers_counted id (map (with_state id s) fs) ≡ s.papers
+pub counted_here : (id : ℕ) (s : State) (f : FileRow) (fs : List FileRow) → find (λ r. eqb r.id id) fs ≡ Some f → papers_counted id (map (with_state id s) fs) ≡ s.papers
 counted_here id s f [] e = absurd cc
 counted_here id s f (x ∷ fs) e = ap (λ n. unwrap_or (option_map (λ (r : FileRow). r.state.papers) (cond (eqb n id) (Some (with_state id s x)) (find (λ r. eqb r.id id) (map (with_state id s) fs)))) 0) (still_id id s x) ∙ go (eqb x.id id) e (counted_here id s f fs)
   where
@@ -255,7 +255,7 @@ ascends_last : (xs : List Paper) (x : Paper) → IsAscending (λ (a b : Paper). 
 ascends_last [] x up low = (tt, tt)
 ascends_last (y ∷ xs) x up low = (all_last (λ (b : Paper). y.number < b.number) xs x up.0 low.0, ascends_last xs x up.1 low.1)
 
-lower : (a b : ℕ) (ps : List Paper) → a < b → AllByRecursion (λ (p : Paper). p.number ≤ a) ps → AllByRecursion (λ (p : Paper). p.number < b) ps
+pub lower : (a b : ℕ) (ps : List Paper) → a < b → AllByRecursion (λ (p : Paper). p.number ≤ a) ps → AllByRecursion (λ (p : Paper). p.number < b) ps
 lower a b [] low all = tt
 lower a b (p ∷ ps) low all = (omega (arith, low, all.0), lower a b ps low all.1)
 
