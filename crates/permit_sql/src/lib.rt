@@ -19,3 +19,5 @@ mod query;
 mod read;
 mod steps;
 pub mod store;
+#[cfg(test)]
+mod tests;

@@ -16,6 +16,7 @@ use sqlite::{Alter, Connection};
 use std::alloc::Global;
 
 /// The tables of the office in a database, over a connection that the store owns.
+#[derive(Drop)]
 pub struct SqlStore<S: Alter> {
     alloc: Global,
     conn: Connection<S>,
