@@ -14,6 +14,8 @@ mod opening;
 #[cfg(test)]
 mod oversized_and_cut;
 #[cfg(test)]
+mod policies;
+#[cfg(test)]
 mod script;
 #[cfg(test)]
 mod standard;

@@ -1,1 +1,3 @@
 mod Lists
+mod Kept
+mod Keeping

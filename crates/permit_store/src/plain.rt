@@ -1,7 +1,8 @@
 //! A store over vectors.
 
-ghost use Rattle.std.specs.Prelude.{◌≡◌, ◌≤◌, length, IfOk, IfErr, IsErr, IsTrue, false, map};
+ghost use Rattle.std.specs.Prelude.{◌≡◌, ◌≤◌, ◌==◌, ℕ, length, IfOk, IfErr, IsErr, IsTrue, false, map, if◌then◌else◌};
 ghost use Rattle.permit_store.specs.Changes.{with_state, papers_after};
+ghost use Rattle.permit_store.specs.Plain.{papers_at};
 ghost use Rattle.permit_store.specs.Counts.{next_count};
 ghost use Rattle.permit_store.specs.Founding.{founding};
 ghost use Rattle.permit_store.specs.declared.store.OpenError.TheVariants as open_error;
@@ -10,8 +11,10 @@ ghost use Rattle.permit_model.specs.Machine.{IsHistory};
 
 mod find;
 mod grow;
+mod kept;
 
 use crate::founder::Founder;
+use crate::plain::kept::Kept;
 use crate::rows::{Change, Desk, FileRow, Interest, Paper, Parcel, Party, RowEffect};
 use crate::store::{Got, OpenError, Store, StoreError};
 use permit_base::values::{Day, Digest, FileId, Lot, ParcelId, PartyId};
@@ -19,7 +22,8 @@ use permit_base::words::Role;
 use permit_core::state::FileState;
 use std::alloc::Global;
 
-/// The tables as vectors, in memory. A call fails only where memory is refused, or at a commit that doesn't fit.
+/// The tables as vectors, in memory, each file with its papers, so that no call goes over the papers of other files.
+/// A call fails only where memory is refused, or at a commit that doesn't fit.
 #[derive(Drop)]
 pub struct PlainStore {
     alloc: Global,
@@ -27,8 +31,7 @@ pub struct PlainStore {
     parties: Vec<Party>,
     parcels: Vec<Parcel>,
     interests: Vec<Interest>,
-    files: Vec<FileRow>,
-    papers: Vec<Paper>,
+    files: Vec<Kept>,
     handed: u64,
     failed: u64,
     commits: u64,
@@ -37,29 +40,25 @@ pub struct PlainStore {
     ghost few_files: { length files.items ≤ 99999 },
 }
 
-/// A file's new row, with what else changes by it: the paper first, since it alone may find no memory.
+/// A file's new row, with what else changes by it: the papers first, since they alone may find no memory.
 fn put_row(
     alloc: Global,
-    files: &mut [FileRow],
-    papers: &mut Vec<Paper>,
+    files: &mut [Kept],
     file: FileId,
     state: FileState,
     effect: &RowEffect<'_>,
     day: Day,
 ) -> bool
-    ensures files { IsTrue result → files.new ≡ map (with_state file state) files.old }
-    ensures papers { IsTrue result → papers.new.items ≡ papers_after file state.papers day effect.now papers.old.items }
-    ensures files_kept { result ≡ false → files.new ≡ files.old }
-    ensures papers_kept { result ≡ false → papers.new.items ≡ papers.old.items }
+    ensures rows { IsTrue result → map (λ k. k.row) files.new ≡ map (with_state file state) (map (λ k. k.row) files.old) }
+    ensures papers { IsTrue result → (f : ℕ) → papers_at f files.new ≡ (if file == f then papers_after file state.papers day effect.now (papers_at file files.old) else papers_at f files.old) }
+    ensures count { length files.new ≡ length files.old }
+    ensures kept { result ≡ false → files.new ≡ files.old }
 {
-    match effect {
-        RowEffect::None => {}
-        RowEffect::Paper(paper) => {
-            if !grow::push_paper(alloc, papers, file, state.papers(), day, paper) {
-                return false;
-            }
-        }
-        RowEffect::NoticeClosed(number) => grow::close_paper(papers, file, *number),
+    let Some(place) = find::place_of(files, file) else {
+        return false;
+    };
+    if !grow::change_papers(alloc, &mut files[place], file, state.papers(), effect, day) {
+        return false;
     }
     grow::renew_file(files, file, state);
     true
@@ -96,7 +95,6 @@ impl PlainStore {
             parcels: Vec::new(alloc),
             interests: Vec::new(alloc),
             files: Vec::new(alloc),
-            papers: Vec::new(alloc),
             handed: 0,
             failed: 0,
             commits: 0,
@@ -105,9 +103,9 @@ impl PlainStore {
 }
 
 impl Store for PlainStore {
-    ghost use Rattle.permit_store.specs.Plain.{kept_by};
+    ghost use Rattle.permit_store.specs.Plain.{Keeps};
 
-    ghost holds = { λ s t. kept_by s.last s.parties.items s.parcels.items s.interests.items s.files.items s.papers.items ≡ t };
+    ghost holds = { λ s t. Keeps s.last s.parties.items s.parcels.items s.interests.items s.files.items t };
 
     ghost handed = { λ s. s.handed };
 
@@ -168,7 +166,7 @@ impl Store for PlainStore {
     }
 
     fn papers(&mut self, file: FileId) -> Got<Vec<Paper>> {
-        match find::papers_of(self.alloc, &self.papers, file) {
+        match find::papers_of(self.alloc, &self.files, file) {
             Ok(papers) => Ok(papers),
             Err(_) => self.fail(),
         }
@@ -201,20 +199,12 @@ impl Store for PlainStore {
                 state,
                 valuation,
                 description,
-            } => grow::push_file(&mut self.files, *state, *valuation, description),
+            } => grow::push_file(self.alloc, &mut self.files, *state, *valuation, description),
             Change::NewRow {
                 file,
                 state,
                 effect,
-            } => put_row(
-                self.alloc,
-                &mut self.files,
-                &mut self.papers,
-                *file,
-                *state,
-                effect,
-                day,
-            ),
+            } => put_row(self.alloc, &mut self.files, *file, *state, effect, day),
         };
         if done {
             self.last = day;

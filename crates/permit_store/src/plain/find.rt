@@ -1,8 +1,10 @@
 //! What is looked for in the rows.
 
-ghost use Rattle.std.specs.Prelude.{◌≡◌, IfOk, ◌==◌, ◌&&◌, find, filter, bytes_eq, option_map};
-ghost use Rattle.std.specs.List.{list_any};
+ghost use Rattle.std.specs.Prelude.{◌≡◌, IfOk, ◌==◌, ◌&&◌, find, bytes_eq, option_map, map, length, Some, None, if◌then◌else◌, nat_lt};
+ghost use Rattle.std.specs.List.{list_any, position_or_len};
+ghost use Rattle.permit_store.specs.Plain.{papers_at};
 
+use crate::plain::kept::Kept;
 use crate::rows::{FileRow, Interest, Paper, Parcel, Party};
 use permit_base::values::{Digest, FileId, Lot, ParcelId, PartyId};
 use std::alloc::{AllocError, Global};
@@ -43,13 +45,20 @@ fn parcel_with<'a>(parcels: &'a [Parcel], lot: &Lot) -> Option<&'a Parcel>
     })
 }
 
-fn file_numbered(files: &[FileRow], id: FileId) -> Option<&FileRow>
-    ensures { option_map (λ p. p.now) result ≡ find (λ p. p.id == id) files.now }
+fn file_numbered(files: &[Kept], id: FileId) -> Option<&Kept>
+    ensures { option_map (λ k. k.now) result ≡ find (λ k. k.row.id == id) files.now }
 {
-    files.iter().find(|file| {
-        let file: &FileRow = file;
+    files.iter().find(|kept| {
+        let file: &FileRow = &kept.row;
         file.id.get() == id.get()
     })
+}
+
+/// The place of the file of the number.
+pub(crate) fn place_of(files: &[Kept], id: FileId) -> Option<usize>
+    ensures { result ≡ (if nat_lt (position_or_len (λ k. k.row.id == id) files.now) (length files.now) then Some (position_or_len (λ k. k.row.id == id) files.now) else None) }
+{
+    files.iter().position(|kept| kept.row.id.get() == id.get())
 }
 
 /// Whether the party has declared an interest in the parcel.
@@ -77,13 +86,24 @@ fn copy_parcel(found: Option<&Parcel>) -> Result<Option<Parcel>, AllocError>
     }
 }
 
-fn copy_file(found: Option<&FileRow>) -> Result<Option<FileRow>, AllocError>
-    ensures { IfOk result (λ p. p ≡ option_map (λ q. q.now) found.entry) }
+fn copy_file(found: Option<&Kept>) -> Result<Option<FileRow>, AllocError>
+    ensures { IfOk result (λ p. p ≡ option_map (λ k. k.row) (option_map (λ k. k.now) found.entry)) }
 {
     match found {
         None => Ok(None),
-        Some(row) => Ok(Some(row.copy()?)),
+        Some(kept) => Ok(Some(kept.row.copy()?)),
     }
+}
+
+/// A copy of papers.
+fn copy_papers(alloc: Global, papers: &[Paper]) -> Result<Vec<Paper>, AllocError>
+    ensures { IfOk result (λ v. v.items ≡ papers.now) }
+{
+    let mut copies = Vec::new(alloc);
+    for paper in papers {
+        copies.push(paper.copy()?)?;
+    }
+    Ok(copies)
 }
 
 /// The party of the number.
@@ -118,8 +138,8 @@ pub(crate) fn find_parcel_with(parcels: &[Parcel], lot: &Lot) -> Result<Option<P
 }
 
 /// The file of the number.
-pub(crate) fn find_file(files: &[FileRow], id: FileId) -> Result<Option<FileRow>, AllocError>
-    ensures { IfOk result (λ p. p ≡ find (λ p. p.id == id) files.now) }
+pub(crate) fn find_file(files: &[Kept], id: FileId) -> Result<Option<FileRow>, AllocError>
+    ensures { IfOk result (λ p. p ≡ find (λ f. f.id == id) (map (λ k. k.row) files.now)) }
 {
     copy_file(file_numbered(files, id))
 }
@@ -127,16 +147,13 @@ pub(crate) fn find_file(files: &[FileRow], id: FileId) -> Result<Option<FileRow>
 /// The papers of a file.
 pub(crate) fn papers_of(
     alloc: Global,
-    papers: &[Paper],
+    files: &[Kept],
     file: FileId,
 ) -> Result<Vec<Paper>, AllocError>
-    ensures { IfOk result (λ v. v.items ≡ filter (λ p. p.file == file) papers.now) }
+    ensures { IfOk result (λ v. v.items ≡ papers_at file files.now) }
 {
-    let mut found = Vec::new(alloc);
-    for paper in papers {
-        if paper.file.get() == file.get() {
-            found.push(paper.copy()?)?;
-        }
+    match file_numbered(files, file) {
+        None => Ok(Vec::new(alloc)),
+        Some(kept) => copy_papers(alloc, &kept.papers),
     }
-    Ok(found)
 }

@@ -1,9 +1,11 @@
 //! What the vectors gain, and what changes in them. Each call that answers false has left them as they were.
 
 ghost use Rattle.std.specs.Prelude.{◌≡◌, ◌≤◌, [], ◌∷◌, ◌++◌, ◌+◌, length, map, IsTrue, false, IfOk, IfSome, string_bytes};
-ghost use Rattle.permit_store.specs.Changes.{given_to, with_state, closed_by, text_of, paper_of};
+ghost use Rattle.permit_store.specs.Changes.{given_to, closed_by, text_of, paper_of, papers_after};
+ghost use Rattle.permit_store.specs.Plain.{kept_with_state};
 
-use crate::rows::{FileRow, Interest, NewPaper, Paper, Parcel, Party};
+use crate::plain::kept::Kept;
+use crate::rows::{FileRow, Interest, NewPaper, Paper, Parcel, Party, RowEffect};
 use permit_base::values::{Cents, Day, Digest, FileId, Lot, PaperNumber, ParcelId, PartyId, Text};
 use permit_base::words::{PaperSort, Role};
 use permit_core::state::FileState;
@@ -76,13 +78,15 @@ pub(crate) fn push_parcel(
         .is_ok()
 }
 
+/// A file more, with no papers.
 pub(crate) fn push_file(
-    files: &mut Vec<FileRow>,
+    alloc: Global,
+    files: &mut Vec<Kept>,
     state: FileState,
     valuation: Cents,
     description: &Text,
 ) -> bool
-    ensures made { IsTrue result → files.new.items ≡ files.old.items ++ (record { id = length files.old.items + 1; state = state; valuation = valuation; description = description.now }) ∷ [] }
+    ensures made { IsTrue result → files.new.items ≡ files.old.items ++ (record { row = record { id = length files.old.items + 1; state = state; valuation = valuation; description = description.now }; papers = [] }) ∷ [] }
     ensures few { length files.old.items ≤ 99999 → length files.new.items ≤ 99999 }
     ensures kept { result ≡ false → files.new.items ≡ files.old.items }
 {
@@ -95,14 +99,14 @@ pub(crate) fn push_file(
     let Ok(description) = description.copy() else {
         return false;
     };
-    files
-        .push(FileRow {
-            id,
-            state,
-            valuation,
-            description,
-        })
-        .is_ok()
+    let row = FileRow {
+        id,
+        state,
+        valuation,
+        description,
+    };
+    let papers = Vec::new(alloc);
+    files.push(Kept { row, papers }).is_ok()
 }
 
 pub(crate) fn push_interest(interests: &mut Vec<Interest>, parcel: ParcelId, party: PartyId) -> bool
@@ -178,17 +182,18 @@ pub(crate) fn give_parcel(parcels: &mut [Parcel], id: ParcelId, owner: PartyId)
 }
 
 /// Gives the file another state if it has the number.
-fn renew(file: &mut FileRow, id: FileId, state: FileState)
-    ensures { file.new ≡ with_state id state file.old }
+fn renew(kept: &mut Kept, id: FileId, state: FileState)
+    ensures { kept.new ≡ kept_with_state id state kept.old }
 {
+    let file = &mut kept.row;
     if file.id.get() == id.get() {
         file.state = state;
     }
 }
 
 /// Gives a file another state.
-pub(crate) fn renew_file(files: &mut [FileRow], id: FileId, state: FileState)
-    ensures { files.new ≡ map (with_state id state) files.old }
+pub(crate) fn renew_file(files: &mut [Kept], id: FileId, state: FileState)
+    ensures { files.new ≡ map (kept_with_state id state) files.old }
 {
     for file in files {
         renew(file, id, state);
@@ -210,5 +215,27 @@ pub(crate) fn close_paper(papers: &mut [Paper], file: FileId, number: PaperNumbe
 {
     for paper in papers {
         close(paper, file, number);
+    }
+}
+
+/// What else changes by a file's new row, which has this count of papers.
+pub(crate) fn change_papers(
+    alloc: Global,
+    kept: &mut Kept,
+    file: FileId,
+    count: u16,
+    effect: &RowEffect<'_>,
+    day: Day,
+) -> bool
+    ensures made { IsTrue result → kept.new ≡ record kept.old { papers = papers_after file count day effect.now kept.old.papers } }
+    ensures kept { result ≡ false → kept.new ≡ kept.old }
+{
+    match effect {
+        RowEffect::None => true,
+        RowEffect::Paper(paper) => push_paper(alloc, &mut kept.papers, file, count, day, paper),
+        RowEffect::NoticeClosed(number) => {
+            close_paper(&mut kept.papers, file, *number);
+            true
+        }
     }
 }

@@ -1,0 +1,68 @@
+-- Each word stands at its code among the words of its type.
+use Rattle.std.proofs.Common.{◌≡◌, refl, Some, slice_get}
+use Rattle.permit_base.specs.declared.words.Role.{Role}
+use Rattle.permit_base.specs.declared.words.Role.TheVariants as role
+use Rattle.permit_base.specs.declared.words.Kind.{Kind}
+use Rattle.permit_base.specs.declared.words.Kind.TheVariants as kind
+use Rattle.permit_base.specs.declared.words.Stage.{Stage}
+use Rattle.permit_base.specs.declared.words.Stage.TheVariants as stage
+use Rattle.permit_base.specs.declared.words.PaperSort.{PaperSort}
+use Rattle.permit_base.specs.declared.words.PaperSort.TheVariants as sort
+use Rattle.permit_base.specs.declared.words.Step.{Step}
+use Rattle.permit_base.specs.declared.words.Step.TheVariants as step
+use Rattle.permit_base.specs.Words.{all_roles, all_kinds, all_stages, all_sorts, all_steps}
+use Rattle.permit_model.specs.Codes.{role_code, kind_code, stage_code, sort_code, step_code}
+
+pub role_back : (w : Role) → slice_get all_roles (role_code w) ≡ Some w
+role_back role.Public = refl
+role_back role.Clerk = refl
+role_back role.Reviewer = refl
+role_back role.Inspector = refl
+role_back role.Official = refl
+
+pub kind_back : (w : Kind) → slice_get all_kinds (kind_code w) ≡ Some w
+kind_back kind.Construct = refl
+kind_back kind.Enlarge = refl
+kind_back kind.Alter = refl
+kind_back kind.Repair = refl
+kind_back kind.Move = refl
+kind_back kind.Demolish = refl
+kind_back kind.Occupancy = refl
+
+pub stage_back : (w : Stage) → slice_get all_stages (stage_code w) ≡ Some w
+stage_back stage.Filed = refl
+stage_back stage.Review = refl
+stage_back stage.Returned = refl
+stage_back stage.Approved = refl
+stage_back stage.Rejected = refl
+stage_back stage.Issued = refl
+stage_back stage.Working = refl
+stage_back stage.Revoked = refl
+stage_back stage.Finaled = refl
+stage_back stage.Certified = refl
+stage_back stage.Abandoned = refl
+stage_back stage.Lapsed = refl
+stage_back stage.New = refl
+stage_back stage.Office = refl
+
+pub sort_back : (w : PaperSort) → slice_get all_sorts (sort_code w) ≡ Some w
+sort_back sort.Permit = refl
+sort_back sort.Returned = refl
+sort_back sort.Resubmitted = refl
+sort_back sort.Rejected = refl
+sort_back sort.Asked = refl
+sort_back sort.Granted = refl
+sort_back sort.Refused = refl
+sort_back sort.Notice = refl
+sort_back sort.Stop = refl
+sort_back sort.Lifted = refl
+sort_back sort.Revoked = refl
+sort_back sort.Temporary = refl
+sort_back sort.Certificate = refl
+
+pub step_back : (w : Step) → slice_get all_steps (step_code w) ≡ Some w
+step_back step.Footing = refl
+step_back step.Slab = refl
+step_back step.Frame = refl
+step_back step.Lath = refl
+step_back step.Final = refl

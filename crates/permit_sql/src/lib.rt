@@ -1,0 +1,23 @@
+//! Where the office keeps its tables: a store over SQL, in the schema of version 1.
+//!
+//! Six STRICT tables hold the department's record: `desk` (one row: version, last day and counts), `party`,
+//! `parcel`, `interest`, `file` and `paper`, with their keys and references, and eight indexes beside them. Words
+//! are kept by their codes, which count from 0; none is 0 for a party and for the days of an ask, and -1 elsewhere.
+//!
+//! **What a connection shows.** `specs/Kept.antt` says when a database keeps the tables of the model: it has the
+//! office's schema, and the tree of each table has a row for each row of the model's table, in any order; the
+//! rowid of an interest and of a paper is of no account. Of the tables themselves it says that no number, digest
+//! and lot comes twice, and that a file's papers stand in rising number, none above the count in the file's row. A
+//! connection that a failure shut shows nothing, so each statement is of an open one, and each is of a disk that
+//! has so far given back what was written (`HasCleanDisk` of the connection after the call).
+#![tactic(auto)]
+
+mod create;
+mod decode;
+mod fields;
+mod query;
+mod read;
+mod steps;
+pub mod store;
+#[cfg(test)]
+mod tests;

@@ -1,0 +1,92 @@
+//! The store over SQL.
+
+ghost use Rattle.std.specs.Prelude.{◌≡◌, ◌≢◌, ◌⊎◌, false, not, IsTrue, IfOk, IfErr};
+ghost use Rattle.sqlite.specs.State.{HasCleanDisk, Survives};
+ghost use Rattle.sqlite.specs.Held.{state};
+ghost use Rattle.permit_model.specs.Tables.{tables};
+ghost use Rattle.permit_store.specs.Founding.{founding};
+ghost use Rattle.permit_store.specs.declared.store.OpenError.TheVariants as open_error;
+ghost use Rattle.permit_sql.specs.Schema.{empty_schema};
+ghost use Rattle.permit_sql.specs.Kept.{Keeps, IsFine};
+
+use crate::create::create_in;
+use permit_store::founder::Founder;
+use permit_store::store::OpenError;
+use sqlite::{Alter, Connection};
+use std::alloc::Global;
+
+/// The tables of the office in a database, over a connection that the store owns.
+#[derive(Drop)]
+pub struct SqlStore<S: Alter> {
+    alloc: Global,
+    conn: Connection<S>,
+    handed: u64,
+    failed: u64,
+    commits: u64,
+    ghost calm: { conn.in_transaction ≡ false },
+}
+
+/// Whether the database has no table, no index and no view.
+fn is_empty<S: Alter>(conn: &Connection<S>) -> bool
+    ensures yes { IsTrue result → (state S.Store conn.now).now.schema ≡ empty_schema }
+    ensures no { result ≡ false → (state S.Store conn.now).now.schema ≢ empty_schema }
+{
+    let schema = conn.schema();
+    if schema.tables.len() != 0 {
+        return false;
+    }
+    if schema.indexes.len() != 0 {
+        return false;
+    }
+    schema.views.len() == 0
+}
+
+impl<S: Alter> SqlStore<S> {
+    /// Makes the tables in an empty database, with one party, number 1, an official, on the founding day, all in
+    /// one transaction. It refuses as `Exists` where the database has a table, an index or a view, and as `Store`
+    /// where a call failed or a transaction is open; with a refusal the connection comes back, its database as
+    /// before.
+    pub fn create(
+        alloc: Global,
+        conn: Connection<S>,
+        founder: &Founder,
+    ) -> Result<SqlStore<S>, (Connection<S>, OpenError)>
+        ensures founded { IfOk result (λ s. HasCleanDisk (state S.Store s.conn) → Keeps (tables (founding founder.now.name founder.now.digest founder.now.day)) (state S.Store s.conn).now) }
+        ensures crash { IfOk result (λ s. Survives (state S.Store conn) (state S.Store s.conn) (λ trees. (db : _) × Keeps (tables (founding founder.now.name founder.now.digest founder.now.day)) db × (trees ≡ db.trees))) }
+        ensures same { IfErr result (λ e. IsFine (state S.Store e.0) → (state S.Store e.0).now ≡ (state S.Store conn).now) }
+        ensures exists { IfErr result (λ e. e.1 ≡ OpenError.Exists → (state S.Store conn).now.schema ≢ empty_schema) }
+        ensures refusal { IfErr result (λ e. (e.1 ≡ open_error.Exists) ⊎ (e.1 ≡ open_error.Store)) }
+    {
+        let mut conn = conn;
+        if !conn.is_autocommit() {
+            return Err((conn, OpenError::Store));
+        }
+        if !is_empty(&conn) {
+            return Err((conn, OpenError::Exists));
+        }
+        match create_in(&mut conn, founder) {
+            Ok(()) => Ok(SqlStore {
+                alloc,
+                conn,
+                handed: 0,
+                failed: 0,
+                commits: 0,
+            }),
+            Err(_) => Err((conn, OpenError::Store)),
+        }
+    }
+
+    /// Gives the connection back with its database as it is.
+    pub fn into_connection(self) -> Connection<S>
+        ensures { result ≡ self.conn }
+    {
+        let SqlStore {
+            alloc: _,
+            conn,
+            handed: _,
+            failed: _,
+            commits: _,
+        } = self;
+        conn
+    }
+}
