@@ -1,9 +1,8 @@
-//! Measures the office over memory: requests served as bytes, heads that come byte by byte, and a long mixed history.
+//! Measures the office over memory: requests served as bytes and heads that come byte by byte.
 //! Without words it says what it can measure.
 #![tactic(auto)]
 
 mod heads;
-mod history;
 mod office;
 mod served;
 
@@ -16,9 +15,8 @@ fn main(rt: HostRuntime) -> Result<()> {
     match words.first().map_or("", |word| word.as_str()) {
         "served" => served::measure(&rt, policy),
         "heads" => heads::measure(&rt),
-        "history" => history::measure(&rt, policy, words.get(2).map_or("", |word| word.as_str())),
         _ => {
-            println!(rt; "served POLICY, heads, history POLICY COMMANDS")?;
+            println!(rt; "served POLICY, heads")?;
             Ok(())
         }
     }

@@ -4,7 +4,7 @@ use crate::exchange::{answer, asked};
 use crate::opening::{TOKENS, day, founded, opened};
 use permit_base::outcome::{Reason, Refusal};
 use permit_base::request::{Asked, Command, Request};
-use permit_base::values::{Days, Lot, ParcelId, PartyId, Text, Token};
+use permit_base::values::{Day, Days, Lot, ParcelId, PartyId, Text, Token};
 use permit_base::words::{Kind, Stage};
 use permit_core::people::People;
 use permit_core::restore::StateFields;
@@ -88,6 +88,13 @@ fn far_file(ask: u32) -> Result<FileState, Fail> {
     .ok_or("a sound row")?)
 }
 
+/// Grants the pending ask where that is admitted.
+fn grant(file: &mut FileState, day: Day, caller: PartyId, people: &People) -> Result<(), Reason> {
+    file.admit(day, &Command::GrantExtension, people)?;
+    file.apply(day, &Command::GrantExtension, caller);
+    Ok(())
+}
+
 #[test]
 fn limits_of_deadline(rt: HostRuntime) -> Result<(), Fail> {
     let nobody = People {
@@ -97,11 +104,7 @@ fn limits_of_deadline(rt: HostRuntime) -> Result<(), Fail> {
     };
     let official = PartyId::new(1).ok_or("a party")?;
     let mut file = far_file(100)?;
-    let today = day(20000)?;
-    match file.admit(today, &Command::GrantExtension, &nobody) {
-        Ok(()) => file.apply(today, &Command::GrantExtension, official),
-        Err(_) => return Err(Fail::new("the grant was refused")),
-    }
+    assert_eq!(rt; grant(&mut file, day(20000)?, official, &nobody), Ok(()));
     assert_eq!(rt; file.deadline(), Some(200_000));
     let refused = far_file(101)?.admit(day(20000)?, &Command::GrantExtension, &nobody);
     assert_eq!(rt; refused, Err(Reason::Far));

@@ -10,7 +10,7 @@ use permit_base::values::{Day, Text, Token};
 use permit_base::words::Kind;
 use permit_http::inbox::Inbox;
 use permit_office::office::Office;
-use permit_policy::Policy;
+use permit_policy::read_policy;
 use permit_store::founder::Founder;
 use permit_store::plain::PlainStore;
 use std::alloc::Global;
@@ -99,9 +99,7 @@ fn founded(alloc: Global) -> Option<Office<PlainStore>> {
     let name = Text::new(String::from_str(alloc, "Official").ok()?)?;
     let founder = Founder::new(name, token.digest()?, Day::new(19700)?)?;
     let store = PlainStore::create(alloc, &founder).ok()?;
-    let policy = Policy {
-        rules: Vec::new(alloc),
-    };
+    let policy = read_policy(alloc, "").ok()?;
     Office::open(store, policy).ok()
 }
 
