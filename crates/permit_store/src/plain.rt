@@ -107,6 +107,8 @@ impl Store for PlainStore {
 
     ghost holds = { λ s t. Keeps s.last s.parties.items s.parcels.items s.interests.items s.files.items t };
 
+    ghost doubt = { λ _. 0 };
+
     ghost handed = { λ s. s.handed };
 
     ghost failed = { λ s. s.failed };
