@@ -32,8 +32,9 @@ use permit_store::store::{Got, Store};
 
 /// The party that a command names, where it is there, with its interest in the parcel.
 fn named<S: Store>(store: &mut S, parcel: ParcelId, command: &Command) -> Got<Option<NamedParty>>
-    ensures named { (h : History) → S.holds store.old (tables h) → IfOk result (λ p. p ≡ Naming.party_known h parcel (Naming.named_party command.now)) }
+    ensures named { S.doubt store.new ≡ 0 → (h : History) → S.holds store.old (tables h) → IfOk result (λ p. p ≡ Naming.party_known h parcel (Naming.named_party command.now)) }
     ensures kept { (t : Tables) → S.holds store.old t → S.holds store.new t }
+    ensures doubt { S.doubt store.old ≤ S.doubt store.new }
     ensures failed { S.failed store.new ≡ failed_after result (S.failed store.old) }
     ensures commits { S.commits store.new ≡ S.commits store.old }
     ensures handed { S.handed store.new ≡ S.handed store.old }
@@ -63,9 +64,10 @@ fn has_open_notice(papers: &[Paper], number: PaperNumber) -> bool
 
 /// Whether the paper that a command names is an open notice of the file.
 fn is_open_notice<S: Store>(store: &mut S, file: FileId, command: &Command) -> Got<bool>
-    ensures open { (h : History) (one : CaseFile) → IsHistory h → S.holds store.old (tables h) → case_numbered h file ≡ Some one
+    ensures open { S.doubt store.new ≡ 0 → (h : History) (one : CaseFile) → IsHistory h → S.holds store.old (tables h) → case_numbered h file ≡ Some one
         → IfOk result (λ b. b ≡ Naming.is_notice_open one (Naming.named_paper command.now)) }
     ensures kept { (t : Tables) → S.holds store.old t → S.holds store.new t }
+    ensures doubt { S.doubt store.old ≤ S.doubt store.new }
     ensures failed { S.failed store.new ≡ failed_after result (S.failed store.old) }
     ensures commits { S.commits store.new ≡ S.commits store.old }
     ensures handed { S.handed store.new ≡ S.handed store.old }
@@ -79,9 +81,10 @@ fn is_open_notice<S: Store>(store: &mut S, file: FileId, command: &Command) -> G
 
 /// The people about a command on a file.
 fn people_about<S: Store>(store: &mut S, row: &FileRow, command: &Command) -> Got<People>
-    ensures people { (h : History) (one : CaseFile) → IsHistory h → S.holds store.old (tables h) → case_numbered h row.now.id ≡ Some one → row.now ≡ file_row one
+    ensures people { S.doubt store.new ≡ 0 → (h : History) (one : CaseFile) → IsHistory h → S.holds store.old (tables h) → case_numbered h row.now.id ≡ Some one → row.now ≡ file_row one
         → IfOk result (λ p. p ≡ Naming.people_of h one command.now) }
     ensures kept { (t : Tables) → S.holds store.old t → S.holds store.new t }
+    ensures doubt { S.doubt store.old ≤ S.doubt store.new }
     ensures failed { S.failed store.new ≡ failed_after result (S.failed store.old) }
     ensures commits { S.commits store.new ≡ S.commits store.old }
     ensures handed { S.handed store.new ≡ S.handed store.old }
@@ -128,10 +131,11 @@ fn perform<S: Store>(
     command: &Command,
     day: Day,
 ) -> Got<Reply>
-    ensures model { (h : History) (one : CaseFile) → IsHistory h → S.holds store.old (tables h) → case_numbered h row.now.id ≡ Some one → row.now ≡ file_row one
+    ensures model { S.doubt store.new ≡ 0 → (h : History) (one : CaseFile) → IsHistory h → S.holds store.old (tables h) → case_numbered h row.now.id ≡ Some one → row.now ≡ file_row one
         → last_day h ≤ day → IsTrue (Caller.is_party h caller)
         → Attempts (S.holds store.new) result
         (admitted h (entry_of h day caller (request.OnFile row.now.id command.now)) (reason_against h day caller (request.OnFile row.now.id command.now))) h }
+    ensures doubt { S.doubt store.old ≤ S.doubt store.new }
     ensures failed { S.failed store.new ≡ failed_after result (S.failed store.old) }
     ensures commits { Committed result (S.commits store.old) (S.commits store.new) }
     ensures handed { S.handed store.new ≡ S.handed store.old }
@@ -168,8 +172,9 @@ pub(crate) fn on_file<S: Store>(
     command: &Command,
     day: Day,
 ) -> Got<Reply>
-    ensures model { (h : History) → IsHistory h → S.holds store.old (tables h) → last_day h ≤ day → IsTrue (Caller.is_party h caller.now.id)
+    ensures model { S.doubt store.new ≡ 0 → (h : History) → IsHistory h → S.holds store.old (tables h) → last_day h ≤ day → IsTrue (Caller.is_party h caller.now.id)
         → Attempts (S.holds store.new) result (served policy.now h day caller.now (request.OnFile file command.now)) h }
+    ensures doubt { S.doubt store.old ≤ S.doubt store.new }
     ensures failed { S.failed store.new ≡ failed_after result (S.failed store.old) }
     ensures commits { Committed result (S.commits store.old) (S.commits store.new) }
     ensures handed { Handed result (S.handed store.old) (S.handed store.new) }

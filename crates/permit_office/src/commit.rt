@@ -1,6 +1,6 @@
 //! The one place that commits.
 
-ghost use Rattle.std.specs.Prelude.{◌≡◌, ◌∷◌, Option, Some, None, IfOk};
+ghost use Rattle.std.specs.Prelude.{◌≡◌, ◌≤◌, ◌∷◌, Option, Some, None, IfOk};
 ghost use Rattle.permit_model.specs.History.{History, Entry};
 ghost use Rattle.permit_model.specs.Tables.{tables};
 ghost use Rattle.permit_model.specs.Machine.{admitted};
@@ -25,6 +25,7 @@ pub(crate) fn carry_out<S: Store>(
     ensures model { (h : History) (entry : Entry) → S.holds store.old (tables h)
         → (reason ≡ None → (number ≡ entry.number) × Fits (tables h) change.now day × (changed (tables h) change.now day ≡ tables (entry ∷ h)))
         → Attempts (S.holds store.new) result (admitted h entry reason) h }
+    ensures doubt { S.doubt store.old ≤ S.doubt store.new }
     ensures failed { S.failed store.new ≡ failed_after result (S.failed store.old) }
     ensures commits { Committed result (S.commits store.old) (S.commits store.new) }
     ensures handed { S.handed store.new ≡ S.handed store.old }

@@ -1,6 +1,6 @@
 //! The facts by which the policy decides, from the rows of a parcel or a file.
 
-ghost use Rattle.std.specs.Prelude.{◌≡◌, Option, Some, None, IfOk};
+ghost use Rattle.std.specs.Prelude.{◌≡◌, ◌≤◌, Option, Some, None, IfOk};
 ghost use Rattle.permit_model.specs.History.{History};
 ghost use Rattle.permit_model.specs.Parcels.{parcel_numbered, owner};
 ghost use Rattle.permit_model.specs.Files.{CaseFile};
@@ -22,9 +22,10 @@ pub(crate) fn facts_on_parcel<S: Store>(
     word: Stage,
     action: Action,
 ) -> Got<Facts>
-    ensures facts { (h : History) → S.holds store.old (tables h) → parcel_numbered h land.now.id ≡ Some land.now
+    ensures facts { S.doubt store.new ≡ 0 → (h : History) → S.holds store.old (tables h) → parcel_numbered h land.now.id ≡ Some land.now
         → IfOk result (λ f. f ≡ parcel_facts h caller.now land.now.id word action) }
     ensures kept { (t : Tables) → S.holds store.old t → S.holds store.new t }
+    ensures doubt { S.doubt store.old ≤ S.doubt store.new }
     ensures failed { S.failed store.new ≡ failed_after result (S.failed store.old) }
     ensures commits { S.commits store.new ≡ S.commits store.old }
     ensures handed { S.handed store.new ≡ S.handed store.old }
@@ -49,8 +50,9 @@ pub(crate) fn facts_on_parcel<S: Store>(
 
 /// The owner of a parcel, if it is there.
 pub(crate) fn owner_of<S: Store>(store: &mut S, parcel: ParcelId) -> Got<Option<PartyId>>
-    ensures owner { (h : History) → S.holds store.old (tables h) → IfOk result (λ o. o ≡ owner h parcel) }
+    ensures owner { S.doubt store.new ≡ 0 → (h : History) → S.holds store.old (tables h) → IfOk result (λ o. o ≡ owner h parcel) }
     ensures kept { (t : Tables) → S.holds store.old t → S.holds store.new t }
+    ensures doubt { S.doubt store.old ≤ S.doubt store.new }
     ensures failed { S.failed store.new ≡ failed_after result (S.failed store.old) }
     ensures commits { S.commits store.new ≡ S.commits store.old }
     ensures handed { S.handed store.new ≡ S.handed store.old }
@@ -69,9 +71,10 @@ pub(crate) fn facts_on_file<S: Store>(
     action: Action,
     day: Day,
 ) -> Got<Facts>
-    ensures facts { (h : History) (file : CaseFile) → S.holds store.old (tables h) → row.now ≡ file_row file
+    ensures facts { S.doubt store.new ≡ 0 → (h : History) (file : CaseFile) → S.holds store.old (tables h) → row.now ≡ file_row file
         → IfOk result (λ f. f ≡ file_facts h day caller.now file action) }
     ensures kept { (t : Tables) → S.holds store.old t → S.holds store.new t }
+    ensures doubt { S.doubt store.old ≤ S.doubt store.new }
     ensures failed { S.failed store.new ≡ failed_after result (S.failed store.old) }
     ensures commits { S.commits store.new ≡ S.commits store.old }
     ensures handed { S.handed store.new ≡ S.handed store.old }

@@ -26,8 +26,9 @@ use permit_store::store::{Got, Store};
 /// Whether there is a parcel of that lot.
 #[tactic(auto, using(crate::proofs::Lists::any_found))]
 fn is_lot<S: Store>(store: &mut S, lot: &Lot) -> Got<bool>
-    ensures there { (h : History) → S.holds store.old (tables h) → IfOk result (λ b. b ≡ list_any (λ p. bytes_eq p.lot lot.now) (parcels h)) }
+    ensures there { S.doubt store.new ≡ 0 → (h : History) → S.holds store.old (tables h) → IfOk result (λ b. b ≡ list_any (λ p. bytes_eq p.lot lot.now) (parcels h)) }
     ensures kept { (t : Tables) → S.holds store.old t → S.holds store.new t }
+    ensures doubt { S.doubt store.old ≤ S.doubt store.new }
     ensures failed { S.failed store.new ≡ failed_after result (S.failed store.old) }
     ensures commits { S.commits store.new ≡ S.commits store.old }
     ensures handed { S.handed store.new ≡ S.handed store.old }
@@ -43,9 +44,10 @@ fn against_parcel<S: Store>(
     lot: &Lot,
     owner: PartyId,
 ) -> Got<Option<Reason>>
-    ensures reason { (h : History) (day caller : ℕ) (address : List ℕ) → S.holds store.old (tables h) → desk.now ≡ desk_of h
+    ensures reason { S.doubt store.new ≡ 0 → (h : History) (day caller : ℕ) (address : List ℕ) → S.holds store.old (tables h) → desk.now ≡ desk_of h
         → IfOk result (λ r. r ≡ reason_against h day caller (request.AddParcel lot.now address owner)) }
     ensures kept { (t : Tables) → S.holds store.old t → S.holds store.new t }
+    ensures doubt { S.doubt store.old ≤ S.doubt store.new }
     ensures failed { S.failed store.new ≡ failed_after result (S.failed store.old) }
     ensures commits { S.commits store.new ≡ S.commits store.old }
     ensures handed { S.handed store.new ≡ S.handed store.old }
@@ -73,8 +75,9 @@ pub(crate) fn add_parcel<S: Store>(
     owner: PartyId,
     day: Day,
 ) -> Got<Reply>
-    ensures model { (h : History) → IsHistory h → S.holds store.old (tables h) → desk.now ≡ desk_of h → last_day h ≤ day
+    ensures model { S.doubt store.new ≡ 0 → (h : History) → IsHistory h → S.holds store.old (tables h) → desk.now ≡ desk_of h → last_day h ≤ day
         → Attempts (S.holds store.new) result (served policy.now h day caller.now (request.AddParcel lot.now address.now owner)) h }
+    ensures doubt { S.doubt store.old ≤ S.doubt store.new }
     ensures failed { S.failed store.new ≡ failed_after result (S.failed store.old) }
     ensures commits { Committed result (S.commits store.old) (S.commits store.new) }
     ensures handed { S.handed store.new ≡ S.handed store.old }
@@ -104,9 +107,10 @@ fn against_declaration<S: Store>(
     parcel: ParcelId,
     caller: PartyId,
 ) -> Got<Option<Reason>>
-    ensures reason { (h : History) (day : ℕ) → S.holds store.old (tables h)
+    ensures reason { S.doubt store.new ≡ 0 → (h : History) (day : ℕ) → S.holds store.old (tables h)
         → IfOk result (λ r. r ≡ reason_against h day caller (request.Declare parcel)) }
     ensures kept { (t : Tables) → S.holds store.old t → S.holds store.new t }
+    ensures doubt { S.doubt store.old ≤ S.doubt store.new }
     ensures failed { S.failed store.new ≡ failed_after result (S.failed store.old) }
     ensures commits { S.commits store.new ≡ S.commits store.old }
     ensures handed { S.handed store.new ≡ S.handed store.old }
@@ -125,8 +129,9 @@ pub(crate) fn declare<S: Store>(
     parcel: ParcelId,
     day: Day,
 ) -> Got<Reply>
-    ensures model { (h : History) → S.holds store.old (tables h) → last_day h ≤ day → IsTrue (Caller.is_party h caller.now.id)
+    ensures model { S.doubt store.new ≡ 0 → (h : History) → S.holds store.old (tables h) → last_day h ≤ day → IsTrue (Caller.is_party h caller.now.id)
         → Attempts (S.holds store.new) result (served policy.now h day caller.now (request.Declare parcel)) h }
+    ensures doubt { S.doubt store.old ≤ S.doubt store.new }
     ensures failed { S.failed store.new ≡ failed_after result (S.failed store.old) }
     ensures commits { Committed result (S.commits store.old) (S.commits store.new) }
     ensures handed { S.handed store.new ≡ S.handed store.old }
@@ -152,9 +157,10 @@ pub(crate) fn declare<S: Store>(
 
 /// What stands against a transfer.
 fn against_transfer<S: Store>(store: &mut S, land: &Parcel, to: PartyId) -> Got<Option<Reason>>
-    ensures reason { (h : History) (day caller : ℕ) → S.holds store.old (tables h) → parcel_numbered h land.now.id ≡ Some land.now
+    ensures reason { S.doubt store.new ≡ 0 → (h : History) (day caller : ℕ) → S.holds store.old (tables h) → parcel_numbered h land.now.id ≡ Some land.now
         → IfOk result (λ r. r ≡ reason_against h day caller (request.Transfer land.now.id to)) }
     ensures kept { (t : Tables) → S.holds store.old t → S.holds store.new t }
+    ensures doubt { S.doubt store.old ≤ S.doubt store.new }
     ensures failed { S.failed store.new ≡ failed_after result (S.failed store.old) }
     ensures commits { S.commits store.new ≡ S.commits store.old }
     ensures handed { S.handed store.new ≡ S.handed store.old }
@@ -177,8 +183,9 @@ pub(crate) fn transfer<S: Store>(
     to: PartyId,
     day: Day,
 ) -> Got<Reply>
-    ensures model { (h : History) → S.holds store.old (tables h) → last_day h ≤ day
+    ensures model { S.doubt store.new ≡ 0 → (h : History) → S.holds store.old (tables h) → last_day h ≤ day
         → Attempts (S.holds store.new) result (served policy.now h day caller.now (request.Transfer parcel to)) h }
+    ensures doubt { S.doubt store.old ≤ S.doubt store.new }
     ensures failed { S.failed store.new ≡ failed_after result (S.failed store.old) }
     ensures commits { Committed result (S.commits store.old) (S.commits store.new) }
     ensures handed { S.handed store.new ≡ S.handed store.old }

@@ -1,6 +1,6 @@
 //! The office and its steps.
 
-ghost use Rattle.std.specs.Prelude.{◌≡◌, ◌≢◌, IsTrue, IfOk, IfErr, OnErr, ◌↔◌};
+ghost use Rattle.std.specs.Prelude.{◌≡◌, ◌≢◌, ◌≤◌, IsTrue, IfOk, IfErr, MatchResult, OnErr, ◌↔◌};
 ghost use Rattle.std.specs.List.{list_all};
 ghost use Rattle.permit_model.specs.History.{History};
 ghost use Rattle.permit_model.specs.Tables.{Tables, tables};
@@ -22,6 +22,9 @@ use std::alloc::{AllocError, Global};
 use std::marker::Model;
 
 /// The office over a store, with a policy. Contracts see both.
+///
+/// What its calls promise of a store that keeps its tables on a disk, they promise while the disk has given back
+/// what was written: then the store is without doubt. Memory always gives back what was written.
 #[derive(Drop)]
 pub struct Office<S: Store> {
     store: S,
@@ -45,6 +48,7 @@ impl<S: Store + Drop> Office<S> {
         ensures policy { IfOk result (λ office. office.policy ≡ policy) }
         ensures back { (t : Tables) → S.holds store t → IfErr result (λ back. S.holds back.0 t) }
         ensures refusal { IfErr result (λ back. back.1 ≡ open_error.Store) }
+        ensures doubt { MatchResult result (λ office. S.doubt store ≤ S.doubt office.store) (λ back. S.doubt store ≤ S.doubt back.0) }
         ensures opened { IfOk result (λ office. S.failed office.store ≡ S.failed store) }
         ensures failed { IfErr result (λ back. S.failed back.0 ≡ next_count (S.failed store)) }
     {
@@ -72,9 +76,10 @@ impl<S: Store + Drop> Office<S> {
     /// moves the last day. The refusal for the store comes exactly where a call of the store failed; then, too,
     /// nothing has changed.
     pub fn step_as(&mut self, digest: &Digest, asked: &Request, day: Day) -> Reply
-        ensures model { (h : History) → IsHistory h → S.holds self.old.store (tables h)
+        ensures model { S.doubt self.new.store ≡ 0 → (h : History) → IsHistory h → S.holds self.old.store (tables h)
             → Answers (S.holds self.new.store) result (step_as self.old.policy h digest.now asked.now day) h }
         ensures policy { self.new.policy ≡ self.old.policy }
+        ensures doubt { S.doubt self.old.store ≤ S.doubt self.new.store }
         ensures failed { IsTrue (is_built asked.now) → (IsTrue (is_store_refusal result) ↔ (S.failed self.new.store ≢ S.failed self.old.store)) }
         ensures failures { IsTrue (is_built asked.now) → S.failed self.new.store ≡ failed_by result (S.failed self.old.store) }
         ensures commits { CommittedBy result (S.commits self.old.store) (S.commits self.new.store) }
@@ -88,9 +93,10 @@ impl<S: Store + Drop> Office<S> {
 
     /// One step for a request with its caller's token, on the day: `step_as` on the token's digest.
     pub fn step(&mut self, asked: &Asked, day: Day) -> Reply
-        ensures model { (h : History) → IsHistory h → S.holds self.old.store (tables h)
+        ensures model { S.doubt self.new.store ≡ 0 → (h : History) → IsHistory h → S.holds self.old.store (tables h)
             → Answers (S.holds self.new.store) result (step self.old.policy h asked.now day) h }
         ensures policy { self.new.policy ≡ self.old.policy }
+        ensures doubt { S.doubt self.old.store ≤ S.doubt self.new.store }
         ensures failed { IsTrue (is_built asked.now.request) → (IsTrue (is_store_refusal result) ↔ (S.failed self.new.store ≢ S.failed self.old.store)) }
         ensures failures { IsTrue (is_built asked.now.request) → S.failed self.new.store ≡ failed_by result (S.failed self.old.store) }
         ensures commits { CommittedBy result (S.commits self.old.store) (S.commits self.new.store) }
@@ -109,9 +115,10 @@ impl<S: Store + Drop> Office<S> {
         alloc: Global,
         requests: &[(Asked, Day)],
     ) -> Result<Vec<Reply>, AllocError>
-        ensures model { (h : History) → IsHistory h → S.holds self.old.store (tables h)
+        ensures model { S.doubt self.new.store ≡ 0 → (h : History) → IsHistory h → S.holds self.old.store (tables h)
             → IfOk result (λ replies. Ran (S.holds self.new.store) self.old.policy requests.now replies.items h) }
         ensures policy { self.new.policy ≡ self.old.policy }
+        ensures doubt { S.doubt self.old.store ≤ S.doubt self.new.store }
         ensures failures { IsTrue (list_all (λ a. is_built a.0.request) requests.now)
             → IfOk result (λ replies. S.failed self.new.store ≡ failed_over replies.items (S.failed self.old.store)) }
         ensures err { OnErr result (self.new ≡ self.old) }

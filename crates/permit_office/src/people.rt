@@ -34,8 +34,9 @@ fn adding(role: Role) -> Action
 
 /// Whether there is such a party.
 pub(crate) fn is_party<S: Store>(store: &mut S, party: PartyId) -> Got<bool>
-    ensures there { (h : History) → S.holds store.old (tables h) → IfOk result (λ b. b ≡ Caller.is_party h party) }
+    ensures there { S.doubt store.new ≡ 0 → (h : History) → S.holds store.old (tables h) → IfOk result (λ b. b ≡ Caller.is_party h party) }
     ensures kept { (t : Tables) → S.holds store.old t → S.holds store.new t }
+    ensures doubt { S.doubt store.old ≤ S.doubt store.new }
     ensures failed { S.failed store.new ≡ failed_after result (S.failed store.old) }
     ensures commits { S.commits store.new ≡ S.commits store.old }
     ensures handed { S.handed store.new ≡ S.handed store.old }
@@ -46,10 +47,11 @@ pub(crate) fn is_party<S: Store>(store: &mut S, party: PartyId) -> Got<bool>
 
 /// What stands against a new party.
 fn against_party<S: Store>(store: &mut S, desk: &Desk, digest: &Digest) -> Got<Option<Reason>>
-    ensures reason { (h : History) (day caller : ℕ) (name : List ℕ) (role : Role) (token : List ℕ) → S.holds store.old (tables h) → desk.now ≡ desk_of h
+    ensures reason { S.doubt store.new ≡ 0 → (h : History) (day caller : ℕ) (name : List ℕ) (role : Role) (token : List ℕ) → S.holds store.old (tables h) → desk.now ≡ desk_of h
         → digest.now ≡ digest_of token
         → IfOk result (λ r. r ≡ reason_against h day caller (request.AddParty name role token)) }
     ensures kept { (t : Tables) → S.holds store.old t → S.holds store.new t }
+    ensures doubt { S.doubt store.old ≤ S.doubt store.new }
     ensures failed { S.failed store.new ≡ failed_after result (S.failed store.old) }
     ensures commits { S.commits store.new ≡ S.commits store.old }
     ensures handed { S.handed store.new ≡ S.handed store.old }
@@ -74,8 +76,9 @@ pub(crate) fn add_party<S: Store>(
     token: &Token,
     day: Day,
 ) -> Got<Reply>
-    ensures model { (h : History) → IsHistory h → S.holds store.old (tables h) → desk.now ≡ desk_of h → last_day h ≤ day
+    ensures model { S.doubt store.new ≡ 0 → (h : History) → IsHistory h → S.holds store.old (tables h) → desk.now ≡ desk_of h → last_day h ≤ day
         → Attempts (S.holds store.new) result (served policy.now h day caller.now (request.AddParty name.now role token.now)) h }
+    ensures doubt { S.doubt store.old ≤ S.doubt store.new }
     ensures failed { S.failed store.new ≡ failed_after result (S.failed store.old) }
     ensures commits { Committed result (S.commits store.old) (S.commits store.new) }
     ensures handed { S.handed store.new ≡ S.handed store.old }

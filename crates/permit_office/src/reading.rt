@@ -1,6 +1,6 @@
 //! Reads of one record.
 
-ghost use Rattle.std.specs.Prelude.{◌≡◌, IfOk};
+ghost use Rattle.std.specs.Prelude.{◌≡◌, ◌≤◌, IfOk};
 ghost use Rattle.permit_base.specs.declared.request.Request.TheVariants as request;
 ghost use Rattle.permit_model.specs.History.{History};
 ghost use Rattle.permit_model.specs.Tables.{tables};
@@ -25,8 +25,9 @@ pub(crate) fn read_file<S: Store>(
     file: FileId,
     day: Day,
 ) -> Got<Reply>
-    ensures model { (h : History) → S.holds store.old (tables h)
+    ensures model { S.doubt store.new ≡ 0 → (h : History) → S.holds store.old (tables h)
         → Attempts (S.holds store.new) result (served policy.now h day caller.now (request.ReadFile file)) h }
+    ensures doubt { S.doubt store.old ≤ S.doubt store.new }
     ensures failed { S.failed store.new ≡ failed_after result (S.failed store.old) }
     ensures commits { Committed result (S.commits store.old) (S.commits store.new) }
     ensures handed { Handed result (S.handed store.old) (S.handed store.new) }
@@ -53,8 +54,9 @@ pub(crate) fn read_parcel<S: Store>(
     parcel: ParcelId,
     day: Day,
 ) -> Got<Reply>
-    ensures model { (h : History) → S.holds store.old (tables h)
+    ensures model { S.doubt store.new ≡ 0 → (h : History) → S.holds store.old (tables h)
         → Attempts (S.holds store.new) result (served policy.now h day caller.now (request.ReadParcel parcel)) h }
+    ensures doubt { S.doubt store.old ≤ S.doubt store.new }
     ensures failed { S.failed store.new ≡ failed_after result (S.failed store.old) }
     ensures commits { Committed result (S.commits store.old) (S.commits store.new) }
     ensures handed { S.handed store.new ≡ S.handed store.old }

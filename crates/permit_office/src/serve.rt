@@ -30,8 +30,9 @@ fn serve_known<S: Store>(
     asked: &Request,
     day: Day,
 ) -> Got<Reply>
-    ensures model { (h : History) → IsHistory h → S.holds store.old (tables h) → desk.now ≡ desk_of h → last_day h ≤ day → IsTrue (Caller.is_party h caller.now.id)
+    ensures model { S.doubt store.new ≡ 0 → (h : History) → IsHistory h → S.holds store.old (tables h) → desk.now ≡ desk_of h → last_day h ≤ day → IsTrue (Caller.is_party h caller.now.id)
         → Attempts (S.holds store.new) result (served policy.now h day caller.now asked.now) h }
+    ensures doubt { S.doubt store.old ≤ S.doubt store.new }
     ensures failed { S.failed store.new ≡ failed_after result (S.failed store.old) }
     ensures commits { Committed result (S.commits store.old) (S.commits store.new) }
     ensures handed { HandedIn (is_on_file asked.now) result (S.handed store.old) (S.handed store.new) }
@@ -79,8 +80,9 @@ pub(crate) fn attempt<S: Store>(
     asked: &Request,
     day: Day,
 ) -> Got<Reply>
-    ensures model { (h : History) → IsHistory h → S.holds store.old (tables h)
+    ensures model { S.doubt store.new ≡ 0 → (h : History) → IsHistory h → S.holds store.old (tables h)
         → Attempts (S.holds store.new) result (step_as policy.now h digest.now asked.now day) h }
+    ensures doubt { S.doubt store.old ≤ S.doubt store.new }
     ensures failed { S.failed store.new ≡ failed_after result (S.failed store.old) }
     ensures commits { Committed result (S.commits store.old) (S.commits store.new) }
     ensures handed { HandedIn (is_on_file asked.now) result (S.handed store.old) (S.handed store.new) }

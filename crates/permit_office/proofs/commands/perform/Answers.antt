@@ -1,4 +1,4 @@
-use Rattle.std.proofs.Common.{◌≡◌, ◌∷◌, ℕ, List, ap, ◌∙◌, sym, refl, inl}
+use Rattle.std.proofs.Common.{◌≡◌, ◌∷◌, ℕ, List, arith, ap, ◌∙◌, sym, refl, inl}
 use Rattle.std.specs.Prelude.{Some}
 use Rattle.permit_base.specs.declared.request.Request.TheVariants.{OnFile}
 use Rattle.permit_model.specs.Files.{CaseFile, case_numbered}
@@ -10,16 +10,17 @@ use Rattle.permit_office.proofs.Entered.{command_more, row_suits, papers_counted
 use Rattle.permit_office.proofs.commands.perform.Goals as goal
 
 pub returns-in-Err-clause-model : goal.returns-in-Err-clause-model
-returns-in-Err-clause-model g c = λ h one is held there row time party.
+returns-in-Err-clause-model g c = λ doubt h one is held there row time party.
     let a = c.args in
-    let people = c.in_ok-people.ensures.people h one is held there row in
+    let people = c.in_ok-people.ensures.people doubt h one is held there row in
     let state = ap (λ (r : FileRow). r.state) (c.row.view_is ∙ row) in
     rw (c.in-Err.ensures.model h a.row.now.id a.caller one is there state people) (inl (refl, c.people_about.ensures.kept (tables h) held))
 
 pub returns-clause-model : goal.returns-clause-model
-returns-clause-model g c = λ h one is held there row time party.
+returns-clause-model g c = λ doubt h one is held there row time party.
+    let late : g.S.Store.doubt c.people_about.new.store ≡ 0 = omega arith in
     let a = c.args in
-    let people = c.in_ok-people.ensures.people h one is held there row in
+    let people = c.in_ok-people.ensures.people late h one is held there row in
     let state = ap (λ (r : FileRow). r.state) (c.row.view_is ∙ row) in
     let none = c.in_default.ensures.model h a.row.now.id a.caller one is there state people in
     let after = c.apply.ensures.model h a.row.now.id one is there time state none in

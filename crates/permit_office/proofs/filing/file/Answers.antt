@@ -17,26 +17,29 @@ use Rattle.permit_office.proofs.Tables.{file_more}
 use Rattle.permit_office.proofs.filing.file.Goals as goal
 
 pub returns-in-Some-denial-clause-model : goal.returns-in-Some-denial-clause-model
-returns-in-Some-denial-clause-model g c = λ h is held e t party.
+returns-in-Some-denial-clause-model g c = λ doubt h is held e t party.
+    let late : g.S.Store.doubt c.parcel.new.self ≡ 0 = omega arith in
     let a = c.args in
-    let found = sym c.in-Some.is ∙ c.in_ok-land.ensures.found (tables h) held in
+    let found = sym c.in-Some.is ∙ c.in_ok-land.ensures.found late (tables h) held in
     let named = found_number (λ (p : Parcel). p.id) a.parcel (parcels h) c.in-Some.land (sym found) in
     let kept = c.parcel.ensures.kept (tables h) held in
     let there : parcel_numbered h c.in-Some.land.id ≡ Some c.in-Some.land = ap (parcel_numbered h) named ∙ sym found in
-    let facts = rw named at (c.in_ok-facts.ensures.facts h kept there) in
+    let facts = rw named at (c.in_ok-facts.ensures.facts doubt h kept there) in
     let denied = rw facts at (sym c.in-Some-denial.is ∙ c.denial.ensures) in
     rw (file_judged a.policy.now h a.day a.caller.now a.parcel a.kind a.valuation a.description.now c.in-Some.land (sym found)
     ∙ denied_outcome a.policy.now h a.day a.caller.now (File a.parcel a.kind a.valuation a.description.now) (decision a.policy.now (parcel_facts h a.caller.now a.parcel New action.File)) c.in-Some-denial.name denied)
     (inl (refl, c.facts_on_parcel.ensures.kept (tables h) kept))
 
 pub returns-clause-model : goal.returns-clause-model
-returns-clause-model g c = λ h is held e t party.
+returns-clause-model g c = λ doubt h is held e t party.
+    let late : g.S.Store.doubt c.parcel.new.self ≡ 0 = omega arith in
+    let later : g.S.Store.doubt c.facts_on_parcel.new.store ≡ 0 = omega arith in
     let a = c.args in
-    let found = sym c.in-Some.is ∙ c.in_ok-land.ensures.found (tables h) held in
+    let found = sym c.in-Some.is ∙ c.in_ok-land.ensures.found late (tables h) held in
     let named = found_number (λ (p : Parcel). p.id) a.parcel (parcels h) c.in-Some.land (sym found) in
     let kept = c.parcel.ensures.kept (tables h) held in
     let there : parcel_numbered h c.in-Some.land.id ≡ Some c.in-Some.land = ap (parcel_numbered h) named ∙ sym found in
-    let facts = rw named at (c.in_ok-facts.ensures.facts h kept there) in
+    let facts = rw named at (c.in_ok-facts.ensures.facts later h kept there) in
     let allowed = rw facts at (sym c.in_default-denial.is ∙ c.denial.ensures) in
     let reason = c.against_file-reason.ensures h a.day a.caller.now.id a.parcel a.kind a.valuation a.description.now e in
     let desk = ap (λ (d : Desk). d.files) (c.desk.view_is ∙ e) in

@@ -11,7 +11,7 @@ use Rattle.permit_office.proofs.Tables.{parcel_more}
 use Rattle.permit_office.proofs.land.add_parcel.Goals as goal
 
 pub returns-in-Some-clause-model : goal.returns-in-Some-clause-model
-returns-in-Some-clause-model g c = λ h is held e t.
+returns-in-Some-clause-model g c = λ doubt h is held e t.
     let role = ap (λ (p : Party). p.role) c.caller.view_is in
     let denied = rw (c.office.ensures, role) at (sym c.in-Some.is ∙ c.denial.ensures) in
     let a = c.args in
@@ -19,11 +19,12 @@ returns-in-Some-clause-model g c = λ h is held e t.
     (inl (refl, held))
 
 pub returns-clause-model : goal.returns-clause-model
-returns-clause-model g c = λ h is held e t.
+returns-clause-model g c = λ doubt h is held e t.
+    let late : g.S.Store.doubt c.against_parcel.new.store ≡ 0 = omega arith in
     let role = ap (λ (p : Party). p.role) c.caller.view_is in
     let a = c.args in
     let allowed = rw (c.office.ensures, role) at (sym c.in_default.is ∙ c.denial.ensures) in
-    let reason = c.in_ok-reason.ensures.reason h a.day a.caller.now.id a.address.now held e in
+    let reason = c.in_ok-reason.ensures.reason late h a.day a.caller.now.id a.address.now held e in
     let desk = ap (λ (d : Desk). d.parcels) (c.desk.view_is ∙ e) in
     let done = c.carry_out.ensures.model h (entry_of h a.day a.caller.now.id (AddParcel a.lot.now a.address.now a.owner)) (c.against_parcel.ensures.kept (tables h) held)
     (λ none. let s = parcel_suits h a.day a.caller.now.id a.lot.now a.address.now a.owner (sym reason ∙ none) in

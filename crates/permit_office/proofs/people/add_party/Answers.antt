@@ -15,7 +15,7 @@ same_ok : {A E : Type 0} (r : Result A E) (a b : A) → r ≡ Ok a → r ≡ Ok 
 same_ok r a b e f = cc
 
 pub returns-in-Some-clause-model : goal.returns-in-Some-clause-model
-returns-in-Some-clause-model g c = λ h is held e t.
+returns-in-Some-clause-model g c = λ doubt h is held e t.
     let role = ap (λ (p : Party). p.role) c.caller.view_is in
     let denied = rw (c.office.ensures, role, c.adding.ensures) at (sym c.in-Some.is ∙ c.denial.ensures) in
     let a = c.args in
@@ -23,12 +23,13 @@ returns-in-Some-clause-model g c = λ h is held e t.
     (inl (refl, held))
 
 pub returns-clause-model : goal.returns-clause-model
-returns-clause-model g c = λ h is held e t.
+returns-clause-model g c = λ doubt h is held e t.
+    let late : g.S.Store.doubt c.against_party.new.store ≡ 0 = omega arith in
     let role = ap (λ (p : Party). p.role) c.caller.view_is in
     let a = c.args in
     let allowed = rw (c.office.ensures, role, c.adding.ensures) at (sym c.in_default.is ∙ c.denial.ensures) in
     let digest = same_ok c.digest.result _ _ c.in-Ok.is c.digest.ensures in
-    let reason = c.in_ok-reason.ensures.reason h a.day a.caller.now.id a.name.now a.role a.token.now held e digest in
+    let reason = c.in_ok-reason.ensures.reason late h a.day a.caller.now.id a.name.now a.role a.token.now held e digest in
     let desk = ap (λ (d : Desk). d.parties) (c.desk.view_is ∙ e) in
     let done = c.carry_out.ensures.model h (entry_of h a.day a.caller.now.id (AddParty a.name.now a.role a.token.now)) (c.against_party.ensures.kept (tables h) held)
     (λ none. let s = party_suits h a.day a.caller.now.id a.name.now a.role a.token.now _ digest (sym reason ∙ none) in

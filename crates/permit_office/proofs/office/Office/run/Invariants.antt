@@ -10,9 +10,10 @@ use Rattle.permit_office.proofs.office.Office.run.Given as goal
 
 abbrev pub invariant-loop-asked : goal.invariant-loop-asked
 invariant-loop-asked g l = record {
+  doubt : g.S.Store.doubt l.fn.self.store ≤ g.S.Store.doubt l.self.store;
   policy : l.self.policy ≡ l.fn.self.policy;
   room : length l.requests ≤ vec_capacity l.replies;
   count : length l.replies.items ≡ l.asked-index;
   failed : IsTrue (list_all (λ a. is_built a.0.request) (take l.asked-index l.requests)) → g.S.Store.failed l.self.store ≡ failed_over l.replies.items (g.S.Store.failed l.fn.self.store);
-  ran : (h : History) → IsHistory h → g.S.Store.holds l.fn.self.store (tables h) → Ran (g.S.Store.holds l.self.store) l.fn.self.policy (take l.asked-index l.requests) l.replies.items h;
+  ran : g.S.Store.doubt l.self.store ≡ 0 → (h : History) → IsHistory h → g.S.Store.holds l.fn.self.store (tables h) → Ran (g.S.Store.holds l.self.store) l.fn.self.policy (take l.asked-index l.requests) l.replies.items h;
 }
