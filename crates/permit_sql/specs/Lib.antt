@@ -1,4 +1,5 @@
 pub mod Schema
+pub mod Shape
 pub mod Texts
 pub mod Rows
 pub mod Kept
