@@ -13,4 +13,5 @@ pub mod Creating
 pub mod Commits
 pub mod KeptLemmas
 pub mod Shapes
+pub mod Wholes
 pub mod Version

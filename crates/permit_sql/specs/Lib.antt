@@ -3,6 +3,7 @@ pub mod Shape
 pub mod Texts
 pub mod Rows
 pub mod Kept
+pub mod Opening
 pub mod Steps
 pub mod StepOf
 pub mod Founding
