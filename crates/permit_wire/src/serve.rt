@@ -1,6 +1,6 @@
 //! Serving one request of a connection.
 
-ghost use Rattle.std.specs.Prelude.{◌≡◌, ◌≢◌, ℕ, List, Some, true};
+ghost use Rattle.std.specs.Prelude.{◌≡◌, ◌≢◌, ◌≤◌, ℕ, List, Some, true};
 ghost use Rattle.permit_model.specs.History.{History};
 ghost use Rattle.permit_model.specs.Machine.{IsHistory};
 ghost use Rattle.permit_model.specs.Tables.{tables};
@@ -81,7 +81,8 @@ pub fn answer_with<W: Write>(
 /// Reads one request of a connection, serves it on the day, and writes the answer, or that to the fault that was read.
 ///
 /// The bytes behind the request stay in the inbox. A fault leaves the office as it was. After `Closed`, `ReadFailed`
-/// and `WriteFailed` the connection is closed: a further call reads nothing and answers `Ended`.
+/// and `WriteFailed` the connection is closed: a further call reads nothing and answers `Ended`. What is said of the
+/// office's tables is said of a store that is without doubt after the call.
 pub fn serve_one<S: Store + Drop, R: Read, W: Write>(
     alloc: Global,
     office: &mut Office<S>,
@@ -90,10 +91,11 @@ pub fn serve_one<S: Store + Drop, R: Read, W: Write>(
     writer: &mut W,
     day: Day,
 ) -> Served
-    ensures serves { (h : History) (bytes : List ℕ) → IsHistory h → S.holds office.old.store (tables h) → stream inbox.old (R.remaining reader.old) ≡ Some bytes
+    ensures serves { S.doubt office.new.store ≡ 0 → (h : History) (bytes : List ℕ) → IsHistory h → S.holds office.old.store (tables h) → stream inbox.old (R.remaining reader.old) ≡ Some bytes
         → Serves (S.holds office.new.store) h day office.old office.new bytes inbox.old inbox.new (R.remaining reader.new) (W.contents writer.old) (W.contents writer.new) result }
-    ensures moves { (h : History) → IsHistory h → S.holds office.old.store (tables h) → Moves (S.holds office.new.store) h day office.old office.new }
+    ensures moves { S.doubt office.new.store ≡ 0 → (h : History) → IsHistory h → S.holds office.old.store (tables h) → Moves (S.holds office.new.store) h day office.old office.new }
     ensures policy { office.new.policy ≡ office.old.policy }
+    ensures doubt { S.doubt office.old.store ≤ S.doubt office.new.store }
     ensures silent { is_silent result ≡ true → (office.new ≡ office.old) × (W.contents writer.new ≡ W.contents writer.old) }
     ensures ended { result ≡ Served.Ended → inbox.new ≡ inbox.old }
     ensures shut { result ≢ Served.Ended → inbox.new.closed ≡ is_shut result }
