@@ -10,5 +10,7 @@ pub mod Effects
 pub mod Writes
 pub mod Keeping
 pub mod Creating
+pub mod Closing
 pub mod Commits
+pub mod Committing
 pub mod KeptLemmas

@@ -12,6 +12,8 @@
 //! has so far given back what was written (`HasCleanDisk` of the connection after the call).
 #![tactic(auto)]
 
+mod codes;
+mod commit;
 mod create;
 mod decode;
 mod fields;
@@ -21,3 +23,5 @@ mod steps;
 pub mod store;
 #[cfg(test)]
 mod tests;
+mod turns;
+mod values;
