@@ -280,7 +280,7 @@ pub fn measure_rounds(
     for _ in 0..files {
         working.push(site.begin()?)?;
     }
-    let count = commands / ROUND / 10 / files.max(1);
+    let count = (commands / ROUND / 10 / files.max(1)).max(1);
     let given = count.saturating_mul(files).saturating_mul(ROUND);
     let mut tenths = [0; 10];
     for tenth in &mut tenths {
