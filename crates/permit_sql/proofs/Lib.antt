@@ -14,3 +14,4 @@ pub mod Closing
 pub mod Commits
 pub mod Committing
 pub mod KeptLemmas
+pub mod Reopening

@@ -19,6 +19,7 @@ mod decode;
 mod fields;
 mod query;
 mod read;
+pub mod reopen;
 mod steps;
 pub mod store;
 #[cfg(test)]
