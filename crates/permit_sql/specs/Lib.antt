@@ -7,3 +7,5 @@ pub mod Opening
 pub mod Steps
 pub mod StepOf
 pub mod Founding
+pub mod Taken
+pub mod Typed

@@ -14,6 +14,7 @@
 
 mod create;
 mod decode;
+mod each;
 mod fields;
 mod open;
 mod query;
