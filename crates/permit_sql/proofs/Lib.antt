@@ -15,3 +15,10 @@ pub mod KeptLemmas
 pub mod Shapes
 pub mod Wholes
 pub mod Version
+pub mod WholeMeanings
+pub mod Shaped
+pub mod Taking
+pub mod Unclashed
+pub mod Checks
+pub mod FileChecks
+pub mod Opened

@@ -9,3 +9,5 @@ pub mod StepOf
 pub mod Founding
 pub mod Taken
 pub mod Typed
+pub mod Found
+pub mod WholeTexts

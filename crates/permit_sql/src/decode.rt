@@ -1,12 +1,12 @@
 //! A row that a query shows as a typed value, or none where it isn't one.
 
-ghost use Rattle.std.specs.Prelude.{◌≡◌, List, map, Option, option_map, slice_get, IfOk, IfSome};
+ghost use Rattle.std.specs.Prelude.{◌≡◌, [], ◌∷◌, List, map, Option, option_map, slice_get, IfOk, IfSome};
 ghost use Rattle.permit_model.specs.Caller.{Party as TheParty};
 ghost use Rattle.permit_model.specs.Parcels.{Parcel as TheParcel};
 ghost use Rattle.permit_model.specs.Tables.{Desk as TheDesk, FileRow as TheRow, State as TheState, Paper as ThePaper};
-ghost use Rattle.permit_sql.specs.Rows.{shown_desk, shown_party, shown_parcel, shown_file, shown_paper};
+ghost use Rattle.permit_sql.specs.Rows.{int, shown_desk, shown_party, shown_parcel, shown_file, shown_paper};
 ghost use Rattle.permit_sql.specs.Kept.{IsNamed};
-ghost use Rattle.permit_sql.specs.Typed.{firsts, IsDesk, IsParty, IsParcel, IsPaper, IsState, IsFile, ShowsState};
+ghost use Rattle.permit_sql.specs.Typed.{firsts, IsObject, IsDesk, IsParty, IsParcel, IsPaper, IsState, IsFile, ShowsState};
 
 use crate::fields::{
     day, day_or_less, days_or_zero, kind, long_number, number, number_or_less, parcel_number,
@@ -65,6 +65,16 @@ pub(crate) fn parcel_in(row: &Row) -> Option<Parcel>
         address: Text::new(string(row, 2)?)?,
         owner: PartyId::new(number(row, 3)?)?,
     })
+}
+
+/// The parcel and the party of an interest's row.
+pub(crate) fn interest_in(row: &Row) -> Option<(ParcelId, PartyId)>
+    ensures { IfSome result (λ i. (firsts 2 0 row.now ≡ int i.0 ∷ int i.1 ∷ []) × IsObject i.0 × IsObject i.1) }
+{
+    Some((
+        ParcelId::new(number(row, 0)?)?,
+        PartyId::new(number(row, 1)?)?,
+    ))
 }
 
 /// A paper's row.

@@ -1,7 +1,7 @@
 //! A field of a row as a typed value, or none where the field isn't one.
 
 ghost use Rattle.std.specs.Prelude.{◌≡◌, ◌≢◌, ℕ, List, Bool, Option, Some, IfSome, string_bytes, slice_get, option_map};
-ghost use Rattle.sqlite.specs.declared.types.Value.TheVariants.{Text as TextValue};
+ghost use Rattle.sqlite.specs.declared.types.Value.TheVariants.{Int, Text as TextValue};
 ghost use Rattle.sqlite_value.specs.Order.{column};
 ghost use Rattle.permit_base.specs.declared.words.Step.{Step as TheStep};
 ghost use Rattle.permit_sql.specs.Rows.{int, or_zero, or_less, step_value, flag};
@@ -15,6 +15,13 @@ use sqlite::Row;
 pub(crate) fn number(row: &Row, at: usize) -> Option<u32>
     ensures read { (n : ℕ) → column row.now at ≡ int n → IfSome result (λ x. x ≡ n) }
     ensures back { IfSome result (λ x. column row.now at ≡ int x) }
+{
+    row.get(at).ok()
+}
+
+/// A number, which may be below 0.
+pub(crate) fn whole_number(row: &Row, at: usize) -> Option<i64>
+    ensures { IfSome result (λ x. column row.now at ≡ Int x) }
 {
     row.get(at).ok()
 }

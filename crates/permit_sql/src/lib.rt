@@ -12,11 +12,15 @@
 //! has so far given back what was written (`HasCleanDisk` of the connection after the call).
 #![tactic(auto)]
 
+mod check;
+mod check_files;
 mod create;
 mod decode;
 mod each;
 mod fields;
 mod open;
+#[cfg(test)]
+mod open_tests;
 mod query;
 mod read;
 mod schema;
