@@ -59,7 +59,10 @@ fn another_version_is_told_first(rt: HostRuntime) -> Result<(), Fail> {
 
 #[test]
 fn another_schema_is_refused(rt: HostRuntime) -> Result<(), Fail> {
-    let more = refusal(rt.alloc(), "CREATE TABLE more (id INTEGER PRIMARY KEY) STRICT")?;
+    let more = refusal(
+        rt.alloc(),
+        "CREATE TABLE more (id INTEGER PRIMARY KEY) STRICT",
+    )?;
     assert_eq!(rt; more, Some(OpenError::Store));
     let fewer = refusal(rt.alloc(), "DROP INDEX interest_party")?;
     assert_eq!(rt; fewer, Some(OpenError::Store));
@@ -80,7 +83,7 @@ fn damaged_rows_are_refused(rt: HostRuntime) -> Result<(), Fail> {
     assert_eq!(rt; count, Some(OpenError::Damaged));
     let none = refusal(rt.alloc(), "DELETE FROM desk")?;
     assert_eq!(rt; none, Some(OpenError::Damaged));
-    let interest = refusal(rt.alloc(), "UPDATE party SET name = 'Another'")?;
-    assert_eq!(rt; interest, None);
+    let renamed = refusal(rt.alloc(), "UPDATE party SET name = 'Another'")?;
+    assert_eq!(rt; renamed, None);
     Ok(())
 }
