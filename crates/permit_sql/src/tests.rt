@@ -23,14 +23,14 @@ fn day(number: u32) -> Result<Day, Fail> {
     Ok(Day::new(number).ok_or("a day")?)
 }
 
-pub(crate) fn founder(alloc: Global) -> Result<Founder, Fail> {
+fn founder(alloc: Global) -> Result<Founder, Fail> {
     let name = text(alloc, "Official")?;
     let digest = Digest::read(FIRST).ok_or("a digest")?;
     Ok(Founder::new(name, digest, day(19700)?).ok_or("a founder")?)
 }
 
 /// A store that was just founded.
-fn founded(alloc: Global) -> Result<SqlStore<MemStore>, Fail> {
+pub(crate) fn founded(alloc: Global) -> Result<SqlStore<MemStore>, Fail> {
     let conn = Connection::open_in_memory(alloc)?;
     match SqlStore::create(alloc, conn, &founder(alloc)?) {
         Ok(store) => Ok(store),
