@@ -12,3 +12,6 @@ pub mod Keeping
 pub mod Creating
 pub mod Commits
 pub mod KeptLemmas
+pub mod Shapes
+pub mod Wholes
+pub mod Version

@@ -1,7 +1,9 @@
 pub mod Schema
+pub mod Shape
 pub mod Texts
 pub mod Rows
 pub mod Kept
+pub mod Opening
 pub mod Steps
 pub mod StepOf
 pub mod Founding

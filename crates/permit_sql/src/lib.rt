@@ -15,8 +15,10 @@
 mod create;
 mod decode;
 mod fields;
+mod open;
 mod query;
 mod read;
+mod schema;
 mod steps;
 pub mod store;
 #[cfg(test)]

@@ -15,7 +15,7 @@ use sqlite::{Alter, Connection, Error, Row};
 use sqlite_value::value::ValueRef;
 
 /// All rows of the answer. A connection that is well afterwards was so before, and shows the same.
-fn read_all<S: Alter>(
+pub(crate) fn read_all<S: Alter>(
     conn: &mut Connection<S>,
     sql: &str,
     params: &[ValueRef<'_>],

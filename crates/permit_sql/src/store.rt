@@ -3,13 +3,15 @@
 ghost use Rattle.std.specs.Prelude.{◌≡◌, ◌≢◌, ◌⊎◌, false, not, IsTrue, IfOk, IfErr};
 ghost use Rattle.sqlite.specs.State.{HasCleanDisk, Survives};
 ghost use Rattle.sqlite.specs.Held.{state};
-ghost use Rattle.permit_model.specs.Tables.{tables};
+ghost use Rattle.permit_model.specs.Tables.{Tables, tables};
 ghost use Rattle.permit_store.specs.Founding.{founding};
 ghost use Rattle.permit_store.specs.declared.store.OpenError.TheVariants as open_error;
-ghost use Rattle.permit_sql.specs.Schema.{empty_schema};
-ghost use Rattle.permit_sql.specs.Kept.{Keeps, IsFine};
+ghost use Rattle.permit_sql.specs.Schema.{empty_schema, office_schema};
+ghost use Rattle.permit_sql.specs.Kept.{Keeps, Shows, IsFine};
+ghost use Rattle.permit_sql.specs.Opening.{HasOtherVersion};
 
 use crate::create::create_in;
+use crate::open::check;
 use permit_store::founder::Founder;
 use permit_store::store::OpenError;
 use sqlite::{Alter, Connection};
@@ -73,6 +75,36 @@ impl<S: Alter> SqlStore<S> {
                 commits: 0,
             }),
             Err(_) => Err((conn, OpenError::Store)),
+        }
+    }
+
+    /// Opens the database that holds the office's tables, which it reads and leaves as they are. It refuses as
+    /// `Version` where the desk's row says another version than 1, which is tested first; and as `Store` where a
+    /// call failed, memory was refused, a transaction is open, or the database has another schema than `create`
+    /// makes. With a refusal the connection comes back, its database as before.
+    pub fn open(
+        alloc: Global,
+        conn: Connection<S>,
+    ) -> Result<SqlStore<S>, (Connection<S>, OpenError)>
+        ensures held { IfOk result (λ s. (t : Tables) → HasCleanDisk (state S.Store s.conn) → Shows t (state S.Store conn) → Shows t (state S.Store s.conn)) }
+        ensures schema { IfOk result (λ s. IsFine (state S.Store s.conn) → (state S.Store s.conn).now.schema ≡ office_schema) }
+        ensures counts { IfOk result (λ s. (s.handed ≡ 0) × (s.failed ≡ 0) × (s.commits ≡ 0)) }
+        ensures crash { IfOk result (λ s. Survives (state S.Store conn) (state S.Store s.conn) (λ _. ⊥)) }
+        ensures same { IfErr result (λ e. IsFine (state S.Store e.0) → (state S.Store e.0).now ≡ (state S.Store conn).now) }
+        ensures kept { IfErr result (λ e. Survives (state S.Store conn) (state S.Store e.0) (λ _. ⊥)) }
+        ensures version { IfErr result (λ e. e.1 ≡ open_error.Version → HasCleanDisk (state S.Store e.0) → HasOtherVersion (state S.Store conn).now) }
+        ensures refusal { IfErr result (λ e. (e.1 ≡ open_error.Version) ⊎ (e.1 ≡ open_error.Store)) }
+    {
+        let mut conn = conn;
+        match check(&mut conn) {
+            Ok(()) => Ok(SqlStore {
+                alloc,
+                conn,
+                handed: 0,
+                failed: 0,
+                commits: 0,
+            }),
+            Err(why) => Err((conn, why)),
         }
     }
 

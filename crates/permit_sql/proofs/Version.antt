@@ -1,0 +1,76 @@
+-- The desk's row, read before the rest of the schema is known.
+use Rattle.std.proofs.Common.{◌≡◌, ◌≢◌, refl, sym, ap, subst, ◌∙◌, ℕ, ◌<◌, ◌≤◌, pos, List, [], ◌∷◌, map, length, get_or, slice_get, Some, false, arith, IsPermutation}
+use Rattle.std.proofs.lemmas.List.Sorted.{IsPermutation-sym}
+use Rattle.sqlite_tied.specs.Compute.{everything}
+use Rattle.sqlite.specs.Listing.{understood, reads_listing}
+use Rattle.sqlite_schema.specs.declared.schema.Table.{Table}
+use Rattle.sqlite_schema.specs.declared.schema.Index.{Index}
+use Rattle.sqlite_schema.specs.declared.schema.View.{View}
+use Rattle.sqlite_schema.specs.declared.schema.Schema.{Schema}
+use Rattle.sqlite_schema.specs.declared.command.Command.TheVariants.{Select}
+use Rattle.sqlite.specs.declared.types.Value.TheVariants.{Null, Int}
+use Rattle.sqlite_value.specs.Order.{Row, column}
+use Rattle.sqlite_sql.specs.Program.{overlay}
+use Rattle.sqlite.specs.Effect.{Database}
+use Rattle.sqlite.specs.State.{State, Shown}
+use Rattle.sqlite.proofs.Callers.{command_of, IsPlain, reads_as, one_permutation}
+use Rattle.permit_sql.specs.Schema.{desk_table}
+use Rattle.permit_sql.specs.Texts.{read_desk}
+use Rattle.permit_sql.specs.Opening.{seen_desk, HasOtherVersion}
+use Rattle.permit_sql.proofs.Wholes.{whole_shown}
+use Rattle.permit_sql.proofs.QueryTexts.{alone, read_desk_query, names_of}
+
+module _ (more : List Table) (indexes : List Index) (views : List View) where
+  abbrev pub begun : Schema
+  begun = record { tables = desk_table ∷ more; indexes = indexes; views = views }
+
+  pub begun_is : command_of (understood begun read_desk) ≡ Select (alone read_desk_query) (names_of (command_of (understood begun read_desk)))
+  unfolding understood everything
+  begun_is = refl
+
+  pub begun_plain : IsPlain (understood begun read_desk)
+  unfolding understood everything
+  begun_plain = (refl, refl)
+
+  pub begun_unlisted : reads_listing begun read_desk ≡ false
+  unfolding understood everything
+  begun_unlisted = refl
+
+-- a schema whose first table is the desk's
+pub begun_by : (s : Schema) → slice_get s.tables 0 ≡ Some desk_table → (more : List Table) × (s ≡ begun more s.indexes s.views)
+begun_by s first = go s.tables first
+  where
+    go : (ts : List Table) → slice_get ts 0 ≡ Some desk_table → (more : List Table) × (record s { tables = ts } ≡ begun more s.indexes s.views)
+    go [] h = absurd (let e = h in cc)
+    go (t ∷ more) h = let e : t ≡ desk_table = cc in (more, ap (λ (x : Table). record s { tables = x ∷ more }) e)
+
+pub first_plain : (s : Schema) → slice_get s.tables 0 ≡ Some desk_table → IsPlain (understood s read_desk)
+first_plain s first =
+    let it = begun_by s first in
+    subst (λ x. IsPlain (understood x read_desk)) (sym it.1) (begun_plain it.0 s.indexes s.views)
+
+pub desk_rows_seen : (old new : State) (rows : List Row) → slice_get old.now.schema.tables 0 ≡ Some desk_table → Shown read_desk [] old new rows → IsPermutation (map seen_desk (old.now.trees 0)) rows
+desk_rows_seen old new rows first h =
+    let it = begun_by old.now.schema first in
+    let ix = old.now.schema.indexes in
+    let vs = old.now.schema.views in
+    let read = reads_as read_desk [] old new (begun it.0 ix vs) it.1 _ (begun_is it.0 ix vs) (begun_plain it.0 ix vs) (begun_unlisted it.0 ix vs) rows h in
+    whole_shown 0 read_desk_query.project read_desk_query.order (overlay old.now.trees []) rows (read.answer Null)
+
+-- where one row is shown, the tree has one
+only_one : {A B : Type 0} (f : A → B) (xs : List A) (y : B) → map f xs ≡ y ∷ [] → (x : A) × (xs ≡ x ∷ []) × (f x ≡ y)
+only_one f [] y h = absurd (let e = h in cc)
+only_one f (x ∷ []) y h = (x, refl, cc)
+only_one f (x ∷ z ∷ xs) y h = absurd (let e = ap length h in omega (arith, e))
+
+first_alone : (rows : List Row) (q d : Row) → 1 ≤ length rows → length rows < 2 → q ≡ get_or rows 0 d → rows ≡ q ∷ []
+first_alone [] q d low high is = absurd (omega (arith, low))
+first_alone (r ∷ []) q d low high is = ap (λ x. x ∷ []) (sym is)
+first_alone (r ∷ s ∷ rows) q d low high is = absurd (omega (arith, high))
+
+pub other_version : (db : Database) (rows : List Row) (q d : Row) → slice_get db.schema.tables 0 ≡ Some desk_table → IsPermutation (map seen_desk (db.trees 0)) rows → 1 ≤ length rows → length rows < 2 → q ≡ get_or rows 0 d
+    → column q 1 ≢ Int (pos 1) → HasOtherVersion db
+other_version db rows q d first same low high is other =
+    let alone = first_alone rows q d low high is in
+    let it = only_one seen_desk (db.trees 0) q (one_permutation q _ (IsPermutation-sym _ _ (subst (IsPermutation (map seen_desk (db.trees 0))) alone same))) in
+    record { desk = first; row = it.0; only = it.1; other = λ e. other (ap (λ r. column r 1) (sym it.2) ∙ e) }
