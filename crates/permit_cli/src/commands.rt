@@ -2,7 +2,7 @@
 
 ghost use Rattle.std.specs.Prelude.{◌≡◌, IfOk};
 ghost use Rattle.clap.specs.Words.{app_of, with_rule};
-ghost use Rattle.permit_cli.specs.Plans.{check_policy_app, init_app, optional_option, required_option, with_days};
+ghost use Rattle.permit_cli.specs.Plans.{act_app, check_policy_app, init_app, optional_option, optional_word, required_option, required_word, with_days};
 
 use clap::{Arg, ArgAction, Command};
 use std::alloc::{AllocError, Global};
@@ -38,6 +38,35 @@ fn with_option<'a>(
         .help(help)
         .action(ArgAction::Set);
     command.arg(option)
+}
+
+/// The subcommand with one word more, which has to be there.
+fn with_word<'a>(
+    alloc: Global,
+    command: Command<'a>,
+    name: &'a str,
+    help: &'a str,
+) -> Result<Command<'a>, AllocError>
+    ensures { IfOk result (λ c. app_of c ≡ with_rule (app_of command.entry) (required_word name.now)) }
+{
+    let word = Arg::new(alloc, name)
+        .help(help)
+        .required(true)
+        .action(ArgAction::Set);
+    command.arg(word)
+}
+
+/// The subcommand with one word more, which may be left out.
+fn with_optional_word<'a>(
+    alloc: Global,
+    command: Command<'a>,
+    name: &'a str,
+    help: &'a str,
+) -> Result<Command<'a>, AllocError>
+    ensures { IfOk result (λ c. app_of c ≡ with_rule (app_of command.entry) (optional_word name.now)) }
+{
+    let word = Arg::new(alloc, name).help(help).action(ArgAction::Set);
+    command.arg(word)
 }
 
 /// The subcommand with the words for the day.
@@ -77,6 +106,20 @@ pub(crate) fn init<'a>(alloc: Global) -> Result<Command<'a>, AllocError>
     with_days(alloc, command)
 }
 
+/// The subcommand that has the office serve one request.
+pub(crate) fn act<'a>(alloc: Global) -> Result<Command<'a>, AllocError>
+    ensures { IfOk result (λ command. app_of command ≡ act_app) }
+{
+    let command = Command::new(alloc, "act");
+    let command = with_required(alloc, command, "db", "The database's path")?;
+    let command = with_required(alloc, command, "policy", "The policy's path")?;
+    let command = with_required(alloc, command, "token", "The caller's token")?;
+    let command = with_days(alloc, command)?;
+    let command = with_word(alloc, command, "method", "The request's method")?;
+    let command = with_word(alloc, command, "path", "The request's path")?;
+    with_optional_word(alloc, command, "body", "The request's body, in JSON")
+}
+
 /// The program with all its subcommands, for help and for words that begin with none of them.
 pub(crate) fn program<'a>(alloc: Global) -> Result<Command<'a>, AllocError> {
     Command::new(alloc, "permit")
@@ -84,5 +127,6 @@ pub(crate) fn program<'a>(alloc: Global) -> Result<Command<'a>, AllocError> {
         .no_binary_name(true)
         .subcommand_required(true)
         .subcommand(check_policy(alloc)?.about("Reads a policy and says how many rules it has"))?
-        .subcommand(init(alloc)?.about("Founds an office in a database"))
+        .subcommand(init(alloc)?.about("Founds an office in a database"))?
+        .subcommand(act(alloc)?.about("Has the office serve one request"))
 }

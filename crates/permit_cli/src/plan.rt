@@ -13,6 +13,8 @@ pub enum Plan<'a> {
     CheckPolicy { policy: &'a str },
     /// Founds an office in a database.
     Init(InitWords<'a>),
+    /// Has the office serve one request.
+    Act(ActWords<'a>),
 }
 
 /// Which day it is.

@@ -3,12 +3,13 @@
 ghost use Rattle.std.specs.Prelude.{◌≡◌, ◌≤◌};
 ghost use Rattle.permit_cli.specs.Faults.{fault_status};
 
-use crate::asking::print;
-use crate::database::found;
+use crate::asking::{print, show};
+use crate::database::{found, serve};
 use crate::days::day_of_run;
 use crate::fault::Fault;
 use crate::founding::founder;
-use crate::plan::{InitWords, Plan, PlanFault};
+use crate::plan::{ActWords, InitWords, Plan, PlanFault};
+use crate::request::request;
 use crate::words::plan;
 use permit_policy::Policy;
 use permit_policy::text::read_policy;
@@ -68,12 +69,24 @@ fn init<O: Write>(rt: &HostRuntime, words: &InitWords<'_>, out: &mut O) -> Resul
     print(out, "party 1")
 }
 
+/// Has the office serve one request, and prints the answer's body.
+///
+/// The database is closed before anything is printed, so that what is printed stands.
+fn act<O: Write>(rt: &HostRuntime, words: &ActWords<'_>, out: &mut O) -> Result<(), Fault> {
+    let request = request(rt.alloc(), words)?;
+    let day = day_of_run(rt, &words.days)?;
+    let policy = policy_at(rt, words.policy)?;
+    let answer = serve(rt, words.db, policy, request.as_str(), day)?;
+    show(answer.as_slice(), out)
+}
+
 /// Does what a plan asks for.
 fn carry_out<O: Write>(rt: &HostRuntime, plan: &Plan<'_>, out: &mut O) -> Result<(), Fault> {
     match plan {
         Plan::Name => print(out, "permit"),
         Plan::CheckPolicy { policy } => check_policy(rt, policy, out),
         Plan::Init(words) => init(rt, words, out),
+        Plan::Act(words) => act(rt, words, out),
     }
 }
 

@@ -2,10 +2,10 @@
 
 ghost use Rattle.std.specs.Prelude.{◌≡◌, [], IfOk, map, Some, Ok, codes, true, string_bytes};
 ghost use Rattle.clap.specs.Words.{app_of, first_of, found_of, is_simple, matches_of, rows_of};
-ghost use Rattle.permit_cli.specs.Plans.{check_policy_app, init_app, text_of, IsDaysOf, IsInitOf, IsPlanOf};
+ghost use Rattle.permit_cli.specs.Plans.{act_app, check_policy_app, init_app, text_of, IsActOf, IsDaysOf, IsInitOf, IsPlanOf};
 
-use crate::commands::{check_policy, init, program};
-use crate::plan::{DayWords, InitWords, Plan, PlanFault};
+use crate::commands::{act, check_policy, init, program};
+use crate::plan::{ActWords, DayWords, InitWords, Plan, PlanFault};
 use clap::error::ErrorKind;
 use clap::{ArgMatches, Command, Error};
 use std::alloc::Global;
@@ -84,6 +84,22 @@ fn plan_init<'a>(alloc: Global, words: &'a [String]) -> Result<InitWords<'a>, Pl
     })
 }
 
+/// The plan of `act`.
+fn plan_act<'a>(alloc: Global, words: &'a [String]) -> Result<ActWords<'a>, PlanFault>
+    ensures { IfOk result (IsActOf (matches_of act_app (map string_bytes words.now))) }
+{
+    let matches = matches(alloc, act(alloc)?, words)?;
+    Ok(ActWords {
+        db: required(alloc, &matches, "db")?,
+        policy: required(alloc, &matches, "policy")?,
+        token: required(alloc, &matches, "token")?,
+        days: days(&matches),
+        method: required(alloc, &matches, "method")?,
+        path: required(alloc, &matches, "path")?,
+        body: value(&matches, "body"),
+    })
+}
+
 /// Why words that begin with no subcommand give no plan.
 fn no_subcommand(alloc: Global, words: &[String]) -> PlanFault {
     let Ok(command) = program(alloc) else {
@@ -112,6 +128,7 @@ pub fn plan<'a>(alloc: Global, words: &'a [String]) -> Result<Plan<'a>, PlanFaul
             policy: plan_check_policy(alloc, words)?,
         }),
         "init" => Ok(Plan::Init(plan_init(alloc, words)?)),
+        "act" => Ok(Plan::Act(plan_act(alloc, words)?)),
         _ => Err(no_subcommand(alloc, words)),
     }
 }
