@@ -1,5 +1,5 @@
 -- The desk's row, read before the rest of the schema is known.
-use Rattle.std.proofs.Common.{◌≡◌, ◌≢◌, refl, sym, ap, subst, ◌∙◌, ◌<◌, ◌≤◌, pos, List, [], ◌∷◌, map, length, get_or, slice_get, Some, false, arith, IsPermutation}
+use Rattle.std.proofs.Common.{◌≡◌, ◌≢◌, refl, sym, ap, subst, ◌∙◌, ℕ, ◌<◌, ◌≤◌, pos, List, [], ◌∷◌, map, length, get_or, slice_get, Some, false, arith, IsPermutation}
 use Rattle.std.proofs.lemmas.List.Sorted.{IsPermutation-sym}
 use Rattle.sqlite_tied.specs.Compute.{everything}
 use Rattle.sqlite.specs.Listing.{understood, reads_listing}
@@ -27,7 +27,7 @@ use Rattle.permit_sql.specs.Found.{HasDesk}
 use Rattle.permit_sql.proofs.Shaped.{keyed_rows, IsKeyedRow}
 use Rattle.permit_sql.proofs.Checks.{with_null}
 use Rattle.permit_sql.specs.Texts.{read_desk}
-use Rattle.permit_sql.specs.Opening.{seen_desk, HasOtherVersion}
+use Rattle.permit_sql.specs.Opening.{seen_desk, IsOther, HasOtherVersion}
 use Rattle.permit_sql.proofs.Wholes.{whole_shown}
 use Rattle.permit_sql.proofs.QueryTexts.{alone, read_desk_query, names_of}
 
@@ -80,11 +80,18 @@ first_alone (r ∷ []) q d low high is = ap (λ x. x ∷ []) (sym is)
 first_alone (r ∷ s ∷ rows) q d low high is = absurd (omega (arith, high))
 
 pub other_version : (db : Database) (rows : List Row) (q d : Row) → slice_get db.schema.tables 0 ≡ Some desk_table → IsPermutation (map seen_desk (db.trees 0)) rows → 1 ≤ length rows → length rows < 2 → q ≡ get_or rows 0 d
-    → column q 1 ≢ Int (pos 1) → HasOtherVersion db
+    → IsOther (column q 1) → HasOtherVersion db
 other_version db rows q d first same low high is other =
     let alone = first_alone rows q d low high is in
     let it = only_one seen_desk (db.trees 0) q (one_permutation q _ (IsPermutation-sym _ _ (subst (IsPermutation (map seen_desk (db.trees 0))) alone same))) in
-    record { desk = first; row = it.0; only = it.1; other = λ e. other (ap (λ r. column r 1) (sym it.2) ∙ e) }
+    record { desk = first; row = it.0; only = it.1; other = subst (λ r. IsOther (column r 1)) (sym it.2) other }
+
+-- the desk's row is then the answer
+pub told_rows : (db : Database) (rows : List Row) (h : HasOtherVersion db) → IsPermutation (map seen_desk (db.trees 0)) rows → rows ≡ seen_desk h.row ∷ []
+told_rows db rows h same = one_permutation (seen_desk h.row) rows (subst (λ l. IsPermutation (map seen_desk l) rows) h.only same)
+
+pub told_other : (db : Database) (rows : List Row) (q d : Row) → HasOtherVersion db → IsPermutation (map seen_desk (db.trees 0)) rows → q ≡ get_or rows 0 d → IsOther (column q 1)
+told_other db rows q d h same is = subst (λ r. IsOther (column r 1)) (sym (is ∙ ap (λ l. get_or l 0 d) (told_rows db rows h same))) h.other
 
 -- ---- the desk of the office's schema
 

@@ -1,5 +1,6 @@
 -- What an open finds in a database.
-use Rattle.std.specs.Prelude.{◌≡◌, ◌≢◌, pos, Some, [], ◌∷◌, slice_get}
+use Rattle.std.specs.Prelude.{◌≡◌, ◌≢◌, ℤ, pos, Some, [], ◌∷◌, slice_get}
+use Rattle.sqlite.specs.declared.types.Value.{Value}
 use Rattle.sqlite.specs.declared.types.Value.TheVariants.{Int}
 use Rattle.sqlite_value.specs.Order.{Row, column}
 use Rattle.sqlite.specs.Effect.{Database}
@@ -9,9 +10,13 @@ use Rattle.permit_sql.specs.Schema.{desk_table}
 abbrev pub seen_desk : Row → Row
 seen_desk r = column r 0 ∷ column r 2 ∷ column r 3 ∷ column r 4 ∷ column r 5 ∷ column r 6 ∷ []
 
+-- a number, and another than 1
+abbrev pub IsOther : Value → Type 0
+IsOther v = (version : ℤ) × (v ≡ Int version) × (version ≢ pos 1)
+
 -- The first table is the desk's. It has one row, and that says another version than 1.
 pub record HasOtherVersion (db : Database) : Type 0 where
   pub desk : slice_get db.schema.tables 0 ≡ Some desk_table
   pub row : Row
   pub only : db.trees 0 ≡ row ∷ []
-  pub other : column row 2 ≢ Int (pos 1)
+  pub other : IsOther (column row 2)

@@ -1,34 +1,34 @@
 //! Whether a database is the office's.
 
-ghost use Rattle.std.specs.Prelude.{◌≡◌, ◌≢◌, ◌⊎◌, false, pos, IsTrue, IfOk, IfErr, IfSome, OnOk, IsPermutation, map, slice_get, Some, []};
-ghost use Rattle.sqlite.specs.declared.types.Value.TheVariants.{Int};
+ghost use Rattle.std.specs.Prelude.{◌≡◌, ◌⊎◌, false, IsTrue, IfOk, IfErr, IfSome, OnOk, IsPermutation, map, slice_get, Some, []};
 ghost use Rattle.sqlite_value.specs.Order.{column};
 ghost use Rattle.sqlite.specs.Held.{state};
 ghost use Rattle.sqlite.specs.State.{HasCleanDisk, Survives};
 ghost use Rattle.permit_store.specs.declared.store.OpenError.TheVariants as open_error;
 ghost use Rattle.permit_sql.specs.Schema.{desk_table, office_schema};
 ghost use Rattle.permit_sql.specs.Kept.{IsFine};
-ghost use Rattle.permit_sql.specs.Opening.{seen_desk, HasOtherVersion};
+ghost use Rattle.permit_sql.specs.Opening.{seen_desk, IsOther, HasOtherVersion};
 ghost use Rattle.permit_sql.specs.Found.{HasDesk, HasObjects, HasCases, KeepsTyped};
 
 use crate::check::{check_interests, check_parcels, check_parties};
 use crate::check_files::{check_files, check_papers, check_rowids};
 use crate::decode::desk_in;
+use crate::fields::whole_number;
 use crate::query::read_all;
 use crate::schema::{has_desk, is_office};
 use permit_store::rows::Desk;
 use permit_store::store::{Got, OpenError, StoreError};
 use sqlite::{Alter, Connection, Row};
-use sqlite_value::value::ValueRef;
 use std::alloc::Global;
 
 /// Whether a field is a number, and another than 1.
 fn is_other(row: &Row, at: usize) -> bool
-    ensures { IsTrue result → column row.now at ≢ Int (pos 1) }
+    ensures other { IsTrue result → IsOther (column row.now at) }
+    ensures told { IsOther (column row.now at) → IsTrue result }
 {
-    match row.get_ref(at) {
-        Ok(ValueRef::Int(number)) => number != 1,
-        _ => false,
+    match whole_number(row, at) {
+        Some(number) => number != 1,
+        None => false,
     }
 }
 
@@ -57,6 +57,7 @@ fn has_other_version<S: Alter>(conn: &mut Connection<S>) -> Got<bool>
     requires calm { conn.old.in_transaction ≡ false }
     requires desk { slice_get (state S.Store conn.old).now.schema.tables 0 ≡ Some desk_table }
     ensures other { HasCleanDisk (state S.Store conn.new) → IfOk result (λ is. IsTrue is → HasOtherVersion (state S.Store conn.old).now) }
+    ensures told { HasCleanDisk (state S.Store conn.new) → HasOtherVersion (state S.Store conn.old).now → IfOk result (λ is. IsTrue is) }
     ensures fine { IsFine (state S.Store conn.new) → IsFine (state S.Store conn.old) }
     ensures same { IsFine (state S.Store conn.new) → (state S.Store conn.new).now ≡ (state S.Store conn.old).now }
     ensures crash { Survives (state S.Store conn.old) (state S.Store conn.new) (λ _. ⊥) }
@@ -163,6 +164,7 @@ fn check_versioned<S: Alter>(conn: &mut Connection<S>, alloc: Global) -> Result<
     requires desk { slice_get (state S.Store conn.old).now.schema.tables 0 ≡ Some desk_table }
     ensures typed { IsFine (state S.Store conn.new) → OnOk result (KeepsTyped (state S.Store conn.new).now) }
     ensures version { HasCleanDisk (state S.Store conn.new) → IfErr result (λ e. e ≡ open_error.Version → HasOtherVersion (state S.Store conn.old).now) }
+    ensures told { HasCleanDisk (state S.Store conn.new) → HasOtherVersion (state S.Store conn.old).now → (result ≡ Err open_error.Version) ⊎ (result ≡ Err open_error.Store) }
     ensures left { IsFine (state S.Store conn.new) → IsFine (state S.Store conn.old) × ((state S.Store conn.new).now ≡ (state S.Store conn.old).now) }
     ensures refusal { IfErr result (λ e. (e ≡ open_error.Damaged) ⊎ ((e ≡ open_error.Version) ⊎ (e ≡ open_error.Store))) }
     ensures crash { Survives (state S.Store conn.old) (state S.Store conn.new) (λ _. ⊥) }
@@ -179,6 +181,7 @@ fn check_versioned<S: Alter>(conn: &mut Connection<S>, alloc: Global) -> Result<
 pub(crate) fn check<S: Alter>(conn: &mut Connection<S>, alloc: Global) -> Result<(), OpenError>
     ensures typed { IsFine (state S.Store conn.new) → OnOk result (KeepsTyped (state S.Store conn.new).now) }
     ensures version { HasCleanDisk (state S.Store conn.new) → IfErr result (λ e. e ≡ open_error.Version → HasOtherVersion (state S.Store conn.old).now) }
+    ensures told { HasCleanDisk (state S.Store conn.new) → HasOtherVersion (state S.Store conn.old).now → (result ≡ Err open_error.Version) ⊎ (result ≡ Err open_error.Store) }
     ensures left { IsFine (state S.Store conn.new) → IsFine (state S.Store conn.old) × ((state S.Store conn.new).now ≡ (state S.Store conn.old).now) }
     ensures refusal { IfErr result (λ e. (e ≡ open_error.Damaged) ⊎ ((e ≡ open_error.Version) ⊎ (e ≡ open_error.Store))) }
     ensures crash { Survives (state S.Store conn.old) (state S.Store conn.new) (λ _. ⊥) }
