@@ -1,5 +1,6 @@
 //! One request as bytes, and the answer as bytes.
 
+use crate::offices::Offices;
 use permit_base::values::Day;
 use permit_http::inbox::Inbox;
 use permit_office::office::Office;
@@ -30,8 +31,8 @@ pub fn answer(alloc: Global, status: &str, body: &str) -> Result<String, Fail> {
     )?)
 }
 
-/// What is written for the bytes of a connection's beginning, on a day, and how it ended.
-pub fn serve<S: Store + Drop>(
+/// What one office writes for the bytes of a connection's beginning, on a day, and how it ended.
+fn serve_at<S: Store + Drop>(
     alloc: Global,
     office: &mut Office<S>,
     bytes: &[u8],
@@ -47,10 +48,29 @@ pub fn serve<S: Store + Drop>(
     ))
 }
 
-/// What is written for one whole request.
-pub fn asked<S: Store + Drop>(
+/// What is written for the bytes of a connection's beginning, on a day, and how it ended: over vectors and over a
+/// database alike.
+pub fn serve(
     alloc: Global,
-    office: &mut Office<S>,
+    offices: &mut Offices,
+    bytes: &[u8],
+    day: Day,
+) -> Result<(Served, String), Fail> {
+    let (served, written) = serve_at(alloc, &mut offices.plain, bytes, day)?;
+    let (other, text) = serve_at(alloc, &mut offices.tables, bytes, day)?;
+    if served != other {
+        return Err(Fail::new("the stores' connections end otherwise"));
+    }
+    if written.as_str() != text.as_str() {
+        return Err(Fail::new(format!(in alloc; "over vectors {written}, over a database {text}")?));
+    }
+    Ok((served, written))
+}
+
+/// What is written for one whole request.
+pub fn asked(
+    alloc: Global,
+    offices: &mut Offices,
     method: &str,
     path: &str,
     token: &str,
@@ -58,6 +78,6 @@ pub fn asked<S: Store + Drop>(
     day: Day,
 ) -> Result<String, Fail> {
     let bytes = request(alloc, method, path, token, body)?;
-    let (_, written) = serve(alloc, office, bytes.as_str().as_bytes(), day)?;
+    let (_, written) = serve(alloc, offices, bytes.as_str().as_bytes(), day)?;
     Ok(written)
 }

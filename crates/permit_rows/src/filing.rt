@@ -2,8 +2,7 @@
 
 use crate::exchange::{answer, asked};
 use crate::opening::{TOKENS, day, opened};
-use permit_office::office::Office;
-use permit_store::plain::PlainStore;
+use crate::offices::Offices;
 use std::alloc::Global;
 use std::test::Fail;
 
@@ -19,7 +18,7 @@ fn house(alloc: Global, stage: &str, timing: &str) -> Result<String, Fail> {
 }
 
 /// The office in which party 5 has filed on parcel 1 on 2024-01-01.
-pub fn filed(alloc: Global) -> Result<(Office<PlainStore>, String), Fail> {
+pub fn filed(alloc: Global) -> Result<(Offices, String), Fail> {
     let mut office = opened(alloc)?;
     let written = asked(
         alloc,

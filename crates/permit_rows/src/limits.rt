@@ -144,6 +144,15 @@ fn word_of(reply: &Reply) -> &'static str {
     }
 }
 
+/// What the replies are, each in a word.
+fn words_of(alloc: Global, replies: &[Reply]) -> Result<Vec<&'static str>, Fail> {
+    let mut words = Vec::new(alloc);
+    for reply in replies {
+        words.push(word_of(reply))?;
+    }
+    Ok(words)
+}
+
 #[test]
 fn clock_that_goes_back(rt: HostRuntime) -> Result<(), Fail> {
     let alloc = rt.alloc();
@@ -153,15 +162,11 @@ fn clock_that_goes_back(rt: HostRuntime) -> Result<(), Fail> {
     requests.push((parcel_on(alloc, "B-2")?, day(19990)?))?;
     requests.push((read_parcel(alloc)?, day(20001)?))?;
     requests.push((read_parcel(alloc)?, day(20000)?))?;
-    let replies = office.run(alloc, requests.as_slice())?;
-    let mut words = Vec::new(alloc);
-    for reply in &replies {
-        words.push(word_of(reply))?;
-    }
-    assert_eq!(rt;
-        words.as_slice(),
-        ["done", "clock", "parcel", "parcel"].as_slice()
-    );
+    let wanted = ["done", "clock", "parcel", "parcel"].as_slice();
+    let replies = office.plain.run(alloc, requests.as_slice())?;
+    assert_eq!(rt; words_of(alloc, &replies)?.as_slice(), wanted);
+    let replies = office.tables.run(alloc, requests.as_slice())?;
+    assert_eq!(rt; words_of(alloc, &replies)?.as_slice(), wanted);
     Ok(())
 }
 

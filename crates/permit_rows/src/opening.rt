@@ -1,13 +1,11 @@
 //! The office in which the rows begin: seven parties and two parcels under the standard policy.
 
 use crate::exchange::{answer, asked};
+use crate::offices::Offices;
 use crate::standard::POLICY;
 use permit_base::digests::digest;
 use permit_base::values::{Day, Text, Token};
-use permit_office::office::Office;
-use permit_policy::text::read_policy;
 use permit_store::founder::Founder;
-use permit_store::plain::PlainStore;
 use std::alloc::Global;
 use std::test::Fail;
 
@@ -30,25 +28,18 @@ pub fn day(number: u32) -> Result<Day, Fail> {
     Ok(Day::new(number).ok_or("a day")?)
 }
 
-/// The office after its founding, over vectors.
-pub fn founded(alloc: Global) -> Result<Office<PlainStore>, Fail> {
+/// The office after its founding.
+pub fn founded(alloc: Global) -> Result<Offices, Fail> {
     let name = Text::new(String::from_str(alloc, "Chief")?).ok_or("a name")?;
     let token = Token::new(String::from_str(alloc, TOKENS[0])?).ok_or("a token")?;
     let founder = Founder::new(name, digest(&token)?, day(FOUNDED)?).ok_or("a founder")?;
-    let Ok(store) = PlainStore::create(alloc, &founder) else {
-        return Err(Fail::new("no store"));
-    };
-    let policy = read_policy(alloc, POLICY)?;
-    match Office::open(store, policy) {
-        Ok(office) => Ok(office),
-        Err(_) => Err(Fail::new("no office")),
-    }
+    Offices::found(alloc, &founder, POLICY)
 }
 
 /// Asks as party 1 on the day of the founding, and wants the number that is made.
 fn add(
     alloc: Global,
-    office: &mut Office<PlainStore>,
+    office: &mut Offices,
     path: &str,
     body: &str,
     action: &str,
@@ -67,7 +58,7 @@ fn add(
 
 /// The office after the opening: a clerk, a reviewer, an inspector, two of the public and another inspector; two
 /// parcels of the public's.
-pub fn opened(alloc: Global) -> Result<Office<PlainStore>, Fail> {
+pub fn opened(alloc: Global) -> Result<Offices, Fail> {
     let mut office = founded(alloc)?;
     let parties = [
         (2, "Cal", "clerk"),

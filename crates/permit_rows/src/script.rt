@@ -2,8 +2,7 @@
 
 use crate::exchange::{answer, asked};
 use crate::opening::{TOKENS, day};
-use permit_office::office::Office;
-use permit_store::plain::PlainStore;
+use crate::offices::Offices;
 use std::alloc::Global;
 use std::test::Fail;
 
@@ -113,7 +112,7 @@ fn answer_of(alloc: Global, turn: &Turn) -> Result<String, Fail> {
 }
 
 /// Plays one turn, and fails where the answer is another than it wants.
-fn play_one(alloc: Global, office: &mut Office<PlainStore>, turn: &Turn) -> Result<(), Fail> {
+fn play_one(alloc: Global, office: &mut Offices, turn: &Turn) -> Result<(), Fail> {
     let method = if is_command(turn.path) { "POST" } else { "GET" };
     let token = TOKENS
         .get(turn.party.wrapping_sub(1))
@@ -148,7 +147,7 @@ fn play_one(alloc: Global, office: &mut Office<PlainStore>, turn: &Turn) -> Resu
 }
 
 /// Plays the turns in order.
-pub fn play(alloc: Global, office: &mut Office<PlainStore>, turns: &[Turn]) -> Result<(), Fail> {
+pub fn play(alloc: Global, office: &mut Offices, turns: &[Turn]) -> Result<(), Fail> {
     for turn in turns {
         play_one(alloc, office, turn)?;
     }

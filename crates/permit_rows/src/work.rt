@@ -2,14 +2,13 @@
 
 use crate::opening::opened;
 use crate::script::{Turn, Wanted, plain, play, with};
-use permit_office::office::Office;
-use permit_store::plain::PlainStore;
+use crate::offices::Offices;
 use std::alloc::Global;
 use std::test::Fail;
 
 /// The office in which party 5 filed on parcel 1, reviewed by 3 and with inspector 4 and contractor 6, all on the day
 /// 19790; the plans were approved then.
-fn approved(alloc: Global, filing: &'static str) -> Result<Office<PlainStore>, Fail> {
+fn approved(alloc: Global, filing: &'static str) -> Result<Offices, Fail> {
     let mut office = opened(alloc)?;
     play(
         alloc,
@@ -38,7 +37,7 @@ fn approved(alloc: Global, filing: &'static str) -> Result<Office<PlainStore>, F
 }
 
 /// The same, issued on 19800 (paper 1) and with inspector 4.
-fn issued(alloc: Global, filing: &'static str) -> Result<Office<PlainStore>, Fail> {
+fn issued(alloc: Global, filing: &'static str) -> Result<Offices, Fail> {
     let mut office = approved(alloc, filing)?;
     play(
         alloc,
@@ -58,7 +57,7 @@ fn issued(alloc: Global, filing: &'static str) -> Result<Office<PlainStore>, Fai
 }
 
 /// The same, begun on 19810.
-fn begun(alloc: Global, filing: &'static str) -> Result<Office<PlainStore>, Fail> {
+fn begun(alloc: Global, filing: &'static str) -> Result<Offices, Fail> {
     let mut office = issued(alloc, filing)?;
     play(
         alloc,
