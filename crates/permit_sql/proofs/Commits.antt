@@ -18,25 +18,16 @@ use Rattle.permit_model.specs.Codes.{kind_code, stage_code}
 use Rattle.permit_model.specs.Caller.{Party}
 use Rattle.permit_model.specs.Parcels.{Parcel, Interest}
 use Rattle.permit_model.specs.Tables.{Desk, State as FileState, FileRow, Paper, Tables}
-use Rattle.permit_store.specs.Changes.{given_to, with_state}
+use Rattle.permit_store.specs.Changes.{given_to, with_state, closed_by}
 use Rattle.permit_sql.specs.Schema.{office_schema}
 use Rattle.permit_sql.specs.Rows.{int, or_zero, or_less, step_value, flag, party_row, parcel_row, file_row, shown_party, shown_parcel, shown_file, shown_interest, shown_paper}
 use Rattle.permit_sql.specs.Kept.{papers_counted, IsNamed, AreKeyed, AreInTrees, Keeps}
-use Rattle.permit_sql.specs.Texts.{write_desk, add_party, add_parcel, add_interest, add_file, add_paper, set_owner, write_file}
-use Rattle.permit_sql.specs.Steps.{Step, RanAll}
+use Rattle.permit_sql.specs.Texts.{write_desk, add_party, add_parcel, add_interest, add_file, add_paper, set_owner, write_file, close_notice}
+use Rattle.permit_sql.specs.Steps.{RanAll, desk_step, row_params}
 use Rattle.permit_sql.proofs.Permuted.{put_fresh, put_more, put_changed, key_free, not_found, only_found, append_any, no_more, IsFreshIn}
 use Rattle.permit_sql.proofs.Writes.{sets_desk, adds_party, adds_parcel, adds_interest, adds_file, adds_paper, sets_owner, sets_file}
+use Rattle.permit_sql.proofs.Closing.{apart_put, notice_set}
 use Rattle.permit_sql.proofs.Keeping.{Apart, lower, counted_here, keeps_papers, keyed_paper, keeps_desk, keeps_parties, keeps_parcels, keeps_interests, keeps_files, keyed_desk, keyed_interests, keyed_party, keyed_parcel, keyed_owner, keyed_file, keyed_row}
-
--- the step that sets the desk's row
-abbrev pub desk_step : Desk → Step
-desk_step d = (write_desk, int d.last ∷ int d.parties ∷ int d.parcels ∷ int d.files ∷ [])
-
--- the parameters that set a file's row
-abbrev pub row_params : ℕ → FileState → Row
-row_params id s =
-    int id ∷ or_zero s.contractor ∷ or_zero s.reviewer ∷ or_zero s.inspector ∷ int (kind_code s.kind) ∷ int s.filed ∷ int (stage_code s.stage) ∷ or_less s.deadline ∷ int s.done ∷ step_value s.request
-    ∷ or_less s.requested ∷ or_zero s.ask ∷ flag s.stopped ∷ int s.notices ∷ int s.papers ∷ or_less s.temporary ∷ []
 
 -- the desk is set last
 ended : (mid last : State) (count : ℕ) (t : Tables) (d : Desk) → mid.now.schema ≡ office_schema → AreInTrees t mid.now.trees → AreKeyed t → Executes write_desk (int d.last ∷ int d.parties ∷ int d.parcels ∷ int d.files ∷ []) mid last (Ok count)
@@ -71,26 +62,6 @@ row_set old new count t k id s f found parcel applicant more named h =
   where
     set : f.id ≡ id → with_state id s f ≡ record f { state = s }
     set e = let is : eqb f.id id ≡ true = grind (arith, nat_tests) in ap (λ c. cond c (record f { state = s }) f) is
-
-equal_is : (o : Ordering) → is_eq o ≡ true → o ≡ Equal
-equal_is Less e = absurd (true≢false (sym e))
-equal_is Equal e = refl
-equal_is Greater e = absurd (true≢false (sym e))
-
--- a row whose rowid was free leaves each rowid to one row
-apart_put : (n : ℤ) (rest : Row) (rows : List Row) → IsFreshIn (Int n ∷ rest) rows → Apart rows → Apart (put_row (Int n ∷ rest) rows)
-apart_put n rest rows fresh apart id = no_more (has_rowid id) ((Int n ∷ rest) ∷ rows) (put_row (Int n ∷ rest) rows) (put_fresh (Int n ∷ rest) rows fresh) (two (has_rowid id (Int n ∷ rest)) refl)
-  where
-    none : (rs : List Row) → IsFreshIn (Int n ∷ rest) rs → length (filter (has_rowid n) rs) ≡ 0
-    none [] free = refl
-    none (r ∷ rs) free = rw free.0 (none rs free.1)
-
-    two : (b : Bool) → has_rowid id (Int n ∷ rest) ≡ b → length (cond b ((Int n ∷ rest) ∷ filter (has_rowid id) rows) (filter (has_rowid id) rows)) ≤ 1
-    two true is =
-        let same : n ≡ id = exact_signed n id (equal_is _ (ap is_eq (sym (value_cmp-Int n id)) ∙ is)) in
-        let empty : length (filter (has_rowid id) rows) ≡ 0 = subst (λ i. length (filter (has_rowid i) rows) ≡ 0) same (none rows fresh) in
-        omega (arith, empty)
-    two false is = apart id
 
 -- a paper of a file, with the number after all of its papers
 pub paper_added : (old new : State) (count : ℕ) (t : Tables) (k : Keeps t old.now) (p : Paper) → AllByRecursion (λ (x : Paper). x.number < p.number) (filter (λ (x : Paper). eqb x.file p.file) t.papers) → p.number ≤ papers_counted p.file t.files
@@ -237,6 +208,24 @@ module _ {S : Type 0} (g : Ghosts S) (old : Held S) (db : Database) (t : Tables)
       let now : papers_counted p.file fs ≡ s.papers = ap (λ n. papers_counted n fs) file ∙ counted_here id s f t.files found in
       let second = paper_added a b two.1 t1 first p above (omega (arith, number, now)) two.2 in
       let pp = t.papers ++ p ∷ [] in
+      let done = ended b c three.1 (record t { files = fs; papers = pp }) d second.schema second.rows second.keyed three.2 in
+      let same : db ≡ c.now = ran.is ∙ ap (λ (h : Held _). (state g h).now) three.3 in
+      subst (Keeps (record t { desk = d; files = fs; papers = pp })) (sym same) done
+
+  pub notice_closed : (id number : ℕ) (s : FileState) (f : FileRow) → find (λ q. eqb q.id id) t.files ≡ Some f → s.parcel ≡ f.state.parcel → s.applicant ≡ f.state.applicant → f.state.papers ≤ s.papers → IsNamed s
+      → RanAll g ((write_file, row_params id s) ∷ (close_notice, int id ∷ int number ∷ []) ∷ desk_step d ∷ []) old db → Keeps (record t { desk = d; files = map (with_state id s) t.files; papers = map (closed_by id number) t.papers }) db
+  notice_closed id number s f found parcel applicant more named ran =
+      let one = ran.ran in
+      let two = one.3 in
+      let three = two.3 in
+      let begun = state g (record old { in_transaction = true }) in
+      let a = state g one.0 in
+      let b = state g two.0 in
+      let c = state g three.0 in
+      let fs = map (with_state id s) t.files in
+      let first = row_set begun a one.1 t k id s f found parcel applicant more named one.2 in
+      let second = notice_set a b two.1 (record t { files = fs }) first id number two.2 in
+      let pp = map (closed_by id number) t.papers in
       let done = ended b c three.1 (record t { files = fs; papers = pp }) d second.schema second.rows second.keyed three.2 in
       let same : db ≡ c.now = ran.is ∙ ap (λ (h : Held _). (state g h).now) three.3 in
       subst (Keeps (record t { desk = d; files = fs; papers = pp })) (sym same) done

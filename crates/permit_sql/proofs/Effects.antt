@@ -1,10 +1,10 @@
 -- What a text that writes makes of the trees.
-use Rattle.std.proofs.Common.{◌≡◌, ◌≢◌, ℕ, ℤ, negsuc, ◌/◌, Bool, true, false, cond, List, [], ◌∷◌, length, Option, Some, None, Ok, refl, ap, subst, ◌∙◌}
+use Rattle.std.proofs.Common.{◌≡◌, ◌≢◌, ℕ, ℤ, negsuc, ◌/◌, Bool, true, false, cond, List, [], ◌∷◌, length, drop, Option, Some, None, Ok, refl, ap, subst, ◌∙◌}
 use Rattle.std.specs.List.{AllByRecursion}
 use Rattle.sqlite.specs.declared.types.Value.{Value}
 use Rattle.sqlite.specs.declared.types.Value.TheVariants.{Null, Int}
 use Rattle.sqlite_value.specs.Order.{Row}
-use Rattle.sqlite_trees.specs.Tree.{put_row, without_rowid}
+use Rattle.sqlite_trees.specs.Tree.{rowid, put_row, without_rowid}
 use Rattle.sqlite_sql.specs.Term.{Term}
 use Rattle.sqlite_sql.specs.Query.{Query}
 use Rattle.sqlite_sql.specs.Ops.{unary}
@@ -15,7 +15,9 @@ use Rattle.sqlite_schema.specs.declared.command.Source.TheVariants.{Values}
 use Rattle.sqlite_rules.specs.declared.error.Rowids.TheVariants.{Chosen, Given}
 use Rattle.sqlite_rules.specs.Cast.{cast, cast_row}
 use Rattle.sqlite_rules.specs.Calls.{ids_of}
-use Rattle.sqlite_rules.specs.Edit.{edit_of, edited, put_all, are_fresh}
+use Rattle.sqlite_schema.specs.declared.schema.Keys.TheVariants.{Enforced}
+use Rattle.sqlite_schema.specs.Rules.{Fits}
+use Rattle.sqlite_rules.specs.Edit.{edit_of, edited, put_all, are_fresh, id_in, have_rowids, Applies}
 use Rattle.sqlite.specs.Effect.{Database, Answers, value_rows}
 use Rattle.sqlite.specs.Rows.{stamped}
 use Rattle.sqlite.specs.Does.{Tally, Does, OnRows}
@@ -75,6 +77,14 @@ pub record Adds (old new : Database) (table : Table) (made : Row) : Type 0 where
   pub fresh : IsFreshIn made (old.trees table.tree)
   pub row : new.trees table.tree ≡ put_row made (old.trees table.tree)
 
+-- a row is put in place of those with a rowid
+pub record Puts (old new : Database) (table : Table) (id : ℤ) (made : Row) : Type 0 where
+  pub leaves : Leaves old new table
+  pub keyed : have_rowids (made ∷ []) ≡ true
+  pub fresh : IsFreshIn made (without_rowid id (old.trees table.tree))
+  pub row : new.trees table.tree ≡ put_row made (without_rowid id (old.trees table.tree))
+  pub fits : Fits office_schema new.trees
+
 module _ (text : List ℕ) (at : ℕ) (table : Table) (uncounted : table.is_counted ≡ false) (terms : List Term) (width : ℕ)
     (is : command_of (understood office_schema text) ≡ Insert at (Values terms width)) (plain : IsPlain (understood office_schema text))
     (params : Row) (old new : State) (count : ℕ) (schema : old.now.schema ≡ office_schema) (made : Row) where
@@ -106,6 +116,7 @@ module _ (text : List ℕ) (at : ℕ) (table : Table) (query : Query)
     pub found : List Row
     pub answer : Answers (on_office old.now.trees) (alone query) params found
     pub none : found ≡ [] → Leaves old.now new.now table × (new.now.trees table.tree ≡ old.now.trees table.tree)
+    pub put : (r made : Row) → found ≡ r ∷ [] → cast_row table (drop 1 r) ≡ made → Puts old.now new.now table (id_in (rowid r)) made
     pub one : (id : ℤ) (made : Row) → cast_row table made ≡ made → found ≡ (Int id ∷ made) ∷ [] → Leaves old.now new.now table × (new.now.trees table.tree ≡ put_row made (without_rowid id (old.now.trees table.tree)))
 
   pub sets : On → Executes text params old new (Ok count) → Sets
@@ -120,6 +131,18 @@ module _ (text : List ℕ) (at : ℕ) (table : Table) (query : Query)
         found = it.0;
         answer = it.1;
         none = λ e. let step = it.3.0 e in (record { schema = it.2; others = step.tables }, step.rows);
+        put = λ r made e stays.
+            let first : (edit_of db table (ids_of it.0) Given 1 it.0).news ≡ made ∷ [] = ap (λ rows. (edit_of db table (ids_of rows) Given 1 rows).news) e ∙ ap (λ x. x ∷ []) stays in
+            let step = subst (λ rows. Applies office_schema Enforced db (edit_of db table (ids_of rows) Given 1 rows) new.now.trees) e (it.3.1 made first) in
+            let left = without_rowid (id_in (rowid r)) (db table.tree) in
+            let news : (edit_of db table (ids_of (r ∷ [])) Given 1 (r ∷ [])).news ≡ made ∷ [] = ap (λ x. x ∷ []) stays in
+            record {
+              leaves = record { schema = it.2; others = step.tables };
+              keyed = subst (λ ns. have_rowids ns ≡ true) news step.keyed;
+              fresh = fresh_rows made left (not_taken _ (subst (λ ns. are_fresh left ns ≡ true) news step.fresh));
+              row = step.rows ∙ ap (λ x. put_row x left) stays;
+              fits = step.fits;
+            };
         one = λ id made stays e.
             let news : (edit_of db table (ids_of it.0) Given 1 it.0).news ≡ made ∷ [] = ap (λ rows. (edit_of db table (ids_of rows) Given 1 rows).news) e ∙ ap (λ r. r ∷ []) stays in
             let step = it.3.1 made news in

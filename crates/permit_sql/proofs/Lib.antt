@@ -10,7 +10,9 @@ pub mod Effects
 pub mod Writes
 pub mod Keeping
 pub mod Creating
+pub mod Closing
 pub mod Commits
+pub mod Committing
 pub mod KeptLemmas
 pub mod Shapes
 pub mod Wholes

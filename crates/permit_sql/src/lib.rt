@@ -12,6 +12,8 @@
 //! has so far given back what was written (`HasCleanDisk` of the connection after the call).
 #![tactic(auto)]
 
+mod codes;
+mod commit;
 mod create;
 mod decode;
 mod fields;
@@ -23,3 +25,5 @@ mod steps;
 pub mod store;
 #[cfg(test)]
 mod tests;
+mod turns;
+mod values;

@@ -1,19 +1,29 @@
 //! The store over SQL.
 
-ghost use Rattle.std.specs.Prelude.{◌≡◌, ◌≢◌, ◌⊎◌, false, not, IsTrue, IfOk, IfErr};
+ghost use Rattle.std.specs.Prelude.{◌≡◌, ◌≢◌, ◌≤◌, ◌⊎◌, false, not, IsTrue, IfOk, IfErr, IsErr, OnOk, OnErr};
 ghost use Rattle.sqlite.specs.State.{HasCleanDisk, Survives};
 ghost use Rattle.sqlite.specs.Held.{state};
+ghost use Rattle.sqlite.specs.Effect.{Database};
 ghost use Rattle.permit_model.specs.Tables.{Tables, tables};
 ghost use Rattle.permit_store.specs.Founding.{founding};
+ghost use Rattle.permit_store.specs.Changes.{Fits, changed};
+ghost use Rattle.permit_store.specs.Counts.{failed_after, next_count};
 ghost use Rattle.permit_store.specs.declared.store.OpenError.TheVariants as open_error;
 ghost use Rattle.permit_sql.specs.Schema.{empty_schema, office_schema};
 ghost use Rattle.permit_sql.specs.Kept.{Keeps, Shows, IsFine};
 ghost use Rattle.permit_sql.specs.Opening.{HasOtherVersion};
 
+use crate::commit::commit_in;
 use crate::create::create_in;
 use crate::open::check;
+use crate::read::{
+    find_parcel, find_party, has_interest, read_desk, read_file, read_papers, read_parcel,
+    read_party,
+};
+use permit_base::values::{Day, Digest, FileId, Lot, ParcelId, PartyId};
 use permit_store::founder::Founder;
-use permit_store::store::OpenError;
+use permit_store::rows::{Change, Desk, FileRow, Paper, Parcel, Party};
+use permit_store::store::{Got, OpenError, Store, StoreError};
 use sqlite::{Alter, Connection};
 use std::alloc::Global;
 
@@ -44,6 +54,17 @@ fn is_empty<S: Alter>(conn: &Connection<S>) -> bool
 }
 
 impl<S: Alter> SqlStore<S> {
+    /// The answer of a call that failed, which counts.
+    fn fail<T>(&mut self) -> Got<T>
+        ensures error { IsErr result }
+        ensures counted { self.new.failed ≡ next_count self.old.failed }
+        ensures others { (self.new.handed ≡ self.old.handed) × (self.new.commits ≡ self.old.commits) }
+        ensures conn { self.new.conn ≡ self.old.conn }
+    {
+        self.failed = self.failed.wrapping_add(1);
+        Err(StoreError)
+    }
+
     /// Makes the tables in an empty database, with one party, number 1, an official, on the founding day, all in
     /// one transaction. It refuses as `Exists` where the database has a table, an index or a view, and as `Store`
     /// where a call failed or a transaction is open; with a refusal the connection comes back, its database as
@@ -53,7 +74,10 @@ impl<S: Alter> SqlStore<S> {
         conn: Connection<S>,
         founder: &Founder,
     ) -> Result<SqlStore<S>, (Connection<S>, OpenError)>
-        ensures founded { IfOk result (λ s. HasCleanDisk (state S.Store s.conn) → Keeps (tables (founding founder.now.name founder.now.digest founder.now.day)) (state S.Store s.conn).now) }
+        ensures founded { IfOk result (λ s. ⟦<SqlStore<S> as Store>⟧.holds s (tables (founding founder.now.name founder.now.digest founder.now.day))) }
+        ensures handed { IfOk result (λ s. ⟦<SqlStore<S> as Store>⟧.handed s ≡ 0) }
+        ensures failed { IfOk result (λ s. ⟦<SqlStore<S> as Store>⟧.failed s ≡ 0) }
+        ensures commits { IfOk result (λ s. ⟦<SqlStore<S> as Store>⟧.commits s ≡ 0) }
         ensures crash { IfOk result (λ s. Survives (state S.Store conn) (state S.Store s.conn) (λ trees. (db : _) × Keeps (tables (founding founder.now.name founder.now.digest founder.now.day)) db × (trees ≡ db.trees))) }
         ensures same { IfErr result (λ e. IsFine (state S.Store e.0) → (state S.Store e.0).now ≡ (state S.Store conn).now) }
         ensures exists { IfErr result (λ e. e.1 ≡ OpenError.Exists → (state S.Store conn).now.schema ≢ empty_schema) }
@@ -120,5 +144,100 @@ impl<S: Alter> SqlStore<S> {
             commits: _,
         } = self;
         conn
+    }
+}
+
+impl<S: Alter> Store for SqlStore<S> {
+    ghost use Rattle.sqlite_trees.specs.View.{doubt as disk_doubt};
+    ghost use Rattle.sqlite.specs.State.{HasCleanDisk};
+    ghost use Rattle.sqlite.specs.Held.{state};
+    ghost use Rattle.permit_sql.specs.Kept.{Shows};
+
+    ghost holds = { λ s t. HasCleanDisk (state S.Store s.conn) → Shows t (state S.Store s.conn) };
+
+    ghost doubt = { λ s. disk_doubt (state S.Store s.conn).is_clean };
+
+    ghost handed = { λ s. s.handed };
+
+    ghost failed = { λ s. s.failed };
+
+    ghost commits = { λ s. s.commits };
+
+    fn desk(&mut self) -> Got<Desk> {
+        match read_desk(&mut self.conn) {
+            Ok(desk) => Ok(desk),
+            Err(_) => self.fail(),
+        }
+    }
+
+    fn party_by_token(&mut self, digest: &Digest) -> Got<Option<Party>> {
+        match find_party(&mut self.conn, digest) {
+            Ok(party) => Ok(party),
+            Err(_) => self.fail(),
+        }
+    }
+
+    fn party(&mut self, party: PartyId) -> Got<Option<Party>> {
+        match read_party(&mut self.conn, party) {
+            Ok(party) => Ok(party),
+            Err(_) => self.fail(),
+        }
+    }
+
+    fn parcel(&mut self, parcel: ParcelId) -> Got<Option<Parcel>> {
+        match read_parcel(&mut self.conn, parcel) {
+            Ok(parcel) => Ok(parcel),
+            Err(_) => self.fail(),
+        }
+    }
+
+    fn parcel_by_lot(&mut self, lot: &Lot) -> Got<Option<Parcel>> {
+        match find_parcel(&mut self.conn, lot) {
+            Ok(parcel) => Ok(parcel),
+            Err(_) => self.fail(),
+        }
+    }
+
+    fn interest(&mut self, parcel: ParcelId, party: PartyId) -> Got<bool> {
+        match has_interest(&mut self.conn, parcel, party) {
+            Ok(interest) => Ok(interest),
+            Err(_) => self.fail(),
+        }
+    }
+
+    fn file(&mut self, file: FileId) -> Got<Option<FileRow>> {
+        match read_file(&mut self.conn, file) {
+            Ok(Some(row)) => {
+                self.handed = self.handed.wrapping_add(1);
+                Ok(Some(row))
+            }
+            Ok(None) => Ok(None),
+            Err(_) => self.fail(),
+        }
+    }
+
+    fn papers(&mut self, file: FileId) -> Got<Vec<Paper>> {
+        match read_papers(&mut self.conn, file, self.alloc) {
+            Ok(papers) => Ok(papers),
+            Err(_) => self.fail(),
+        }
+    }
+
+    /// As the trait says, and a crash inside leaves the tables as before, or with the change whole.
+    fn commit(&mut self, change: &Change<'_>, day: Day) -> Got<()>
+        ensures made { (t : Tables) → ⟦<SqlStore<S> as Store>⟧.holds self.old t → Fits t change.now day → OnOk result (⟦<SqlStore<S> as Store>⟧.holds self.new (changed t change.now day)) }
+        ensures kept { (t : Tables) → ⟦<SqlStore<S> as Store>⟧.holds self.old t → OnErr result (⟦<SqlStore<S> as Store>⟧.holds self.new t) }
+        ensures doubt { ⟦<SqlStore<S> as Store>⟧.doubt self.old ≤ ⟦<SqlStore<S> as Store>⟧.doubt self.new }
+        ensures failed { ⟦<SqlStore<S> as Store>⟧.failed self.new ≡ failed_after result (⟦<SqlStore<S> as Store>⟧.failed self.old) }
+        ensures commits { ⟦<SqlStore<S> as Store>⟧.commits self.new ≡ next_count (⟦<SqlStore<S> as Store>⟧.commits self.old) }
+        ensures handed { ⟦<SqlStore<S> as Store>⟧.handed self.new ≡ ⟦<SqlStore<S> as Store>⟧.handed self.old }
+        ensures crash { (t : Tables) → Keeps t (state S.Store self.old.conn).now → Fits t change.now day
+            → Survives (state S.Store self.old.conn) (state S.Store self.new.conn) (λ trees. (db : Database) × Keeps (changed t change.now day) db × (trees ≡ db.trees)) }
+    {
+        self.commits = self.commits.wrapping_add(1);
+        match commit_in(&mut self.conn, change, day) {
+            Ok(()) => Ok(()),
+            Err(_) => self.fail(),
+        }
     }
 }
