@@ -17,3 +17,4 @@ pub mod KeptLemmas
 pub mod Shapes
 pub mod Wholes
 pub mod Version
+pub mod Reopening

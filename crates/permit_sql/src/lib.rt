@@ -20,6 +20,7 @@ mod fields;
 mod open;
 mod query;
 mod read;
+pub mod reopen;
 mod schema;
 mod steps;
 pub mod store;

@@ -1,13 +1,14 @@
 //! The store over SQL.
 
-ghost use Rattle.std.specs.Prelude.{◌≡◌, ◌≢◌, ◌≤◌, ◌⊎◌, false, not, IsTrue, IfOk, IfErr, IsErr, OnOk, OnErr};
+ghost use Rattle.std.specs.Prelude.{◌≡◌, ◌==◌, ◌&&◌, find, filter, bytes_eq, ◌≢◌, ◌≤◌, ◌⊎◌, false, not, IsTrue, IfOk, IfErr, IsErr, OnOk, OnErr};
 ghost use Rattle.sqlite.specs.State.{HasCleanDisk, Survives};
 ghost use Rattle.sqlite.specs.Held.{state};
+ghost use Rattle.std.specs.List.{list_any};
 ghost use Rattle.sqlite.specs.Effect.{Database};
 ghost use Rattle.permit_model.specs.Tables.{Tables, tables};
 ghost use Rattle.permit_store.specs.Founding.{founding};
 ghost use Rattle.permit_store.specs.Changes.{Fits, changed};
-ghost use Rattle.permit_store.specs.Counts.{failed_after, next_count};
+ghost use Rattle.permit_store.specs.Counts.{failed_after, handed_after, next_count};
 ghost use Rattle.permit_store.specs.declared.store.OpenError.TheVariants as open_error;
 ghost use Rattle.permit_sql.specs.Schema.{empty_schema, office_schema};
 ghost use Rattle.permit_sql.specs.Kept.{Keeps, Shows, IsFine};
@@ -147,6 +148,7 @@ impl<S: Alter> SqlStore<S> {
     }
 }
 
+/// Each read says what the trait says, and that a crash inside it leaves the tables.
 impl<S: Alter> Store for SqlStore<S> {
     ghost use Rattle.sqlite_trees.specs.View.{doubt as disk_doubt};
     ghost use Rattle.sqlite.specs.State.{HasCleanDisk};
@@ -163,49 +165,105 @@ impl<S: Alter> Store for SqlStore<S> {
 
     ghost commits = { λ s. s.commits };
 
-    fn desk(&mut self) -> Got<Desk> {
+    fn desk(&mut self) -> Got<Desk>
+        ensures found { ⟦<SqlStore<S> as Store>⟧.doubt self.new ≡ 0 → (t : Tables) → ⟦<SqlStore<S> as Store>⟧.holds self.old t → IfOk result (λ d. d ≡ t.desk) }
+        ensures kept { (t : Tables) → ⟦<SqlStore<S> as Store>⟧.holds self.old t → ⟦<SqlStore<S> as Store>⟧.holds self.new t }
+        ensures doubt { ⟦<SqlStore<S> as Store>⟧.doubt self.old ≤ ⟦<SqlStore<S> as Store>⟧.doubt self.new }
+        ensures failed { ⟦<SqlStore<S> as Store>⟧.failed self.new ≡ failed_after result (⟦<SqlStore<S> as Store>⟧.failed self.old) }
+        ensures commits { ⟦<SqlStore<S> as Store>⟧.commits self.new ≡ ⟦<SqlStore<S> as Store>⟧.commits self.old }
+        ensures handed { ⟦<SqlStore<S> as Store>⟧.handed self.new ≡ ⟦<SqlStore<S> as Store>⟧.handed self.old }
+        ensures crash { (t : Tables) → Keeps t (state S.Store self.old.conn).now → Survives (state S.Store self.old.conn) (state S.Store self.new.conn) (λ _. ⊥) }
+    {
         match read_desk(&mut self.conn) {
             Ok(desk) => Ok(desk),
             Err(_) => self.fail(),
         }
     }
 
-    fn party_by_token(&mut self, digest: &Digest) -> Got<Option<Party>> {
+    fn party_by_token(&mut self, digest: &Digest) -> Got<Option<Party>>
+        ensures found { ⟦<SqlStore<S> as Store>⟧.doubt self.new ≡ 0 → (t : Tables) → ⟦<SqlStore<S> as Store>⟧.holds self.old t → IfOk result (λ p. p ≡ find (λ p. bytes_eq p.digest digest.now) t.parties) }
+        ensures kept { (t : Tables) → ⟦<SqlStore<S> as Store>⟧.holds self.old t → ⟦<SqlStore<S> as Store>⟧.holds self.new t }
+        ensures doubt { ⟦<SqlStore<S> as Store>⟧.doubt self.old ≤ ⟦<SqlStore<S> as Store>⟧.doubt self.new }
+        ensures failed { ⟦<SqlStore<S> as Store>⟧.failed self.new ≡ failed_after result (⟦<SqlStore<S> as Store>⟧.failed self.old) }
+        ensures commits { ⟦<SqlStore<S> as Store>⟧.commits self.new ≡ ⟦<SqlStore<S> as Store>⟧.commits self.old }
+        ensures handed { ⟦<SqlStore<S> as Store>⟧.handed self.new ≡ ⟦<SqlStore<S> as Store>⟧.handed self.old }
+        ensures crash { (t : Tables) → Keeps t (state S.Store self.old.conn).now → Survives (state S.Store self.old.conn) (state S.Store self.new.conn) (λ _. ⊥) }
+    {
         match find_party(&mut self.conn, digest) {
             Ok(party) => Ok(party),
             Err(_) => self.fail(),
         }
     }
 
-    fn party(&mut self, party: PartyId) -> Got<Option<Party>> {
+    fn party(&mut self, party: PartyId) -> Got<Option<Party>>
+        ensures found { ⟦<SqlStore<S> as Store>⟧.doubt self.new ≡ 0 → (t : Tables) → ⟦<SqlStore<S> as Store>⟧.holds self.old t → IfOk result (λ p. p ≡ find (λ p. p.id == party) t.parties) }
+        ensures kept { (t : Tables) → ⟦<SqlStore<S> as Store>⟧.holds self.old t → ⟦<SqlStore<S> as Store>⟧.holds self.new t }
+        ensures doubt { ⟦<SqlStore<S> as Store>⟧.doubt self.old ≤ ⟦<SqlStore<S> as Store>⟧.doubt self.new }
+        ensures failed { ⟦<SqlStore<S> as Store>⟧.failed self.new ≡ failed_after result (⟦<SqlStore<S> as Store>⟧.failed self.old) }
+        ensures commits { ⟦<SqlStore<S> as Store>⟧.commits self.new ≡ ⟦<SqlStore<S> as Store>⟧.commits self.old }
+        ensures handed { ⟦<SqlStore<S> as Store>⟧.handed self.new ≡ ⟦<SqlStore<S> as Store>⟧.handed self.old }
+        ensures crash { (t : Tables) → Keeps t (state S.Store self.old.conn).now → Survives (state S.Store self.old.conn) (state S.Store self.new.conn) (λ _. ⊥) }
+    {
         match read_party(&mut self.conn, party) {
             Ok(party) => Ok(party),
             Err(_) => self.fail(),
         }
     }
 
-    fn parcel(&mut self, parcel: ParcelId) -> Got<Option<Parcel>> {
+    fn parcel(&mut self, parcel: ParcelId) -> Got<Option<Parcel>>
+        ensures found { ⟦<SqlStore<S> as Store>⟧.doubt self.new ≡ 0 → (t : Tables) → ⟦<SqlStore<S> as Store>⟧.holds self.old t → IfOk result (λ p. p ≡ find (λ p. p.id == parcel) t.parcels) }
+        ensures kept { (t : Tables) → ⟦<SqlStore<S> as Store>⟧.holds self.old t → ⟦<SqlStore<S> as Store>⟧.holds self.new t }
+        ensures doubt { ⟦<SqlStore<S> as Store>⟧.doubt self.old ≤ ⟦<SqlStore<S> as Store>⟧.doubt self.new }
+        ensures failed { ⟦<SqlStore<S> as Store>⟧.failed self.new ≡ failed_after result (⟦<SqlStore<S> as Store>⟧.failed self.old) }
+        ensures commits { ⟦<SqlStore<S> as Store>⟧.commits self.new ≡ ⟦<SqlStore<S> as Store>⟧.commits self.old }
+        ensures handed { ⟦<SqlStore<S> as Store>⟧.handed self.new ≡ ⟦<SqlStore<S> as Store>⟧.handed self.old }
+        ensures crash { (t : Tables) → Keeps t (state S.Store self.old.conn).now → Survives (state S.Store self.old.conn) (state S.Store self.new.conn) (λ _. ⊥) }
+    {
         match read_parcel(&mut self.conn, parcel) {
             Ok(parcel) => Ok(parcel),
             Err(_) => self.fail(),
         }
     }
 
-    fn parcel_by_lot(&mut self, lot: &Lot) -> Got<Option<Parcel>> {
+    fn parcel_by_lot(&mut self, lot: &Lot) -> Got<Option<Parcel>>
+        ensures found { ⟦<SqlStore<S> as Store>⟧.doubt self.new ≡ 0 → (t : Tables) → ⟦<SqlStore<S> as Store>⟧.holds self.old t → IfOk result (λ p. p ≡ find (λ p. bytes_eq p.lot lot.now) t.parcels) }
+        ensures kept { (t : Tables) → ⟦<SqlStore<S> as Store>⟧.holds self.old t → ⟦<SqlStore<S> as Store>⟧.holds self.new t }
+        ensures doubt { ⟦<SqlStore<S> as Store>⟧.doubt self.old ≤ ⟦<SqlStore<S> as Store>⟧.doubt self.new }
+        ensures failed { ⟦<SqlStore<S> as Store>⟧.failed self.new ≡ failed_after result (⟦<SqlStore<S> as Store>⟧.failed self.old) }
+        ensures commits { ⟦<SqlStore<S> as Store>⟧.commits self.new ≡ ⟦<SqlStore<S> as Store>⟧.commits self.old }
+        ensures handed { ⟦<SqlStore<S> as Store>⟧.handed self.new ≡ ⟦<SqlStore<S> as Store>⟧.handed self.old }
+        ensures crash { (t : Tables) → Keeps t (state S.Store self.old.conn).now → Survives (state S.Store self.old.conn) (state S.Store self.new.conn) (λ _. ⊥) }
+    {
         match find_parcel(&mut self.conn, lot) {
             Ok(parcel) => Ok(parcel),
             Err(_) => self.fail(),
         }
     }
 
-    fn interest(&mut self, parcel: ParcelId, party: PartyId) -> Got<bool> {
+    fn interest(&mut self, parcel: ParcelId, party: PartyId) -> Got<bool>
+        ensures found { ⟦<SqlStore<S> as Store>⟧.doubt self.new ≡ 0 → (t : Tables) → ⟦<SqlStore<S> as Store>⟧.holds self.old t → IfOk result (λ b. b ≡ list_any (λ i. (i.parcel == parcel) && (i.party == party)) t.interests) }
+        ensures kept { (t : Tables) → ⟦<SqlStore<S> as Store>⟧.holds self.old t → ⟦<SqlStore<S> as Store>⟧.holds self.new t }
+        ensures doubt { ⟦<SqlStore<S> as Store>⟧.doubt self.old ≤ ⟦<SqlStore<S> as Store>⟧.doubt self.new }
+        ensures failed { ⟦<SqlStore<S> as Store>⟧.failed self.new ≡ failed_after result (⟦<SqlStore<S> as Store>⟧.failed self.old) }
+        ensures commits { ⟦<SqlStore<S> as Store>⟧.commits self.new ≡ ⟦<SqlStore<S> as Store>⟧.commits self.old }
+        ensures handed { ⟦<SqlStore<S> as Store>⟧.handed self.new ≡ ⟦<SqlStore<S> as Store>⟧.handed self.old }
+        ensures crash { (t : Tables) → Keeps t (state S.Store self.old.conn).now → Survives (state S.Store self.old.conn) (state S.Store self.new.conn) (λ _. ⊥) }
+    {
         match has_interest(&mut self.conn, parcel, party) {
             Ok(interest) => Ok(interest),
             Err(_) => self.fail(),
         }
     }
 
-    fn file(&mut self, file: FileId) -> Got<Option<FileRow>> {
+    fn file(&mut self, file: FileId) -> Got<Option<FileRow>>
+        ensures found { ⟦<SqlStore<S> as Store>⟧.doubt self.new ≡ 0 → (t : Tables) → ⟦<SqlStore<S> as Store>⟧.holds self.old t → IfOk result (λ f. f ≡ find (λ f. f.id == file) t.files) }
+        ensures kept { (t : Tables) → ⟦<SqlStore<S> as Store>⟧.holds self.old t → ⟦<SqlStore<S> as Store>⟧.holds self.new t }
+        ensures doubt { ⟦<SqlStore<S> as Store>⟧.doubt self.old ≤ ⟦<SqlStore<S> as Store>⟧.doubt self.new }
+        ensures failed { ⟦<SqlStore<S> as Store>⟧.failed self.new ≡ failed_after result (⟦<SqlStore<S> as Store>⟧.failed self.old) }
+        ensures commits { ⟦<SqlStore<S> as Store>⟧.commits self.new ≡ ⟦<SqlStore<S> as Store>⟧.commits self.old }
+        ensures handed { ⟦<SqlStore<S> as Store>⟧.handed self.new ≡ handed_after result (⟦<SqlStore<S> as Store>⟧.handed self.old) }
+        ensures crash { (t : Tables) → Keeps t (state S.Store self.old.conn).now → Survives (state S.Store self.old.conn) (state S.Store self.new.conn) (λ _. ⊥) }
+    {
         match read_file(&mut self.conn, file) {
             Ok(Some(row)) => {
                 self.handed = self.handed.wrapping_add(1);
@@ -216,7 +274,15 @@ impl<S: Alter> Store for SqlStore<S> {
         }
     }
 
-    fn papers(&mut self, file: FileId) -> Got<Vec<Paper>> {
+    fn papers(&mut self, file: FileId) -> Got<Vec<Paper>>
+        ensures found { ⟦<SqlStore<S> as Store>⟧.doubt self.new ≡ 0 → (t : Tables) → ⟦<SqlStore<S> as Store>⟧.holds self.old t → IfOk result (λ v. v.items ≡ filter (λ p. p.file == file) t.papers) }
+        ensures kept { (t : Tables) → ⟦<SqlStore<S> as Store>⟧.holds self.old t → ⟦<SqlStore<S> as Store>⟧.holds self.new t }
+        ensures doubt { ⟦<SqlStore<S> as Store>⟧.doubt self.old ≤ ⟦<SqlStore<S> as Store>⟧.doubt self.new }
+        ensures failed { ⟦<SqlStore<S> as Store>⟧.failed self.new ≡ failed_after result (⟦<SqlStore<S> as Store>⟧.failed self.old) }
+        ensures commits { ⟦<SqlStore<S> as Store>⟧.commits self.new ≡ ⟦<SqlStore<S> as Store>⟧.commits self.old }
+        ensures handed { ⟦<SqlStore<S> as Store>⟧.handed self.new ≡ ⟦<SqlStore<S> as Store>⟧.handed self.old }
+        ensures crash { (t : Tables) → Keeps t (state S.Store self.old.conn).now → Survives (state S.Store self.old.conn) (state S.Store self.new.conn) (λ _. ⊥) }
+    {
         match read_papers(&mut self.conn, file, self.alloc) {
             Ok(papers) => Ok(papers),
             Err(_) => self.fail(),
