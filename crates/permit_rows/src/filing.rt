@@ -1,8 +1,8 @@
 //! Filing and abandonment.
 
 use crate::exchange::{answer, asked};
-use crate::opening::{TOKENS, day, opened};
 use crate::offices::Offices;
+use crate::opening::{TOKENS, day, opened};
 use std::alloc::Global;
 use std::test::Fail;
 

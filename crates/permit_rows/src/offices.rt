@@ -10,13 +10,18 @@ use std::alloc::Global;
 use std::test::Fail;
 
 /// Two offices that are to answer alike.
+#[derive(Drop)]
 pub struct Offices {
     pub plain: Office<PlainStore>,
     pub tables: Office<SqlStore<MemStore>>,
 }
 
 /// The office over vectors.
-fn plain_office(alloc: Global, founder: &Founder, policy: &str) -> Result<Office<PlainStore>, Fail> {
+fn plain_office(
+    alloc: Global,
+    founder: &Founder,
+    policy: &str,
+) -> Result<Office<PlainStore>, Fail> {
     let Ok(store) = PlainStore::create(alloc, founder) else {
         return Err(Fail::new("no store"));
     };

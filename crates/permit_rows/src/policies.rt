@@ -38,7 +38,10 @@ fn step_by_digest(rt: HostRuntime) -> Result<(), Fail> {
     let (mut office, _) = filed(alloc)?;
     let token = Token::new(String::from_str(alloc, TOKENS[0])?).ok_or("a token")?;
     let file = FileId::new(1).ok_or("a file")?;
-    match office.tables.step_as(&digest(&token)?, &Request::ReadFile { file }, day(19723)?) {
+    match office
+        .tables
+        .step_as(&digest(&token)?, &Request::ReadFile { file }, day(19723)?)
+    {
         Reply::File(shown, papers) => {
             assert_eq!(rt; shown.row.description.as_str(), "House");
             assert_eq!(rt; papers.len(), 0);

@@ -1,8 +1,8 @@
 //! Scripts: requests by the parties of the opening, each with the answer that is wanted.
 
 use crate::exchange::{answer, asked};
-use crate::opening::{TOKENS, day};
 use crate::offices::Offices;
+use crate::opening::{TOKENS, day};
 use std::alloc::Global;
 use std::test::Fail;
 

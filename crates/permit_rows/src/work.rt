@@ -1,8 +1,8 @@
 //! Work on a file: inspections, notices, orders and certificates.
 
+use crate::offices::Offices;
 use crate::opening::opened;
 use crate::script::{Turn, Wanted, plain, play, with};
-use crate::offices::Offices;
 use std::alloc::Global;
 use std::test::Fail;
 
