@@ -18,3 +18,10 @@ pub mod Shapes
 pub mod Wholes
 pub mod Version
 pub mod Reopening
+pub mod WholeMeanings
+pub mod Shaped
+pub mod Taking
+pub mod Unclashed
+pub mod Checks
+pub mod FileChecks
+pub mod Opened

@@ -11,10 +11,21 @@ use Rattle.sqlite_schema.specs.declared.command.Command.TheVariants.{Select}
 use Rattle.sqlite.specs.declared.types.Value.TheVariants.{Null, Int}
 use Rattle.sqlite_value.specs.Order.{Row, column}
 use Rattle.sqlite_sql.specs.Program.{overlay}
-use Rattle.sqlite.specs.Effect.{Database}
+use Rattle.sqlite.specs.Effect.{Database, IsDatabase}
 use Rattle.sqlite.specs.State.{State, Shown}
 use Rattle.sqlite.proofs.Callers.{command_of, IsPlain, reads_as, one_permutation}
-use Rattle.permit_sql.specs.Schema.{desk_table}
+use Rattle.std.specs.List.{AllByRecursion}
+use Rattle.std.proofs.Common.{codes}
+use Rattle.sqlite_schema.specs.declared.schema.Column.{Column}
+use Rattle.sqlite_schema.specs.declared.schema.Constraint.TheVariants.{Datatype, NotNull}
+use Rattle.sqlite_schema.specs.Rules.{Keeps as KeepsRule}
+use Rattle.permit_model.specs.Tables.{Desk}
+use Rattle.permit_sql.specs.Schema.{desk_table, office_schema, key_column, int_column}
+use Rattle.permit_sql.specs.Rows.{shown_desk, desk_row}
+use Rattle.permit_sql.specs.Typed.{firsts, IsDesk}
+use Rattle.permit_sql.specs.Found.{HasDesk}
+use Rattle.permit_sql.proofs.Shaped.{keyed_rows, IsKeyedRow}
+use Rattle.permit_sql.proofs.Checks.{with_null}
 use Rattle.permit_sql.specs.Texts.{read_desk}
 use Rattle.permit_sql.specs.Opening.{seen_desk, HasOtherVersion}
 use Rattle.permit_sql.proofs.Wholes.{whole_shown}
@@ -74,3 +85,21 @@ other_version db rows q d first same low high is other =
     let alone = first_alone rows q d low high is in
     let it = only_one seen_desk (db.trees 0) q (one_permutation q _ (IsPermutation-sym _ _ (subst (IsPermutation (map seen_desk (db.trees 0))) alone same))) in
     record { desk = first; row = it.0; only = it.1; other = λ e. other (ap (λ r. column r 1) (sym it.2) ∙ e) }
+
+-- ---- the desk of the office's schema
+
+abbrev desk_columns : List Column
+desk_columns = int_column (codes "version") ∷ int_column (codes "last") ∷ int_column (codes "parties") ∷ int_column (codes "parcels") ∷ int_column (codes "files") ∷ []
+
+pub desk_found : (db : Database) (rows : List Row) (q e : Row) (d : Desk) → db.schema ≡ office_schema → IsDatabase db → IsPermutation (map seen_desk (db.trees 0)) rows → 1 ≤ length rows → length rows < 2 → q ≡ get_or rows 0 e
+    → firsts 6 0 q ≡ shown_desk d → IsDesk d → HasDesk d (db.trees 0)
+desk_found db rows q e d schema sound same low high is shown good =
+    let alone = first_alone rows q e low high is in
+    let it = only_one seen_desk (db.trees 0) q (one_permutation q _ (IsPermutation-sym _ _ (subst (IsPermutation (map seen_desk (db.trees 0))) alone same))) in
+    let typed : KeepsRule Datatype office_schema db.trees = subst (λ s. KeepsRule Datatype s db.trees) schema (sound.obeys.rules Datatype) in
+    let there : KeepsRule NotNull office_schema db.trees = subst (λ s. KeepsRule NotNull s db.trees) schema (sound.obeys.rules NotNull) in
+    let whole = keyed_rows office_schema db.trees desk_table key_column desk_columns refl refl (refl, (refl, (refl, (refl, (refl, tt))))) (omega arith) (db.trees 0) typed.0 there.0 in
+    let row = (subst (AllByRecursion (IsKeyedRow 5)) it.1 whole).0 in
+    let says : seen_desk it.0 ≡ shown_desk d = subst (λ r. firsts 6 0 r ≡ shown_desk d) (sym it.2) shown in
+    let is_row : it.0 ≡ desk_row d = sym row ∙ ap with_null says in
+    record { good = good; here = it.1 ∙ ap (λ r. r ∷ []) is_row }

@@ -7,3 +7,7 @@ pub mod Opening
 pub mod Steps
 pub mod StepOf
 pub mod Founding
+pub mod Taken
+pub mod Typed
+pub mod Found
+pub mod WholeTexts

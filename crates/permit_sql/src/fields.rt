@@ -1,7 +1,7 @@
 //! A field of a row as a typed value, or none where the field isn't one.
 
 ghost use Rattle.std.specs.Prelude.{◌≡◌, ◌≢◌, ℕ, List, Bool, Option, Some, IfSome, string_bytes, slice_get, option_map};
-ghost use Rattle.sqlite.specs.declared.types.Value.TheVariants.{Text as TextValue};
+ghost use Rattle.sqlite.specs.declared.types.Value.TheVariants.{Int, Text as TextValue};
 ghost use Rattle.sqlite_value.specs.Order.{column};
 ghost use Rattle.permit_base.specs.declared.words.Step.{Step as TheStep};
 ghost use Rattle.permit_sql.specs.Rows.{int, or_zero, or_less, step_value, flag};
@@ -13,21 +13,31 @@ use sqlite::Row;
 
 /// A number.
 pub(crate) fn number(row: &Row, at: usize) -> Option<u32>
-    ensures { (n : ℕ) → column row.now at ≡ int n → IfSome result (λ x. x ≡ n) }
+    ensures read { (n : ℕ) → column row.now at ≡ int n → IfSome result (λ x. x ≡ n) }
+    ensures back { IfSome result (λ x. column row.now at ≡ int x) }
+{
+    row.get(at).ok()
+}
+
+/// A number, which may be below 0.
+pub(crate) fn whole_number(row: &Row, at: usize) -> Option<i64>
+    ensures { IfSome result (λ x. column row.now at ≡ Int x) }
 {
     row.get(at).ok()
 }
 
 /// A number of up to 64 bits.
 pub(crate) fn long_number(row: &Row, at: usize) -> Option<u64>
-    ensures { (n : ℕ) → column row.now at ≡ int n → IfSome result (λ x. x ≡ n) }
+    ensures read { (n : ℕ) → column row.now at ≡ int n → IfSome result (λ x. x ≡ n) }
+    ensures back { IfSome result (λ x. column row.now at ≡ int x) }
 {
     row.get(at).ok()
 }
 
 /// A number where -1 stands for none.
 pub(crate) fn number_or_less(row: &Row, at: usize) -> Option<Option<u32>>
-    ensures { (o : Option ℕ) → column row.now at ≡ or_less o → IfSome result (λ x. x ≡ o) }
+    ensures read { (o : Option ℕ) → column row.now at ≡ or_less o → IfSome result (λ x. x ≡ o) }
+    ensures back { IfSome result (λ x. column row.now at ≡ or_less x) }
 {
     let code: i64 = row.get(at).ok()?;
     if code == -1 {
@@ -38,7 +48,8 @@ pub(crate) fn number_or_less(row: &Row, at: usize) -> Option<Option<u32>>
 
 /// A number where 0 stands for none.
 pub(crate) fn number_or_zero(row: &Row, at: usize) -> Option<Option<u32>>
-    ensures { (o : Option ℕ) → o ≢ Some 0 → column row.now at ≡ or_zero o → IfSome result (λ x. x ≡ o) }
+    ensures read { (o : Option ℕ) → o ≢ Some 0 → column row.now at ≡ or_zero o → IfSome result (λ x. x ≡ o) }
+    ensures back { IfSome result (λ x. (column row.now at ≡ or_zero x) × (x ≢ Some 0)) }
 {
     let code = number(row, at)?;
     if code == 0 {
@@ -49,42 +60,48 @@ pub(crate) fn number_or_zero(row: &Row, at: usize) -> Option<Option<u32>>
 
 /// A number of up to 8 bits.
 pub(crate) fn small_number(row: &Row, at: usize) -> Option<u8>
-    ensures { (n : ℕ) → column row.now at ≡ int n → IfSome result (λ x. x ≡ n) }
+    ensures read { (n : ℕ) → column row.now at ≡ int n → IfSome result (λ x. x ≡ n) }
+    ensures back { IfSome result (λ x. column row.now at ≡ int x) }
 {
     u8::try_from(number(row, at)?).ok()
 }
 
 /// A number of up to 16 bits.
 pub(crate) fn short_number(row: &Row, at: usize) -> Option<u16>
-    ensures { (n : ℕ) → column row.now at ≡ int n → IfSome result (λ x. x ≡ n) }
+    ensures read { (n : ℕ) → column row.now at ≡ int n → IfSome result (λ x. x ≡ n) }
+    ensures back { IfSome result (λ x. column row.now at ≡ int x) }
 {
     u16::try_from(number(row, at)?).ok()
 }
 
 /// The number of a party.
 pub(crate) fn party_number(row: &Row, at: usize) -> Option<PartyId>
-    ensures { (n : ℕ) → column row.now at ≡ int n → IfSome result (λ x. x ≡ n) }
+    ensures read { (n : ℕ) → column row.now at ≡ int n → IfSome result (λ x. x ≡ n) }
+    ensures back { IfSome result (λ x. column row.now at ≡ int x) }
 {
     PartyId::new(number(row, at)?)
 }
 
 /// The number of a parcel.
 pub(crate) fn parcel_number(row: &Row, at: usize) -> Option<ParcelId>
-    ensures { (n : ℕ) → column row.now at ≡ int n → IfSome result (λ x. x ≡ n) }
+    ensures read { (n : ℕ) → column row.now at ≡ int n → IfSome result (λ x. x ≡ n) }
+    ensures back { IfSome result (λ x. column row.now at ≡ int x) }
 {
     ParcelId::new(number(row, at)?)
 }
 
 /// A day.
 pub(crate) fn day(row: &Row, at: usize) -> Option<Day>
-    ensures { (n : ℕ) → column row.now at ≡ int n → IfSome result (λ x. x ≡ n) }
+    ensures read { (n : ℕ) → column row.now at ≡ int n → IfSome result (λ x. x ≡ n) }
+    ensures back { IfSome result (λ x. column row.now at ≡ int x) }
 {
     Day::new(number(row, at)?)
 }
 
 /// The number of a party, where 0 stands for none.
 pub(crate) fn party_or_zero(row: &Row, at: usize) -> Option<Option<PartyId>>
-    ensures { (o : Option ℕ) → o ≢ Some 0 → column row.now at ≡ or_zero o → IfSome result (λ x. x ≡ o) }
+    ensures read { (o : Option ℕ) → o ≢ Some 0 → column row.now at ≡ or_zero o → IfSome result (λ x. x ≡ o) }
+    ensures back { IfSome result (λ x. (column row.now at ≡ or_zero x) × (x ≢ Some 0)) }
 {
     match number_or_zero(row, at)? {
         None => Some(None),
@@ -94,7 +111,8 @@ pub(crate) fn party_or_zero(row: &Row, at: usize) -> Option<Option<PartyId>>
 
 /// A count of days, where 0 stands for none.
 pub(crate) fn days_or_zero(row: &Row, at: usize) -> Option<Option<Days>>
-    ensures { (o : Option ℕ) → o ≢ Some 0 → column row.now at ≡ or_zero o → IfSome result (λ x. x ≡ o) }
+    ensures read { (o : Option ℕ) → o ≢ Some 0 → column row.now at ≡ or_zero o → IfSome result (λ x. x ≡ o) }
+    ensures back { IfSome result (λ x. (column row.now at ≡ or_zero x) × (x ≢ Some 0)) }
 {
     match number_or_zero(row, at)? {
         None => Some(None),
@@ -104,7 +122,8 @@ pub(crate) fn days_or_zero(row: &Row, at: usize) -> Option<Option<Days>>
 
 /// A day, where -1 stands for none.
 pub(crate) fn day_or_less(row: &Row, at: usize) -> Option<Option<Day>>
-    ensures { (o : Option ℕ) → column row.now at ≡ or_less o → IfSome result (λ x. x ≡ o) }
+    ensures read { (o : Option ℕ) → column row.now at ≡ or_less o → IfSome result (λ x. x ≡ o) }
+    ensures back { IfSome result (λ x. column row.now at ≡ or_less x) }
 {
     match number_or_less(row, at)? {
         None => Some(None),
@@ -114,14 +133,16 @@ pub(crate) fn day_or_less(row: &Row, at: usize) -> Option<Option<Day>>
 
 /// A text, which may be empty.
 pub(crate) fn string(row: &Row, at: usize) -> Option<String>
-    ensures { (t : List ℕ) → column row.now at ≡ TextValue t → IfSome result (λ x. string_bytes x ≡ t) }
+    ensures read { (t : List ℕ) → column row.now at ≡ TextValue t → IfSome result (λ x. string_bytes x ≡ t) }
+    ensures back { IfSome result (λ x. column row.now at ≡ TextValue (string_bytes x)) }
 {
     row.get(at).ok()
 }
 
 /// 1 or 0.
 pub(crate) fn truth(row: &Row, at: usize) -> Option<bool>
-    ensures { (b : Bool) → column row.now at ≡ flag b → IfSome result (λ x. x ≡ b) }
+    ensures read { (b : Bool) → column row.now at ≡ flag b → IfSome result (λ x. x ≡ b) }
+    ensures back { IfSome result (λ x. column row.now at ≡ flag x) }
 {
     match number(row, at)? {
         0 => Some(false),
@@ -138,41 +159,46 @@ fn word_at<W: Word>(code: u32) -> Option<W>
 }
 
 /// A role by its code.
-#[tactic(auto, using(crate::proofs::Coded::role_back))]
+#[tactic(auto, using(crate::proofs::Coded::role_back, crate::proofs::Coded::role_code_of))]
 pub(crate) fn role(row: &Row, at: usize) -> Option<Role>
-    ensures { (w : _) → column row.now at ≡ int (role_code w) → IfSome result (λ x. x ≡ w) }
+    ensures read { (w : _) → column row.now at ≡ int (role_code w) → IfSome result (λ x. x ≡ w) }
+    ensures back { IfSome result (λ x. column row.now at ≡ int (role_code x)) }
 {
     word_at(number(row, at)?)
 }
 
 /// A kind of work by its code.
-#[tactic(auto, using(crate::proofs::Coded::kind_back))]
+#[tactic(auto, using(crate::proofs::Coded::kind_back, crate::proofs::Coded::kind_code_of))]
 pub(crate) fn kind(row: &Row, at: usize) -> Option<Kind>
-    ensures { (w : _) → column row.now at ≡ int (kind_code w) → IfSome result (λ x. x ≡ w) }
+    ensures read { (w : _) → column row.now at ≡ int (kind_code w) → IfSome result (λ x. x ≡ w) }
+    ensures back { IfSome result (λ x. column row.now at ≡ int (kind_code x)) }
 {
     word_at(number(row, at)?)
 }
 
 /// A stage by its code.
-#[tactic(auto, using(crate::proofs::Coded::stage_back))]
+#[tactic(auto, using(crate::proofs::Coded::stage_back, crate::proofs::Coded::stage_code_of))]
 pub(crate) fn stage(row: &Row, at: usize) -> Option<Stage>
-    ensures { (w : _) → column row.now at ≡ int (stage_code w) → IfSome result (λ x. x ≡ w) }
+    ensures read { (w : _) → column row.now at ≡ int (stage_code w) → IfSome result (λ x. x ≡ w) }
+    ensures back { IfSome result (λ x. column row.now at ≡ int (stage_code x)) }
 {
     word_at(number(row, at)?)
 }
 
 /// A sort of paper by its code.
-#[tactic(auto, using(crate::proofs::Coded::sort_back))]
+#[tactic(auto, using(crate::proofs::Coded::sort_back, crate::proofs::Coded::sort_code_of))]
 pub(crate) fn sort(row: &Row, at: usize) -> Option<PaperSort>
-    ensures { (w : _) → column row.now at ≡ int (sort_code w) → IfSome result (λ x. x ≡ w) }
+    ensures read { (w : _) → column row.now at ≡ int (sort_code w) → IfSome result (λ x. x ≡ w) }
+    ensures back { IfSome result (λ x. column row.now at ≡ int (sort_code x)) }
 {
     word_at(number(row, at)?)
 }
 
 /// The step with a code, if there is a code.
-#[tactic(auto, using(crate::proofs::Coded::step_back))]
+#[tactic(auto, using(crate::proofs::Coded::step_back, crate::proofs::Coded::step_code_of))]
 fn step_with(code: Option<u32>) -> Option<Option<Step>>
-    ensures { (o : Option TheStep) → code ≡ option_map step_code o → IfSome result (λ x. x ≡ o) }
+    ensures read { (o : Option TheStep) → code ≡ option_map step_code o → IfSome result (λ x. x ≡ o) }
+    ensures back { IfSome result (λ x. code ≡ option_map step_code x) }
 {
     match code {
         None => Some(None),
@@ -182,7 +208,8 @@ fn step_with(code: Option<u32>) -> Option<Option<Step>>
 
 /// A step by its code, where -1 stands for none.
 pub(crate) fn step_or_less(row: &Row, at: usize) -> Option<Option<Step>>
-    ensures { (o : Option TheStep) → column row.now at ≡ step_value o → IfSome result (λ x. x ≡ o) }
+    ensures read { (o : Option TheStep) → column row.now at ≡ step_value o → IfSome result (λ x. x ≡ o) }
+    ensures back { IfSome result (λ x. column row.now at ≡ step_value x) }
 {
     step_with(number_or_less(row, at)?)
 }

@@ -12,12 +12,17 @@
 //! has so far given back what was written (`HasCleanDisk` of the connection after the call).
 #![tactic(auto)]
 
+mod check;
+mod check_files;
 mod codes;
 mod commit;
 mod create;
 mod decode;
+mod each;
 mod fields;
 mod open;
+#[cfg(test)]
+mod open_tests;
 mod query;
 mod read;
 pub mod reopen;

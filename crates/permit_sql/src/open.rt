@@ -1,6 +1,6 @@
 //! Whether a database is the office's.
 
-ghost use Rattle.std.specs.Prelude.{◌≡◌, ◌≢◌, ◌⊎◌, false, pos, IsTrue, IfOk, IfErr, OnOk, IsPermutation, map, slice_get, Some, []};
+ghost use Rattle.std.specs.Prelude.{◌≡◌, ◌≢◌, ◌⊎◌, false, pos, IsTrue, IfOk, IfErr, IfSome, OnOk, IsPermutation, map, slice_get, Some, []};
 ghost use Rattle.sqlite.specs.declared.types.Value.TheVariants.{Int};
 ghost use Rattle.sqlite_value.specs.Order.{column};
 ghost use Rattle.sqlite.specs.Held.{state};
@@ -9,12 +9,18 @@ ghost use Rattle.permit_store.specs.declared.store.OpenError.TheVariants as open
 ghost use Rattle.permit_sql.specs.Schema.{desk_table, office_schema};
 ghost use Rattle.permit_sql.specs.Kept.{IsFine};
 ghost use Rattle.permit_sql.specs.Opening.{seen_desk, HasOtherVersion};
+ghost use Rattle.permit_sql.specs.Found.{HasDesk, HasObjects, HasCases, KeepsTyped};
 
+use crate::check::{check_interests, check_parcels, check_parties};
+use crate::check_files::{check_files, check_papers, check_rowids};
+use crate::decode::desk_in;
 use crate::query::read_all;
 use crate::schema::{has_desk, is_office};
+use permit_store::rows::Desk;
 use permit_store::store::{Got, OpenError, StoreError};
 use sqlite::{Alter, Connection, Row};
 use sqlite_value::value::ValueRef;
+use std::alloc::Global;
 
 /// Whether a field is a number, and another than 1.
 fn is_other(row: &Row, at: usize) -> bool
@@ -63,36 +69,118 @@ fn has_other_version<S: Alter>(conn: &mut Connection<S>) -> Got<bool>
     }
 }
 
+/// The desk, where it has one row, of number 1 and version 1, within its limits. With another schema it fails.
+fn find_desk<S: Alter>(conn: &mut Connection<S>) -> Got<Option<Desk>>
+    requires calm { conn.old.in_transaction ≡ false }
+    ensures good { IsFine (state S.Store conn.new) → IfOk result (λ o. IfSome o (λ d. HasDesk d ((state S.Store conn.old).now.trees 0))) }
+    ensures left { IsFine (state S.Store conn.new) → IsFine (state S.Store conn.old) × ((state S.Store conn.new).now ≡ (state S.Store conn.old).now) }
+    ensures crash { Survives (state S.Store conn.old) (state S.Store conn.new) (λ _. ⊥) }
+    ensures calm { conn.new.in_transaction ≡ false }
+{
+    if !is_office(conn.schema()) {
+        return Err(StoreError);
+    }
+    let rows = desk_seen(conn)?;
+    match rows.as_slice() {
+        [row] => Ok(desk_in(row)),
+        _ => Ok(None),
+    }
+}
+
+/// Whether the parties and parcels are as the desk counts them, and they and the interests within their limits.
+fn has_sound_objects<S: Alter>(conn: &mut Connection<S>, desk: Desk) -> Got<bool>
+    requires calm { conn.old.in_transaction ≡ false }
+    ensures good { IsFine (state S.Store conn.new) → IfOk result (λ good. IsTrue good → HasObjects desk (state S.Store conn.old).now.trees) }
+    ensures left { IsFine (state S.Store conn.new) → IsFine (state S.Store conn.old) × ((state S.Store conn.new).now ≡ (state S.Store conn.old).now) }
+    ensures crash { Survives (state S.Store conn.old) (state S.Store conn.new) (λ _. ⊥) }
+    ensures calm { conn.new.in_transaction ≡ false }
+{
+    if !check_parties(conn, desk.parties)? {
+        return Ok(false);
+    }
+    if !check_parcels(conn, desk.parcels)? {
+        return Ok(false);
+    }
+    check_interests(conn)
+}
+
+/// Whether the files are as the desk counts them, and they and their papers within their limits.
+fn has_sound_files<S: Alter>(conn: &mut Connection<S>, alloc: Global, desk: Desk) -> Got<bool>
+    requires calm { conn.old.in_transaction ≡ false }
+    ensures good { IsFine (state S.Store conn.new) → IfOk result (λ good. IsTrue good → HasCases desk (state S.Store conn.old).now.trees) }
+    ensures left { IsFine (state S.Store conn.new) → IsFine (state S.Store conn.old) × ((state S.Store conn.new).now ≡ (state S.Store conn.old).now) }
+    ensures crash { Survives (state S.Store conn.old) (state S.Store conn.new) (λ _. ⊥) }
+    ensures calm { conn.new.in_transaction ≡ false }
+{
+    let Some(counts) = check_files(conn, alloc, desk.files)? else {
+        return Ok(false);
+    };
+    if !check_papers(conn, counts)? {
+        return Ok(false);
+    }
+    check_rowids(conn)
+}
+
+/// Whether the rows are typed tables.
+fn has_sound_rows<S: Alter>(conn: &mut Connection<S>, alloc: Global) -> Got<bool>
+    requires calm { conn.old.in_transaction ≡ false }
+    ensures good { IsFine (state S.Store conn.new) → (state S.Store conn.old).now.schema ≡ office_schema → IfOk result (λ good. IsTrue good → KeepsTyped (state S.Store conn.old).now) }
+    ensures left { IsFine (state S.Store conn.new) → IsFine (state S.Store conn.old) × ((state S.Store conn.new).now ≡ (state S.Store conn.old).now) }
+    ensures crash { Survives (state S.Store conn.old) (state S.Store conn.new) (λ _. ⊥) }
+    ensures calm { conn.new.in_transaction ≡ false }
+{
+    let Some(desk) = find_desk(conn)? else {
+        return Ok(false);
+    };
+    if !has_sound_objects(conn, desk)? {
+        return Ok(false);
+    }
+    has_sound_files(conn, alloc, desk)
+}
+
+/// Whether the schema is the office's and the rows are typed tables; with another schema the refusal is `Store`.
+fn check_tables<S: Alter>(conn: &mut Connection<S>, alloc: Global) -> Result<(), OpenError>
+    requires calm { conn.old.in_transaction ≡ false }
+    ensures typed { IsFine (state S.Store conn.new) → OnOk result (KeepsTyped (state S.Store conn.new).now) }
+    ensures left { IsFine (state S.Store conn.new) → IsFine (state S.Store conn.old) × ((state S.Store conn.new).now ≡ (state S.Store conn.old).now) }
+    ensures refusal { IfErr result (λ e. (e ≡ open_error.Damaged) ⊎ (e ≡ open_error.Store)) }
+    ensures crash { Survives (state S.Store conn.old) (state S.Store conn.new) (λ _. ⊥) }
+    ensures calm { conn.new.in_transaction ≡ false }
+{
+    if !is_office(conn.schema()) {
+        return Err(OpenError::Store);
+    }
+    match has_sound_rows(conn, alloc) {
+        Ok(true) => Ok(()),
+        Ok(false) => Err(OpenError::Damaged),
+        Err(StoreError) => Err(OpenError::Store),
+    }
+}
+
 /// The tests of a connection with no transaction, whose first table is the desk's.
-fn check_desk_first<S: Alter>(conn: &mut Connection<S>) -> Result<(), OpenError>
+fn check_versioned<S: Alter>(conn: &mut Connection<S>, alloc: Global) -> Result<(), OpenError>
     requires calm { conn.old.in_transaction ≡ false }
     requires desk { slice_get (state S.Store conn.old).now.schema.tables 0 ≡ Some desk_table }
-    ensures schema { IsFine (state S.Store conn.new) → OnOk result ((state S.Store conn.new).now.schema ≡ office_schema) }
+    ensures typed { IsFine (state S.Store conn.new) → OnOk result (KeepsTyped (state S.Store conn.new).now) }
     ensures version { HasCleanDisk (state S.Store conn.new) → IfErr result (λ e. e ≡ open_error.Version → HasOtherVersion (state S.Store conn.old).now) }
-    ensures fine { IsFine (state S.Store conn.new) → IsFine (state S.Store conn.old) }
-    ensures same { IsFine (state S.Store conn.new) → (state S.Store conn.new).now ≡ (state S.Store conn.old).now }
-    ensures refusal { IfErr result (λ e. (e ≡ open_error.Version) ⊎ (e ≡ open_error.Store)) }
+    ensures left { IsFine (state S.Store conn.new) → IsFine (state S.Store conn.old) × ((state S.Store conn.new).now ≡ (state S.Store conn.old).now) }
+    ensures refusal { IfErr result (λ e. (e ≡ open_error.Damaged) ⊎ ((e ≡ open_error.Version) ⊎ (e ≡ open_error.Store))) }
     ensures crash { Survives (state S.Store conn.old) (state S.Store conn.new) (λ _. ⊥) }
     ensures calm { conn.new.in_transaction ≡ false }
 {
     match has_other_version(conn) {
-        Ok(false) => {}
-        Ok(true) => return Err(OpenError::Version),
-        Err(StoreError) => return Err(OpenError::Store),
+        Ok(false) => check_tables(conn, alloc),
+        Ok(true) => Err(OpenError::Version),
+        Err(StoreError) => Err(OpenError::Store),
     }
-    if !is_office(conn.schema()) {
-        return Err(OpenError::Store);
-    }
-    Ok(())
 }
 
 /// Finds the office's tables in the database, which it leaves as it is.
-pub(crate) fn check<S: Alter>(conn: &mut Connection<S>) -> Result<(), OpenError>
-    ensures schema { IsFine (state S.Store conn.new) → OnOk result ((state S.Store conn.new).now.schema ≡ office_schema) }
+pub(crate) fn check<S: Alter>(conn: &mut Connection<S>, alloc: Global) -> Result<(), OpenError>
+    ensures typed { IsFine (state S.Store conn.new) → OnOk result (KeepsTyped (state S.Store conn.new).now) }
     ensures version { HasCleanDisk (state S.Store conn.new) → IfErr result (λ e. e ≡ open_error.Version → HasOtherVersion (state S.Store conn.old).now) }
-    ensures fine { IsFine (state S.Store conn.new) → IsFine (state S.Store conn.old) }
-    ensures same { IsFine (state S.Store conn.new) → (state S.Store conn.new).now ≡ (state S.Store conn.old).now }
-    ensures refusal { IfErr result (λ e. (e ≡ open_error.Version) ⊎ (e ≡ open_error.Store)) }
+    ensures left { IsFine (state S.Store conn.new) → IsFine (state S.Store conn.old) × ((state S.Store conn.new).now ≡ (state S.Store conn.old).now) }
+    ensures refusal { IfErr result (λ e. (e ≡ open_error.Damaged) ⊎ ((e ≡ open_error.Version) ⊎ (e ≡ open_error.Store))) }
     ensures crash { Survives (state S.Store conn.old) (state S.Store conn.new) (λ _. ⊥) }
     ensures calm { OnOk result (conn.new.in_transaction ≡ false) }
 {
@@ -102,5 +190,5 @@ pub(crate) fn check<S: Alter>(conn: &mut Connection<S>) -> Result<(), OpenError>
     if !has_desk(conn.schema()) {
         return Err(OpenError::Store);
     }
-    check_desk_first(conn)
+    check_versioned(conn, alloc)
 }

@@ -10,9 +10,10 @@ ghost use Rattle.permit_store.specs.Founding.{founding};
 ghost use Rattle.permit_store.specs.Changes.{Fits, changed};
 ghost use Rattle.permit_store.specs.Counts.{failed_after, handed_after, next_count};
 ghost use Rattle.permit_store.specs.declared.store.OpenError.TheVariants as open_error;
-ghost use Rattle.permit_sql.specs.Schema.{empty_schema, office_schema};
+ghost use Rattle.permit_sql.specs.Schema.{empty_schema};
 ghost use Rattle.permit_sql.specs.Kept.{Keeps, Shows, IsFine};
 ghost use Rattle.permit_sql.specs.Opening.{HasOtherVersion};
+ghost use Rattle.permit_sql.specs.Found.{KeepsTyped};
 
 use crate::commit::commit_in;
 use crate::create::create_in;
@@ -104,24 +105,25 @@ impl<S: Alter> SqlStore<S> {
     }
 
     /// Opens the database that holds the office's tables, which it reads and leaves as they are. It refuses as
-    /// `Version` where the desk's row says another version than 1, which is tested first; and as `Store` where a
-    /// call failed, memory was refused, a transaction is open, or the database has another schema than `create`
-    /// makes. With a refusal the connection comes back, its database as before.
+    /// `Version` where the desk's row says another version than 1, which is tested first; as `Damaged` where the rows
+    /// are out of their limits, or aren't numbered and counted as the desk says; and as `Store` where a call failed,
+    /// memory was refused, a transaction is open, or the database has another schema than `create` makes. With a
+    /// refusal the connection comes back, its database as before.
     pub fn open(
         alloc: Global,
         conn: Connection<S>,
     ) -> Result<SqlStore<S>, (Connection<S>, OpenError)>
         ensures held { IfOk result (λ s. (t : Tables) → HasCleanDisk (state S.Store s.conn) → Shows t (state S.Store conn) → Shows t (state S.Store s.conn)) }
-        ensures schema { IfOk result (λ s. IsFine (state S.Store s.conn) → (state S.Store s.conn).now.schema ≡ office_schema) }
+        ensures typed { IfOk result (λ s. HasCleanDisk (state S.Store s.conn) → IsTrue (state S.Store s.conn).is_open → KeepsTyped (state S.Store s.conn).now) }
         ensures counts { IfOk result (λ s. (s.handed ≡ 0) × (s.failed ≡ 0) × (s.commits ≡ 0)) }
         ensures crash { IfOk result (λ s. Survives (state S.Store conn) (state S.Store s.conn) (λ _. ⊥)) }
         ensures same { IfErr result (λ e. IsFine (state S.Store e.0) → (state S.Store e.0).now ≡ (state S.Store conn).now) }
         ensures kept { IfErr result (λ e. Survives (state S.Store conn) (state S.Store e.0) (λ _. ⊥)) }
         ensures version { IfErr result (λ e. e.1 ≡ open_error.Version → HasCleanDisk (state S.Store e.0) → HasOtherVersion (state S.Store conn).now) }
-        ensures refusal { IfErr result (λ e. (e.1 ≡ open_error.Version) ⊎ (e.1 ≡ open_error.Store)) }
+        ensures refusal { IfErr result (λ e. (e.1 ≡ open_error.Damaged) ⊎ ((e.1 ≡ open_error.Version) ⊎ (e.1 ≡ open_error.Store))) }
     {
         let mut conn = conn;
-        match check(&mut conn) {
+        match check(&mut conn, alloc) {
             Ok(()) => Ok(SqlStore {
                 alloc,
                 conn,

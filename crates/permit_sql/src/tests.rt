@@ -10,7 +10,7 @@ use std::test::Fail;
 
 const DIGEST: &str = "71c480df93d6ae2f1efad1447c66c9525e316218cf51fc8d9ed832f2daf18b73";
 
-fn founder(alloc: Global) -> Result<Option<Founder>, Fail> {
+pub(crate) fn founder(alloc: Global) -> Result<Option<Founder>, Fail> {
     let name = String::from_str(alloc, "Official")?;
     let Some(name) = Text::new(name) else {
         return Ok(None);

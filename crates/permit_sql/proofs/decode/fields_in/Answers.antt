@@ -3,13 +3,13 @@ use Rattle.sqlite_value.specs.Order.{column}
 use Rattle.permit_sql.proofs.Stated.{state_is}
 use Rattle.permit_sql.proofs.decode.fields_in.Goals as goal
 
-pub returns : goal.returns
-returns c = λ is named e.
+pub returns-clause-read : goal.returns-clause-read
+returns-clause-read c = λ is named e.
     let s = is.state in
     let at = λ (n : _). ap (λ r. column r n) e in
     state_is s _ _ _ _ _ _ _ _ _ _ _ _ _ _ _ _ _
-    (c.in_ok-parcel_number.ensures s.parcel (at 1)) (c.in_ok-party_number.ensures s.applicant (at 2)) (c.in_ok-party_or_zero.ensures s.contractor named.contractor (at 3))
-    (c.in_ok-party_or_zero-2.ensures s.reviewer named.reviewer (at 4)) (c.in_ok-party_or_zero-3.ensures s.inspector named.inspector (at 5)) (c.in_ok-kind.ensures s.kind (at 6)) (c.in_ok-day.ensures s.filed (at 9))
-    (c.in_ok-stage.ensures s.stage (at 10)) (c.in_ok-number_or_less.ensures s.deadline (at 11)) (c.in_ok-small_number.ensures s.done (at 12)) (c.in_ok-step_or_less.ensures s.request (at 13))
-    (c.in_ok-day_or_less.ensures s.requested (at 14)) (c.in_ok-days_or_zero.ensures s.ask named.ask (at 15)) (c.in_ok-truth.ensures s.stopped (at 16)) (c.in_ok-short_number.ensures s.notices (at 17))
-    (c.in_ok-short_number-2.ensures s.papers (at 18)) (c.in_ok-number_or_less-2.ensures s.temporary (at 19))
+    (c.in_ok-parcel_number.ensures.read s.parcel (at 1)) (c.in_ok-party_number.ensures.read s.applicant (at 2)) (c.in_ok-party_or_zero.ensures.read s.contractor named.contractor (at 3))
+    (c.in_ok-party_or_zero-2.ensures.read s.reviewer named.reviewer (at 4)) (c.in_ok-party_or_zero-3.ensures.read s.inspector named.inspector (at 5)) (c.in_ok-kind.ensures.read s.kind (at 6)) (c.in_ok-day.ensures.read s.filed (at 9))
+    (c.in_ok-stage.ensures.read s.stage (at 10)) (c.in_ok-number_or_less.ensures.read s.deadline (at 11)) (c.in_ok-small_number.ensures.read s.done (at 12)) (c.in_ok-step_or_less.ensures.read s.request (at 13))
+    (c.in_ok-day_or_less.ensures.read s.requested (at 14)) (c.in_ok-days_or_zero.ensures.read s.ask named.ask (at 15)) (c.in_ok-truth.ensures.read s.stopped (at 16)) (c.in_ok-short_number.ensures.read s.notices (at 17))
+    (c.in_ok-short_number-2.ensures.read s.papers (at 18)) (c.in_ok-number_or_less-2.ensures.read s.temporary (at 19))

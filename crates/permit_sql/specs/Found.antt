@@ -1,0 +1,144 @@
+-- What an open finds in the trees of the tables.
+use Rattle.std.specs.Prelude.{◌≡◌, ◌⊎◌, ⊤, ℕ, ℤ, suc, ◌-◌, ◌<◌, ◌≤◌, ◌<ℤ◌, Option, Some, IfSome, List, [], ◌∷◌, Bool, MatchBool, map, filter, drop, length, slice_get, bytes_eq, unwrap_or, ◌+◌, ◌++◌, IsPermutation}
+use Rattle.std.specs.List.{AllByRecursion}
+use Rattle.sqlite.specs.declared.types.Value.TheVariants.{Int}
+use Rattle.sqlite_value.specs.Order.{Row, column}
+use Rattle.sqlite_trees.specs.Tree.{Trees, has_rowid}
+use Rattle.sqlite_trees.specs.declared.store.Store.{Ghosts}
+use Rattle.sqlite.specs.Effect.{Database, IsDatabase}
+use Rattle.sqlite.specs.State.{Shown}
+use Rattle.sqlite.specs.Held.{Held, state}
+use Rattle.permit_model.specs.Caller.{Party}
+use Rattle.permit_model.specs.Parcels.{Parcel, Interest}
+use Rattle.permit_model.specs.Tables.{Tables, Desk, FileRow, Paper}
+use Rattle.permit_sql.specs.Rows.{desk_row, party_row, parcel_row, file_row, shown_party, shown_parcel, shown_file, shown_interest, shown_paper}
+use Rattle.permit_sql.specs.Kept.{IsNamed, Keeps}
+use Rattle.permit_sql.specs.Taken.{TookAll}
+use Rattle.permit_sql.specs.Typed.{firsts, IsDesk, IsParty, IsParcel, IsInterest, IsFile, IsPaper}
+
+-- a taker took the whole answer to a query of a sound database, which is as it was
+abbrev pub TookTable : {T : Type 0} → (T → Row → T → Bool → Type 0) → {S : Type 0} → Ghosts S → List ℕ → Held S → Held S → T → T → Type 0
+TookTable took {S} g sql old new a b =
+    (rows : List Row) × (was : Held S) × ((state g was).now ≡ (state g old).now) × IsDatabase (state g old).now × Shown sql [] (state g was) (state g new) rows × TookAll took rows a b
+
+-- they are numbered from this number on
+abbrev pub IsNumbered : {X : Type 0} → (X → ℕ) → ℕ → List X → Type 0
+IsNumbered number n [] = ⊤
+IsNumbered number n (x ∷ xs) = (number x ≡ n) × IsNumbered number (suc n) xs
+
+-- ---- what a row is taken as, with the count of rows before it and after it
+
+abbrev pub TakesParty : ℕ → Row → ℕ → Type 0
+TakesParty before row after = (p : Party) × IsParty p × (firsts 4 0 row ≡ shown_party p) × (p.id ≡ suc before) × (after ≡ suc before)
+
+abbrev pub TakesParcel : ℕ → Row → ℕ → Type 0
+TakesParcel before row after = (p : Parcel) × IsParcel p × (firsts 4 0 row ≡ shown_parcel p) × (p.id ≡ suc before) × (after ≡ suc before)
+
+abbrev pub IsGoodFile : FileRow → Type 0
+IsGoodFile f = IsFile f × IsNamed f.state
+
+-- a file, with the counts of papers so far
+abbrev pub TakesFile : List ℕ → Row → List ℕ → Type 0
+TakesFile before row after = (f : FileRow) × IsGoodFile f × (firsts 20 0 row ≡ shown_file f) × (f.id ≡ suc (length before)) × (after ≡ before ++ f.state.papers ∷ [])
+
+abbrev pub TakesInterest : Row → Type 0
+TakesInterest row = (i : Interest) × IsInterest i × (firsts 2 0 row ≡ shown_interest i)
+
+-- the same file and a higher number, or a later file
+abbrev pub IsLater : ℕ → ℕ → ℕ → ℕ → Type 0
+IsLater file number next_file next_number = ((next_file ≡ file) × (number < next_number)) ⊎ (file < next_file)
+
+-- how many papers the file with this number has
+abbrev pub counted_in : List ℕ → ℕ → ℕ
+counted_in counts file = unwrap_or (slice_get counts (file - 1)) 0
+
+abbrev pub TakesPaper : List ℕ → ℕ → ℕ → Row → ℕ → ℕ → Type 0
+TakesPaper counts file number row next_file next_number =
+    (p : Paper) × IsPaper p × (firsts 9 0 row ≡ shown_paper p) × (p.file ≡ next_file) × (p.number ≡ next_number) × IsLater file number next_file next_number × (next_number ≤ counted_in counts next_file)
+
+-- ---- what a tree holds
+
+pub record HasParties (count : ℕ) (tree : List Row) : Type 0 where
+  pub all : List Party
+  pub good : AllByRecursion IsParty all
+  pub numbered : IsNumbered (λ p. p.id) 1 all
+  pub counted : length all ≡ count
+  pub here : IsPermutation (map party_row all) tree
+  pub digests : (digest : List ℕ) → length (filter (λ p. bytes_eq p.digest digest) all) ≤ 1
+
+pub record HasParcels (count : ℕ) (tree : List Row) : Type 0 where
+  pub all : List Parcel
+  pub good : AllByRecursion IsParcel all
+  pub numbered : IsNumbered (λ p. p.id) 1 all
+  pub counted : length all ≡ count
+  pub here : IsPermutation (map parcel_row all) tree
+  pub lots : (lot : List ℕ) → length (filter (λ p. bytes_eq p.lot lot) all) ≤ 1
+
+pub record HasFiles (counts : List ℕ) (tree : List Row) : Type 0 where
+  pub all : List FileRow
+  pub good : AllByRecursion IsGoodFile all
+  pub numbered : IsNumbered (λ f. f.id) 1 all
+  pub counted : map (λ f. f.state.papers) all ≡ counts
+  pub here : IsPermutation (map file_row all) tree
+
+pub record HasInterests (tree : List Row) : Type 0 where
+  pub all : List Interest
+  pub good : AllByRecursion IsInterest all
+  pub here : IsPermutation (map shown_interest all) (map (drop 1) tree)
+
+-- in the order of their files and numbers
+abbrev pub IsRising : ℕ → ℕ → List Paper → Type 0
+IsRising file number [] = ⊤
+IsRising file number (p ∷ ps) = IsLater file number p.file p.number × IsRising p.file p.number ps
+
+pub record HasPapers (counts : List ℕ) (tree : List Row) : Type 0 where
+  pub all : List Paper
+  pub good : AllByRecursion IsPaper all
+  pub rising : IsRising 0 0 all
+  pub counted : AllByRecursion (λ p. p.number ≤ counted_in counts p.file) all
+  pub here : IsPermutation (map shown_paper all) (map (drop 1) tree)
+
+-- no rowid comes twice
+abbrev pub IsApart : List Row → Type 0
+IsApart tree = (id : ℤ) → length (filter (has_rowid id) tree) ≤ 1
+
+-- a rowid above the last one, if there was one
+abbrev pub TakesRowid : Option ℤ → Row → Option ℤ → Type 0
+TakesRowid last row next = (id : ℤ) × (column row 0 ≡ Int id) × IfSome last (λ l. l <ℤ id) × (next ≡ Some id)
+
+pub record HasDesk (d : Desk) (tree : List Row) : Type 0 where
+  pub good : IsDesk d
+  pub here : tree ≡ desk_row d ∷ []
+
+-- the parties, parcels and interests, as the desk counts them
+pub record HasObjects (d : Desk) (trees : Trees) : Type 0 where
+  pub parties : HasParties d.parties (trees 1)
+  pub parcels : HasParcels d.parcels (trees 3)
+  pub interests : HasInterests (trees 5)
+
+-- the files and papers, as the desk counts the files
+pub record HasCases (d : Desk) (trees : Trees) : Type 0 where
+  pub counts : List ℕ
+  pub files : HasFiles counts (trees 7)
+  pub counted : length counts ≡ d.files
+  pub papers : HasPapers counts (trees 8)
+  pub apart : IsApart (trees 8)
+
+-- Each row is within the limits of its type, the objects are numbered from 1, and the desk counts them.
+pub record AreTyped (t : Tables) : Type 0 where
+  pub desk : IsDesk t.desk
+  pub parties : AllByRecursion IsParty t.parties
+  pub parcels : AllByRecursion IsParcel t.parcels
+  pub interests : AllByRecursion IsInterest t.interests
+  pub files : AllByRecursion (λ f. IsFile f) t.files
+  pub papers : AllByRecursion IsPaper t.papers
+  pub party_numbers : IsNumbered (λ p. p.id) 1 t.parties
+  pub parcel_numbers : IsNumbered (λ p. p.id) 1 t.parcels
+  pub file_numbers : IsNumbered (λ f. f.id) 1 t.files
+  pub party_count : length t.parties ≡ t.desk.parties
+  pub parcel_count : length t.parcels ≡ t.desk.parcels
+  pub file_count : length t.files ≡ t.desk.files
+
+-- typed tables that the database keeps
+abbrev pub KeepsTyped : Database → Type 0
+KeepsTyped db = (t : Tables) × AreTyped t × Keeps t db

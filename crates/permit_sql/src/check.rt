@@ -1,0 +1,155 @@
+//! The rows of the tables, tested one at a time.
+
+ghost use Rattle.std.specs.Prelude.{◌≡◌, ⊤, false, IsTrue, MatchBool, IfOk, IfSome};
+ghost use Rattle.sqlite.specs.Given.{IsPlain};
+ghost use Rattle.sqlite.specs.Listing.{understood};
+ghost use Rattle.sqlite.specs.State.{HasCleanDisk, Survives};
+ghost use Rattle.sqlite.specs.Held.{state};
+ghost use Rattle.permit_sql.specs.Schema.{office_schema};
+ghost use Rattle.permit_sql.specs.Kept.{IsFine};
+ghost use Rattle.permit_sql.specs.Found.{TookTable, TakesParty, TakesParcel, TakesInterest, HasParties, HasParcels, HasInterests};
+
+use crate::decode::{interest_in, parcel_in, party_in};
+use crate::each::{Taker, each_row};
+use crate::schema::is_office;
+use permit_store::store::{Got, StoreError};
+use sqlite::{Alter, Connection, Row};
+
+/// Whether the taker takes all rows of an answer, in a database of the office's schema; with another it fails. The
+/// database stays as it is.
+pub(crate) fn takes_all<S: Alter, T: Taker>(conn: &mut Connection<S>, sql: &str, taker: &mut T) -> Got<bool>
+    requires calm { conn.old.in_transaction ≡ false }
+    requires plain { IsPlain (understood office_schema sql.now) }
+    ensures all { HasCleanDisk (state S.Store conn.new) → IfOk result (λ all. IsTrue all → ((state S.Store conn.old).now.schema ≡ office_schema) × TookTable T.Taker.took S.Store sql.now conn.old conn.new taker.old taker.new) }
+    ensures left { IsFine (state S.Store conn.new) → IsFine (state S.Store conn.old) × ((state S.Store conn.new).now ≡ (state S.Store conn.old).now) }
+    ensures crash { Survives (state S.Store conn.old) (state S.Store conn.new) (λ _. ⊥) }
+    ensures calm { conn.new.in_transaction ≡ false }
+{
+    if !is_office(conn.schema()) {
+        return Err(StoreError);
+    }
+    match each_row(conn, sql, &[], taker) {
+        Ok(all) => Ok(all),
+        Err(_) => Err(StoreError),
+    }
+}
+
+/// How many parties were read, each with the next number.
+#[derive(Drop)]
+struct Parties {
+    count: u32,
+}
+
+impl Taker for Parties {
+    ghost took = { λ a row b good. MatchBool good (TakesParty a.count row b.count) ⊤ };
+
+    fn take(&mut self, row: &Row) -> bool {
+        let Some(party) = party_in(row) else {
+            return false;
+        };
+        let Some(next) = self.count.checked_add(1) else {
+            return false;
+        };
+        if party.id.get() != next {
+            return false;
+        }
+        self.count = next;
+        true
+    }
+}
+
+/// Whether there are so many parties, numbered from 1, each within its limits.
+pub(crate) fn check_parties<S: Alter>(conn: &mut Connection<S>, count: u32) -> Got<bool>
+    requires calm { conn.old.in_transaction ≡ false }
+    ensures good { HasCleanDisk (state S.Store conn.new) → IfOk result (λ good. IsTrue good → HasParties count ((state S.Store conn.old).now.trees 1)) }
+    ensures left { IsFine (state S.Store conn.new) → IsFine (state S.Store conn.old) × ((state S.Store conn.new).now ≡ (state S.Store conn.old).now) }
+    ensures crash { Survives (state S.Store conn.old) (state S.Store conn.new) (λ _. ⊥) }
+    ensures calm { conn.new.in_transaction ≡ false }
+{
+    let mut parties = Parties { count: 0 };
+    let all = takes_all(
+        conn,
+        "SELECT id, name, role, digest FROM party ORDER BY id",
+        &mut parties,
+    )?;
+    Ok(all && parties.count == count)
+}
+
+/// How many parcels were read, each with the next number.
+#[derive(Drop)]
+struct Parcels {
+    count: u32,
+}
+
+impl Taker for Parcels {
+    ghost took = { λ a row b good. MatchBool good (TakesParcel a.count row b.count) ⊤ };
+
+    fn take(&mut self, row: &Row) -> bool {
+        let Some(parcel) = parcel_in(row) else {
+            return false;
+        };
+        let Some(next) = self.count.checked_add(1) else {
+            return false;
+        };
+        if parcel.id.get() != next {
+            return false;
+        }
+        self.count = next;
+        true
+    }
+}
+
+/// Whether there are so many parcels, numbered from 1, each within its limits.
+pub(crate) fn check_parcels<S: Alter>(conn: &mut Connection<S>, count: u32) -> Got<bool>
+    requires calm { conn.old.in_transaction ≡ false }
+    ensures good { HasCleanDisk (state S.Store conn.new) → IfOk result (λ good. IsTrue good → HasParcels count ((state S.Store conn.old).now.trees 3)) }
+    ensures left { IsFine (state S.Store conn.new) → IsFine (state S.Store conn.old) × ((state S.Store conn.new).now ≡ (state S.Store conn.old).now) }
+    ensures crash { Survives (state S.Store conn.old) (state S.Store conn.new) (λ _. ⊥) }
+    ensures calm { conn.new.in_transaction ≡ false }
+{
+    let mut parcels = Parcels { count: 0 };
+    let all = takes_all(
+        conn,
+        "SELECT id, lot, address, owner FROM parcel ORDER BY id",
+        &mut parcels,
+    )?;
+    Ok(all && parcels.count == count)
+}
+
+/// Whether the row is an interest's, its numbers within their limits.
+#[tactic(auto, using(crate::proofs::Checks::interest_taken))]
+fn is_interest(row: &Row) -> bool
+    ensures { IsTrue result → TakesInterest row.now }
+{
+    match interest_in(row) {
+        Some((_, _)) => true,
+        None => false,
+    }
+}
+
+/// Interests are taken in any order.
+#[derive(Drop)]
+struct Interests;
+
+impl Taker for Interests {
+    ghost took = { λ a row b good. MatchBool good (TakesInterest row) ⊤ };
+
+    fn take(&mut self, row: &Row) -> bool {
+        is_interest(row)
+    }
+}
+
+/// Whether each interest is of numbers within their limits.
+pub(crate) fn check_interests<S: Alter>(conn: &mut Connection<S>) -> Got<bool>
+    requires calm { conn.old.in_transaction ≡ false }
+    ensures good { HasCleanDisk (state S.Store conn.new) → IfOk result (λ good. IsTrue good → HasInterests ((state S.Store conn.old).now.trees 5)) }
+    ensures left { IsFine (state S.Store conn.new) → IsFine (state S.Store conn.old) × ((state S.Store conn.new).now ≡ (state S.Store conn.old).now) }
+    ensures crash { Survives (state S.Store conn.old) (state S.Store conn.new) (λ _. ⊥) }
+    ensures calm { conn.new.in_transaction ≡ false }
+{
+    takes_all(
+        conn,
+        "SELECT parcel, party FROM interest",
+        &mut Interests,
+    )
+}

@@ -1,0 +1,178 @@
+//! The rows of files and papers, tested one at a time.
+
+ghost use Rattle.std.specs.Prelude.{◌≡◌, ◌↔◌, ⊤, false, IsTrue, MatchBool, IfOk, IfSome, length};
+ghost use Rattle.sqlite.specs.State.{HasCleanDisk, Survives};
+ghost use Rattle.sqlite.specs.Held.{state};
+ghost use Rattle.permit_sql.specs.Kept.{IsFine};
+ghost use Rattle.permit_sql.specs.Found.{TakesFile, TakesPaper, TakesRowid, IsLater, HasFiles, HasPapers, IsApart};
+
+use crate::check::takes_all;
+use crate::decode::{file_in, paper_in};
+use crate::each::Taker;
+use crate::fields::whole_number;
+use permit_store::store::{Got, StoreError};
+use sqlite::{Alter, Connection, Row};
+use std::alloc::Global;
+
+/// The counts of papers of the files that were read, each with the next number.
+#[derive(Drop)]
+struct Files {
+    counts: Vec<u16>,
+    lacks_memory: bool,
+}
+
+impl Taker for Files {
+    ghost took = { λ a row b good. MatchBool good (TakesFile a.counts.items row b.counts.items) ⊤ };
+
+    fn take(&mut self, row: &Row) -> bool {
+        let Some(file) = file_in(row) else {
+            return false;
+        };
+        if file.id.get() as usize != self.counts.len() + 1 {
+            return false;
+        }
+        match self.counts.push(file.state.papers()) {
+            Ok(()) => true,
+            Err(_) => {
+                self.lacks_memory = true;
+                false
+            }
+        }
+    }
+}
+
+/// The count of papers of each file, where there are so many files, numbered from 1, each within its limits.
+pub(crate) fn check_files<S: Alter>(
+    conn: &mut Connection<S>,
+    alloc: Global,
+    count: u32,
+) -> Got<Option<Vec<u16>>>
+    requires calm { conn.old.in_transaction ≡ false }
+    ensures good { HasCleanDisk (state S.Store conn.new) → IfOk result (λ o. IfSome o (λ counts. HasFiles counts.items ((state S.Store conn.old).now.trees 7))) }
+    ensures counted { IfOk result (λ o. IfSome o (λ counts. length counts.items ≡ count)) }
+    ensures left { IsFine (state S.Store conn.new) → IsFine (state S.Store conn.old) × ((state S.Store conn.new).now ≡ (state S.Store conn.old).now) }
+    ensures crash { Survives (state S.Store conn.old) (state S.Store conn.new) (λ _. ⊥) }
+    ensures calm { conn.new.in_transaction ≡ false }
+{
+    let mut files = Files {
+        counts: Vec::new(alloc),
+        lacks_memory: false,
+    };
+    let all = takes_all(
+        conn,
+        "SELECT id, parcel, applicant, contractor, reviewer, inspector, kind, valuation, description, filed, stage, deadline, done, request, requested, ask, stopped, notices, papers, temporary FROM file ORDER BY id",
+        &mut files,
+    )?;
+    if files.lacks_memory {
+        return Err(StoreError);
+    }
+    if !all {
+        return Ok(None);
+    }
+    if files.counts.len() != count as usize {
+        return Ok(None);
+    }
+    Ok(Some(files.counts))
+}
+
+/// Whether the second is a later paper: of the same file with a higher number, or of a later file.
+fn is_later(file: u32, number: u32, next_file: u32, next_number: u32) -> bool
+    ensures { IsTrue result → IsLater file number next_file next_number }
+{
+    if next_file == file {
+        number < next_number
+    } else {
+        file < next_file
+    }
+}
+
+/// The paper that was read last, and the counts of papers of the files.
+#[derive(Drop)]
+struct Papers {
+    file: u32,
+    number: u32,
+    counts: Vec<u16>,
+}
+
+impl Taker for Papers {
+    ghost took = { λ a row b good. MatchBool good (TakesPaper a.counts.items a.file a.number row b.file b.number × (b.counts.items ≡ a.counts.items)) ⊤ };
+
+    fn take(&mut self, row: &Row) -> bool {
+        let Some(paper) = paper_in(row) else {
+            return false;
+        };
+        let file = paper.file.get();
+        let number = paper.number.get();
+        let Some(count) = self.counts.get(file as usize - 1) else {
+            return false;
+        };
+        if number > u32::from(*count) {
+            return false;
+        }
+        if !is_later(self.file, self.number, file, number) {
+            return false;
+        }
+        self.file = file;
+        self.number = number;
+        true
+    }
+}
+
+/// Whether each paper is within its limits, and each file's papers have numbers of their own, none above the file's
+/// count.
+pub(crate) fn check_papers<S: Alter>(conn: &mut Connection<S>, counts: Vec<u16>) -> Got<bool>
+    requires calm { conn.old.in_transaction ≡ false }
+    ensures good { HasCleanDisk (state S.Store conn.new) → IfOk result (λ good. IsTrue good → HasPapers counts.items ((state S.Store conn.old).now.trees 8)) }
+    ensures left { IsFine (state S.Store conn.new) → IsFine (state S.Store conn.old) × ((state S.Store conn.new).now ≡ (state S.Store conn.old).now) }
+    ensures crash { Survives (state S.Store conn.old) (state S.Store conn.new) (λ _. ⊥) }
+    ensures calm { conn.new.in_transaction ≡ false }
+{
+    let mut papers = Papers {
+        file: 0,
+        number: 0,
+        counts,
+    };
+    takes_all(
+        conn,
+        "SELECT file, number, day, author, sort, days, text, terms, open FROM paper ORDER BY file, number",
+        &mut papers,
+    )
+}
+
+/// The rowid that was read last.
+#[derive(Drop)]
+struct Rowids {
+    last: Option<i64>,
+}
+
+impl Taker for Rowids {
+    ghost took = { λ a row b good. MatchBool good (TakesRowid a.last row b.last) ⊤ };
+
+    fn take(&mut self, row: &Row) -> bool {
+        let Some(next) = whole_number(row, 0) else {
+            return false;
+        };
+        if let Some(last) = self.last {
+            if next <= last {
+                return false;
+            }
+        }
+        self.last = Some(next);
+        true
+    }
+}
+
+/// Whether no rowid of a paper comes twice.
+pub(crate) fn check_rowids<S: Alter>(conn: &mut Connection<S>) -> Got<bool>
+    requires calm { conn.old.in_transaction ≡ false }
+    ensures good { HasCleanDisk (state S.Store conn.new) → IfOk result (λ good. IsTrue good → IsApart ((state S.Store conn.old).now.trees 8)) }
+    ensures left { IsFine (state S.Store conn.new) → IsFine (state S.Store conn.old) × ((state S.Store conn.new).now ≡ (state S.Store conn.old).now) }
+    ensures crash { Survives (state S.Store conn.old) (state S.Store conn.new) (λ _. ⊥) }
+    ensures calm { conn.new.in_transaction ≡ false }
+{
+    takes_all(
+        conn,
+        "SELECT rowid FROM paper ORDER BY rowid",
+        &mut Rowids { last: None },
+    )
+}

@@ -1,0 +1,86 @@
+//! Opening over memory.
+
+use crate::store::SqlStore;
+use crate::tests::founder;
+use permit_store::store::OpenError;
+use sqlite::{Connection, MemStore};
+use std::alloc::Global;
+use std::test::Fail;
+
+/// A database with the founding alone.
+fn founded(alloc: Global) -> Result<Option<Connection<MemStore>>, Fail> {
+    let Some(founder) = founder(alloc)? else {
+        return Ok(None);
+    };
+    match SqlStore::create(alloc, Connection::open_in_memory(alloc)?, &founder) {
+        Ok(store) => Ok(Some(store.into_connection())),
+        Err((_, _)) => Ok(None),
+    }
+}
+
+/// Why a founded database isn't opened once a statement has run; none where it is.
+fn refusal(alloc: Global, statement: &str) -> Result<Option<OpenError>, Fail> {
+    let Some(mut conn) = founded(alloc)? else {
+        return Ok(Some(OpenError::Exists));
+    };
+    conn.execute(statement, &[])?;
+    match SqlStore::open(alloc, conn) {
+        Ok(_) => Ok(None),
+        Err((_, why)) => Ok(Some(why)),
+    }
+}
+
+#[test]
+fn a_founded_database_is_opened(rt: HostRuntime) -> Result<(), Fail> {
+    let Some(conn) = founded(rt.alloc())? else {
+        assert!(rt; false);
+        return Ok(());
+    };
+    let store = match SqlStore::open(rt.alloc(), conn) {
+        Ok(store) => store,
+        Err((_, _)) => {
+            assert!(rt; false);
+            return Ok(());
+        }
+    };
+    let mut conn = store.into_connection();
+    let row = conn.query_row("SELECT name FROM party WHERE id = 1 AND role = 4", &[])?;
+    let name: String = row.get(0)?;
+    assert_eq!(rt; name.as_str(), "Official");
+    Ok(())
+}
+
+#[test]
+fn another_version_is_told_first(rt: HostRuntime) -> Result<(), Fail> {
+    let why = refusal(rt.alloc(), "UPDATE desk SET version = 2, parties = 7")?;
+    assert_eq!(rt; why, Some(OpenError::Version));
+    Ok(())
+}
+
+#[test]
+fn another_schema_is_refused(rt: HostRuntime) -> Result<(), Fail> {
+    let more = refusal(rt.alloc(), "CREATE TABLE more (id INTEGER PRIMARY KEY) STRICT")?;
+    assert_eq!(rt; more, Some(OpenError::Store));
+    let fewer = refusal(rt.alloc(), "DROP INDEX interest_party")?;
+    assert_eq!(rt; fewer, Some(OpenError::Store));
+    match SqlStore::open(rt.alloc(), Connection::open_in_memory(rt.alloc())?) {
+        Ok(_) => assert!(rt; false),
+        Err((_, why)) => assert_eq!(rt; why, OpenError::Store),
+    }
+    Ok(())
+}
+
+#[test]
+fn damaged_rows_are_refused(rt: HostRuntime) -> Result<(), Fail> {
+    let role = refusal(rt.alloc(), "UPDATE party SET role = 9")?;
+    assert_eq!(rt; role, Some(OpenError::Damaged));
+    let digest = refusal(rt.alloc(), "UPDATE party SET digest = 'x'")?;
+    assert_eq!(rt; digest, Some(OpenError::Damaged));
+    let count = refusal(rt.alloc(), "UPDATE desk SET parties = 2")?;
+    assert_eq!(rt; count, Some(OpenError::Damaged));
+    let none = refusal(rt.alloc(), "DELETE FROM desk")?;
+    assert_eq!(rt; none, Some(OpenError::Damaged));
+    let interest = refusal(rt.alloc(), "UPDATE party SET name = 'Another'")?;
+    assert_eq!(rt; interest, None);
+    Ok(())
+}
