@@ -2,6 +2,7 @@
 
 use crate::offices::Offices;
 use permit_base::values::Day;
+use permit_days::dates::date_text;
 use permit_http::inbox::Inbox;
 use permit_office::office::Office;
 use permit_store::store::Store;
@@ -67,9 +68,9 @@ pub fn serve(
     Ok((served, written))
 }
 
-/// What is written for one whole request.
+/// What is written for one whole request; the program on its database prints the body of the same answer.
 pub fn asked(
-    alloc: Global,
+    rt: &HostRuntime,
     offices: &mut Offices,
     method: &str,
     path: &str,
@@ -77,7 +78,17 @@ pub fn asked(
     body: &str,
     day: Day,
 ) -> Result<String, Fail> {
+    let alloc = rt.alloc();
     let bytes = request(alloc, method, path, token, body)?;
     let (_, written) = serve(alloc, offices, bytes.as_str().as_bytes(), day)?;
+    let date = date_text(alloc, day.get())?;
+    let said = offices.acted(rt, method, path, token, body, date.as_str())?;
+    let (_, answered) = written
+        .as_str()
+        .split_once("\r\n\r\n")
+        .ok_or("an answer has a body")?;
+    if said.as_str().strip_suffix("\n") != Some(answered) {
+        return Err(Fail::new(format!(in alloc; "served {answered}, the program prints {said}")?));
+    }
     Ok(written)
 }

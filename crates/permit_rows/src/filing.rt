@@ -18,10 +18,10 @@ fn house(alloc: Global, stage: &str, timing: &str) -> Result<String, Fail> {
 }
 
 /// The office in which party 5 has filed on parcel 1 on 2024-01-01.
-pub fn filed(alloc: Global) -> Result<(Offices, String), Fail> {
-    let mut office = opened(alloc)?;
+pub fn filed(rt: &HostRuntime) -> Result<(Offices, String), Fail> {
+    let mut office = opened(rt)?;
     let written = asked(
-        alloc,
+        rt,
         &mut office,
         "POST",
         "/files",
@@ -35,7 +35,7 @@ pub fn filed(alloc: Global) -> Result<(Offices, String), Fail> {
 #[test]
 fn filing_and_abandonment(rt: HostRuntime) -> Result<(), Fail> {
     let alloc = rt.alloc();
-    let (mut office, written) = filed(alloc)?;
+    let (mut office, written) = filed(&rt)?;
     assert_eq!(rt;
         written.as_str(),
         answer(
@@ -48,7 +48,7 @@ fn filing_and_abandonment(rt: HostRuntime) -> Result<(), Fail> {
     let near = answer(alloc, "200 OK", house(alloc, "filed", "near")?.as_str())?;
     for party in [TOKENS[0], TOKENS[4]] {
         let read = asked(
-            alloc,
+            &rt,
             &mut office,
             "GET",
             "/files/1",
@@ -60,7 +60,7 @@ fn filing_and_abandonment(rt: HostRuntime) -> Result<(), Fail> {
     }
     let past = answer(alloc, "200 OK", house(alloc, "abandoned", "past")?.as_str())?;
     let read = asked(
-        alloc,
+        &rt,
         &mut office,
         "GET",
         "/files/1",
@@ -75,7 +75,7 @@ fn filing_and_abandonment(rt: HostRuntime) -> Result<(), Fail> {
         "{\"refused\":\"denied\",\"rule\":\"closed-to-public\"}",
     )?;
     let read = asked(
-        alloc,
+        &rt,
         &mut office,
         "GET",
         "/files/1",

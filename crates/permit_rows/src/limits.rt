@@ -29,9 +29,9 @@ fn filing_of(alloc: Global, size: usize) -> Result<String, Fail> {
 #[test]
 fn limits_of_text(rt: HostRuntime) -> Result<(), Fail> {
     let alloc = rt.alloc();
-    let mut office = opened(alloc)?;
+    let mut office = opened(&rt)?;
     let long = asked(
-        alloc,
+        &rt,
         &mut office,
         "POST",
         "/files",
@@ -44,7 +44,7 @@ fn limits_of_text(rt: HostRuntime) -> Result<(), Fail> {
         answer(alloc, "400 Bad Request", "{\"refused\":\"syntax\"}")?.as_str()
     );
     let full = asked(
-        alloc,
+        &rt,
         &mut office,
         "POST",
         "/files",
@@ -156,7 +156,7 @@ fn words_of(alloc: Global, replies: &[Reply]) -> Result<Vec<&'static str>, Fail>
 #[test]
 fn clock_that_goes_back(rt: HostRuntime) -> Result<(), Fail> {
     let alloc = rt.alloc();
-    let mut office = founded(alloc)?;
+    let mut office = founded(&rt)?;
     let mut requests = Vec::new(alloc);
     requests.push((parcel_on(alloc, "B-1")?, day(20000)?))?;
     requests.push((parcel_on(alloc, "B-2")?, day(19990)?))?;

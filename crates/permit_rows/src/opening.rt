@@ -2,11 +2,9 @@
 
 use crate::exchange::{answer, asked};
 use crate::offices::Offices;
-use crate::standard::POLICY;
 use permit_base::digests::digest;
 use permit_base::values::{Day, Text, Token};
 use permit_store::founder::Founder;
-use std::alloc::Global;
 use std::test::Fail;
 
 /// The tokens of the parties, by their numbers from 1.
@@ -29,23 +27,25 @@ pub fn day(number: u32) -> Result<Day, Fail> {
 }
 
 /// The office after its founding.
-pub fn founded(alloc: Global) -> Result<Offices, Fail> {
+pub fn founded(rt: &HostRuntime) -> Result<Offices, Fail> {
+    let alloc = rt.alloc();
     let name = Text::new(String::from_str(alloc, "Chief")?).ok_or("a name")?;
     let token = Token::new(String::from_str(alloc, TOKENS[0])?).ok_or("a token")?;
     let founder = Founder::new(name, digest(&token)?, day(FOUNDED)?).ok_or("a founder")?;
-    Offices::found(alloc, &founder, POLICY)
+    Offices::found(rt, &founder, TOKENS[0], "2023-12-09")
 }
 
 /// Asks as party 1 on the day of the founding, and wants the number that is made.
 fn add(
-    alloc: Global,
+    rt: &HostRuntime,
     office: &mut Offices,
     path: &str,
     body: &str,
     action: &str,
     number: u32,
 ) -> Result<(), Fail> {
-    let written = asked(alloc, office, "POST", path, TOKENS[0], body, day(FOUNDED)?)?;
+    let alloc = rt.alloc();
+    let written = asked(rt, office, "POST", path, TOKENS[0], body, day(FOUNDED)?)?;
     let made = format!(in alloc;
         "{{\"day\":{FOUNDED},\"done\":\"{action}\",\"number\":{number}}}"
     )?;
@@ -58,8 +58,9 @@ fn add(
 
 /// The office after the opening: a clerk, a reviewer, an inspector, two of the public and another inspector; two
 /// parcels of the public's.
-pub fn opened(alloc: Global) -> Result<Offices, Fail> {
-    let mut office = founded(alloc)?;
+pub fn opened(rt: &HostRuntime) -> Result<Offices, Fail> {
+    let alloc = rt.alloc();
+    let mut office = founded(rt)?;
     let parties = [
         (2, "Cal", "clerk"),
         (3, "Rae", "reviewer"),
@@ -78,7 +79,7 @@ pub fn opened(alloc: Global) -> Result<Offices, Fail> {
             "add-staff"
         };
         add(
-            alloc,
+            rt,
             &mut office,
             "/parties",
             body.as_str(),
@@ -87,7 +88,7 @@ pub fn opened(alloc: Global) -> Result<Offices, Fail> {
         )?;
     }
     add(
-        alloc,
+        rt,
         &mut office,
         "/parcels",
         "{\"lot\":\"A-1\",\"address\":\"1 Main St\",\"owner\":5}",
@@ -95,7 +96,7 @@ pub fn opened(alloc: Global) -> Result<Offices, Fail> {
         1,
     )?;
     add(
-        alloc,
+        rt,
         &mut office,
         "/parcels",
         "{\"lot\":\"A-2\",\"address\":\"2 Main St\",\"owner\":6}",

@@ -12,10 +12,10 @@ use std::test::Fail;
 #[test]
 fn zero_rules(rt: HostRuntime) -> Result<(), Fail> {
     let alloc = rt.alloc();
-    let (office, _) = filed(alloc)?;
-    let mut office = office.under(alloc, "")?;
+    let (office, _) = filed(&rt)?;
+    let mut office = office.under(&rt, "")?;
     let read = asked(
-        alloc,
+        &rt,
         &mut office,
         "GET",
         "/files/1",
@@ -35,7 +35,7 @@ fn zero_rules(rt: HostRuntime) -> Result<(), Fail> {
 #[test]
 fn step_by_digest(rt: HostRuntime) -> Result<(), Fail> {
     let alloc = rt.alloc();
-    let (mut office, _) = filed(alloc)?;
+    let (mut office, _) = filed(&rt)?;
     let token = Token::new(String::from_str(alloc, TOKENS[0])?).ok_or("a token")?;
     let file = FileId::new(1).ok_or("a file")?;
     match office

@@ -112,14 +112,15 @@ fn answer_of(alloc: Global, turn: &Turn) -> Result<String, Fail> {
 }
 
 /// Plays one turn, and fails where the answer is another than it wants.
-fn play_one(alloc: Global, office: &mut Offices, turn: &Turn) -> Result<(), Fail> {
+fn play_one(rt: &HostRuntime, office: &mut Offices, turn: &Turn) -> Result<(), Fail> {
+    let alloc = rt.alloc();
     let method = if is_command(turn.path) { "POST" } else { "GET" };
     let token = TOKENS
         .get(turn.party.wrapping_sub(1))
         .copied()
         .unwrap_or("");
     let written = asked(
-        alloc,
+        rt,
         office,
         method,
         turn.path,
@@ -147,9 +148,9 @@ fn play_one(alloc: Global, office: &mut Offices, turn: &Turn) -> Result<(), Fail
 }
 
 /// Plays the turns in order.
-pub fn play(alloc: Global, office: &mut Offices, turns: &[Turn]) -> Result<(), Fail> {
+pub fn play(rt: &HostRuntime, office: &mut Offices, turns: &[Turn]) -> Result<(), Fail> {
     for turn in turns {
-        play_one(alloc, office, turn)?;
+        play_one(rt, office, turn)?;
     }
     Ok(())
 }
