@@ -100,8 +100,14 @@ module _ {S : Type 0} (g : Ghosts S) (old new : Held S) (schema : (state g old).
       let inside = in_tree 4 shown_party party_row (λ r. column r 0 ∷ firsts 3 2 r) with_null (λ r. r) (λ r. refl) (λ p. refl) (now.trees 1) took.0 taken.0 here taken.4 whole in
       let all = subst (IsPermutation (map party_row taken.0)) (map_itself (now.trees 1)) inside in
       let long : length taken.0 ≡ count = let e = taken.3 in omega (arith, e, same) in
-      record { all = taken.0; good = taken.1; numbered = taken.2; counted = long; here = all;
-        digests = once_each (λ (p : Party). p.digest) taken.0 (unclashed party_row (λ p. p.id) (λ p. p.digest) (same_text 4) party_clash 1 taken.0 (now.trees 1) taken.2 all (party_keys now.trees (now.trees 1) unique.1.0)) }
+      record {
+        all = taken.0;
+        good = taken.1;
+        numbered = taken.2;
+        counted = long;
+        here = all;
+        digests = once_each (λ (p : Party). p.digest) taken.0 (unclashed party_row (λ p. p.id) (λ p. p.digest) (same_text 4) party_clash 1 taken.0 (now.trees 1) taken.2 all (party_keys now.trees (now.trees 1) unique.1.0));
+      }
 
   pub parcels_are : (a b : Parcels) → a.count ≡ 0 → TookTable parcel_took g each_parcel old new a b → b.count ≡ count → HasParcels count ((state g old).now.trees 3)
   parcels_are a b none took same =
@@ -119,8 +125,14 @@ module _ {S : Type 0} (g : Ghosts S) (old new : Held S) (schema : (state g old).
       let inside = in_tree 4 shown_parcel parcel_row (λ r. column r 0 ∷ firsts 3 2 r) with_null (λ r. r) (λ r. refl) (λ p. refl) (now.trees 3) took.0 taken.0 here taken.4 whole in
       let all = subst (IsPermutation (map parcel_row taken.0)) (map_itself (now.trees 3)) inside in
       let long : length taken.0 ≡ count = let e = taken.3 in omega (arith, e, same) in
-      record { all = taken.0; good = taken.1; numbered = taken.2; counted = long; here = all;
-        lots = once_each (λ (p : Parcel). p.lot) taken.0 (unclashed parcel_row (λ p. p.id) (λ p. p.lot) (same_text 2) parcel_clash 1 taken.0 (now.trees 3) taken.2 all (parcel_keys now.trees (now.trees 3) unique.1.1.0)) }
+      record {
+        all = taken.0;
+        good = taken.1;
+        numbered = taken.2;
+        counted = long;
+        here = all;
+        lots = once_each (λ (p : Parcel). p.lot) taken.0 (unclashed parcel_row (λ p. p.id) (λ p. p.lot) (same_text 2) parcel_clash 1 taken.0 (now.trees 3) taken.2 all (parcel_keys now.trees (now.trees 3) unique.1.1.0));
+      }
 
 pub interest_taken : (row : Row) (parcel party : ℕ) → firsts 2 0 row ≡ int parcel ∷ int party ∷ [] → IsObject parcel → IsObject party → TakesInterest row
 interest_taken row parcel party is a b = (record { parcel = parcel; party = party }, record { parcel = a; party = b }, is)

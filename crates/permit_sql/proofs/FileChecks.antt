@@ -62,9 +62,13 @@ took_files [] a b h = ([], tt, tt, ap (λ (t : Files). t.counts.items) h ∙ sym
 took_files (r ∷ rows) a b h =
     let it = h.1 in
     let more = took_files rows h.0 b h.2 in
-    let next : length h.0.counts.items ≡ suc (length a.counts.items) = ap length it.4 ∙ long_more a.counts.items it.0.state.papers in
-    (it.0 ∷ more.0, (it.1, more.1), (it.3, subst (λ n. IsNumbered (λ (f : FileRow). f.id) (suc n) more.0) next more.2),
-    more.3 ∙ ap (λ l. l ++ map (λ (f : FileRow). f.state.papers) more.0) it.4 ∙ append_assoc a.counts.items (it.0.state.papers ∷ []) (map (λ (f : FileRow). f.state.papers) more.0), ap₂ ◌∷◌ it.2 more.4)
+    let next : length h.0.counts.items ≡ suc (length a.counts.items) = ap length it.4 ∙ long_more a.counts.items it.0.state.papers in (
+      it.0 ∷ more.0,
+      (it.1, more.1),
+      (it.3, subst (λ n. IsNumbered (λ (f : FileRow). f.id) (suc n) more.0) next more.2),
+      more.3 ∙ ap (λ l. l ++ map (λ (f : FileRow). f.state.papers) more.0) it.4 ∙ append_assoc a.counts.items (it.0.state.papers ∷ []) (map (λ (f : FileRow). f.state.papers) more.0),
+      ap₂ ◌∷◌ it.2 more.4,
+    )
 
 abbrev pub paper_took : Papers → Row → Papers → Bool → Type 0
 paper_took a row b good = MatchBool good (TakesPaper a.counts.items a.file a.number row b.file b.number × (b.counts.items ≡ a.counts.items)) ⊤
@@ -124,8 +128,8 @@ module _ (id : ℤ) where
   once_above o [] h = omega arith
   once_above o (r ∷ rows) h = elim (cases_Bool (is_it r)) [
     | inl same ↦
-      let none = none_above h.0 rows (inl (sym (same_id h.0 r h.1 same))) h.3 in
-      rw (same, none) (omega arith)
+        let none = none_above h.0 rows (inl (sym (same_id h.0 r h.1 same))) h.3 in
+        rw (same, none) (omega arith)
     | inr other ↦ rw other (once_above (Some h.0) rows h.3)
   ]
 
@@ -166,8 +170,13 @@ module _ {S : Type 0} (g : Ghosts S) (old new : Held S) (schema : (state g old).
       let whole = keyed_rows office_schema now.trees file_table key_column file_columns refl refl
       (refl, (refl, (refl, (refl, (refl, (refl, (refl, (refl, (refl, (refl, (refl, (refl, (refl, (refl, (refl, (refl, (refl, (refl, (refl, tt))))))))))))))))))) (omega arith) (now.trees 7) typed.1.1.1.1.0 there.1.1.1.1.0 in
       let inside = in_tree 20 shown_file file_row (λ r. column r 0 ∷ firsts 19 2 r) with_null (λ r. r) (λ r. refl) (λ p. refl) (now.trees 7) took.0 taken.0 here taken.4 whole in
-      record { all = taken.0; good = taken.1; numbered = subst (λ n. IsNumbered (λ (f : FileRow). f.id) (suc n) taken.0) (ap length none) taken.2;
-        counted = sym (taken.3 ∙ ap (λ l. l ++ map (λ (f : FileRow). f.state.papers) taken.0) none); here = subst (IsPermutation (map file_row taken.0)) (map_itself (now.trees 7)) inside }
+      record {
+        all = taken.0;
+        good = taken.1;
+        numbered = subst (λ n. IsNumbered (λ (f : FileRow). f.id) (suc n) taken.0) (ap length none) taken.2;
+        counted = sym (taken.3 ∙ ap (λ l. l ++ map (λ (f : FileRow). f.state.papers) taken.0) none);
+        here = subst (IsPermutation (map file_row taken.0)) (map_itself (now.trees 7)) inside;
+      }
 
   pub papers_are : (a b : Papers) → a.file ≡ 0 → a.number ≡ 0 → (counts : List ℕ) → a.counts.items ≡ counts → TookTable paper_took g each_paper old new a b → HasPapers counts ((state g old).now.trees 8)
   papers_are a b no_file no_number counts has took =
@@ -180,8 +189,13 @@ module _ {S : Type 0} (g : Ghosts S) (old new : Held S) (schema : (state g old).
       let typed : KeepsRule Datatype office_schema now.trees = rule took.3 Datatype in
       let there : KeepsRule NotNull office_schema now.trees = rule took.3 NotNull in
       let whole = paired_rows office_schema now.trees paper_table paper_table.columns refl refl (refl, (refl, (refl, (refl, (refl, (refl, (refl, (refl, (refl, tt))))))))) (omega arith) (now.trees 8) typed.1.1.1.1.1.0 there.1.1.1.1.1.0 in
-      record { all = taken.0; good = taken.1; rising = subst (λ n. IsRising 0 n taken.0) no_number (subst (λ f. IsRising f a.number taken.0) no_file taken.2); counted = taken.3;
-        here = in_tree 9 shown_paper shown_paper (λ r. firsts 9 1 r) (λ q. q) (drop 1) (λ r. refl) (λ p. refl) (now.trees 8) took.0 taken.0 here taken.4 whole }
+      record {
+        all = taken.0;
+        good = taken.1;
+        rising = subst (λ n. IsRising 0 n taken.0) no_number (subst (λ f. IsRising f a.number taken.0) no_file taken.2);
+        counted = taken.3;
+        here = in_tree 9 shown_paper shown_paper (λ r. firsts 9 1 r) (λ q. q) (drop 1) (λ r. refl) (λ p. refl) (now.trees 8) took.0 taken.0 here taken.4 whole;
+      }
 
   pub rowids_are : (a b : Rowids) → TookTable rowid_took g each_rowid old new a b → IsApart ((state g old).now.trees 8)
   rowids_are a b took = λ id.

@@ -37,10 +37,10 @@ module _ {X : Type 0} (number : X → ℕ) where
   once_numbered n [] h id = omega arith
   once_numbered n (x ∷ xs) h id = elim (cases_Bool (eqb (number x) id)) [
     | inl same ↦
-      let e : number x ≡ n = h.0 in
-      let here = eqb-true (number x) id same in
-      let none = none_before id (suc n) xs (omega (arith, e, here)) h.1 in
-      rw (same, none) (omega arith)
+        let e : number x ≡ n = h.0 in
+        let here = eqb-true (number x) id same in
+        let none = none_before id (suc n) xs (omega (arith, e, here)) h.1 in
+        rw (same, none) (omega arith)
     | inr other ↦ rw other (once_numbered (suc n) xs h.1 id)
   ]
 
@@ -48,15 +48,15 @@ module _ {X : Type 0} (number : X → ℕ) where
   find_numbered n [] h id low = refl
   find_numbered n (x ∷ xs) h id low = elim (cases_Bool (eqb (number x) id)) [
     | inl same ↦
-      let e : number x ≡ n = h.0 in
-      let here = eqb-true (number x) id same in
-      let first : id - n ≡ 0 = omega (arith, e, here) in
-      rw (same, first) refl
+        let e : number x ≡ n = h.0 in
+        let here = eqb-true (number x) id same in
+        let first : id - n ≡ 0 = omega (arith, e, here) in
+        rw (same, first) refl
     | inr other ↦
-      let e : number x ≡ n = h.0 in
-      let less : suc n ≤ id = grind (arith, nat_tests) in
-      let next : id - n ≡ suc (id - suc n) = omega (arith, less) in
-      rw (other, next) (find_numbered (suc n) xs h.1 id less)
+        let e : number x ≡ n = h.0 in
+        let less : suc n ≤ id = grind (arith, nat_tests) in
+        let next : id - n ≡ suc (id - suc n) = omega (arith, less) in
+        rw (other, next) (find_numbered (suc n) xs h.1 id less)
   ]
 
 get_map : {A B : Type 0} (f : A → B) (xs : List A) (at : ℕ) → slice_get (map f xs) at ≡ option_map f (slice_get xs at)

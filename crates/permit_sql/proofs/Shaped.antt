@@ -115,13 +115,17 @@ module _ (schema : Schema) (db : Trees) (t : Table) where
   pub keyed_rows : (c : Column) (cs : List Column) → t.columns ≡ c ∷ cs → t.key ≡ Some 0 → AllByRecursion (λ (c : Column). c.not_null ≡ true) cs → 0 < length cs → (rows : List Row)
       → AllByRecursion (λ r. passes Datatype schema db t r ≡ true) rows → AllByRecursion (λ r. passes NotNull schema db t r ≡ true) rows → AllByRecursion (IsKeyedRow (length cs)) rows
   keyed_rows c cs are key full some [] typed there = tt
-  keyed_rows c cs are key full some (r ∷ rows) typed there =
-      (keyed_whole c cs r full some (subst (λ k. are_typed k 0 (c ∷ cs) (drop 1 r) ≡ true) key (subst (λ l. are_typed t.key 0 l (drop 1 r) ≡ true) are (and_parts _ _ typed.0).0))
-      (subst (λ k. are_present k 0 (c ∷ cs) r ≡ true) key (subst (λ l. are_present t.key 0 l r ≡ true) are there.0)), keyed_rows c cs are key full some rows typed.1 there.1)
+  keyed_rows c cs are key full some (r ∷ rows) typed there = (
+    keyed_whole c cs r full some (subst (λ k. are_typed k 0 (c ∷ cs) (drop 1 r) ≡ true) key (subst (λ l. are_typed t.key 0 l (drop 1 r) ≡ true) are (and_parts _ _ typed.0).0))
+        (subst (λ k. are_present k 0 (c ∷ cs) r ≡ true) key (subst (λ l. are_present t.key 0 l r ≡ true) are there.0)),
+    keyed_rows c cs are key full some rows typed.1 there.1,
+  )
 
   pub paired_rows : (cs : List Column) → t.columns ≡ cs → t.key ≡ None → AllByRecursion (λ (c : Column). c.not_null ≡ true) cs → 0 < length cs → (rows : List Row)
       → AllByRecursion (λ r. passes Datatype schema db t r ≡ true) rows → AllByRecursion (λ r. passes NotNull schema db t r ≡ true) rows → AllByRecursion (IsPairedRow (length cs)) rows
   paired_rows cs are key full some [] typed there = tt
-  paired_rows cs are key full some (r ∷ rows) typed there =
-      (paired_whole cs r full some (subst (λ k. are_typed k 0 cs (drop 1 r) ≡ true) key (subst (λ l. are_typed t.key 0 l (drop 1 r) ≡ true) are (and_parts _ _ typed.0).0))
-      (subst (λ k. are_present k 0 cs r ≡ true) key (subst (λ l. are_present t.key 0 l r ≡ true) are there.0)), paired_rows cs are key full some rows typed.1 there.1)
+  paired_rows cs are key full some (r ∷ rows) typed there = (
+    paired_whole cs r full some (subst (λ k. are_typed k 0 cs (drop 1 r) ≡ true) key (subst (λ l. are_typed t.key 0 l (drop 1 r) ≡ true) are (and_parts _ _ typed.0).0))
+        (subst (λ k. are_present k 0 cs r ≡ true) key (subst (λ l. are_present t.key 0 l r ≡ true) are there.0)),
+    paired_rows cs are key full some rows typed.1 there.1,
+  )

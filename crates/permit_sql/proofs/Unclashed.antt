@@ -23,8 +23,8 @@ module _ {X : Type 0} (key : X → List ℕ) where
   once_each [] up t = omega arith
   once_each (x ∷ xs) up t = elim (cases_Bool (bytes_eq (key x) t)) [
     | inl same ↦
-      let none = none_like t xs (subst (λ k. AllByRecursion (λ y. bytes_eq (key y) k ≡ false) xs) ((bytes_eq-Decides (key x) t).0 same) up.0) in
-      rw (same, none) (omega arith)
+        let none = none_like t xs (subst (λ k. AllByRecursion (λ y. bytes_eq (key y) k ≡ false) xs) ((bytes_eq-Decides (key x) t).0 same) up.0) in
+        rw (same, none) (omega arith)
     | inr other ↦ rw other (once_each xs up.1 t)
   ]
 

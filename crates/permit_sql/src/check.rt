@@ -9,15 +9,20 @@ ghost use Rattle.permit_sql.specs.Schema.{office_schema};
 ghost use Rattle.permit_sql.specs.Kept.{IsFine};
 ghost use Rattle.permit_sql.specs.Found.{TookTable, TakesParty, TakesParcel, TakesInterest, HasParties, HasParcels, HasInterests};
 
-use crate::decode::{interest_in, parcel_in, party_in};
+use crate::decode::{interest_in, parcel_of, party_of};
 use crate::each::{Taker, each_row};
+use crate::fields::RowFault;
 use crate::schema::is_office;
 use permit_store::store::{Got, StoreError};
 use sqlite::{Alter, Connection, Row};
 
 /// Whether the taker takes all rows of an answer, in a database of the office's schema; with another it fails. The
 /// database stays as it is.
-pub(crate) fn takes_all<S: Alter, T: Taker>(conn: &mut Connection<S>, sql: &str, taker: &mut T) -> Got<bool>
+pub(crate) fn takes_all<S: Alter, T: Taker>(
+    conn: &mut Connection<S>,
+    sql: &str,
+    taker: &mut T,
+) -> Got<bool>
     requires calm { conn.old.in_transaction ≡ false }
     requires plain { IsPlain (understood office_schema sql.now) }
     ensures all { HasCleanDisk (state S.Store conn.new) → IfOk result (λ all. IsTrue all → ((state S.Store conn.old).now.schema ≡ office_schema) × TookTable T.Taker.took S.Store sql.now conn.old conn.new taker.old taker.new) }
@@ -38,14 +43,19 @@ pub(crate) fn takes_all<S: Alter, T: Taker>(conn: &mut Connection<S>, sql: &str,
 #[derive(Drop)]
 struct Parties {
     count: u32,
+    lacks_memory: bool,
 }
 
 impl Taker for Parties {
     ghost took = { λ a row b good. MatchBool good (TakesParty a.count row b.count) ⊤ };
 
     fn take(&mut self, row: &Row) -> bool {
-        let Some(party) = party_in(row) else {
-            return false;
+        let party = match party_of(row) {
+            Ok(party) => party,
+            Err(fault) => {
+                self.lacks_memory = fault == RowFault::NoMemory;
+                return false;
+            }
         };
         let Some(next) = self.count.checked_add(1) else {
             return false;
@@ -66,12 +76,18 @@ pub(crate) fn check_parties<S: Alter>(conn: &mut Connection<S>, count: u32) -> G
     ensures crash { Survives (state S.Store conn.old) (state S.Store conn.new) (λ _. ⊥) }
     ensures calm { conn.new.in_transaction ≡ false }
 {
-    let mut parties = Parties { count: 0 };
+    let mut parties = Parties {
+        count: 0,
+        lacks_memory: false,
+    };
     let all = takes_all(
         conn,
         "SELECT id, name, role, digest FROM party ORDER BY id",
         &mut parties,
     )?;
+    if parties.lacks_memory {
+        return Err(StoreError);
+    }
     Ok(all && parties.count == count)
 }
 
@@ -79,14 +95,19 @@ pub(crate) fn check_parties<S: Alter>(conn: &mut Connection<S>, count: u32) -> G
 #[derive(Drop)]
 struct Parcels {
     count: u32,
+    lacks_memory: bool,
 }
 
 impl Taker for Parcels {
     ghost took = { λ a row b good. MatchBool good (TakesParcel a.count row b.count) ⊤ };
 
     fn take(&mut self, row: &Row) -> bool {
-        let Some(parcel) = parcel_in(row) else {
-            return false;
+        let parcel = match parcel_of(row) {
+            Ok(parcel) => parcel,
+            Err(fault) => {
+                self.lacks_memory = fault == RowFault::NoMemory;
+                return false;
+            }
         };
         let Some(next) = self.count.checked_add(1) else {
             return false;
@@ -107,12 +128,18 @@ pub(crate) fn check_parcels<S: Alter>(conn: &mut Connection<S>, count: u32) -> G
     ensures crash { Survives (state S.Store conn.old) (state S.Store conn.new) (λ _. ⊥) }
     ensures calm { conn.new.in_transaction ≡ false }
 {
-    let mut parcels = Parcels { count: 0 };
+    let mut parcels = Parcels {
+        count: 0,
+        lacks_memory: false,
+    };
     let all = takes_all(
         conn,
         "SELECT id, lot, address, owner FROM parcel ORDER BY id",
         &mut parcels,
     )?;
+    if parcels.lacks_memory {
+        return Err(StoreError);
+    }
     Ok(all && parcels.count == count)
 }
 
@@ -147,9 +174,5 @@ pub(crate) fn check_interests<S: Alter>(conn: &mut Connection<S>) -> Got<bool>
     ensures crash { Survives (state S.Store conn.old) (state S.Store conn.new) (λ _. ⊥) }
     ensures calm { conn.new.in_transaction ≡ false }
 {
-    takes_all(
-        conn,
-        "SELECT parcel, party FROM interest",
-        &mut Interests,
-    )
+    takes_all(conn, "SELECT parcel, party FROM interest", &mut Interests)
 }

@@ -7,9 +7,9 @@ ghost use Rattle.permit_sql.specs.Kept.{IsFine};
 ghost use Rattle.permit_sql.specs.Found.{TakesFile, TakesPaper, TakesRowid, IsLater, HasFiles, HasPapers, IsApart};
 
 use crate::check::takes_all;
-use crate::decode::{file_in, paper_in};
+use crate::decode::{file_of, paper_of};
 use crate::each::Taker;
-use crate::fields::whole_number;
+use crate::fields::{RowFault, whole_number};
 use permit_store::store::{Got, StoreError};
 use sqlite::{Alter, Connection, Row};
 use std::alloc::Global;
@@ -25,8 +25,12 @@ impl Taker for Files {
     ghost took = { λ a row b good. MatchBool good (TakesFile a.counts.items row b.counts.items) ⊤ };
 
     fn take(&mut self, row: &Row) -> bool {
-        let Some(file) = file_in(row) else {
-            return false;
+        let file = match file_of(row) {
+            Ok(file) => file,
+            Err(fault) => {
+                self.lacks_memory = fault == RowFault::NoMemory;
+                return false;
+            }
         };
         if file.id.get() as usize != self.counts.len() + 1 {
             return false;
@@ -92,14 +96,19 @@ struct Papers {
     file: u32,
     number: u32,
     counts: Vec<u16>,
+    lacks_memory: bool,
 }
 
 impl Taker for Papers {
     ghost took = { λ a row b good. MatchBool good (TakesPaper a.counts.items a.file a.number row b.file b.number × (b.counts.items ≡ a.counts.items)) ⊤ };
 
     fn take(&mut self, row: &Row) -> bool {
-        let Some(paper) = paper_in(row) else {
-            return false;
+        let paper = match paper_of(row) {
+            Ok(paper) => paper,
+            Err(fault) => {
+                self.lacks_memory = fault == RowFault::NoMemory;
+                return false;
+            }
         };
         let file = paper.file.get();
         let number = paper.number.get();
@@ -131,12 +140,17 @@ pub(crate) fn check_papers<S: Alter>(conn: &mut Connection<S>, counts: Vec<u16>)
         file: 0,
         number: 0,
         counts,
+        lacks_memory: false,
     };
-    takes_all(
+    let all = takes_all(
         conn,
         "SELECT file, number, day, author, sort, days, text, terms, open FROM paper ORDER BY file, number",
         &mut papers,
-    )
+    )?;
+    if papers.lacks_memory {
+        return Err(StoreError);
+    }
+    Ok(all)
 }
 
 /// The rowid that was read last.

@@ -26,6 +26,14 @@ use permit_store::rows::{Change, Desk, NewPaper, RowEffect};
 use permit_store::store::{Got, StoreError};
 use sqlite::{Alter, Connection};
 
+/// Sets the desk's row.
+const SET_DESK: &str =
+    "UPDATE desk SET last = ?1, parties = ?2, parcels = ?3, files = ?4 WHERE id = 1";
+
+/// Sets what may change in a file's row.
+const SET_FILE: &str =
+    "UPDATE file SET contractor = ?2, reviewer = ?3, inspector = ?4, kind = ?5, filed = ?6, stage = ?7, deadline = ?8, done = ?9, request = ?10, requested = ?11, ask = ?12, stopped = ?13, notices = ?14, papers = ?15, temporary = ?16 WHERE id = ?1";
+
 /// A party's number isn't 0.
 fn is_party(party: Option<PartyId>)
     ensures { party ≢ Some 0 }
@@ -80,7 +88,7 @@ fn add_party<S: Alter>(
         conn,
         "INSERT INTO party (id, name, role, digest) VALUES (?1, ?2, ?3, ?4)",
         &party,
-        "UPDATE desk SET last = ?1, parties = ?2, parcels = ?3, files = ?4 WHERE id = 1",
+        SET_DESK,
         &office,
     )
 }
@@ -108,7 +116,7 @@ fn add_parcel<S: Alter>(
         conn,
         "INSERT INTO parcel (id, lot, address, owner) VALUES (?1, ?2, ?3, ?4)",
         &parcel,
-        "UPDATE desk SET last = ?1, parties = ?2, parcels = ?3, files = ?4 WHERE id = 1",
+        SET_DESK,
         &office,
     )
 }
@@ -135,7 +143,7 @@ fn set_owner<S: Alter>(
         conn,
         "UPDATE parcel SET owner = ?2 WHERE id = ?1",
         &pair,
-        "UPDATE desk SET last = ?1, parties = ?2, parcels = ?3, files = ?4 WHERE id = 1",
+        SET_DESK,
         &office,
     )
 }
@@ -162,7 +170,7 @@ fn add_interest<S: Alter>(
         conn,
         "INSERT INTO interest (parcel, party) VALUES (?1, ?2)",
         &pair,
-        "UPDATE desk SET last = ?1, parties = ?2, parcels = ?3, files = ?4 WHERE id = 1",
+        SET_DESK,
         &office,
     )
 }
@@ -190,7 +198,7 @@ fn add_file<S: Alter>(
         conn,
         "INSERT INTO file (id, parcel, applicant, contractor, reviewer, inspector, kind, valuation, description, filed, stage, deadline, done, request, requested, ask, stopped, notices, papers, temporary) VALUES (?1, ?2, ?3, ?4, ?5, ?6, ?7, ?8, ?9, ?10, ?11, ?12, ?13, ?14, ?15, ?16, ?17, ?18, ?19, ?20)",
         &file,
-        "UPDATE desk SET last = ?1, parties = ?2, parcels = ?3, files = ?4 WHERE id = 1",
+        SET_DESK,
         &office,
     )
 }
@@ -213,13 +221,7 @@ fn set_row<S: Alter>(
 {
     let fields = row_values(file, &fields_of(new));
     let office = desk_values(desk);
-    turn_two(
-        conn,
-        "UPDATE file SET contractor = ?2, reviewer = ?3, inspector = ?4, kind = ?5, filed = ?6, stage = ?7, deadline = ?8, done = ?9, request = ?10, requested = ?11, ask = ?12, stopped = ?13, notices = ?14, papers = ?15, temporary = ?16 WHERE id = ?1",
-        &fields,
-        "UPDATE desk SET last = ?1, parties = ?2, parcels = ?3, files = ?4 WHERE id = 1",
-        &office,
-    )
+    turn_two(conn, SET_FILE, &fields, SET_DESK, &office)
 }
 
 /// Sets a file's row and adds a paper on the desk's day, whose number is the row's count of papers.
@@ -245,11 +247,11 @@ fn add_paper<S: Alter>(
     let office = desk_values(desk);
     turn_three(
         conn,
-        "UPDATE file SET contractor = ?2, reviewer = ?3, inspector = ?4, kind = ?5, filed = ?6, stage = ?7, deadline = ?8, done = ?9, request = ?10, requested = ?11, ask = ?12, stopped = ?13, notices = ?14, papers = ?15, temporary = ?16 WHERE id = ?1",
+        SET_FILE,
         &fields,
         "INSERT INTO paper (file, number, day, author, sort, days, text, terms, open) VALUES (?1, ?2, ?3, ?4, ?5, ?6, ?7, ?8, ?9)",
         &added,
-        "UPDATE desk SET last = ?1, parties = ?2, parcels = ?3, files = ?4 WHERE id = 1",
+        SET_DESK,
         &office,
     )
 }
@@ -276,11 +278,11 @@ fn close_notice<S: Alter>(
     let office = desk_values(desk);
     turn_three(
         conn,
-        "UPDATE file SET contractor = ?2, reviewer = ?3, inspector = ?4, kind = ?5, filed = ?6, stage = ?7, deadline = ?8, done = ?9, request = ?10, requested = ?11, ask = ?12, stopped = ?13, notices = ?14, papers = ?15, temporary = ?16 WHERE id = ?1",
+        SET_FILE,
         &fields,
         "UPDATE paper SET open = 0 WHERE file = ?1 AND number = ?2",
         &pair,
-        "UPDATE desk SET last = ?1, parties = ?2, parcels = ?3, files = ?4 WHERE id = 1",
+        SET_DESK,
         &office,
     )
 }

@@ -16,6 +16,45 @@ use permit_store::founder::Founder;
 use sqlite::{Alter, Connection, Error, params};
 use sqlite_value::value::ValueRef;
 
+const DESK_TABLE: &str =
+    "CREATE TABLE desk (id INTEGER PRIMARY KEY, version INTEGER NOT NULL, last INTEGER NOT NULL, parties INTEGER NOT NULL, parcels INTEGER NOT NULL, files INTEGER NOT NULL) STRICT";
+
+const PARTY_TABLE: &str =
+    "CREATE TABLE party (id INTEGER PRIMARY KEY, name TEXT NOT NULL, role INTEGER NOT NULL, digest TEXT NOT NULL UNIQUE) STRICT";
+
+const PARCEL_TABLE: &str =
+    "CREATE TABLE parcel (id INTEGER PRIMARY KEY, lot TEXT NOT NULL UNIQUE, address TEXT NOT NULL, owner INTEGER NOT NULL REFERENCES party) STRICT";
+
+const INTEREST_TABLE: &str =
+    "CREATE TABLE interest (parcel INTEGER NOT NULL REFERENCES parcel, party INTEGER NOT NULL REFERENCES party, PRIMARY KEY (parcel, party)) STRICT";
+
+const FILE_TABLE: &str =
+    "CREATE TABLE file (id INTEGER PRIMARY KEY, parcel INTEGER NOT NULL REFERENCES parcel, applicant INTEGER NOT NULL REFERENCES party, contractor INTEGER NOT NULL, reviewer INTEGER NOT NULL, inspector INTEGER NOT NULL, kind INTEGER NOT NULL, valuation INTEGER NOT NULL, description TEXT NOT NULL, filed INTEGER NOT NULL, stage INTEGER NOT NULL, deadline INTEGER NOT NULL, done INTEGER NOT NULL, request INTEGER NOT NULL, requested INTEGER NOT NULL, ask INTEGER NOT NULL, stopped INTEGER NOT NULL, notices INTEGER NOT NULL, papers INTEGER NOT NULL, temporary INTEGER NOT NULL) STRICT";
+
+const PAPER_TABLE: &str =
+    "CREATE TABLE paper (file INTEGER NOT NULL REFERENCES file, number INTEGER NOT NULL, day INTEGER NOT NULL, author INTEGER NOT NULL, sort INTEGER NOT NULL, days INTEGER NOT NULL, text TEXT NOT NULL, terms TEXT NOT NULL, open INTEGER NOT NULL, PRIMARY KEY (file, number)) STRICT";
+
+const FILE_CELL_INDEX: &str = "CREATE INDEX file_cell ON file (stage, stopped, deadline)";
+
+const FILE_APPLICANT_INDEX: &str = "CREATE INDEX file_applicant ON file (applicant)";
+
+const FILE_CONTRACTOR_INDEX: &str = "CREATE INDEX file_contractor ON file (contractor)";
+
+const FILE_REVIEWER_INDEX: &str = "CREATE INDEX file_reviewer ON file (reviewer)";
+
+const FILE_INSPECTOR_INDEX: &str = "CREATE INDEX file_inspector ON file (inspector)";
+
+const FILE_PARCEL_INDEX: &str = "CREATE INDEX file_parcel ON file (parcel)";
+
+const PARCEL_OWNER_INDEX: &str = "CREATE INDEX parcel_owner ON parcel (owner)";
+
+const INTEREST_PARTY_INDEX: &str = "CREATE INDEX interest_party ON interest (party)";
+
+const DESK_ROW: &str =
+    "INSERT INTO desk (id, version, last, parties, parcels, files) VALUES (1, 1, ?1, 1, 0, 0)";
+
+const PARTY_ROW: &str = "INSERT INTO party (id, name, role, digest) VALUES (?1, ?2, ?3, ?4)";
+
 /// A text and its parameters.
 fn step<'a>(text: &'a str, params: &'a [ValueRef<'a>]) -> Step<'a>
     ensures { (result.text.now ≡ text.now) × (result.params.now ≡ params.now) }
@@ -42,49 +81,22 @@ fn found<'a, S: Alter>(
     run_all(
         conn,
         &[
-            step(
-                "CREATE TABLE desk (id INTEGER PRIMARY KEY, version INTEGER NOT NULL, last INTEGER NOT NULL, parties INTEGER NOT NULL, parcels INTEGER NOT NULL, files INTEGER NOT NULL) STRICT",
-                none,
-            ),
-            step(
-                "CREATE TABLE party (id INTEGER PRIMARY KEY, name TEXT NOT NULL, role INTEGER NOT NULL, digest TEXT NOT NULL UNIQUE) STRICT",
-                none,
-            ),
-            step(
-                "CREATE TABLE parcel (id INTEGER PRIMARY KEY, lot TEXT NOT NULL UNIQUE, address TEXT NOT NULL, owner INTEGER NOT NULL REFERENCES party) STRICT",
-                none,
-            ),
-            step(
-                "CREATE TABLE interest (parcel INTEGER NOT NULL REFERENCES parcel, party INTEGER NOT NULL REFERENCES party, PRIMARY KEY (parcel, party)) STRICT",
-                none,
-            ),
-            step(
-                "CREATE TABLE file (id INTEGER PRIMARY KEY, parcel INTEGER NOT NULL REFERENCES parcel, applicant INTEGER NOT NULL REFERENCES party, contractor INTEGER NOT NULL, reviewer INTEGER NOT NULL, inspector INTEGER NOT NULL, kind INTEGER NOT NULL, valuation INTEGER NOT NULL, description TEXT NOT NULL, filed INTEGER NOT NULL, stage INTEGER NOT NULL, deadline INTEGER NOT NULL, done INTEGER NOT NULL, request INTEGER NOT NULL, requested INTEGER NOT NULL, ask INTEGER NOT NULL, stopped INTEGER NOT NULL, notices INTEGER NOT NULL, papers INTEGER NOT NULL, temporary INTEGER NOT NULL) STRICT",
-                none,
-            ),
-            step(
-                "CREATE TABLE paper (file INTEGER NOT NULL REFERENCES file, number INTEGER NOT NULL, day INTEGER NOT NULL, author INTEGER NOT NULL, sort INTEGER NOT NULL, days INTEGER NOT NULL, text TEXT NOT NULL, terms TEXT NOT NULL, open INTEGER NOT NULL, PRIMARY KEY (file, number)) STRICT",
-                none,
-            ),
-            step(
-                "CREATE INDEX file_cell ON file (stage, stopped, deadline)",
-                none,
-            ),
-            step("CREATE INDEX file_applicant ON file (applicant)", none),
-            step("CREATE INDEX file_contractor ON file (contractor)", none),
-            step("CREATE INDEX file_reviewer ON file (reviewer)", none),
-            step("CREATE INDEX file_inspector ON file (inspector)", none),
-            step("CREATE INDEX file_parcel ON file (parcel)", none),
-            step("CREATE INDEX parcel_owner ON parcel (owner)", none),
-            step("CREATE INDEX interest_party ON interest (party)", none),
-            step(
-                "INSERT INTO desk (id, version, last, parties, parcels, files) VALUES (1, 1, ?1, 1, 0, 0)",
-                desk,
-            ),
-            step(
-                "INSERT INTO party (id, name, role, digest) VALUES (?1, ?2, ?3, ?4)",
-                party,
-            ),
+            step(DESK_TABLE, none),
+            step(PARTY_TABLE, none),
+            step(PARCEL_TABLE, none),
+            step(INTEREST_TABLE, none),
+            step(FILE_TABLE, none),
+            step(PAPER_TABLE, none),
+            step(FILE_CELL_INDEX, none),
+            step(FILE_APPLICANT_INDEX, none),
+            step(FILE_CONTRACTOR_INDEX, none),
+            step(FILE_REVIEWER_INDEX, none),
+            step(FILE_INSPECTOR_INDEX, none),
+            step(FILE_PARCEL_INDEX, none),
+            step(PARCEL_OWNER_INDEX, none),
+            step(INTEREST_PARTY_INDEX, none),
+            step(DESK_ROW, desk),
+            step(PARTY_ROW, party),
         ],
     )
 }

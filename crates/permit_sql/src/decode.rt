@@ -1,19 +1,20 @@
-//! A row that a query shows as a typed value, or none where it isn't one.
+//! A row that a query shows as a typed value.
 
 ghost use Rattle.std.specs.Prelude.{◌≡◌, [], ◌∷◌, List, map, Option, option_map, slice_get, IfOk, IfSome};
 ghost use Rattle.permit_model.specs.Caller.{Party as TheParty};
 ghost use Rattle.permit_model.specs.Parcels.{Parcel as TheParcel};
 ghost use Rattle.permit_model.specs.Tables.{Desk as TheDesk, FileRow as TheRow, State as TheState, Paper as ThePaper};
+ghost use Rattle.permit_model.specs.SoundState.{IsSoundState};
 ghost use Rattle.permit_sql.specs.Rows.{int, shown_desk, shown_party, shown_parcel, shown_file, shown_paper};
 ghost use Rattle.permit_sql.specs.Kept.{IsNamed};
 ghost use Rattle.permit_sql.specs.Typed.{firsts, IsObject, IsDesk, IsParty, IsParcel, IsPaper, IsState, IsFile, ShowsState};
 
 use crate::fields::{
-    day, day_or_less, days_or_zero, kind, long_number, number, number_or_less, parcel_number,
-    party_number, party_or_zero, role, short_number, small_number, sort, stage, step_or_less,
-    string, truth,
+    Read, cents, day, day_or_less, days_or_zero, digest, file_number, kind, lot, number,
+    number_or_less, paper_number, parcel_number, party_number, party_or_zero, readable, role,
+    short_number, small_number, sort, stage, step_or_less, string, text, truth,
 };
-use permit_base::values::{Cents, Day, Digest, FileId, Lot, PaperNumber, ParcelId, PartyId, Text};
+use permit_base::values::{ParcelId, PartyId};
 use permit_core::restore::StateFields;
 use permit_core::state::FileState;
 use permit_store::rows::{Desk, FileRow, Paper, Parcel, Party};
@@ -32,7 +33,7 @@ pub(crate) fn desk_in(row: &Row) -> Option<Desk>
         return None;
     }
     Some(Desk {
-        last: Day::new(number(row, 2)?)?,
+        last: day(row, 2)?,
         parties: number(row, 3)?,
         parcels: number(row, 4)?,
         files: number(row, 5)?,
@@ -40,31 +41,45 @@ pub(crate) fn desk_in(row: &Row) -> Option<Desk>
 }
 
 /// A party's row.
-pub(crate) fn party_in(row: &Row) -> Option<Party>
-    ensures read { (is : TheParty) → row.now ≡ shown_party is → IfSome result (λ p. p ≡ is) }
-    ensures back { IfSome result (λ p. firsts 4 0 row.now ≡ shown_party p) }
-    ensures typed { IfSome result IsParty }
+pub(crate) fn party_of(row: &Row) -> Read<Party>
+    ensures read { (is : TheParty) → row.now ≡ shown_party is → IfOk result (λ p. p ≡ is) }
+    ensures back { IfOk result (λ p. firsts 4 0 row.now ≡ shown_party p) }
+    ensures typed { IfOk result IsParty }
 {
-    Some(Party {
-        id: PartyId::new(number(row, 0)?)?,
-        name: Text::new(string(row, 1)?)?,
-        role: role(row, 2)?,
-        digest: Digest::read(string(row, 3)?.as_str())?,
+    Ok(Party {
+        id: readable(party_number(row, 0))?,
+        name: text(row, 1)?,
+        role: readable(role(row, 2))?,
+        digest: digest(row, 3)?,
     })
 }
 
-/// A parcel's row.
-pub(crate) fn parcel_in(row: &Row) -> Option<Parcel>
-    ensures read { (is : TheParcel) → row.now ≡ shown_parcel is → IfSome result (λ p. p ≡ is) }
-    ensures back { IfSome result (λ p. firsts 4 0 row.now ≡ shown_parcel p) }
-    ensures typed { IfSome result IsParcel }
+/// The same, or none.
+pub(crate) fn party_in(row: &Row) -> Option<Party>
+    ensures { (is : TheParty) → row.now ≡ shown_party is → IfSome result (λ p. p ≡ is) }
 {
-    Some(Parcel {
-        id: ParcelId::new(number(row, 0)?)?,
-        lot: Lot::new(string(row, 1)?)?,
-        address: Text::new(string(row, 2)?)?,
-        owner: PartyId::new(number(row, 3)?)?,
+    party_of(row).ok()
+}
+
+/// A parcel's row.
+pub(crate) fn parcel_of(row: &Row) -> Read<Parcel>
+    ensures read { (is : TheParcel) → row.now ≡ shown_parcel is → IfOk result (λ p. p ≡ is) }
+    ensures back { IfOk result (λ p. firsts 4 0 row.now ≡ shown_parcel p) }
+    ensures typed { IfOk result IsParcel }
+{
+    Ok(Parcel {
+        id: readable(parcel_number(row, 0))?,
+        lot: lot(row, 1)?,
+        address: text(row, 2)?,
+        owner: readable(party_number(row, 3))?,
     })
+}
+
+/// The same, or none.
+pub(crate) fn parcel_in(row: &Row) -> Option<Parcel>
+    ensures { (is : TheParcel) → row.now ≡ shown_parcel is → IfSome result (λ p. p ≡ is) }
+{
+    parcel_of(row).ok()
 }
 
 /// The parcel and the party of an interest's row.
@@ -78,22 +93,29 @@ pub(crate) fn interest_in(row: &Row) -> Option<(ParcelId, PartyId)>
 }
 
 /// A paper's row.
-pub(crate) fn paper_in(row: &Row) -> Option<Paper>
-    ensures read { (is : ThePaper) → row.now ≡ shown_paper is → IfSome result (λ p. p ≡ is) }
-    ensures back { IfSome result (λ p. firsts 9 0 row.now ≡ shown_paper p) }
-    ensures typed { IfSome result IsPaper }
+pub(crate) fn paper_of(row: &Row) -> Read<Paper>
+    ensures read { (is : ThePaper) → row.now ≡ shown_paper is → IfOk result (λ p. p ≡ is) }
+    ensures back { IfOk result (λ p. firsts 9 0 row.now ≡ shown_paper p) }
+    ensures typed { IfOk result IsPaper }
 {
-    Some(Paper {
-        file: FileId::new(number(row, 0)?)?,
-        number: PaperNumber::new(number(row, 1)?)?,
-        day: Day::new(number(row, 2)?)?,
-        author: PartyId::new(number(row, 3)?)?,
-        sort: sort(row, 4)?,
-        days: number(row, 5)?,
+    Ok(Paper {
+        file: readable(file_number(row, 0))?,
+        number: readable(paper_number(row, 1))?,
+        day: readable(day(row, 2))?,
+        author: readable(party_number(row, 3))?,
+        sort: readable(sort(row, 4))?,
+        days: readable(number(row, 5))?,
         text: string(row, 6)?,
         terms: string(row, 7)?,
-        is_open: truth(row, 8)?,
+        is_open: readable(truth(row, 8))?,
     })
+}
+
+/// The same, or none.
+pub(crate) fn paper_in(row: &Row) -> Option<Paper>
+    ensures { (is : ThePaper) → row.now ≡ shown_paper is → IfSome result (λ p. p ≡ is) }
+{
+    paper_of(row).ok()
 }
 
 /// What of a file's row its state keeps.
@@ -124,17 +146,35 @@ fn fields_in(row: &Row) -> Option<StateFields>
     })
 }
 
-/// A file's row.
-pub(crate) fn file_in(row: &Row) -> Option<FileRow>
-    ensures read { (is : TheRow) → IsNamed is.state → row.now ≡ shown_file is → IfSome result (λ f. f ≡ is) }
-    ensures back { IfSome result (λ f. firsts 20 0 row.now ≡ shown_file f) }
-    ensures named { IfSome result (λ f. IsNamed f.state) }
-    ensures typed { IfSome result IsFile }
+/// The state in a file's row.
+fn state_in(row: &Row) -> Option<FileState>
+    ensures read { (is : TheRow) → IsNamed is.state → row.now ≡ shown_file is → IfSome result (λ s. s ≡ is.state) }
+    ensures back { IfSome result (ShowsState row.now) }
+    ensures named { IfSome result IsNamed }
+    ensures typed { IfSome result IsState }
+    ensures sound { IfSome result IsSoundState }
 {
-    Some(FileRow {
-        id: FileId::new(number(row, 0)?)?,
-        state: FileState::restore(fields_in(row)?)?,
-        valuation: Cents::new(long_number(row, 7)?)?,
-        description: Text::new(string(row, 8)?)?,
+    FileState::restore(fields_in(row)?)
+}
+
+/// A file's row.
+pub(crate) fn file_of(row: &Row) -> Read<FileRow>
+    ensures read { (is : TheRow) → IsNamed is.state → row.now ≡ shown_file is → IfOk result (λ f. f ≡ is) }
+    ensures back { IfOk result (λ f. firsts 20 0 row.now ≡ shown_file f) }
+    ensures named { IfOk result (λ f. IsNamed f.state) }
+    ensures typed { IfOk result IsFile }
+{
+    Ok(FileRow {
+        id: readable(file_number(row, 0))?,
+        state: readable(state_in(row))?,
+        valuation: readable(cents(row, 7))?,
+        description: text(row, 8)?,
     })
+}
+
+/// The same, or none.
+pub(crate) fn file_in(row: &Row) -> Option<FileRow>
+    ensures { (is : TheRow) → IsNamed is.state → row.now ≡ shown_file is → IfSome result (λ f. f ≡ is) }
+{
+    file_of(row).ok()
 }

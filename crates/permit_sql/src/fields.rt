@@ -1,37 +1,59 @@
 //! A field of a row as a typed value, or none where the field isn't one.
 
-ghost use Rattle.std.specs.Prelude.{◌≡◌, ◌≢◌, ℕ, List, Bool, Option, Some, IfSome, string_bytes, slice_get, option_map};
+ghost use Rattle.std.specs.Prelude.{◌≡◌, ◌≢◌, ◌<◌, ◌^◌, ℕ, ℤ, List, IfOk, IsSome, IsTrue, IfErr, Bool, Option, Some, None, IfSome, string_bytes, slice_get, option_map};
 ghost use Rattle.sqlite.specs.declared.types.Value.TheVariants.{Int, Text as TextValue};
 ghost use Rattle.sqlite_value.specs.Order.{column};
+ghost use Rattle.permit_base.specs.Texts.{is_printable, is_lot, is_digest};
 ghost use Rattle.permit_base.specs.declared.words.Step.{Step as TheStep};
 ghost use Rattle.permit_sql.specs.Rows.{int, or_zero, or_less, step_value, flag};
 ghost use Rattle.permit_model.specs.Codes.{role_code, kind_code, stage_code, sort_code, step_code};
 
-use permit_base::values::{Day, Days, ParcelId, PartyId};
+use permit_base::values::{
+    Cents, Day, Days, Digest, FileId, Lot, PaperNumber, ParcelId, PartyId, Text,
+};
 use permit_base::words::{Kind, PaperSort, Role, Stage, Step, Word};
-use sqlite::Row;
+use sqlite::{Error, ErrorCode, Row};
+use sqlite_value::value::ValueRef;
+
+/// Why a row isn't read as a typed value.
+#[derive(Clone, Copy, Debug, PartialEq, Eq)]
+pub(crate) enum RowFault {
+    /// Memory was refused.
+    NoMemory,
+    /// A field is out of its limits.
+    Unreadable,
+}
+
+/// What reading a row gives.
+pub(crate) type Read<T> = Result<T, RowFault>;
+
+/// A number, which may be below 0.
+pub(crate) fn whole_number(row: &Row, at: usize) -> Option<i64>
+    ensures read { (z : ℤ) → column row.now at ≡ Int z → result ≡ Some z }
+    ensures back { IfSome result (λ x. column row.now at ≡ Int x) }
+{
+    match row.get_ref(at) {
+        Ok(ValueRef::Int(number)) => Some(number),
+        _ => None,
+    }
+}
 
 /// A number.
 pub(crate) fn number(row: &Row, at: usize) -> Option<u32>
     ensures read { (n : ℕ) → column row.now at ≡ int n → IfSome result (λ x. x ≡ n) }
     ensures back { IfSome result (λ x. column row.now at ≡ int x) }
+    ensures some { (n : ℕ) → n < 2 ^ 32 → column row.now at ≡ int n → IsSome result }
 {
-    row.get(at).ok()
-}
-
-/// A number, which may be below 0.
-pub(crate) fn whole_number(row: &Row, at: usize) -> Option<i64>
-    ensures { IfSome result (λ x. column row.now at ≡ Int x) }
-{
-    row.get(at).ok()
+    u32::try_from(whole_number(row, at)?).ok()
 }
 
 /// A number of up to 64 bits.
 pub(crate) fn long_number(row: &Row, at: usize) -> Option<u64>
     ensures read { (n : ℕ) → column row.now at ≡ int n → IfSome result (λ x. x ≡ n) }
     ensures back { IfSome result (λ x. column row.now at ≡ int x) }
+    ensures some { (n : ℕ) → n < 2 ^ 63 → column row.now at ≡ int n → IsSome result }
 {
-    row.get(at).ok()
+    u64::try_from(whole_number(row, at)?).ok()
 }
 
 /// A number where -1 stands for none.
@@ -39,7 +61,7 @@ pub(crate) fn number_or_less(row: &Row, at: usize) -> Option<Option<u32>>
     ensures read { (o : Option ℕ) → column row.now at ≡ or_less o → IfSome result (λ x. x ≡ o) }
     ensures back { IfSome result (λ x. column row.now at ≡ or_less x) }
 {
-    let code: i64 = row.get(at).ok()?;
+    let code = whole_number(row, at)?;
     if code == -1 {
         return Some(None);
     }
@@ -90,6 +112,30 @@ pub(crate) fn parcel_number(row: &Row, at: usize) -> Option<ParcelId>
     ParcelId::new(number(row, at)?)
 }
 
+/// The number of a file.
+pub(crate) fn file_number(row: &Row, at: usize) -> Option<FileId>
+    ensures read { (n : ℕ) → column row.now at ≡ int n → IfSome result (λ x. x ≡ n) }
+    ensures back { IfSome result (λ x. column row.now at ≡ int x) }
+{
+    FileId::new(number(row, at)?)
+}
+
+/// The number of a paper.
+pub(crate) fn paper_number(row: &Row, at: usize) -> Option<PaperNumber>
+    ensures read { (n : ℕ) → column row.now at ≡ int n → IfSome result (λ x. x ≡ n) }
+    ensures back { IfSome result (λ x. column row.now at ≡ int x) }
+{
+    PaperNumber::new(number(row, at)?)
+}
+
+/// An amount of money.
+pub(crate) fn cents(row: &Row, at: usize) -> Option<Cents>
+    ensures read { (n : ℕ) → column row.now at ≡ int n → IfSome result (λ x. x ≡ n) }
+    ensures back { IfSome result (λ x. column row.now at ≡ int x) }
+{
+    Cents::new(long_number(row, at)?)
+}
+
 /// A day.
 pub(crate) fn day(row: &Row, at: usize) -> Option<Day>
     ensures read { (n : ℕ) → column row.now at ≡ int n → IfSome result (λ x. x ≡ n) }
@@ -131,12 +177,54 @@ pub(crate) fn day_or_less(row: &Row, at: usize) -> Option<Option<Day>>
     }
 }
 
-/// A text, which may be empty.
-pub(crate) fn string(row: &Row, at: usize) -> Option<String>
-    ensures read { (t : List ℕ) → column row.now at ≡ TextValue t → IfSome result (λ x. string_bytes x ≡ t) }
-    ensures back { IfSome result (λ x. column row.now at ≡ TextValue (string_bytes x)) }
+/// A string, which may be empty.
+pub(crate) fn string(row: &Row, at: usize) -> Read<String>
+    ensures read { (t : List ℕ) → column row.now at ≡ TextValue t → IfOk result (λ x. string_bytes x ≡ t) }
+    ensures back { IfOk result (λ x. column row.now at ≡ TextValue (string_bytes x)) }
 {
-    row.get(at).ok()
+    match row.get(at) {
+        Ok(text) => Ok(text),
+        Err(Error::SqliteFailure(ErrorCode::OutOfMemory)) => Err(RowFault::NoMemory),
+        Err(_) => Err(RowFault::Unreadable),
+    }
+}
+
+/// A text within its limits.
+pub(crate) fn text(row: &Row, at: usize) -> Read<Text>
+    ensures read { (t : List ℕ) → column row.now at ≡ TextValue t → IfOk result (λ x. x ≡ t) }
+    ensures back { IfOk result (λ x. column row.now at ≡ TextValue x) }
+    ensures within { IfOk result (λ x. IsTrue (is_printable x)) }
+{
+    readable(Text::new(string(row, at)?))
+}
+
+/// A lot.
+pub(crate) fn lot(row: &Row, at: usize) -> Read<Lot>
+    ensures read { (t : List ℕ) → column row.now at ≡ TextValue t → IfOk result (λ x. x ≡ t) }
+    ensures back { IfOk result (λ x. column row.now at ≡ TextValue x) }
+    ensures within { IfOk result (λ x. IsTrue (is_lot x)) }
+{
+    readable(Lot::new(string(row, at)?))
+}
+
+/// A digest.
+pub(crate) fn digest(row: &Row, at: usize) -> Read<Digest>
+    ensures read { (t : List ℕ) → column row.now at ≡ TextValue t → IfOk result (λ x. x ≡ t) }
+    ensures back { IfOk result (λ x. column row.now at ≡ TextValue x) }
+    ensures within { IfOk result (λ x. IsTrue (is_digest x)) }
+{
+    readable(Digest::read(string(row, at)?.as_str()))
+}
+
+/// The value, or that the row is unreadable.
+pub(crate) fn readable<T>(value: Option<T>) -> Read<T>
+    ensures ok { IfOk result (λ x. value ≡ Some x) }
+    ensures err { IfErr result (λ e. (value ≡ None) × (e ≡ RowFault.Unreadable)) }
+{
+    match value {
+        Some(value) => Ok(value),
+        None => Err(RowFault::Unreadable),
+    }
 }
 
 /// 1 or 0.

@@ -1,28 +1,15 @@
 //! Opening over memory.
 
 use crate::store::SqlStore;
-use crate::tests::founder;
+use crate::tests::founded;
 use permit_store::store::OpenError;
-use sqlite::{Connection, MemStore};
+use sqlite::Connection;
 use std::alloc::Global;
 use std::test::Fail;
 
-/// A database with the founding alone.
-fn founded(alloc: Global) -> Result<Option<Connection<MemStore>>, Fail> {
-    let Some(founder) = founder(alloc)? else {
-        return Ok(None);
-    };
-    match SqlStore::create(alloc, Connection::open_in_memory(alloc)?, &founder) {
-        Ok(store) => Ok(Some(store.into_connection())),
-        Err((_, _)) => Ok(None),
-    }
-}
-
 /// Why a founded database isn't opened once a statement has run; none where it is.
 fn refusal(alloc: Global, statement: &str) -> Result<Option<OpenError>, Fail> {
-    let Some(mut conn) = founded(alloc)? else {
-        return Ok(Some(OpenError::Exists));
-    };
+    let mut conn = founded(alloc)?.into_connection();
     conn.execute(statement, &[])?;
     match SqlStore::open(alloc, conn) {
         Ok(_) => Ok(None),
@@ -32,16 +19,10 @@ fn refusal(alloc: Global, statement: &str) -> Result<Option<OpenError>, Fail> {
 
 #[test]
 fn a_founded_database_is_opened(rt: HostRuntime) -> Result<(), Fail> {
-    let Some(conn) = founded(rt.alloc())? else {
-        assert!(rt; false);
-        return Ok(());
-    };
+    let conn = founded(rt.alloc())?.into_connection();
     let store = match SqlStore::open(rt.alloc(), conn) {
         Ok(store) => store,
-        Err((_, _)) => {
-            assert!(rt; false);
-            return Ok(());
-        }
+        Err((_, why)) => Err(why)?,
     };
     let mut conn = store.into_connection();
     let row = conn.query_row("SELECT name FROM party WHERE id = 1 AND role = 4", &[])?;
@@ -59,7 +40,10 @@ fn another_version_is_told_first(rt: HostRuntime) -> Result<(), Fail> {
 
 #[test]
 fn another_schema_is_refused(rt: HostRuntime) -> Result<(), Fail> {
-    let more = refusal(rt.alloc(), "CREATE TABLE more (id INTEGER PRIMARY KEY) STRICT")?;
+    let more = refusal(
+        rt.alloc(),
+        "CREATE TABLE more (id INTEGER PRIMARY KEY) STRICT",
+    )?;
     assert_eq!(rt; more, Some(OpenError::Store));
     let fewer = refusal(rt.alloc(), "DROP INDEX interest_party")?;
     assert_eq!(rt; fewer, Some(OpenError::Store));
@@ -80,7 +64,7 @@ fn damaged_rows_are_refused(rt: HostRuntime) -> Result<(), Fail> {
     assert_eq!(rt; count, Some(OpenError::Damaged));
     let none = refusal(rt.alloc(), "DELETE FROM desk")?;
     assert_eq!(rt; none, Some(OpenError::Damaged));
-    let interest = refusal(rt.alloc(), "UPDATE party SET name = 'Another'")?;
-    assert_eq!(rt; interest, None);
+    let renamed = refusal(rt.alloc(), "UPDATE party SET name = 'Another'")?;
+    assert_eq!(rt; renamed, None);
     Ok(())
 }

@@ -4,7 +4,20 @@ ghost use Rattle.std.specs.Prelude.{◌≡◌, ◌↔◌, ◌++◌, IsTrue, Some
 ghost use Rattle.sqlite_value.specs.declared.value.Value.TheVariants.{Null};
 ghost use Rattle.sqlite_value.specs.Keys.{plain};
 ghost use Rattle.permit_sql.specs.Schema.{
-    key_column, int_column, text_column, automatic, desk_table, party_table, parcel_table, interest_table, file_table, paper_table, all_tables, key_indexes, search_indexes, office_schema,
+  key_column,
+  int_column,
+  text_column,
+  automatic,
+  desk_table,
+  party_table,
+  parcel_table,
+  interest_table,
+  file_table,
+  paper_table,
+  all_tables,
+  key_indexes,
+  search_indexes,
+  office_schema,
 };
 ghost use Rattle.permit_sql.specs.Schema as spec;
 ghost use Rattle.permit_sql.specs.Shape.{column_of, reference_of, keys_of, table_of, index_of};
@@ -276,12 +289,7 @@ fn is_party(table: &Table) -> bool
         Shape {
             tree: 1,
             name: "party",
-            fields: &[
-                id(),
-                text("name"),
-                number("role"),
-                text("digest"),
-            ],
+            fields: &[id(), text("name"), number("role"), text("digest")],
             key: Some(0),
             primary: &[0],
             unique: &[4],
@@ -299,18 +307,11 @@ fn is_parcel(table: &Table) -> bool
         Shape {
             tree: 3,
             name: "parcel",
-            fields: &[
-                id(),
-                text("lot"),
-                text("address"),
-                number("owner"),
-            ],
+            fields: &[id(), text("lot"), text("address"), number("owner")],
             key: Some(0),
             primary: &[0],
             unique: &[2],
-            links: &[
-                refers(4, "party"),
-            ],
+            links: &[refers(4, "party")],
         },
     )
 }
@@ -324,17 +325,11 @@ fn is_interest(table: &Table) -> bool
         Shape {
             tree: 5,
             name: "interest",
-            fields: &[
-                number("parcel"),
-                number("party"),
-            ],
+            fields: &[number("parcel"), number("party")],
             key: None,
             primary: &[1, 2],
             unique: &[1, 2],
-            links: &[
-                refers(1, "parcel"),
-                refers(2, "party"),
-            ],
+            links: &[refers(1, "parcel"), refers(2, "party")],
         },
     )
 }
@@ -373,10 +368,7 @@ fn is_file(table: &Table) -> bool
             key: Some(0),
             primary: &[0],
             unique: &[],
-            links: &[
-                refers(2, "parcel"),
-                refers(3, "party"),
-            ],
+            links: &[refers(2, "parcel"), refers(3, "party")],
         },
     )
 }
@@ -404,9 +396,7 @@ fn is_paper(table: &Table) -> bool
             key: None,
             primary: &[1, 2],
             unique: &[1, 2],
-            links: &[
-                refers(1, "file"),
-            ],
+            links: &[refers(1, "file")],
         },
     )
 }

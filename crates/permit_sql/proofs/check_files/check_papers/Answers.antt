@@ -1,5 +1,4 @@
 use Rattle.std.proofs.Common.{refl}
-use Rattle.std.proofs.lemmas.Result.{IfOk-weaker}
 use Rattle.permit_sql.proofs.WholeMeanings.{each_paper_plain}
 use Rattle.permit_sql.proofs.FileChecks.{papers_are}
 use Rattle.permit_sql.proofs.check_files.check_papers.Goals as goal
@@ -8,4 +7,6 @@ pub takes_all-requires-clause-plain : goal.takes_all-requires-clause-plain
 takes_all-requires-clause-plain g c = each_paper_plain
 
 pub returns-clause-good : goal.returns-clause-good
-returns-clause-good g c clean = IfOk-weaker c.takes_all.result _ _ (λ all took said. papers_are g.S.Store c.args.conn.now c.takes_all.new.conn (took said).0 _ _ refl refl c.args.counts.items refl (took said).1) (c.takes_all.ensures.all clean)
+returns-clause-good g c clean said =
+    let took = c.in_ok-all.ensures.all clean said in
+    papers_are g.S.Store c.args.conn.now c.takes_all.new.conn took.0 _ _ refl refl c.args.counts.items refl took.1

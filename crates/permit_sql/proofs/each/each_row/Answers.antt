@@ -63,16 +63,17 @@ rows-preserved g c =
     let moved = c.next.follows.holds-at-none in
     let now = c.next.follows.lender-at-none.conn.now in
     let sql = c.args.sql.now in
-    let params = bound c.args.params.now in
-    (search rules,
-    survives_then (state g.S.Store c.args.conn.now) (state g.S.Store c.rows.rows.conn.now) (state g.S.Store now) _ _ (λ _. ⊥) (λ _ db none. none) (λ _ db none. none) c.rows.invariant.1 moved.survives,
-    λ clean.
-    let was = c.rows.invariant.2 (omega (arith, moved.survives.clean)) in
-    let given = (rw (c.in_ok-row.was, c.in-Some.is) at (moved.ok clean)) sql params was.0 was.1 in
-    let kept = rw c.in_ok-row.was at (moved.same clean) in
-    let still = unchanged_then (state g.S.Store c.args.conn.now) (state g.S.Store c.rows.rows.conn.now) (state g.S.Store now) was.2 kept in
-    (was.0 ++ c.in-Some.row.now ∷ [], given, still, took_more g.T.Taker.took was.0 c.in-Some.row.now c.args.taker.now c.rows.taker c.take.new.self was.3 (rw c.if-not-take.false at c.take.ensures)),
-    moved.mode c.rows.invariant.3)
+    let params = bound c.args.params.now in (
+      search rules,
+      survives_then (state g.S.Store c.args.conn.now) (state g.S.Store c.rows.rows.conn.now) (state g.S.Store now) _ _ (λ _. ⊥) (λ _ db none. none) (λ _ db none. none) c.rows.invariant.1 moved.survives,
+      λ clean.
+          let was = c.rows.invariant.2 (omega (arith, moved.survives.clean)) in
+          let given = (rw (c.in_ok-row.was, c.in-Some.is) at (moved.ok clean)) sql params was.0 was.1 in
+          let kept = rw c.in_ok-row.was at (moved.same clean) in
+          let still = unchanged_then (state g.S.Store c.args.conn.now) (state g.S.Store c.rows.rows.conn.now) (state g.S.Store now) was.2 kept in
+          (was.0 ++ c.in-Some.row.now ∷ [], given, still, took_more g.T.Taker.took was.0 c.in-Some.row.now c.args.taker.now c.rows.taker c.take.new.self was.3 (rw c.if-not-take.false at c.take.ensures)),
+      moved.mode c.rows.invariant.3,
+    )
 
 pub returns-in_err-rows-clause-left : goal.returns-in_err-rows-clause-left
 returns-in_err-rows-clause-left g c fine =
@@ -84,6 +85,7 @@ returns-in_err-rows-clause-left g c fine =
     let held = c.query.follows.holds-at-none in
     let refused : IsRefused g.S.Store sql params c.args.conn.now c.query.result last = search rules in
     let failed : FailsToQuery sql params old new c.in_err-rows.field-0.0 = rw c.in_err-rows.was at (refused.err fine.0) in
-    let settled = c.is_autocommit-settled.ensures.settled (c.is_autocommit-settled.ensures.value ∙ ap not c.requires.calm) in
-    ((omega (arith, fine.0, refused.survives.clean), failed_open sql params old new c.in_err-rows.field-0.0 fine.1 failed),
-    (failed_same sql params old new c.in_err-rows.field-0.0 c.requires.plain settled fine.1 failed).0)
+    let settled = c.is_autocommit-settled.ensures.settled (c.is_autocommit-settled.ensures.value ∙ ap not c.requires.calm) in (
+      (omega (arith, fine.0, refused.survives.clean), failed_open sql params old new c.in_err-rows.field-0.0 fine.1 failed),
+      (failed_same sql params old new c.in_err-rows.field-0.0 c.requires.plain settled fine.1 failed).0,
+    )

@@ -15,5 +15,5 @@ returns-in-len1-clause-good g c fine =
     let office = sym c.schema.ensures.value ∙ c.is_office.ensures c.if-not-is_office.false in
     let was = c.desk_seen.ensures.fine fine in
     of_both c.desk_in.result c.desk_in.ensures.back c.desk_in.ensures.typed (λ d shown good.
-      desk_found (state g.S.Store c.args.conn.now).now c.in_ok-rows.rows.items row row d office (c.schema.ensures.live was.1).0 (c.in_ok-rows.ensures.rows fine.0)
-      (subst (λ (l : List Row). 1 ≤ length l) is c.in-len1.len_at_least) (subst (λ (l : List Row). length l < 2) is c.in-len1.len_below) (subst (λ (l : List Row). row ≡ get_or l 0 row) is c.row-item.is) shown good)
+    desk_found (state g.S.Store c.args.conn.now).now c.in_ok-rows.rows.items row row d office (c.schema.ensures.live was.1).0 (c.in_ok-rows.ensures.rows fine.0)
+    (subst (λ (l : List Row). 1 ≤ length l) is c.in-len1.len_at_least) (subst (λ (l : List Row). length l < 2) is c.in-len1.len_below) (subst (λ (l : List Row). row ≡ get_or l 0 row) is c.row-item.is) shown good)
