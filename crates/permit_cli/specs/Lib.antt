@@ -1,1 +1,6 @@
+pub mod Asking
+pub mod Faults
+pub mod Founders
 pub mod Plans
+pub mod Refusals
+pub mod Requests

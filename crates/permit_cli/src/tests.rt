@@ -1,6 +1,17 @@
 //! The words of a command line, and what the program prints for them.
 
+use crate::asking::{ask, show};
+use crate::founding::founder;
+use crate::plan::{ActWords, DayWords};
 use crate::program::run_words;
+use crate::refused::{RefusalWord, Refused, refused_in};
+use crate::request::request;
+use permit_base::outcome::Reason;
+use permit_base::values::{Day, RuleName};
+use permit_office::office::Office;
+use permit_policy::text::read_policy;
+use permit_store::plain::PlainStore;
+use std::alloc::Global;
 use std::fs;
 use std::test::Fail;
 
@@ -62,6 +73,175 @@ fn no_such_file(rt: HostRuntime) -> Result<(), Fail> {
         (status, out.as_str(), err.as_str()),
         (2, "", "cannot read nowhere.toml\n")
     );
+    Ok(())
+}
+
+#[test]
+fn a_founding(rt: HostRuntime) -> Result<(), Fail> {
+    let words = [
+        "init",
+        "--db",
+        "office.db",
+        "--name",
+        "Chief",
+        "--token",
+        "abcdefghijklmnopqrstuvwxyz",
+        "--day",
+        "2023-12-09",
+    ];
+    let (status, out, err) = run(&rt, &words)?;
+    assert_eq!(rt; (status, out.as_str(), err.as_str()), (0, "party 1\n", ""));
+    let (status, out, err) = run(&rt, &words)?;
+    assert_eq!(rt;
+        (status, out.as_str(), err.as_str()),
+        (2, "", "database: exists\n")
+    );
+    Ok(())
+}
+
+#[test]
+fn a_founding_that_is_refused(rt: HostRuntime) -> Result<(), Fail> {
+    for (token, day, status, line) in [
+        ("short", "2023-12-09", 1, "refused: syntax\n"),
+        (
+            "abcdefghijklmnopqrstuvwxyz",
+            "1970-01-01",
+            1,
+            "refused: clock\n",
+        ),
+        (
+            "abcdefghijklmnopqrstuvwxyz",
+            "2023-12-32",
+            2,
+            "day: unreadable\n",
+        ),
+    ] {
+        let words = [
+            "init", "--db", "none.db", "--name", "Chief", "--token", token, "--day", day,
+        ];
+        let (is, out, err) = run(&rt, &words)?;
+        assert_eq!(rt; (is, out.as_str(), err.as_str()), (status, "", line));
+    }
+    assert!(rt; !fs::exists(&rt, "none.db")?);
+    Ok(())
+}
+
+/// An office in memory under a policy without rules, founded on day 19700.
+fn office(alloc: Global) -> Result<Office<PlainStore>, Fail> {
+    let day = Day::new(19700).ok_or("day")?;
+    let founder = founder(alloc, "Chief", "abcdefghijklmnopqrstuvwxyz", day)
+        .ok()
+        .ok_or("founder")?;
+    let store = PlainStore::create(alloc, &founder).ok().ok_or("store")?;
+    let policy = read_policy(alloc, "").ok().ok_or("policy")?;
+    Ok(Office::open(store, policy).ok().ok_or("office")?)
+}
+
+/// What is printed for a request, and the line of its fault.
+fn asked(
+    rt: &HostRuntime,
+    office: &mut Office<PlainStore>,
+    method: &str,
+    path: &str,
+    token: &str,
+) -> Result<(String, String), Fail> {
+    let alloc = rt.alloc();
+    let words = ActWords {
+        db: "",
+        policy: "",
+        token,
+        days: DayWords {
+            day: None,
+            zone: None,
+        },
+        method,
+        path,
+        body: None,
+    };
+    let day = Day::new(19700).ok_or("day")?;
+    let mut out = Vec::new(alloc);
+    let told = match request(alloc, &words) {
+        Ok(request) => show(
+            ask(alloc, office, request.as_str(), day)?.as_slice(),
+            &mut out,
+        ),
+        Err(fault) => Err(fault),
+    };
+    let line = match told {
+        Ok(()) => String::new(alloc),
+        Err(fault) => fault.to_string(alloc)?,
+    };
+    Ok((text(out)?, line))
+}
+
+#[test]
+fn requests_are_answered(rt: HostRuntime) -> Result<(), Fail> {
+    let mut office = office(rt.alloc())?;
+    for (method, path, token, body, line) in [
+        (
+            "GET",
+            "/files/1",
+            "0000000000000000",
+            "{\"refused\":\"caller\"}\n",
+            "refused: caller",
+        ),
+        (
+            "GET",
+            "/nowhere",
+            "abcdefghijklmnopqrstuvwxyz",
+            "{\"refused\":\"route\"}\n",
+            "refused: route",
+        ),
+        (
+            "GET",
+            "/files/1",
+            "abcdefghijklmnopqrstuvwxyz",
+            "{\"refused\":\"record\"}\n",
+            "refused: record",
+        ),
+        ("GET", "/files/1", "short", "", "refused: caller"),
+        (
+            "GET",
+            "/files/1 ",
+            "abcdefghijklmnopqrstuvwxyz",
+            "",
+            "refused: syntax",
+        ),
+        (
+            "",
+            "/files/1",
+            "abcdefghijklmnopqrstuvwxyz",
+            "",
+            "refused: syntax",
+        ),
+    ] {
+        let (out, told) = asked(&rt, &mut office, method, path, token)?;
+        assert_eq!(rt; (out.as_str(), told.as_str()), (body, line));
+    }
+    Ok(())
+}
+
+#[test]
+fn refusals_are_read(rt: HostRuntime) -> Result<(), Fail> {
+    let rule = RuleName::new("own-work").ok_or("rule")?;
+    for (body, why) in [
+        (
+            "{\"refused\":\"large\"}",
+            Some(Refused::Plain(RefusalWord::Large)),
+        ),
+        (
+            "{\"refused\":\"denied\",\"rule\":\"own-work\"}",
+            Some(Refused::Denied(rule)),
+        ),
+        (
+            "{\"reason\":\"far\",\"refused\":\"not-admitted\"}",
+            Some(Refused::NotAdmitted(Reason::Far)),
+        ),
+        ("{\"day\":19700,\"done\":\"declare\",\"number\":null}", None),
+        ("{\"refused\":\"frob\"}", None),
+    ] {
+        assert_eq!(rt; refused_in(body), why);
+    }
     Ok(())
 }
 

@@ -1,33 +1,14 @@
 //! What the words behind the program's name ask for.
 
-ghost use Rattle.std.specs.Prelude.{◌≡◌, [], IfOk, IfSome, map, Some, Ok, codes, string_bytes};
-ghost use Rattle.clap.specs.Words.{app_of, first_of, found_of, matches_of, rows_of};
-ghost use Rattle.permit_cli.specs.Plans.{check_policy_app, IsPlanOf};
+ghost use Rattle.std.specs.Prelude.{◌≡◌, [], IfOk, map, Some, Ok, codes, true, string_bytes};
+ghost use Rattle.clap.specs.Words.{app_of, first_of, found_of, is_simple, matches_of, rows_of};
+ghost use Rattle.permit_cli.specs.Plans.{act_app, check_policy_app, init_app, text_of, IsActOf, IsDaysOf, IsInitOf, IsPlanOf};
 
-use crate::plan::{Plan, PlanFault};
+use crate::commands::{act, check_policy, init, program};
+use crate::plan::{ActWords, DayWords, InitWords, Plan, PlanFault};
 use clap::error::ErrorKind;
-use clap::{Arg, ArgAction, ArgMatches, Command, Error};
-use std::alloc::{AllocError, Global};
-
-/// The subcommand that reads a policy.
-fn check_policy<'a>(alloc: Global) -> Result<Command<'a>, AllocError>
-    ensures { IfOk result (λ command. app_of command ≡ check_policy_app) }
-{
-    let policy = Arg::new(alloc, "policy")
-        .long("policy")
-        .required(true)
-        .action(ArgAction::Set);
-    Command::new(alloc, "check-policy").arg(policy)
-}
-
-/// The program with all its subcommands, for help and for words that begin with none of them.
-fn program<'a>(alloc: Global) -> Result<Command<'a>, AllocError> {
-    Command::new(alloc, "permit")
-        .about("A city's building permits and inspections")
-        .no_binary_name(true)
-        .subcommand_required(true)
-        .subcommand(check_policy(alloc)?.about("Reads a policy and says how many rules it has"))
-}
+use clap::{ArgMatches, Command, Error};
+use std::alloc::Global;
 
 /// What an error of the parser says.
 fn fault(alloc: Global, error: &Error) -> PlanFault {
@@ -41,34 +22,82 @@ fn fault(alloc: Global, error: &Error) -> PlanFault {
     }
 }
 
-/// The matches of `check-policy` on its words.
-fn check_policy_matches<'a>(alloc: Global, words: &'a [String]) -> Result<ArgMatches<'a>, Error>
-    ensures { IfOk result (λ m. rows_of (found_of m) ≡ matches_of check_policy_app (map string_bytes words.now)) }
+/// What the words, the first of which names the subcommand, give its options and words.
+fn matches<'a>(
+    alloc: Global,
+    command: Command<'a>,
+    words: &'a [String],
+) -> Result<ArgMatches<'a>, PlanFault>
+    ensures { IfOk result (λ m. is_simple (app_of command.entry) ≡ true → rows_of (found_of m) ≡ matches_of (app_of command.entry) (map string_bytes words.now)) }
 {
-    check_policy(alloc)?.try_get_matches_from(words)
-}
-
-/// The policy that the matches of `check-policy` name.
-fn policy_in<'a>(matches: &ArgMatches<'a>) -> Option<&'a str>
-    ensures { IfSome result (λ policy. first_of (codes "policy") (rows_of (found_of matches.now)) ≡ Some policy.now) }
-{
-    match matches.get_str("policy") {
-        Some(policy) => Some(policy),
-        None => None,
+    match command.try_get_matches_from(words) {
+        Ok(matches) => Ok(matches),
+        Err(error) => Err(fault(alloc, &error)),
     }
 }
 
-/// The plan of `check-policy` on its words, the first of which names it.
+/// The value of an option or a word that may be left out.
+fn value<'a>(matches: &ArgMatches<'a>, name: &str) -> Option<&'a str>
+    ensures { first_of name.now (rows_of (found_of matches.now)) ≡ text_of result }
+{
+    matches.get_str(name)
+}
+
+/// The value of an option or a word that has to be there.
+fn required<'a>(alloc: Global, matches: &ArgMatches<'a>, name: &str) -> Result<&'a str, PlanFault>
+    ensures { IfOk result (λ s. first_of name.now (rows_of (found_of matches.now)) ≡ Some s.now) }
+{
+    match value(matches, name) {
+        Some(text) => Ok(text),
+        None => Err(PlanFault::Words(format!(in alloc; "error: no {name} is given\n")?)),
+    }
+}
+
+/// The day and the zone.
+fn days<'a>(matches: &ArgMatches<'a>) -> DayWords<'a>
+    ensures { IsDaysOf (rows_of (found_of matches.now)) result }
+{
+    DayWords {
+        day: value(matches, "day"),
+        zone: value(matches, "zone"),
+    }
+}
+
+/// The plan of `check-policy`.
 fn plan_check_policy<'a>(alloc: Global, words: &'a [String]) -> Result<&'a str, PlanFault>
     ensures { IfOk result (λ policy. first_of (codes "policy") (matches_of check_policy_app (map string_bytes words.now)) ≡ Some policy.now) }
 {
-    match check_policy_matches(alloc, words) {
-        Ok(matches) => match policy_in(&matches) {
-            Some(policy) => Ok(policy),
-            None => Err(PlanFault::Words(String::from_str(alloc, "error: no policy is named\n")?)),
-        },
-        Err(error) => Err(fault(alloc, &error)),
-    }
+    let matches = matches(alloc, check_policy(alloc)?, words)?;
+    required(alloc, &matches, "policy")
+}
+
+/// The plan of `init`.
+fn plan_init<'a>(alloc: Global, words: &'a [String]) -> Result<InitWords<'a>, PlanFault>
+    ensures { IfOk result (IsInitOf (matches_of init_app (map string_bytes words.now))) }
+{
+    let matches = matches(alloc, init(alloc)?, words)?;
+    Ok(InitWords {
+        db: required(alloc, &matches, "db")?,
+        name: required(alloc, &matches, "name")?,
+        token: required(alloc, &matches, "token")?,
+        days: days(&matches),
+    })
+}
+
+/// The plan of `act`.
+fn plan_act<'a>(alloc: Global, words: &'a [String]) -> Result<ActWords<'a>, PlanFault>
+    ensures { IfOk result (IsActOf (matches_of act_app (map string_bytes words.now))) }
+{
+    let matches = matches(alloc, act(alloc)?, words)?;
+    Ok(ActWords {
+        db: required(alloc, &matches, "db")?,
+        policy: required(alloc, &matches, "policy")?,
+        token: required(alloc, &matches, "token")?,
+        days: days(&matches),
+        method: required(alloc, &matches, "method")?,
+        path: required(alloc, &matches, "path")?,
+        body: value(&matches, "body"),
+    })
 }
 
 /// Why words that begin with no subcommand give no plan.
@@ -98,6 +127,8 @@ pub fn plan<'a>(alloc: Global, words: &'a [String]) -> Result<Plan<'a>, PlanFaul
         "check-policy" => Ok(Plan::CheckPolicy {
             policy: plan_check_policy(alloc, words)?,
         }),
+        "init" => Ok(Plan::Init(plan_init(alloc, words)?)),
+        "act" => Ok(Plan::Act(plan_act(alloc, words)?)),
         _ => Err(no_subcommand(alloc, words)),
     }
 }

@@ -1,26 +1,21 @@
 -- What the tables' rows are where all were taken.
-use Rattle.std.proofs.Common.{◌≡◌, codes, ℕ, suc, ◌<◌, Bool, true, false, not, eqb, List, [], ◌∷◌, map, drop, filter, length, refl, sym, ap, ap₂, subst, ◌∙◌, arith, IsPermutation}
-use Rattle.std.specs.Prelude.{◌&&◌, ◌||◌, MatchBool, ⊤, bytes_eq}
-use Rattle.std.specs.List.{AllByRecursion, list_any, list_all}
+use Rattle.std.proofs.Common.{◌≡◌, codes, ℕ, Bool, true, false, not, eqb, List, [], ◌∷◌, map, drop, length, refl, sym, ap, ap₂, subst, ◌∙◌, arith, IsPermutation}
+use Rattle.std.specs.Prelude.{◌&&◌, MatchBool, ⊤, bytes_eq}
+use Rattle.std.specs.List.{AllByRecursion, list_any}
 use Rattle.std.proofs.lemmas.Bool.{and_parts}
 use Rattle.std.proofs.lemmas.Bool.Decides.{nat_tests}
-use Rattle.sqlite.specs.declared.types.Value.{Value}
-use Rattle.sqlite.specs.declared.types.Value.TheVariants.{Null, Text}
+use Rattle.sqlite.specs.declared.types.Value.TheVariants.{Null}
 use Rattle.sqlite_value.specs.Order.{Row, column}
 use Rattle.sqlite_value.specs.Keys.{plain, first_key}
-use Rattle.sqlite_value.specs.declared.keys.Collation.TheVariants.{Binary}
 use Rattle.sqlite_value.proofs.OrderLemmas.{value_cmp-Int}
-use Rattle.sqlite_sql.specs.declared.ops.BinaryOp.TheVariants.{Compare}
-use Rattle.sqlite_sql.specs.declared.ops.CompareOp.TheVariants.{Eq, Ne}
-use Rattle.sqlite_sql.specs.Ops.{binary, is_true}
+use Rattle.sqlite_sql.specs.Ops.{binary}
 use Rattle.sqlite_sql.specs.Program.{overlay}
 use Rattle.sqlite_trees.specs.Tree.{rowid, Trees}
 use Rattle.sqlite_trees.specs.declared.store.Store.{Ghosts}
 use Rattle.sqlite_schema.specs.declared.schema.Column.{Column}
 use Rattle.sqlite_schema.specs.declared.schema.Constraint.TheVariants.{Datatype, NotNull, Unique}
-use Rattle.sqlite_schema.specs.Rules.{agree, differ, clashes, passes, Keeps as KeepsRule}
+use Rattle.sqlite_schema.specs.Rules.{agree, differ, passes, Keeps as KeepsRule}
 use Rattle.sqlite.specs.Effect.{Database}
-use Rattle.sqlite.specs.State.{Shown}
 use Rattle.sqlite.specs.Held.{Held, state}
 use Rattle.sqlite.proofs.Callers.{reads_as}
 use Rattle.permit_model.specs.Caller.{Party}
@@ -35,7 +30,7 @@ use Rattle.permit_sql.specs.WholeTexts.{each_party, each_parcel}
 use Rattle.permit_sql.proofs.Lookups.{text_is, one_test}
 use Rattle.permit_sql.proofs.Wholes.{whole_shown}
 use Rattle.permit_sql.proofs.WholeMeanings.{each_party_query, each_party_is, each_party_plain, each_party_unlisted, each_parcel_query, each_parcel_is, each_parcel_plain, each_parcel_unlisted}
-use Rattle.permit_sql.proofs.Shaped.{keyed_rows, paired_rows}
+use Rattle.permit_sql.proofs.Shaped.{keyed_rows}
 use Rattle.permit_sql.proofs.Taking.{took_numbered, in_tree, map_itself}
 use Rattle.permit_sql.proofs.Unclashed.{once_each, unclashed}
 

@@ -1,5 +1,5 @@
 -- Each word stands at its code among the words of its type.
-use Rattle.std.proofs.Common.{◌≡◌, refl, ap, sym, ◌∙◌, Some, slice_get, zero, suc, ℕ}
+use Rattle.std.proofs.Common.{◌≡◌, refl, ap, Some, slice_get, zero, suc, ℕ}
 use Rattle.permit_base.specs.declared.words.Role.{Role}
 use Rattle.permit_base.specs.declared.words.Role.TheVariants as role
 use Rattle.permit_base.specs.declared.words.Kind.{Kind}

@@ -1,5 +1,5 @@
 -- What the rows of interests, files and papers are where all were taken.
-use Rattle.std.proofs.Common.{◌≡◌, ◌⊎◌, inl, inr, codes, ℕ, ℤ, suc, ◌+◌, ◌-◌, ◌<◌, ◌≤◌, ◌<ℤ◌, ◌≤ℤ◌, Bool, true, false, Option, Some, None, IfSome, List, [], ◌∷◌, ◌++◌, map, drop, filter, length, refl, sym, ap, ap₂, subst, ◌∙◌, arith, append-nil, append_assoc, IsPermutation, true≢false}
+use Rattle.std.proofs.Common.{◌≡◌, ◌⊎◌, inl, inr, ℕ, ℤ, suc, ◌≤◌, ◌<ℤ◌, Bool, true, Option, Some, IfSome, List, [], ◌∷◌, ◌++◌, map, drop, filter, length, refl, sym, ap, ap₂, subst, ◌∙◌, arith, append-nil, append_assoc, IsPermutation}
 use Rattle.std.specs.Prelude.{MatchBool, ⊤}
 use Rattle.std.specs.List.{AllByRecursion}
 use Rattle.std.specs.Ordering.{is_eq, int_cmp, MatchOrdering}
@@ -14,7 +14,7 @@ use Rattle.sqlite.specs.declared.types.Value.TheVariants.{Null, Int}
 use Rattle.sqlite_value.specs.Order.{Row, column, value_cmp}
 use Rattle.sqlite_value.proofs.OrderLemmas.{value_cmp-Int}
 use Rattle.sqlite_sql.specs.Program.{overlay}
-use Rattle.sqlite_trees.specs.Tree.{rowid, has_rowid}
+use Rattle.sqlite_trees.specs.Tree.{has_rowid}
 use Rattle.sqlite_trees.specs.declared.store.Store.{Ghosts}
 use Rattle.sqlite_schema.specs.declared.schema.Column.{Column}
 use Rattle.sqlite_schema.specs.declared.schema.Constraint.TheVariants.{Datatype, NotNull}
@@ -24,7 +24,7 @@ use Rattle.sqlite.specs.Held.{Held, state}
 use Rattle.sqlite.proofs.Callers.{reads_as}
 use Rattle.permit_model.specs.Parcels.{Interest}
 use Rattle.permit_model.specs.Tables.{FileRow, Paper}
-use Rattle.permit_sql.specs.Schema.{office_schema, key_column, int_column, text_column, file_table, interest_table, paper_table}
+use Rattle.permit_sql.specs.Schema.{office_schema, key_column, file_table, interest_table, paper_table}
 use Rattle.permit_sql.specs.Rows.{file_row, shown_file, shown_interest, shown_paper}
 use Rattle.permit_sql.specs.Typed.{firsts, IsInterest, IsPaper}
 use Rattle.permit_sql.specs.Taken.{TookAll}

@@ -1,5 +1,5 @@
 -- What the texts that read whole tables mean.
-use Rattle.std.proofs.Common.{◌≡◌, refl, List, [], ◌∷◌, false}
+use Rattle.std.proofs.Common.{◌≡◌, refl, [], ◌∷◌, false}
 use Rattle.sqlite_tied.specs.Compute.{everything}
 use Rattle.sqlite.specs.Listing.{understood, reads_listing}
 use Rattle.sqlite_value.specs.declared.keys.Collation.TheVariants.{Binary}

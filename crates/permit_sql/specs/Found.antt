@@ -1,5 +1,5 @@
 -- What an open finds in the trees of the tables.
-use Rattle.std.specs.Prelude.{◌≡◌, ◌⊎◌, ⊤, ℕ, ℤ, suc, ◌-◌, ◌<◌, ◌≤◌, ◌<ℤ◌, Option, Some, IfSome, List, [], ◌∷◌, Bool, MatchBool, map, filter, drop, length, slice_get, bytes_eq, unwrap_or, ◌+◌, ◌++◌, IsPermutation}
+use Rattle.std.specs.Prelude.{◌≡◌, ◌⊎◌, ⊤, ℕ, ℤ, suc, ◌-◌, ◌<◌, ◌≤◌, ◌<ℤ◌, Option, Some, IfSome, List, [], ◌∷◌, Bool, map, filter, drop, length, slice_get, bytes_eq, unwrap_or, ◌++◌, IsPermutation}
 use Rattle.std.specs.List.{AllByRecursion}
 use Rattle.sqlite.specs.declared.types.Value.TheVariants.{Int}
 use Rattle.sqlite_value.specs.Order.{Row, column}

@@ -1,8 +1,6 @@
-use Rattle.std.proofs.Common.{◌≡◌, Bool, true, false, IsTrue, [], sym, ap, subst, ◌∙◌, true≢false}
+use Rattle.std.proofs.Common.{Bool, true, false, IsTrue, [], sym, subst, ◌∙◌, true≢false}
 use Rattle.sqlite.specs.Listing.{understood}
-use Rattle.sqlite.specs.Held.{state}
 use Rattle.sqlite.proofs.Callers.{IsPlain}
-use Rattle.permit_sql.specs.Schema.{office_schema}
 use Rattle.permit_sql.specs.Taken.{Handed}
 use Rattle.permit_sql.specs.Found.{TookTable}
 use Rattle.permit_sql.proofs.check.takes_all.Goals as goal

@@ -1,4 +1,3 @@
-use Rattle.std.proofs.Common.{refl}
 use Rattle.permit_sql.proofs.WholeMeanings.{each_file_plain}
 use Rattle.permit_sql.proofs.FileChecks.{files_are}
 use Rattle.permit_sql.proofs.check_files.check_files.Goals as goal

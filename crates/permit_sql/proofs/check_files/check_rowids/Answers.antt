@@ -1,4 +1,3 @@
-use Rattle.std.proofs.Common.{refl}
 use Rattle.std.proofs.lemmas.Result.{IfOk-weaker}
 use Rattle.permit_sql.proofs.WholeMeanings.{each_rowid_plain}
 use Rattle.permit_sql.proofs.FileChecks.{rowids_are}

@@ -1,4 +1,4 @@
-use Rattle.std.proofs.Common.{◌≡◌, [], ◌∷◌, Option, IfSome, ap, ap₂, subst}
+use Rattle.std.proofs.Common.{◌≡◌, [], ◌∷◌, IfSome, ap, ap₂, subst}
 use Rattle.sqlite_value.specs.Order.{column}
 use Rattle.permit_sql.specs.Rows.{int}
 use Rattle.permit_sql.specs.Typed.{ShowsState}

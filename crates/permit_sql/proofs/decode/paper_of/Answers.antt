@@ -1,4 +1,4 @@
-use Rattle.std.proofs.Common.{◌≡◌, ℕ, Bool, List, Option, IfSome, ap, subst, refl, sym}
+use Rattle.std.proofs.Common.{◌≡◌, ℕ, Bool, List, IfSome, ap, subst, refl}
 use Rattle.sqlite_value.specs.Order.{column}
 use Rattle.permit_base.specs.declared.words.PaperSort.{PaperSort}
 use Rattle.permit_model.specs.Tables.{Paper}

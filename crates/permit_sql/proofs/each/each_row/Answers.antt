@@ -1,12 +1,11 @@
-use Rattle.std.proofs.Common.{◌≡◌, inl, inr, Bool, true, false, Result, Ok, Err, OnErr, ℕ, List, [], ◌∷◌, ◌++◌, not, refl, sym, ap, subst, ◌∙◌, rules, arith}
+use Rattle.std.proofs.Common.{◌≡◌, Bool, true, ℕ, List, [], ◌∷◌, ◌++◌, not, refl, ap, subst, ◌∙◌, rules, arith}
 use Rattle.sqlite_value.specs.Order.{Row}
-use Rattle.sqlite.specs.Effect.{Database}
 use Rattle.sqlite.specs.Listing.{understood}
-use Rattle.sqlite.specs.State.{State, HasCleanDisk, IsUnchanged, Survives, FailsToQuery, Shown, Begins, CommitsShowing}
+use Rattle.sqlite.specs.State.{State, HasCleanDisk, Survives, FailsToQuery, CommitsShowing}
 use Rattle.sqlite.specs.Values.{bound}
 use Rattle.sqlite.specs.Held.{state}
 use Rattle.sqlite.proofs.StateLemmas.{survives_weaker, survives_then}
-use Rattle.sqlite.proofs.Callers.{IsPlain, shown_begins, given_begin, begun_plain, never_commits, unchanged_then}
+use Rattle.sqlite.proofs.Callers.{IsPlain, given_begin, begun_plain, never_commits, unchanged_then}
 use Rattle.sqlite.specs.Given.{IsRefused}
 use Rattle.permit_sql.specs.Taken.{TookAll, Handed}
 use Rattle.permit_sql.proofs.KeptLemmas.{failed_open, failed_same}

@@ -1,8 +1,7 @@
-use Rattle.std.proofs.Common.{◌≡◌, subst, ◌∙◌, Option, IfSome}
+use Rattle.std.proofs.Common.{subst, ◌∙◌}
 use Rattle.std.proofs.lemmas.Result.{IfOk-weaker}
 use Rattle.sqlite.specs.Effect.{Database}
 use Rattle.sqlite.specs.Held.{state}
-use Rattle.permit_model.specs.Tables.{Desk}
 use Rattle.permit_sql.specs.Found.{HasDesk, HasObjects, HasCases}
 use Rattle.permit_sql.proofs.Opened.{tables_found}
 use Rattle.permit_sql.proofs.open.has_sound_rows.Goals as goal

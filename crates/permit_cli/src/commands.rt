@@ -1,0 +1,132 @@
+//! The subcommands, as the command line library is told of them.
+
+ghost use Rattle.std.specs.Prelude.{◌≡◌, IfOk};
+ghost use Rattle.clap.specs.Words.{app_of, with_rule};
+ghost use Rattle.permit_cli.specs.Plans.{act_app, check_policy_app, init_app, optional_option, optional_word, required_option, required_word, with_days};
+
+use clap::{Arg, ArgAction, Command};
+use std::alloc::{AllocError, Global};
+
+/// The subcommand with one option more, `--NAME VALUE`, which has to be there.
+fn with_required<'a>(
+    alloc: Global,
+    command: Command<'a>,
+    name: &'a str,
+    help: &'a str,
+) -> Result<Command<'a>, AllocError>
+    ensures { IfOk result (λ c. app_of c ≡ with_rule (app_of command.entry) (required_option name.now)) }
+{
+    let option = Arg::new(alloc, name)
+        .long(name)
+        .help(help)
+        .required(true)
+        .action(ArgAction::Set);
+    command.arg(option)
+}
+
+/// The subcommand with one option more, which may be left out.
+fn with_option<'a>(
+    alloc: Global,
+    command: Command<'a>,
+    name: &'a str,
+    help: &'a str,
+) -> Result<Command<'a>, AllocError>
+    ensures { IfOk result (λ c. app_of c ≡ with_rule (app_of command.entry) (optional_option name.now)) }
+{
+    let option = Arg::new(alloc, name)
+        .long(name)
+        .help(help)
+        .action(ArgAction::Set);
+    command.arg(option)
+}
+
+/// The subcommand with one word more, which has to be there.
+fn with_word<'a>(
+    alloc: Global,
+    command: Command<'a>,
+    name: &'a str,
+    help: &'a str,
+) -> Result<Command<'a>, AllocError>
+    ensures { IfOk result (λ c. app_of c ≡ with_rule (app_of command.entry) (required_word name.now)) }
+{
+    let word = Arg::new(alloc, name)
+        .help(help)
+        .required(true)
+        .action(ArgAction::Set);
+    command.arg(word)
+}
+
+/// The subcommand with one word more, which may be left out.
+fn with_optional_word<'a>(
+    alloc: Global,
+    command: Command<'a>,
+    name: &'a str,
+    help: &'a str,
+) -> Result<Command<'a>, AllocError>
+    ensures { IfOk result (λ c. app_of c ≡ with_rule (app_of command.entry) (optional_word name.now)) }
+{
+    let word = Arg::new(alloc, name).help(help).action(ArgAction::Set);
+    command.arg(word)
+}
+
+/// The subcommand with the words for the day.
+fn with_days<'a>(alloc: Global, command: Command<'a>) -> Result<Command<'a>, AllocError>
+    ensures { IfOk result (λ c. app_of c ≡ with_days (app_of command.entry)) }
+{
+    let command = with_option(
+        alloc,
+        command,
+        "day",
+        "The day, as YYYY-MM-DD, in place of the clock's",
+    )?;
+    with_option(
+        alloc,
+        command,
+        "zone",
+        "The clock's zone, as a POSIX rule; UTC0 without it",
+    )
+}
+
+/// The subcommand that reads a policy.
+pub(crate) fn check_policy<'a>(alloc: Global) -> Result<Command<'a>, AllocError>
+    ensures { IfOk result (λ command. app_of command ≡ check_policy_app) }
+{
+    let command = Command::new(alloc, "check-policy");
+    with_required(alloc, command, "policy", "The policy's path")
+}
+
+/// The subcommand that founds an office.
+pub(crate) fn init<'a>(alloc: Global) -> Result<Command<'a>, AllocError>
+    ensures { IfOk result (λ command. app_of command ≡ init_app) }
+{
+    let command = Command::new(alloc, "init");
+    let command = with_required(alloc, command, "db", "The database's path")?;
+    let command = with_required(alloc, command, "name", "The first official's name")?;
+    let command = with_required(alloc, command, "token", "The first official's token")?;
+    with_days(alloc, command)
+}
+
+/// The subcommand that has the office serve one request.
+pub(crate) fn act<'a>(alloc: Global) -> Result<Command<'a>, AllocError>
+    ensures { IfOk result (λ command. app_of command ≡ act_app) }
+{
+    let command = Command::new(alloc, "act");
+    let command = with_required(alloc, command, "db", "The database's path")?;
+    let command = with_required(alloc, command, "policy", "The policy's path")?;
+    let command = with_required(alloc, command, "token", "The caller's token")?;
+    let command = with_days(alloc, command)?;
+    let command = with_word(alloc, command, "method", "The request's method")?;
+    let command = with_word(alloc, command, "path", "The request's path")?;
+    with_optional_word(alloc, command, "body", "The request's body, in JSON")
+}
+
+/// The program with all its subcommands, for help and for words that begin with none of them.
+pub(crate) fn program<'a>(alloc: Global) -> Result<Command<'a>, AllocError> {
+    Command::new(alloc, "permit")
+        .about("A city's building permits and inspections")
+        .no_binary_name(true)
+        .subcommand_required(true)
+        .subcommand(check_policy(alloc)?.about("Reads a policy and says how many rules it has"))?
+        .subcommand(init(alloc)?.about("Founds an office in a database"))?
+        .subcommand(act(alloc)?.about("Has the office serve one request"))
+}

@@ -1,0 +1,58 @@
+//! The day of a run: the date that its words name, or the clock's.
+
+ghost use Rattle.std.specs.Prelude.{◌≡◌, ◌≤◌, ℕ, IfOk, IfSome, Ok, Err};
+ghost use Rattle.permit_days.specs.Dates.{last_day, IsTextOf};
+ghost use Rattle.permit_cli.specs.declared.fault.Fault.TheVariants as fault;
+
+use crate::fault::Fault;
+use crate::plan::DayWords;
+use jiff::Timestamp;
+use jiff::tz::TimeZone;
+use permit_base::values::Day;
+use permit_days::dates::read_date;
+use permit_days::instants::day_of;
+use std::time::Clock;
+
+/// The day that a date names.
+fn dated(date: &str) -> Result<Day, Fault>
+    ensures read { IfOk result (λ day. IsTextOf day date.now) }
+    ensures every { (day : ℕ) → day ≤ last_day → IsTextOf day date.now → result ≡ Ok day }
+    ensures refused { (why : _) → result ≡ Err why → why ≡ fault.Day }
+{
+    match read_date(date) {
+        Some(day) => Ok(day),
+        None => Err(Fault::Day),
+    }
+}
+
+/// Day 0, which is before every founding.
+fn no_day() -> Day
+    ensures { result ≡ 0 }
+{
+    match Day::new(0) {
+        Some(day) => day,
+        None => unreachable!(),
+    }
+}
+
+/// The day on the clock in a zone; day 0 where the clock gives none that the office takes, so that the office refuses.
+fn on_the_clock<R: Clock>(rt: &R, zone: &str) -> Result<Day, Fault> {
+    let Ok(zone) = TimeZone::posix(zone) else {
+        return Err(Fault::Zone);
+    };
+    let Ok(now) = Timestamp::now(rt) else {
+        return Ok(no_day());
+    };
+    Ok(day_of(now, &zone).unwrap_or(no_day()))
+}
+
+/// The day of a run. A date goes before the clock, and the zone is then not read.
+pub fn day_of_run<R: Clock>(rt: &R, words: &DayWords<'_>) -> Result<Day, Fault>
+    ensures read { IfSome words.now.day (λ date. IfOk result (λ day. IsTextOf day date.now)) }
+    ensures every { IfSome words.now.day (λ date. (day : ℕ) → day ≤ last_day → IsTextOf day date.now → result ≡ Ok day) }
+{
+    match words.day {
+        Some(date) => dated(date),
+        None => on_the_clock(rt, words.zone.unwrap_or("UTC0")),
+    }
+}
