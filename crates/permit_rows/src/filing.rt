@@ -47,15 +47,7 @@ fn filing_and_abandonment(rt: HostRuntime) -> Result<(), Fail> {
     );
     let near = answer(alloc, "200 OK", house(alloc, "filed", "near")?.as_str())?;
     for party in [TOKENS[0], TOKENS[4]] {
-        let read = asked(
-            &rt,
-            &mut office,
-            "GET",
-            "/files/1",
-            party,
-            "",
-            day(19903)?,
-        )?;
+        let read = asked(&rt, &mut office, "GET", "/files/1", party, "", day(19903)?)?;
         assert_eq!(rt; read.as_str(), near.as_str());
     }
     let past = answer(alloc, "200 OK", house(alloc, "abandoned", "past")?.as_str())?;

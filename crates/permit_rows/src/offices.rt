@@ -62,7 +62,11 @@ pub fn printed(rt: &HostRuntime, words: &[&str]) -> Result<String, Fail> {
     let mut out = Vec::new(alloc);
     let mut complaints = Vec::new(alloc);
     let _status = run_words(rt, owned.as_slice(), &mut out, &mut complaints);
-    Ok(String::from_utf8(out).ok().ok_or("what is printed is text")?)
+    Ok(
+        String::from_utf8(out)
+            .ok()
+            .ok_or("what is printed is text")?,
+    )
 }
 
 impl Offices {

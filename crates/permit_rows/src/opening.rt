@@ -78,14 +78,7 @@ pub fn opened(rt: &HostRuntime) -> Result<Offices, Fail> {
         } else {
             "add-staff"
         };
-        add(
-            rt,
-            &mut office,
-            "/parties",
-            body.as_str(),
-            action,
-            *number,
-        )?;
+        add(rt, &mut office, "/parties", body.as_str(), action, *number)?;
     }
     add(
         rt,
