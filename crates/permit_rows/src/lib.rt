@@ -10,6 +10,8 @@ mod filing;
 #[cfg(test)]
 mod limits;
 #[cfg(test)]
+mod offices;
+#[cfg(test)]
 mod opening;
 #[cfg(test)]
 mod oversized_and_cut;

@@ -1,14 +1,10 @@
 //! The office in which the rows begin: seven parties and two parcels under the standard policy.
 
 use crate::exchange::{answer, asked};
-use crate::standard::POLICY;
+use crate::offices::Offices;
 use permit_base::digests::digest;
 use permit_base::values::{Day, Text, Token};
-use permit_office::office::Office;
-use permit_policy::text::read_policy;
 use permit_store::founder::Founder;
-use permit_store::plain::PlainStore;
-use std::alloc::Global;
 use std::test::Fail;
 
 /// The tokens of the parties, by their numbers from 1.
@@ -30,31 +26,26 @@ pub fn day(number: u32) -> Result<Day, Fail> {
     Ok(Day::new(number).ok_or("a day")?)
 }
 
-/// The office after its founding, over vectors.
-pub fn founded(alloc: Global) -> Result<Office<PlainStore>, Fail> {
+/// The office after its founding.
+pub fn founded(rt: &HostRuntime) -> Result<Offices, Fail> {
+    let alloc = rt.alloc();
     let name = Text::new(String::from_str(alloc, "Chief")?).ok_or("a name")?;
     let token = Token::new(String::from_str(alloc, TOKENS[0])?).ok_or("a token")?;
     let founder = Founder::new(name, digest(&token)?, day(FOUNDED)?).ok_or("a founder")?;
-    let Ok(store) = PlainStore::create(alloc, &founder) else {
-        return Err(Fail::new("no store"));
-    };
-    let policy = read_policy(alloc, POLICY)?;
-    match Office::open(store, policy) {
-        Ok(office) => Ok(office),
-        Err(_) => Err(Fail::new("no office")),
-    }
+    Offices::found(rt, &founder, TOKENS[0], "2023-12-09")
 }
 
 /// Asks as party 1 on the day of the founding, and wants the number that is made.
 fn add(
-    alloc: Global,
-    office: &mut Office<PlainStore>,
+    rt: &HostRuntime,
+    office: &mut Offices,
     path: &str,
     body: &str,
     action: &str,
     number: u32,
 ) -> Result<(), Fail> {
-    let written = asked(alloc, office, "POST", path, TOKENS[0], body, day(FOUNDED)?)?;
+    let alloc = rt.alloc();
+    let written = asked(rt, office, "POST", path, TOKENS[0], body, day(FOUNDED)?)?;
     let made = format!(in alloc;
         "{{\"day\":{FOUNDED},\"done\":\"{action}\",\"number\":{number}}}"
     )?;
@@ -67,8 +58,9 @@ fn add(
 
 /// The office after the opening: a clerk, a reviewer, an inspector, two of the public and another inspector; two
 /// parcels of the public's.
-pub fn opened(alloc: Global) -> Result<Office<PlainStore>, Fail> {
-    let mut office = founded(alloc)?;
+pub fn opened(rt: &HostRuntime) -> Result<Offices, Fail> {
+    let alloc = rt.alloc();
+    let mut office = founded(rt)?;
     let parties = [
         (2, "Cal", "clerk"),
         (3, "Rae", "reviewer"),
@@ -86,17 +78,10 @@ pub fn opened(alloc: Global) -> Result<Office<PlainStore>, Fail> {
         } else {
             "add-staff"
         };
-        add(
-            alloc,
-            &mut office,
-            "/parties",
-            body.as_str(),
-            action,
-            *number,
-        )?;
+        add(rt, &mut office, "/parties", body.as_str(), action, *number)?;
     }
     add(
-        alloc,
+        rt,
         &mut office,
         "/parcels",
         "{\"lot\":\"A-1\",\"address\":\"1 Main St\",\"owner\":5}",
@@ -104,7 +89,7 @@ pub fn opened(alloc: Global) -> Result<Office<PlainStore>, Fail> {
         1,
     )?;
     add(
-        alloc,
+        rt,
         &mut office,
         "/parcels",
         "{\"lot\":\"A-2\",\"address\":\"2 Main St\",\"owner\":6}",
