@@ -1,5 +1,5 @@
 -- The desk's row, read before the rest of the schema is known.
-use Rattle.std.proofs.Common.{◌≡◌, ◌≢◌, refl, sym, ap, subst, ◌∙◌, ℕ, ◌<◌, ◌≤◌, pos, List, [], ◌∷◌, map, length, get_or, slice_get, Some, false, arith, IsPermutation}
+use Rattle.std.proofs.Common.{◌≡◌, refl, sym, ap, subst, ◌∙◌, ◌<◌, ◌≤◌, List, [], ◌∷◌, map, length, get_or, slice_get, Some, false, arith, IsPermutation}
 use Rattle.std.proofs.lemmas.List.Sorted.{IsPermutation-sym}
 use Rattle.sqlite_tied.specs.Compute.{everything}
 use Rattle.sqlite.specs.Listing.{understood, reads_listing}
@@ -8,7 +8,7 @@ use Rattle.sqlite_schema.specs.declared.schema.Index.{Index}
 use Rattle.sqlite_schema.specs.declared.schema.View.{View}
 use Rattle.sqlite_schema.specs.declared.schema.Schema.{Schema}
 use Rattle.sqlite_schema.specs.declared.command.Command.TheVariants.{Select}
-use Rattle.sqlite.specs.declared.types.Value.TheVariants.{Null, Int}
+use Rattle.sqlite.specs.declared.types.Value.TheVariants.{Null}
 use Rattle.sqlite_value.specs.Order.{Row, column}
 use Rattle.sqlite_sql.specs.Program.{overlay}
 use Rattle.sqlite.specs.Effect.{Database, IsDatabase}

@@ -10,6 +10,11 @@
 //! and lot comes twice, and that a file's papers stand in rising number, none above the count in the file's row. A
 //! connection that a failure shut shows nothing, so each statement is of an open one, and each is of a disk that
 //! has so far given back what was written (`HasCleanDisk` of the connection after the call).
+//!
+//! **What an open finds.** `specs/Found.antt` says when the tables that a database keeps are typed: each row is within
+//! the limits of the program's types (`specs/Typed.antt`), parties, parcels and files are numbered from 1, and the
+//! desk counts them. An open reads the desk's version first, then compares the schema, then tests the rows one at a
+//! time, each table by one streamed query.
 #![tactic(auto)]
 
 mod check;
