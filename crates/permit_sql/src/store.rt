@@ -77,6 +77,7 @@ impl<S: Alter> SqlStore<S> {
         founder: &Founder,
     ) -> Result<SqlStore<S>, (Connection<S>, OpenError)>
         ensures founded { IfOk result (λ s. ⟦<SqlStore<S> as Store>⟧.holds s (tables (founding founder.now.name founder.now.digest founder.now.day))) }
+        ensures keeps { IfOk result (λ s. HasCleanDisk (state S.Store s.conn) → Keeps (tables (founding founder.now.name founder.now.digest founder.now.day)) (state S.Store s.conn).now) }
         ensures handed { IfOk result (λ s. ⟦<SqlStore<S> as Store>⟧.handed s ≡ 0) }
         ensures failed { IfOk result (λ s. ⟦<SqlStore<S> as Store>⟧.failed s ≡ 0) }
         ensures commits { IfOk result (λ s. ⟦<SqlStore<S> as Store>⟧.commits s ≡ 0) }
