@@ -38,7 +38,8 @@ pub fn ask<S: Store + Drop>(
     let mut inbox = Inbox::new();
     let mut reader = request.as_bytes();
     match serve_one(alloc, office, &mut inbox, &mut reader, &mut answer, day) {
-        Served::Kept | Served::Closed => Ok(answer),
+        Served::Kept => Ok(answer),
+        Served::Closed => Ok(answer),
         Served::Ended | Served::ReadFailed | Served::WriteFailed => Err(AllocError),
     }
 }
