@@ -72,11 +72,11 @@ pub fn printed(rt: &HostRuntime, words: &[&str]) -> Result<String, Fail> {
 impl Offices {
     /// The offices after the founding by a party with this token, on the date, which is the founder's. Where a test
     /// founds a second office, the first one's file goes.
-    pub fn found(
+    pub fn found<'x>(
         rt: &HostRuntime,
         founder: &Founder,
-        token: &str,
-        date: &str,
+        token: &'x str,
+        date: &'x str,
     ) -> Result<Offices, Fail> {
         fs::write(rt, STANDARD, POLICY)?;
         if fs::exists(rt, DATABASE)? {
@@ -121,14 +121,14 @@ impl Offices {
     }
 
     /// What the program prints for one request on a date: the answer's body, and a line end.
-    pub fn acted(
+    pub fn acted<'x>(
         &self,
         rt: &HostRuntime,
-        method: &str,
-        path: &str,
-        token: &str,
-        body: &str,
-        date: &str,
+        method: &'x str,
+        path: &'x str,
+        token: &'x str,
+        body: &'x str,
+        date: &'x str,
     ) -> Result<String, Fail> {
         printed(
             rt,
