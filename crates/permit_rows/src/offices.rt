@@ -130,21 +130,12 @@ impl Offices {
         body: &'x str,
         date: &'x str,
     ) -> Result<String, Fail> {
+        let policy: &'x str = self.policy;
         printed(
             rt,
             &[
-                "act",
-                method,
-                path,
-                body,
-                "--db",
-                DATABASE,
-                "--policy",
-                self.policy,
-                "--token",
-                token,
-                "--day",
-                date,
+                "act", method, path, body, "--db", DATABASE, "--policy", policy, "--token", token,
+                "--day", date,
             ],
         )
     }
