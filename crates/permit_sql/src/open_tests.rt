@@ -22,7 +22,10 @@ fn a_founded_database_is_opened(rt: HostRuntime) -> Result<(), Fail> {
     let conn = founded(rt.alloc())?.into_connection();
     let store = match SqlStore::open(rt.alloc(), conn) {
         Ok(store) => store,
-        Err((_, why)) => Err(why)?,
+        Err((_, _)) => {
+            assert!(rt; false);
+            return Ok(());
+        }
     };
     let mut conn = store.into_connection();
     let row = conn.query_row("SELECT name FROM party WHERE id = 1 AND role = 4", &[])?;
