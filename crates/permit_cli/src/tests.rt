@@ -138,12 +138,12 @@ fn office(alloc: Global) -> Result<Office<PlainStore>, Fail> {
 }
 
 /// What is printed for a request, and the line of its fault.
-fn asked(
+fn asked<'x>(
     rt: &HostRuntime,
     office: &mut Office<PlainStore>,
-    method: &str,
-    path: &str,
-    token: &str,
+    method: &'x str,
+    path: &'x str,
+    token: &'x str,
 ) -> Result<(String, String), Fail> {
     let alloc = rt.alloc();
     let words = ActWords {
