@@ -9,9 +9,9 @@ const HOUSE: &str =
 
 #[test]
 fn extension_before_the_deadline(rt: HostRuntime) -> Result<(), Fail> {
-    let mut office = opened(&rt)?;
+    let mut office = opened(rt.alloc())?;
     play(
-        &rt,
+        rt.alloc(),
         &mut office,
         &[
             with(5, 19723, "/files", HOUSE, Wanted::Made(1)),
@@ -42,9 +42,9 @@ fn extension_before_the_deadline(rt: HostRuntime) -> Result<(), Fail> {
 
 #[test]
 fn deadline_arithmetic_from_issuance(rt: HostRuntime) -> Result<(), Fail> {
-    let mut office = opened(&rt)?;
+    let mut office = opened(rt.alloc())?;
     play(
-        &rt,
+        rt.alloc(),
         &mut office,
         &[
             with(5, 19790, "/files", HOUSE, Wanted::Made(1)),
@@ -114,9 +114,9 @@ fn deadline_arithmetic_from_issuance(rt: HostRuntime) -> Result<(), Fail> {
 
 #[test]
 fn policy_before_admission(rt: HostRuntime) -> Result<(), Fail> {
-    let mut office = opened(&rt)?;
+    let mut office = opened(rt.alloc())?;
     play(
-        &rt,
+        rt.alloc(),
         &mut office,
         &[
             with(5, 19723, "/files", HOUSE, Wanted::Made(1)),
@@ -132,9 +132,9 @@ fn policy_before_admission(rt: HostRuntime) -> Result<(), Fail> {
 
 #[test]
 fn own_work_denied_after_transfer(rt: HostRuntime) -> Result<(), Fail> {
-    let mut office = opened(&rt)?;
+    let mut office = opened(rt.alloc())?;
     play(
-        &rt,
+        rt.alloc(),
         &mut office,
         &[
             with(5, 19723, "/files", HOUSE, Wanted::Made(1)),
@@ -159,9 +159,9 @@ fn own_work_denied_after_transfer(rt: HostRuntime) -> Result<(), Fail> {
 
 #[test]
 fn asks_grants_and_issue(rt: HostRuntime) -> Result<(), Fail> {
-    let mut office = opened(&rt)?;
+    let mut office = opened(rt.alloc())?;
     play(
-        &rt,
+        rt.alloc(),
         &mut office,
         &[
             with(5, 19723, "/files", HOUSE, Wanted::Made(1)),

@@ -1,8 +1,6 @@
 //! One request as bytes, and the answer as bytes.
 
-use crate::offices::Offices;
 use permit_base::values::Day;
-use permit_days::dates::date_text;
 use permit_http::inbox::Inbox;
 use permit_office::office::Office;
 use permit_store::store::Store;
@@ -32,8 +30,8 @@ pub fn answer(alloc: Global, status: &str, body: &str) -> Result<String, Fail> {
     )?)
 }
 
-/// What one office writes for the bytes of a connection's beginning, on a day, and how it ended.
-fn serve_at<S: Store + Drop>(
+/// What is written for the bytes of a connection's beginning, on a day, and how it ended.
+pub fn serve<S: Store + Drop>(
     alloc: Global,
     office: &mut Office<S>,
     bytes: &[u8],
@@ -49,46 +47,17 @@ fn serve_at<S: Store + Drop>(
     ))
 }
 
-/// What is written for the bytes of a connection's beginning, on a day, and how it ended: over vectors and over a
-/// database alike.
-pub fn serve(
+/// What is written for one whole request.
+pub fn asked<S: Store + Drop>(
     alloc: Global,
-    offices: &mut Offices,
-    bytes: &[u8],
-    day: Day,
-) -> Result<(Served, String), Fail> {
-    let (served, written) = serve_at(alloc, &mut offices.plain, bytes, day)?;
-    let (other, text) = serve_at(alloc, &mut offices.tables, bytes, day)?;
-    if served != other {
-        return Err(Fail::new("the stores' connections end otherwise"));
-    }
-    if written.as_str() != text.as_str() {
-        return Err(Fail::new(format!(in alloc; "over vectors {written}, over a database {text}")?));
-    }
-    Ok((served, written))
-}
-
-/// What is written for one whole request; the program on its database prints the body of the same answer.
-pub fn asked(
-    rt: &HostRuntime,
-    offices: &mut Offices,
+    office: &mut Office<S>,
     method: &str,
     path: &str,
     token: &str,
     body: &str,
     day: Day,
 ) -> Result<String, Fail> {
-    let alloc = rt.alloc();
     let bytes = request(alloc, method, path, token, body)?;
-    let (_, written) = serve(alloc, offices, bytes.as_str().as_bytes(), day)?;
-    let date = date_text(alloc, day.get())?;
-    let said = offices.acted(rt, method, path, token, body, date.as_str())?;
-    let (_, answered) = written
-        .as_str()
-        .split_once("\r\n\r\n")
-        .ok_or("an answer has a body")?;
-    if said.as_str().strip_suffix("\n") != Some(answered) {
-        return Err(Fail::new(format!(in alloc; "served {answered}, the program prints {said}")?));
-    }
+    let (_, written) = serve(alloc, office, bytes.as_str().as_bytes(), day)?;
     Ok(written)
 }

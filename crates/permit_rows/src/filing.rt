@@ -1,8 +1,9 @@
 //! Filing and abandonment.
 
 use crate::exchange::{answer, asked};
-use crate::offices::Offices;
 use crate::opening::{TOKENS, day, opened};
+use permit_office::office::Office;
+use permit_store::plain::PlainStore;
 use std::alloc::Global;
 use std::test::Fail;
 
@@ -18,10 +19,10 @@ fn house(alloc: Global, stage: &str, timing: &str) -> Result<String, Fail> {
 }
 
 /// The office in which party 5 has filed on parcel 1 on 2024-01-01.
-pub fn filed(rt: &HostRuntime) -> Result<(Offices, String), Fail> {
-    let mut office = opened(rt)?;
+pub fn filed(alloc: Global) -> Result<(Office<PlainStore>, String), Fail> {
+    let mut office = opened(alloc)?;
     let written = asked(
-        rt,
+        alloc,
         &mut office,
         "POST",
         "/files",
@@ -35,7 +36,7 @@ pub fn filed(rt: &HostRuntime) -> Result<(Offices, String), Fail> {
 #[test]
 fn filing_and_abandonment(rt: HostRuntime) -> Result<(), Fail> {
     let alloc = rt.alloc();
-    let (mut office, written) = filed(&rt)?;
+    let (mut office, written) = filed(alloc)?;
     assert_eq!(rt;
         written.as_str(),
         answer(
@@ -47,12 +48,20 @@ fn filing_and_abandonment(rt: HostRuntime) -> Result<(), Fail> {
     );
     let near = answer(alloc, "200 OK", house(alloc, "filed", "near")?.as_str())?;
     for party in [TOKENS[0], TOKENS[4]] {
-        let read = asked(&rt, &mut office, "GET", "/files/1", party, "", day(19903)?)?;
+        let read = asked(
+            alloc,
+            &mut office,
+            "GET",
+            "/files/1",
+            party,
+            "",
+            day(19903)?,
+        )?;
         assert_eq!(rt; read.as_str(), near.as_str());
     }
     let past = answer(alloc, "200 OK", house(alloc, "abandoned", "past")?.as_str())?;
     let read = asked(
-        &rt,
+        alloc,
         &mut office,
         "GET",
         "/files/1",
@@ -67,7 +76,7 @@ fn filing_and_abandonment(rt: HostRuntime) -> Result<(), Fail> {
         "{\"refused\":\"denied\",\"rule\":\"closed-to-public\"}",
     )?;
     let read = asked(
-        &rt,
+        alloc,
         &mut office,
         "GET",
         "/files/1",

@@ -10,8 +10,6 @@ mod filing;
 #[cfg(test)]
 mod limits;
 #[cfg(test)]
-mod offices;
-#[cfg(test)]
 mod opening;
 #[cfg(test)]
 mod oversized_and_cut;

@@ -29,9 +29,9 @@ fn filing_of(alloc: Global, size: usize) -> Result<String, Fail> {
 #[test]
 fn limits_of_text(rt: HostRuntime) -> Result<(), Fail> {
     let alloc = rt.alloc();
-    let mut office = opened(&rt)?;
+    let mut office = opened(alloc)?;
     let long = asked(
-        &rt,
+        alloc,
         &mut office,
         "POST",
         "/files",
@@ -44,7 +44,7 @@ fn limits_of_text(rt: HostRuntime) -> Result<(), Fail> {
         answer(alloc, "400 Bad Request", "{\"refused\":\"syntax\"}")?.as_str()
     );
     let full = asked(
-        &rt,
+        alloc,
         &mut office,
         "POST",
         "/files",
@@ -144,29 +144,24 @@ fn word_of(reply: &Reply) -> &'static str {
     }
 }
 
-/// What the replies are, each in a word.
-fn words_of(alloc: Global, replies: &[Reply]) -> Result<Vec<&'static str>, Fail> {
-    let mut words = Vec::new(alloc);
-    for reply in replies {
-        words.push(word_of(reply))?;
-    }
-    Ok(words)
-}
-
 #[test]
 fn clock_that_goes_back(rt: HostRuntime) -> Result<(), Fail> {
     let alloc = rt.alloc();
-    let mut office = founded(&rt)?;
+    let mut office = founded(alloc)?;
     let mut requests = Vec::new(alloc);
     requests.push((parcel_on(alloc, "B-1")?, day(20000)?))?;
     requests.push((parcel_on(alloc, "B-2")?, day(19990)?))?;
     requests.push((read_parcel(alloc)?, day(20001)?))?;
     requests.push((read_parcel(alloc)?, day(20000)?))?;
-    let wanted = ["done", "clock", "parcel", "parcel"].as_slice();
-    let replies = office.plain.run(alloc, requests.as_slice())?;
-    assert_eq!(rt; words_of(alloc, &replies)?.as_slice(), wanted);
-    let replies = office.tables.run(alloc, requests.as_slice())?;
-    assert_eq!(rt; words_of(alloc, &replies)?.as_slice(), wanted);
+    let replies = office.run(alloc, requests.as_slice())?;
+    let mut words = Vec::new(alloc);
+    for reply in &replies {
+        words.push(word_of(reply))?;
+    }
+    assert_eq!(rt;
+        words.as_slice(),
+        ["done", "clock", "parcel", "parcel"].as_slice()
+    );
     Ok(())
 }
 

@@ -1,10 +1,14 @@
 //! The office in which the rows begin: seven parties and two parcels under the standard policy.
 
 use crate::exchange::{answer, asked};
-use crate::offices::Offices;
+use crate::standard::POLICY;
 use permit_base::digests::digest;
 use permit_base::values::{Day, Text, Token};
+use permit_office::office::Office;
+use permit_policy::text::read_policy;
 use permit_store::founder::Founder;
+use permit_store::plain::PlainStore;
+use std::alloc::Global;
 use std::test::Fail;
 
 /// The tokens of the parties, by their numbers from 1.
@@ -26,26 +30,31 @@ pub fn day(number: u32) -> Result<Day, Fail> {
     Ok(Day::new(number).ok_or("a day")?)
 }
 
-/// The office after its founding.
-pub fn founded(rt: &HostRuntime) -> Result<Offices, Fail> {
-    let alloc = rt.alloc();
+/// The office after its founding, over vectors.
+pub fn founded(alloc: Global) -> Result<Office<PlainStore>, Fail> {
     let name = Text::new(String::from_str(alloc, "Chief")?).ok_or("a name")?;
     let token = Token::new(String::from_str(alloc, TOKENS[0])?).ok_or("a token")?;
     let founder = Founder::new(name, digest(&token)?, day(FOUNDED)?).ok_or("a founder")?;
-    Offices::found(rt, &founder, TOKENS[0], "2023-12-09")
+    let Ok(store) = PlainStore::create(alloc, &founder) else {
+        return Err(Fail::new("no store"));
+    };
+    let policy = read_policy(alloc, POLICY)?;
+    match Office::open(store, policy) {
+        Ok(office) => Ok(office),
+        Err(_) => Err(Fail::new("no office")),
+    }
 }
 
 /// Asks as party 1 on the day of the founding, and wants the number that is made.
 fn add(
-    rt: &HostRuntime,
-    office: &mut Offices,
+    alloc: Global,
+    office: &mut Office<PlainStore>,
     path: &str,
     body: &str,
     action: &str,
     number: u32,
 ) -> Result<(), Fail> {
-    let alloc = rt.alloc();
-    let written = asked(rt, office, "POST", path, TOKENS[0], body, day(FOUNDED)?)?;
+    let written = asked(alloc, office, "POST", path, TOKENS[0], body, day(FOUNDED)?)?;
     let made = format!(in alloc;
         "{{\"day\":{FOUNDED},\"done\":\"{action}\",\"number\":{number}}}"
     )?;
@@ -58,9 +67,8 @@ fn add(
 
 /// The office after the opening: a clerk, a reviewer, an inspector, two of the public and another inspector; two
 /// parcels of the public's.
-pub fn opened(rt: &HostRuntime) -> Result<Offices, Fail> {
-    let alloc = rt.alloc();
-    let mut office = founded(rt)?;
+pub fn opened(alloc: Global) -> Result<Office<PlainStore>, Fail> {
+    let mut office = founded(alloc)?;
     let parties = [
         (2, "Cal", "clerk"),
         (3, "Rae", "reviewer"),
@@ -78,10 +86,17 @@ pub fn opened(rt: &HostRuntime) -> Result<Offices, Fail> {
         } else {
             "add-staff"
         };
-        add(rt, &mut office, "/parties", body.as_str(), action, *number)?;
+        add(
+            alloc,
+            &mut office,
+            "/parties",
+            body.as_str(),
+            action,
+            *number,
+        )?;
     }
     add(
-        rt,
+        alloc,
         &mut office,
         "/parcels",
         "{\"lot\":\"A-1\",\"address\":\"1 Main St\",\"owner\":5}",
@@ -89,7 +104,7 @@ pub fn opened(rt: &HostRuntime) -> Result<Offices, Fail> {
         1,
     )?;
     add(
-        rt,
+        alloc,
         &mut office,
         "/parcels",
         "{\"lot\":\"A-2\",\"address\":\"2 Main St\",\"owner\":6}",

@@ -9,7 +9,7 @@ use std::test::Fail;
 #[test]
 fn oversized_request(rt: HostRuntime) -> Result<(), Fail> {
     let alloc = rt.alloc();
-    let mut office = opened(&rt)?;
+    let mut office = opened(alloc)?;
     let token = TOKENS[4];
     let head = format!(in alloc;
         "POST /files HTTP/1.1\r\nHost: localhost\r\nAuthorization: Bearer {token}\r\nContent-Length: 16385\r\n\r\n{HOUSE}"
@@ -20,7 +20,7 @@ fn oversized_request(rt: HostRuntime) -> Result<(), Fail> {
         "HTTP/1.1 413 Content Too Large\r\nContent-Type: application/json\r\nContent-Length: 19\r\nConnection: close\r\n\r\n{\"refused\":\"large\"}";
     assert_eq!(rt; written.as_str(), wanted);
     let read = asked(
-        &rt,
+        alloc,
         &mut office,
         "GET",
         "/files/1",
@@ -38,7 +38,7 @@ fn oversized_request(rt: HostRuntime) -> Result<(), Fail> {
 #[test]
 fn cut_request(rt: HostRuntime) -> Result<(), Fail> {
     let alloc = rt.alloc();
-    let mut office = opened(&rt)?;
+    let mut office = opened(alloc)?;
     let whole = request(alloc, "POST", "/files", TOKENS[4], HOUSE)?;
     let bytes = whole.as_str().as_bytes();
     for (place, _) in bytes.iter().enumerate() {
@@ -54,7 +54,7 @@ fn cut_request(rt: HostRuntime) -> Result<(), Fail> {
         assert_eq!(rt; written.as_str(), "");
     }
     let read = asked(
-        &rt,
+        alloc,
         &mut office,
         "GET",
         "/files/1",

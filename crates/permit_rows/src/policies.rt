@@ -6,16 +6,20 @@ use crate::opening::{TOKENS, day};
 use permit_base::digests::digest;
 use permit_base::request::Request;
 use permit_base::values::{FileId, Token};
+use permit_office::office::Office;
 use permit_office::reply::Reply;
+use permit_policy::text::read_policy;
 use std::test::Fail;
 
 #[test]
 fn zero_rules(rt: HostRuntime) -> Result<(), Fail> {
     let alloc = rt.alloc();
-    let (office, _) = filed(&rt)?;
-    let mut office = office.under(&rt, "")?;
+    let (office, _) = filed(alloc)?;
+    let Ok(mut office) = Office::open(office.into_store(), read_policy(alloc, "")?) else {
+        return Err(Fail::new("no office"));
+    };
     let read = asked(
-        &rt,
+        alloc,
         &mut office,
         "GET",
         "/files/1",
@@ -35,13 +39,10 @@ fn zero_rules(rt: HostRuntime) -> Result<(), Fail> {
 #[test]
 fn step_by_digest(rt: HostRuntime) -> Result<(), Fail> {
     let alloc = rt.alloc();
-    let (mut office, _) = filed(&rt)?;
+    let (mut office, _) = filed(alloc)?;
     let token = Token::new(String::from_str(alloc, TOKENS[0])?).ok_or("a token")?;
     let file = FileId::new(1).ok_or("a file")?;
-    match office
-        .tables
-        .step_as(&digest(&token)?, &Request::ReadFile { file }, day(19723)?)
-    {
+    match office.step_as(&digest(&token)?, &Request::ReadFile { file }, day(19723)?) {
         Reply::File(shown, papers) => {
             assert_eq!(rt; shown.row.description.as_str(), "House");
             assert_eq!(rt; papers.len(), 0);

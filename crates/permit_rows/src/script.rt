@@ -1,8 +1,9 @@
 //! Scripts: requests by the parties of the opening, each with the answer that is wanted.
 
 use crate::exchange::{answer, asked};
-use crate::offices::Offices;
 use crate::opening::{TOKENS, day};
+use permit_office::office::Office;
+use permit_store::plain::PlainStore;
 use std::alloc::Global;
 use std::test::Fail;
 
@@ -112,15 +113,14 @@ fn answer_of(alloc: Global, turn: &Turn) -> Result<String, Fail> {
 }
 
 /// Plays one turn, and fails where the answer is another than it wants.
-fn play_one(rt: &HostRuntime, office: &mut Offices, turn: &Turn) -> Result<(), Fail> {
-    let alloc = rt.alloc();
+fn play_one(alloc: Global, office: &mut Office<PlainStore>, turn: &Turn) -> Result<(), Fail> {
     let method = if is_command(turn.path) { "POST" } else { "GET" };
     let token = TOKENS
         .get(turn.party.wrapping_sub(1))
         .copied()
         .unwrap_or("");
     let written = asked(
-        rt,
+        alloc,
         office,
         method,
         turn.path,
@@ -148,9 +148,9 @@ fn play_one(rt: &HostRuntime, office: &mut Offices, turn: &Turn) -> Result<(), F
 }
 
 /// Plays the turns in order.
-pub fn play(rt: &HostRuntime, office: &mut Offices, turns: &[Turn]) -> Result<(), Fail> {
+pub fn play(alloc: Global, office: &mut Office<PlainStore>, turns: &[Turn]) -> Result<(), Fail> {
     for turn in turns {
-        play_one(rt, office, turn)?;
+        play_one(alloc, office, turn)?;
     }
     Ok(())
 }

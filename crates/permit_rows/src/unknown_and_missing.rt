@@ -6,9 +6,9 @@ use std::test::Fail;
 
 #[test]
 fn unknown_caller(rt: HostRuntime) -> Result<(), Fail> {
-    let mut office = opened(&rt)?;
+    let mut office = opened(rt.alloc())?;
     let written = asked(
-        &rt,
+        rt.alloc(),
         &mut office,
         "GET",
         "/files/1",
@@ -25,9 +25,9 @@ fn unknown_caller(rt: HostRuntime) -> Result<(), Fail> {
 #[test]
 fn missing_record(rt: HostRuntime) -> Result<(), Fail> {
     let alloc = rt.alloc();
-    let mut office = opened(&rt)?;
+    let mut office = opened(alloc)?;
     let written = asked(
-        &rt,
+        alloc,
         &mut office,
         "GET",
         "/files/99",

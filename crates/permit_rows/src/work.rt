@@ -1,16 +1,18 @@
 //! Work on a file: inspections, notices, orders and certificates.
 
-use crate::offices::Offices;
 use crate::opening::opened;
 use crate::script::{Turn, Wanted, plain, play, with};
+use permit_office::office::Office;
+use permit_store::plain::PlainStore;
+use std::alloc::Global;
 use std::test::Fail;
 
 /// The office in which party 5 filed on parcel 1, reviewed by 3 and with inspector 4 and contractor 6, all on the day
 /// 19790; the plans were approved then.
-fn approved(rt: &HostRuntime, filing: &'static str) -> Result<Offices, Fail> {
-    let mut office = opened(rt)?;
+fn approved(alloc: Global, filing: &'static str) -> Result<Office<PlainStore>, Fail> {
+    let mut office = opened(alloc)?;
     play(
-        rt,
+        alloc,
         &mut office,
         &[
             with(5, 19790, "/files", filing, Wanted::Made(1)),
@@ -36,10 +38,10 @@ fn approved(rt: &HostRuntime, filing: &'static str) -> Result<Offices, Fail> {
 }
 
 /// The same, issued on 19800 (paper 1) and with inspector 4.
-fn issued(rt: &HostRuntime, filing: &'static str) -> Result<Offices, Fail> {
-    let mut office = approved(rt, filing)?;
+fn issued(alloc: Global, filing: &'static str) -> Result<Office<PlainStore>, Fail> {
+    let mut office = approved(alloc, filing)?;
     play(
-        rt,
+        alloc,
         &mut office,
         &[
             with(
@@ -56,10 +58,10 @@ fn issued(rt: &HostRuntime, filing: &'static str) -> Result<Offices, Fail> {
 }
 
 /// The same, begun on 19810.
-fn begun(rt: &HostRuntime, filing: &'static str) -> Result<Offices, Fail> {
-    let mut office = issued(rt, filing)?;
+fn begun(alloc: Global, filing: &'static str) -> Result<Office<PlainStore>, Fail> {
+    let mut office = issued(alloc, filing)?;
     play(
-        rt,
+        alloc,
         &mut office,
         &[plain(6, 19810, "/files/1/begin-work", Wanted::Done)],
     )?;
@@ -96,9 +98,9 @@ const FINAL: &str = "{\"step\":\"final\"}";
 
 #[test]
 fn interested_inspector_conflict_at_approval(rt: HostRuntime) -> Result<(), Fail> {
-    let mut office = approved(&rt, CONSTRUCT)?;
+    let mut office = approved(rt.alloc(), CONSTRUCT)?;
     play(
-        &rt,
+        rt.alloc(),
         &mut office,
         &[
             plain(7, 19795, "/parcels/1/declare", Wanted::Done),
@@ -139,10 +141,10 @@ fn interested_inspector_conflict_at_approval(rt: HostRuntime) -> Result<(), Fail
 
 #[test]
 fn steps_in_order(rt: HostRuntime) -> Result<(), Fail> {
-    let mut office = begun(&rt, CONSTRUCT)?;
-    play(&rt, &mut office, &step(FOOTING))?;
+    let mut office = begun(rt.alloc(), CONSTRUCT)?;
+    play(rt.alloc(), &mut office, &step(FOOTING))?;
     play(
-        &rt,
+        rt.alloc(),
         &mut office,
         &[with(
             6,
@@ -152,9 +154,9 @@ fn steps_in_order(rt: HostRuntime) -> Result<(), Fail> {
             Wanted::Not("step"),
         )],
     )?;
-    let mut office = begun(&rt, ALTER)?;
+    let mut office = begun(rt.alloc(), ALTER)?;
     play(
-        &rt,
+        rt.alloc(),
         &mut office,
         &[with(6, 19820, "/files/1/request-inspection", FRAME, Wanted::Done)],
     )
@@ -162,9 +164,9 @@ fn steps_in_order(rt: HostRuntime) -> Result<(), Fail> {
 
 #[test]
 fn notice_blocks_approval(rt: HostRuntime) -> Result<(), Fail> {
-    let mut office = begun(&rt, REPAIR)?;
+    let mut office = begun(rt.alloc(), REPAIR)?;
     play(
-        &rt,
+        rt.alloc(),
         &mut office,
         &[
             with(6, 19820, "/files/1/request-inspection", FRAME, Wanted::Done),
@@ -225,9 +227,9 @@ fn notice_blocks_approval(rt: HostRuntime) -> Result<(), Fail> {
 
 #[test]
 fn stop_order_leaves_the_deadline(rt: HostRuntime) -> Result<(), Fail> {
-    let mut office = begun(&rt, CONSTRUCT)?;
+    let mut office = begun(rt.alloc(), CONSTRUCT)?;
     play(
-        &rt,
+        rt.alloc(),
         &mut office,
         &[
             plain(
@@ -280,12 +282,12 @@ fn stop_order_leaves_the_deadline(rt: HostRuntime) -> Result<(), Fail> {
 
 #[test]
 fn certificates_by_kind(rt: HostRuntime) -> Result<(), Fail> {
-    let mut office = begun(&rt, CONSTRUCT)?;
+    let mut office = begun(rt.alloc(), CONSTRUCT)?;
     for body in [FOOTING, SLAB, FRAME, LATH, FINAL] {
-        play(&rt, &mut office, &step(body))?;
+        play(rt.alloc(), &mut office, &step(body))?;
     }
     play(
-        &rt,
+        rt.alloc(),
         &mut office,
         &[
             plain(
@@ -307,10 +309,10 @@ fn certificates_by_kind(rt: HostRuntime) -> Result<(), Fail> {
             ),
         ],
     )?;
-    let mut office = begun(&rt, DEMOLISH)?;
-    play(&rt, &mut office, &step(FINAL))?;
+    let mut office = begun(rt.alloc(), DEMOLISH)?;
+    play(rt.alloc(), &mut office, &step(FINAL))?;
     play(
-        &rt,
+        rt.alloc(),
         &mut office,
         &[plain(1, 19830, "/files/1/certify", Wanted::Not("kind"))],
     )
@@ -318,9 +320,9 @@ fn certificates_by_kind(rt: HostRuntime) -> Result<(), Fail> {
 
 #[test]
 fn begin_work_on_the_last_day(rt: HostRuntime) -> Result<(), Fail> {
-    let mut office = issued(&rt, CONSTRUCT)?;
+    let mut office = issued(rt.alloc(), CONSTRUCT)?;
     play(
-        &rt,
+        rt.alloc(),
         &mut office,
         &[
             plain(
@@ -338,9 +340,9 @@ fn begin_work_on_the_last_day(rt: HostRuntime) -> Result<(), Fail> {
             ),
         ],
     )?;
-    let mut office = issued(&rt, CONSTRUCT)?;
+    let mut office = issued(rt.alloc(), CONSTRUCT)?;
     play(
-        &rt,
+        rt.alloc(),
         &mut office,
         &[
             plain(
@@ -356,9 +358,9 @@ fn begin_work_on_the_last_day(rt: HostRuntime) -> Result<(), Fail> {
 
 #[test]
 fn temporary_certificates(rt: HostRuntime) -> Result<(), Fail> {
-    let mut office = begun(&rt, CONSTRUCT)?;
+    let mut office = begun(rt.alloc(), CONSTRUCT)?;
     play(
-        &rt,
+        rt.alloc(),
         &mut office,
         &[
             with(
@@ -400,9 +402,9 @@ fn temporary_certificates(rt: HostRuntime) -> Result<(), Fail> {
 
 #[test]
 fn revoke_a_lapsed_permit(rt: HostRuntime) -> Result<(), Fail> {
-    let mut office = issued(&rt, CONSTRUCT)?;
+    let mut office = issued(rt.alloc(), CONSTRUCT)?;
     play(
-        &rt,
+        rt.alloc(),
         &mut office,
         &[
             plain(
