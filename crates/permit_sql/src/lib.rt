@@ -26,15 +26,11 @@ mod decode;
 mod each;
 mod fields;
 mod open;
-#[cfg(test)]
-mod open_tests;
 mod query;
 mod read;
 pub mod reopen;
 mod schema;
 mod steps;
 pub mod store;
-#[cfg(test)]
-mod tests;
 mod turns;
 mod values;

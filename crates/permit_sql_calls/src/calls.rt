@@ -1,7 +1,7 @@
 //! The store over memory, with ample memory: that a call succeeds is what no clause says. Each call stands behind
 //! a helper with no clause, so that the tests are quickly proved.
 
-use crate::store::SqlStore;
+use permit_sql::store::SqlStore;
 use permit_base::values::{Cents, Day, Digest, FileId, Lot, PaperNumber, ParcelId, PartyId, Text};
 use permit_base::words::{Kind, PaperSort, Role};
 use permit_core::state::FileState;
