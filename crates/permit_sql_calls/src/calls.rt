@@ -1,10 +1,10 @@
 //! The store over memory, with ample memory: that a call succeeds is what no clause says. Each call stands behind
 //! a helper with no clause, so that the tests are quickly proved.
 
-use permit_sql::store::SqlStore;
 use permit_base::values::{Cents, Day, Digest, FileId, Lot, PaperNumber, ParcelId, PartyId, Text};
 use permit_base::words::{Kind, PaperSort, Role};
 use permit_core::state::FileState;
+use permit_sql::store::SqlStore;
 use permit_store::founder::Founder;
 use permit_store::rows::{Change, NewPaper, RowEffect};
 use permit_store::store::{OpenError, Store};

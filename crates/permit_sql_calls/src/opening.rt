@@ -1,7 +1,7 @@
 //! Opening over memory.
 
-use permit_sql::store::SqlStore;
 use crate::calls::founded;
+use permit_sql::store::SqlStore;
 use permit_store::store::OpenError;
 use sqlite::Connection;
 use std::alloc::Global;
