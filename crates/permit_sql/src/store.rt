@@ -123,6 +123,7 @@ impl<S: Alter> SqlStore<S> {
         ensures version { IfErr result (λ e. e.1 ≡ open_error.Version → HasCleanDisk (state S.Store e.0) → HasOtherVersion (state S.Store conn).now) }
         ensures told { IfErr result (λ e. HasCleanDisk (state S.Store e.0) → HasOtherVersion (state S.Store conn).now → (e.1 ≡ open_error.Version) ⊎ (e.1 ≡ open_error.Store)) }
         ensures first { IfOk result (λ s. HasCleanDisk (state S.Store s.conn) → ¬ HasOtherVersion (state S.Store conn).now) }
+        ensures damaged { IfErr result (λ e. e.1 ≡ open_error.Damaged → IsFine (state S.Store e.0) → ¬ KeepsTyped (state S.Store conn).now) }
         ensures refusal { IfErr result (λ e. (e.1 ≡ open_error.Damaged) ⊎ ((e.1 ≡ open_error.Version) ⊎ (e.1 ≡ open_error.Store))) }
     {
         let mut conn = conn;
