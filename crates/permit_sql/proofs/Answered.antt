@@ -1,12 +1,10 @@
 -- What the texts that read whole tables show of typed tables.
-use Rattle.std.proofs.Common.{◌≡◌, ◌⊎◌, inl, inr, ℕ, ℤ, pos, suc, ◌+◌, ◌<◌, ◌≤◌, Bool, true, false, eqb, Ok, List, [], ◌∷◌, ◌++◌, map, filter, drop, length, refl, sym, ap, ap₂, subst, ◌∙◌, arith, IsPermutation, IsSorted, Less, true≢false}
-use Rattle.std.specs.Prelude.{IsTrue}
+use Rattle.std.proofs.Common.{◌≡◌, ℕ, suc, ◌<◌, List, [], ◌∷◌, map, refl, ap, subst, ◌∙◌, arith, IsPermutation, Less}
 use Rattle.std.specs.List.{flat_map, AllByRecursion}
-use Rattle.std.proofs.lemmas.Bool.{cases_Bool, eqb-true}
 use Rattle.std.proofs.lemmas.Bool.Decides.{nat_tests}
 use Rattle.std.proofs.lemmas.List.Sorted.{IsPermutation-map, IsPermutation-trans}
 use Rattle.sqlite.specs.declared.types.Value.TheVariants.{Null}
-use Rattle.sqlite_value.specs.Order.{Row, column, value_cmp}
+use Rattle.sqlite_value.specs.Order.{Row, value_cmp}
 use Rattle.sqlite_value.specs.Keys.{ascending}
 use Rattle.sqlite_value.specs.declared.keys.Collation.TheVariants.{Binary}
 use Rattle.sqlite_value.proofs.OrderLemmas.{value_cmp-Int}
@@ -19,7 +17,7 @@ use Rattle.sqlite_keyed.proofs.ListLemmas.{map-map, map_same, ascending-map, asc
 use Rattle.sqlite_keyed.proofs.SortLemmas.{sorted_unique}
 use Rattle.sqlite.specs.State.{State, Shown}
 use Rattle.sqlite.proofs.Callers.{reads_as}
-use Rattle.permit_model.specs.Tables.{Tables, FileRow}
+use Rattle.permit_model.specs.Tables.{Tables}
 use Rattle.permit_sql.specs.Schema.{office_schema}
 use Rattle.permit_sql.specs.Rows.{int, party_row, parcel_row, file_row, shown_party, shown_parcel, shown_file}
 use Rattle.permit_sql.specs.Kept.{Keeps}

@@ -1,10 +1,10 @@
 -- What the texts that read all interests, papers and rowids show of typed tables.
-use Rattle.std.proofs.Common.{◌≡◌, ◌⊎◌, inl, inr, ℕ, ℤ, pos, suc, ◌<◌, ◌≤◌, ◌<ℤ◌, Bool, true, false, cond, eqb, List, [], ◌∷◌, map, filter, drop, length, refl, sym, ap, ap₂, subst, ◌∙◌, arith, IsPermutation, IsSorted, Ordering, Less, Equal, Greater, is_eq, true≢false}
+use Rattle.std.proofs.Common.{◌≡◌, inl, inr, ℕ, ℤ, pos, ◌<◌, ◌≤◌, ◌<ℤ◌, Bool, true, false, cond, eqb, List, [], ◌∷◌, map, filter, drop, length, refl, sym, ap, ap₂, subst, ◌∙◌, arith, IsPermutation, Ordering, Less, Equal, Greater, is_eq, true≢false}
 use Rattle.std.specs.Prelude.{⊤}
 use Rattle.std.specs.List.{flat_map, AllByRecursion}
-use Rattle.std.specs.Ordering.{nat_cmp, int_cmp, MatchOrdering, ordering_then, ordering_reverse}
-use Rattle.std.specs.Cmp.{int_ranks, IsTotalOrder}
-use Rattle.std.proofs.lemmas.Bool.{cases_Bool, eqb-true}
+use Rattle.std.specs.Ordering.{int_cmp, MatchOrdering, ordering_then, ordering_reverse}
+use Rattle.std.specs.Cmp.{int_ranks}
+use Rattle.std.proofs.lemmas.Bool.{cases_Bool}
 use Rattle.std.proofs.lemmas.Bool.Decides.{nat_tests}
 use Rattle.std.proofs.lemmas.Int.{ints}
 use Rattle.std.proofs.lemmas.List.Sorted.{IsPermutation-map, IsPermutation-trans}
@@ -12,10 +12,10 @@ use Rattle.sqlite.specs.declared.types.Value.{Value}
 use Rattle.sqlite.specs.declared.types.Value.TheVariants.{Null, Int}
 use Rattle.sqlite_value.specs.Order.{Row, column, value_cmp}
 use Rattle.sqlite_value.proofs.OrderLemmas.{value_cmp-Int, value_cmp_total, then-Equal}
-use Rattle.sqlite_sql.specs.Query.{Query, inner, end, IsAnswer, Output, output, output_cmp}
+use Rattle.sqlite_sql.specs.Query.{Output, output, output_cmp}
 use Rattle.sqlite_sql.specs.Program.{overlay}
 use Rattle.sqlite_sql.proofs.QueryLemmas.{output_cmp_total}
-use Rattle.sqlite_trees.specs.Tree.{Trees, IsAscending, has_rowid}
+use Rattle.sqlite_trees.specs.Tree.{IsAscending, has_rowid}
 use Rattle.sqlite_trees.proofs.ListLemmas.{all-permutation}
 use Rattle.sqlite_keyed.proofs.ListLemmas.{map-map, map_same, all_kept, filter-map, filter_same}
 use Rattle.sqlite.specs.State.{State, Shown}

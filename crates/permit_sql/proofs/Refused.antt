@@ -1,6 +1,6 @@
 -- No row of typed tables is refused but for want of memory.
-use Rattle.std.proofs.Common.{◌≡◌, ◌⊎◌, inl, inr, ℕ, ℤ, suc, ◌+◌, ◌≤◌, ◌<ℤ◌, ◌≤ℤ◌, Bool, true, false, Option, Some, None, List, [], ◌∷◌, ◌++◌, map, length, refl, sym, ap, ap₂, subst, ◌∙◌, arith, append-nil, append_assoc, true≢false}
-use Rattle.std.specs.Prelude.{IsTrue, ⊤}
+use Rattle.std.proofs.Common.{◌≡◌, ◌⊎◌, inl, inr, ℕ, ℤ, suc, ◌+◌, ◌≤◌, Bool, true, false, Some, None, List, [], ◌∷◌, ◌++◌, map, length, refl, sym, ap, subst, ◌∙◌, arith, append-nil, append_assoc, true≢false}
+use Rattle.std.specs.Prelude.{IsTrue}
 use Rattle.std.specs.List.{AllByRecursion}
 use Rattle.std.specs.Int.Signed.{clash_ℤ}
 use Rattle.sqlite.specs.declared.types.Value.{Value}
@@ -16,14 +16,14 @@ use Rattle.sqlite.specs.State.{State, IsUnchanged, Shown, Begins}
 use Rattle.sqlite.specs.Held.{Held, state}
 use Rattle.sqlite.proofs.Callers.{command_of, EndsIn, begins_shown}
 use Rattle.permit_model.specs.Caller.{Party}
-use Rattle.permit_model.specs.Parcels.{Parcel, Interest}
+use Rattle.permit_model.specs.Parcels.{Parcel}
 use Rattle.permit_model.specs.Tables.{Tables, FileRow, Paper}
 use Rattle.permit_sql.specs.Schema.{office_schema}
 use Rattle.permit_sql.specs.Rows.{int, shown_party, shown_parcel, shown_file, shown_interest, shown_paper}
 use Rattle.permit_sql.specs.Kept.{Keeps, IsNamed}
-use Rattle.permit_sql.specs.Typed.{firsts, IsParty, IsParcel, IsInterest, IsFile, IsPaper}
+use Rattle.permit_sql.specs.Typed.{IsParty, IsParcel, IsInterest, IsFile, IsPaper}
 use Rattle.permit_sql.specs.Taken.{TookAll, Handed}
-use Rattle.permit_sql.specs.Found.{IsNumbered, IsRising, IsLater, IsGoodFile, counted_in, AreTyped}
+use Rattle.permit_sql.specs.Found.{IsNumbered, IsRising, IsGoodFile, counted_in, AreTyped}
 use Rattle.permit_sql.specs.declared.check.Parties.{Parties}
 use Rattle.permit_sql.specs.declared.check.Parcels.{Parcels}
 use Rattle.permit_sql.specs.declared.check.Interests.{Interests}

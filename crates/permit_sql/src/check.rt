@@ -7,7 +7,6 @@ ghost use Rattle.sqlite.specs.State.{HasCleanDisk, Survives};
 ghost use Rattle.sqlite.specs.Held.{state};
 ghost use Rattle.permit_sql.specs.Schema.{office_schema};
 ghost use Rattle.permit_model.specs.Tables.{Tables};
-ghost use Rattle.permit_sql.specs.Rows.{shown_interest};
 ghost use Rattle.permit_sql.specs.Kept.{IsFine, Keeps};
 ghost use Rattle.permit_sql.specs.Taken.{Handed};
 ghost use Rattle.permit_sql.specs.Found.{TookTable, TakesParty, TakesParcel, TakesInterest, RefusesParty, RefusesParcel, RefusesInterest, HasParties, HasParcels, HasInterests, AreTyped};

@@ -106,10 +106,10 @@ impl<S: Alter> SqlStore<S> {
     }
 
     /// Opens the database that holds the office's tables, which it reads and leaves as they are. It refuses as
-    /// `Version` where the desk's row says another version than 1, which is tested first; as `Damaged` where the rows
-    /// are out of their limits, or aren't numbered and counted as the desk says; and as `Store` where a call failed,
-    /// memory was refused, a transaction is open, or the database has another schema than `create` makes. With a
-    /// refusal the connection comes back, its database as before.
+    /// `Version` where the desk's row says another version than 1, which is tested first; as `Damaged` only where the
+    /// rows are out of their limits, or aren't numbered and counted as the desk says; and as `Store` where a call failed
+    /// or gave a rowid that is no number, memory was refused, a transaction is open, or the database has another schema
+    /// than `create` makes. With a refusal the connection comes back, its database as before.
     pub fn open(
         alloc: Global,
         conn: Connection<S>,

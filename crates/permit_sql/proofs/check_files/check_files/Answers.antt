@@ -1,4 +1,4 @@
-use Rattle.std.proofs.Common.{◌≡◌, ℕ, map, length, true≢false, sym, ap, ◌∙◌, arith}
+use Rattle.std.proofs.Common.{◌≡◌, length, true≢false, sym, ap, ◌∙◌, arith}
 use Rattle.permit_sql.proofs.WholeMeanings.{each_file_plain}
 use Rattle.permit_sql.proofs.FileChecks.{files_are}
 use Rattle.permit_sql.proofs.Neighbours.{long_map}

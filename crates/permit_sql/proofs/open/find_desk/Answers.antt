@@ -1,5 +1,4 @@
-use Rattle.std.proofs.Common.{◌≡◌, Option, Some, None, IfSome, List, ap, sym, ◌∙◌}
-use Rattle.sqlite_value.specs.Order.{Row}
+use Rattle.std.proofs.Common.{Option, Some, None, IfSome, sym, ◌∙◌}
 use Rattle.sqlite.specs.Held.{state}
 use Rattle.permit_sql.proofs.Version.{only_found, kept_desk}
 use Rattle.permit_sql.proofs.open.find_desk.Goals as goal

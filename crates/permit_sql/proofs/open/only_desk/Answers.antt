@@ -1,4 +1,4 @@
-use Rattle.std.proofs.Common.{◌≡◌, ◌<◌, ◌≤◌, Option, Some, None, IfSome, IsSome, true≢false, List, length, get_or, ap, sym, ◌∙◌}
+use Rattle.std.proofs.Common.{◌≡◌, Option, Some, None, IfSome, IsSome, true≢false, List, get_or, ap, sym, ◌∙◌}
 use Rattle.sqlite_value.specs.Order.{Row}
 use Rattle.permit_sql.proofs.Version.{first_alone}
 use Rattle.permit_sql.proofs.open.only_desk.Goals as goal
