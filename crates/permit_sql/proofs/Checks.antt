@@ -1,6 +1,6 @@
 -- What the tables' rows are where all were taken.
 use Rattle.std.proofs.Common.{◌≡◌, codes, ℕ, Bool, true, false, not, eqb, List, [], ◌∷◌, map, drop, length, refl, sym, ap, ap₂, subst, ◌∙◌, arith, IsPermutation}
-use Rattle.std.specs.Prelude.{◌&&◌, MatchBool, ⊤, bytes_eq}
+use Rattle.std.specs.Prelude.{◌&&◌, MatchBool, bytes_eq}
 use Rattle.std.specs.List.{AllByRecursion, list_any}
 use Rattle.std.proofs.lemmas.Bool.{and_parts}
 use Rattle.std.proofs.lemmas.Bool.Decides.{nat_tests}
@@ -23,7 +23,7 @@ use Rattle.permit_model.specs.Parcels.{Parcel}
 use Rattle.permit_sql.specs.Schema.{office_schema, key_column, int_column, text_column, party_table, parcel_table}
 use Rattle.permit_sql.specs.Rows.{int, party_row, parcel_row, shown_party, shown_parcel}
 use Rattle.permit_sql.specs.Typed.{firsts, IsObject, IsParty, IsParcel}
-use Rattle.permit_sql.specs.Found.{TookTable, TakesParty, TakesParcel, TakesInterest, HasParties, HasParcels}
+use Rattle.permit_sql.specs.Found.{TookTable, TakesParty, TakesParcel, TakesInterest, RefusesParty, RefusesParcel, HasParties, HasParcels}
 use Rattle.permit_sql.specs.declared.check.Parties.{Parties}
 use Rattle.permit_sql.specs.declared.check.Parcels.{Parcels}
 use Rattle.permit_sql.specs.WholeTexts.{each_party, each_parcel}
@@ -67,13 +67,13 @@ abbrev pub with_null : Row → Row
 with_null q = column q 0 ∷ Null ∷ drop 1 q
 
 abbrev pub party_took : Parties → Row → Parties → Bool → Type 0
-party_took a row b good = MatchBool good (TakesParty a.count row b.count) ⊤
+party_took a row b good = MatchBool good (TakesParty a.count row b.count) (RefusesParty a.count row b.lacks_memory)
 
 abbrev party_columns : List Column
 party_columns = text_column (codes "name") ∷ int_column (codes "role") ∷ text_column (codes "digest") ∷ []
 
 abbrev pub parcel_took : Parcels → Row → Parcels → Bool → Type 0
-parcel_took a row b good = MatchBool good (TakesParcel a.count row b.count) ⊤
+parcel_took a row b good = MatchBool good (TakesParcel a.count row b.count) (RefusesParcel a.count row b.lacks_memory)
 
 abbrev parcel_columns : List Column
 parcel_columns = text_column (codes "lot") ∷ text_column (codes "address") ∷ int_column (codes "owner") ∷ []

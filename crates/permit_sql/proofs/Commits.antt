@@ -1,30 +1,27 @@
 -- What the statements of a commit make of the tables.
-use Rattle.std.proofs.Common.{◌≡◌, ℕ, ℤ, pos, ◌+◌, ◌<◌, ◌≤◌, length, filter, unwrap_or, option_map, Ordering, Less, Equal, Greater, is_eq, true≢false, Bool, true, false, cond, eqb, List, [], ◌∷◌, ◌++◌, map, find, drop, Some, None, Ok, refl, sym, ap, subst, ◌∙◌, arith, IsPermutation}
+use Rattle.std.proofs.Common.{◌≡◌, ℕ, pos, ◌+◌, ◌<◌, ◌≤◌, filter, unwrap_or, option_map, Bool, true, false, cond, eqb, List, [], ◌∷◌, ◌++◌, map, find, drop, Some, None, Ok, refl, sym, ap, subst, ◌∙◌, arith, IsPermutation}
 use Rattle.std.specs.Prelude.{bytes_eq}
 use Rattle.std.proofs.lemmas.Bool.Decides.{nat_tests}
 use Rattle.std.proofs.lemmas.List.Sorted.{IsPermutation-map, IsPermutation-trans}
 use Rattle.sqlite.specs.declared.types.Value.TheVariants.{Int}
 use Rattle.sqlite_value.specs.Order.{Row}
-use Rattle.sqlite_trees.specs.Tree.{put_row, without_rowid, has_rowid}
-use Rattle.sqlite_value.proofs.OrderLemmas.{value_cmp-Int}
-use Rattle.std.proofs.lemmas.Map.Lookups.{exact_signed}
+use Rattle.sqlite_trees.specs.Tree.{put_row, without_rowid}
 use Rattle.std.specs.List.{AllByRecursion}
 use Rattle.sqlite_trees.specs.declared.store.Store.{Ghosts}
 use Rattle.sqlite_rules.specs.Edit.{next_rowid}
 use Rattle.sqlite.specs.Effect.{Database}
 use Rattle.sqlite.specs.State.{State, Executes}
 use Rattle.sqlite.specs.Held.{Held, state}
-use Rattle.permit_model.specs.Codes.{kind_code, stage_code}
 use Rattle.permit_model.specs.Caller.{Party}
 use Rattle.permit_model.specs.Parcels.{Parcel, Interest}
 use Rattle.permit_model.specs.Tables.{Desk, State as FileState, FileRow, Paper, Tables}
 use Rattle.permit_store.specs.Changes.{given_to, with_state, closed_by}
 use Rattle.permit_sql.specs.Schema.{office_schema}
-use Rattle.permit_sql.specs.Rows.{int, or_zero, or_less, step_value, flag, party_row, parcel_row, file_row, shown_party, shown_parcel, shown_file, shown_interest, shown_paper}
+use Rattle.permit_sql.specs.Rows.{int, party_row, parcel_row, file_row, shown_party, shown_parcel, shown_file, shown_interest, shown_paper}
 use Rattle.permit_sql.specs.Kept.{papers_counted, IsNamed, AreKeyed, AreInTrees, Keeps}
 use Rattle.permit_sql.specs.Texts.{write_desk, add_party, add_parcel, add_interest, add_file, add_paper, set_owner, write_file, close_notice}
 use Rattle.permit_sql.specs.Steps.{RanAll, desk_step, row_params}
-use Rattle.permit_sql.proofs.Permuted.{put_fresh, put_more, put_changed, key_free, not_found, only_found, append_any, no_more, IsFreshIn}
+use Rattle.permit_sql.proofs.Permuted.{put_fresh, put_more, put_changed, key_free, not_found, only_found, append_any}
 use Rattle.permit_sql.proofs.Writes.{sets_desk, adds_party, adds_parcel, adds_interest, adds_file, adds_paper, sets_owner, sets_file}
 use Rattle.permit_sql.proofs.Closing.{apart_put, notice_set}
 use Rattle.permit_sql.proofs.Keeping.{Apart, lower, counted_here, keeps_papers, keyed_paper, keeps_desk, keeps_parties, keeps_parcels, keeps_interests, keeps_files, keyed_desk, keyed_interests, keyed_party, keyed_parcel, keyed_owner, keyed_file, keyed_row}

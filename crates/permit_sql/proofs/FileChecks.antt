@@ -28,7 +28,7 @@ use Rattle.permit_sql.specs.Schema.{office_schema, key_column, file_table, inter
 use Rattle.permit_sql.specs.Rows.{file_row, shown_file, shown_interest, shown_paper}
 use Rattle.permit_sql.specs.Typed.{firsts, IsInterest, IsPaper}
 use Rattle.permit_sql.specs.Taken.{TookAll}
-use Rattle.permit_sql.specs.Found.{TookTable, TakesFile, TakesInterest, TakesPaper, TakesRowid, IsLater, IsNumbered, IsRising, IsGoodFile, IsApart, counted_in, HasFiles, HasInterests, HasPapers}
+use Rattle.permit_sql.specs.Found.{TookTable, TakesFile, TakesInterest, TakesPaper, TakesRowid, RefusesFile, RefusesInterest, RefusesPaper, RefusesRowid, IsLater, IsNumbered, IsRising, IsGoodFile, IsApart, counted_in, HasFiles, HasInterests, HasPapers}
 use Rattle.permit_sql.specs.declared.check.Interests.{Interests}
 use Rattle.permit_sql.specs.declared.check_files.Files.{Files}
 use Rattle.permit_sql.specs.declared.check_files.Papers.{Papers}
@@ -43,14 +43,14 @@ use Rattle.permit_sql.proofs.Checks.{with_null}
 -- ---- what was taken
 
 abbrev pub interest_took : Interests → Row → Interests → Bool → Type 0
-interest_took a row b good = MatchBool good (TakesInterest row) ⊤
+interest_took a row b good = MatchBool good (TakesInterest row) (RefusesInterest row)
 
 took_interests : (rows : List Row) (a b : Interests) → TookAll interest_took rows a b → (xs : List Interest) × AllByRecursion IsInterest xs × (map (firsts 2 0) rows ≡ map shown_interest xs)
 took_interests [] a b h = ([], tt, refl)
 took_interests (r ∷ rows) a b h = let more = took_interests rows h.0 b h.2 in (h.1.0 ∷ more.0, (h.1.1, more.1), ap₂ ◌∷◌ h.1.2 more.2)
 
 abbrev pub file_took : Files → Row → Files → Bool → Type 0
-file_took a row b good = MatchBool good (TakesFile a.counts.items row b.counts.items) ⊤
+file_took a row b good = MatchBool good (TakesFile a.counts.items row b.counts.items) (RefusesFile a.counts.items row b.lacks_memory)
 
 long_more : (xs : List ℕ) (x : ℕ) → length (xs ++ x ∷ []) ≡ suc (length xs)
 long_more [] x = refl
@@ -71,7 +71,7 @@ took_files (r ∷ rows) a b h =
     )
 
 abbrev pub paper_took : Papers → Row → Papers → Bool → Type 0
-paper_took a row b good = MatchBool good (TakesPaper a.counts.items a.file a.number row b.file b.number × (b.counts.items ≡ a.counts.items)) ⊤
+paper_took a row b good = MatchBool good (TakesPaper a.counts.items a.file a.number row b.file b.number × (b.counts.items ≡ a.counts.items)) (RefusesPaper a.counts.items a.file a.number row b.lacks_memory)
 
 took_papers : (rows : List Row) (a b : Papers) (counts : List ℕ) → a.counts.items ≡ counts → TookAll paper_took rows a b
     → (xs : List Paper) × AllByRecursion IsPaper xs × IsRising a.file a.number xs × AllByRecursion (λ p. p.number ≤ counted_in counts p.file) xs × (map (firsts 9 0) rows ≡ map shown_paper xs)
@@ -86,7 +86,7 @@ took_papers (r ∷ rows) a b counts has h =
     (p ∷ more.0, (it.1, more.1), (up, on), (low, more.3), ap₂ ◌∷◌ it.2 more.4)
 
 abbrev pub rowid_took : Rowids → Row → Rowids → Bool → Type 0
-rowid_took a row b good = MatchBool good (TakesRowid a.last row b.last) ⊤
+rowid_took a row b good = MatchBool good (TakesRowid a.last row b.last) (RefusesRowid a.last row b.is_strange)
 
 abbrev Above : Option ℤ → List Row → Type 0
 Above last [] = ⊤

@@ -25,3 +25,8 @@ pub mod Unclashed
 pub mod Checks
 pub mod FileChecks
 pub mod Opened
+pub mod Neighbours
+pub mod Answered
+pub mod PapersAnswered
+pub mod Refused
+pub mod Ascii

@@ -64,7 +64,7 @@ get_map f [] at = refl
 get_map f (x ∷ xs) zero = refl
 get_map f (x ∷ xs) (suc at) = get_map f xs at
 
-counts_of : (files : List FileRow) → IsNumbered (λ f. f.id) 1 files → (file : ℕ) → 1 ≤ file → papers_counted file files ≡ counted_in (map (λ f. f.state.papers) files) file
+pub counts_of : (files : List FileRow) → IsNumbered (λ f. f.id) 1 files → (file : ℕ) → 1 ≤ file → papers_counted file files ≡ counted_in (map (λ f. f.state.papers) files) file
 counts_of files up file low =
     ap (λ (o : Option FileRow). unwrap_or (option_map (λ f. f.state.papers) o) 0) (find_numbered (λ f. f.id) 1 files up file low) ∙ ap (λ o. unwrap_or o 0) (sym (get_map (λ f. f.state.papers) files (file - 1)))
 

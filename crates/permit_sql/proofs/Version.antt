@@ -19,10 +19,11 @@ use Rattle.std.proofs.Common.{codes}
 use Rattle.sqlite_schema.specs.declared.schema.Column.{Column}
 use Rattle.sqlite_schema.specs.declared.schema.Constraint.TheVariants.{Datatype, NotNull}
 use Rattle.sqlite_schema.specs.Rules.{Keeps as KeepsRule}
-use Rattle.permit_model.specs.Tables.{Desk}
+use Rattle.permit_model.specs.Tables.{Desk, Tables}
 use Rattle.permit_sql.specs.Schema.{desk_table, office_schema, key_column, int_column}
 use Rattle.permit_sql.specs.Rows.{shown_desk, desk_row}
 use Rattle.permit_sql.specs.Typed.{firsts, IsDesk}
+use Rattle.permit_sql.specs.Kept.{Keeps}
 use Rattle.permit_sql.specs.Found.{HasDesk}
 use Rattle.permit_sql.proofs.Shaped.{keyed_rows, IsKeyedRow}
 use Rattle.permit_sql.proofs.Checks.{with_null}
@@ -74,7 +75,7 @@ only_one f [] y h = absurd (let e = h in cc)
 only_one f (x ∷ []) y h = (x, refl, cc)
 only_one f (x ∷ z ∷ xs) y h = absurd (let e = ap length h in omega (arith, e))
 
-first_alone : (rows : List Row) (q d : Row) → 1 ≤ length rows → length rows < 2 → q ≡ get_or rows 0 d → rows ≡ q ∷ []
+pub first_alone : (rows : List Row) (q d : Row) → 1 ≤ length rows → length rows < 2 → q ≡ get_or rows 0 d → rows ≡ q ∷ []
 first_alone [] q d low high is = absurd (omega (arith, low))
 first_alone (r ∷ []) q d low high is = ap (λ x. x ∷ []) (sym is)
 first_alone (r ∷ s ∷ rows) q d low high is = absurd (omega (arith, high))
@@ -110,3 +111,12 @@ desk_found db rows q e d schema sound same low high is shown good =
     let says : seen_desk it.0 ≡ shown_desk d = subst (λ r. firsts 6 0 r ≡ shown_desk d) (sym it.2) shown in
     let is_row : it.0 ≡ desk_row d = sym row ∙ ap with_null says in
     record { good = good; here = it.1 ∙ ap (λ r. r ∷ []) is_row }
+
+pub only_found : (db : Database) (rows : List Row) (q : Row) (d : Desk) → db.schema ≡ office_schema → IsDatabase db → IsPermutation (map seen_desk (db.trees 0)) rows → rows ≡ q ∷ [] → firsts 6 0 q ≡ shown_desk d → IsDesk d → HasDesk d (db.trees 0)
+only_found db rows q d schema sound same alone shown good =
+    let one : length rows ≡ 1 = ap length alone in
+    desk_found db rows q q d schema sound same (omega (arith, one)) (omega (arith, one)) (ap (λ l. get_or l 0 q) (sym alone)) shown good
+
+-- the desk of tables that the database keeps is the answer
+pub kept_desk : (t : Tables) (db : Database) (rows : List Row) → Keeps t db → IsPermutation (map seen_desk (db.trees 0)) rows → rows ≡ shown_desk t.desk ∷ []
+kept_desk t db rows k same = one_permutation (shown_desk t.desk) rows (subst (λ l. IsPermutation (map seen_desk l) rows) k.rows.desk same)

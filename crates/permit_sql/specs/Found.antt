@@ -1,5 +1,5 @@
 -- What an open finds in the trees of the tables.
-use Rattle.std.specs.Prelude.{◌≡◌, ◌⊎◌, ⊤, ℕ, ℤ, suc, ◌-◌, ◌<◌, ◌≤◌, ◌<ℤ◌, Option, Some, IfSome, List, [], ◌∷◌, Bool, map, filter, drop, length, slice_get, bytes_eq, unwrap_or, ◌++◌, IsPermutation}
+use Rattle.std.specs.Prelude.{◌≡◌, ◌⊎◌, ⊤, ℕ, ℤ, suc, ◌-◌, ◌<◌, ◌≤◌, ◌<ℤ◌, ◌≤ℤ◌, ◌≢◌, IsTrue, Option, Some, IfSome, List, [], ◌∷◌, Bool, map, filter, drop, length, slice_get, bytes_eq, unwrap_or, ◌++◌, IsPermutation}
 use Rattle.std.specs.List.{AllByRecursion}
 use Rattle.sqlite.specs.declared.types.Value.TheVariants.{Int}
 use Rattle.sqlite_value.specs.Order.{Row, column}
@@ -56,6 +56,24 @@ abbrev pub TakesPaper : List ℕ → ℕ → ℕ → Row → ℕ → ℕ → Typ
 TakesPaper counts file number row next_file next_number =
     (p : Paper) × IsPaper p × (firsts 9 0 row ≡ shown_paper p) × (p.file ≡ next_file) × (p.number ≡ next_number) × IsLater file number next_file next_number × (next_number ≤ counted_in counts next_file)
 
+-- ---- what no refused row is: that of a typed value with the next number, but where memory was refused
+
+abbrev pub RefusesParty : ℕ → Row → Bool → Type 0
+RefusesParty before row lacks_memory = (p : Party) → IsParty p → row ≡ shown_party p → p.id ≡ suc before → IsTrue lacks_memory
+
+abbrev pub RefusesParcel : ℕ → Row → Bool → Type 0
+RefusesParcel before row lacks_memory = (p : Parcel) → IsParcel p → row ≡ shown_parcel p → p.id ≡ suc before → IsTrue lacks_memory
+
+abbrev pub RefusesFile : List ℕ → Row → Bool → Type 0
+RefusesFile before row lacks_memory = (f : FileRow) → IsGoodFile f → row ≡ shown_file f → f.id ≡ suc (length before) → IsTrue lacks_memory
+
+abbrev pub RefusesInterest : Row → Type 0
+RefusesInterest row = (i : Interest) → IsInterest i → row ≢ shown_interest i
+
+abbrev pub RefusesPaper : List ℕ → ℕ → ℕ → Row → Bool → Type 0
+RefusesPaper counts file number row lacks_memory =
+    (p : Paper) → IsPaper p → row ≡ shown_paper p → IsLater file number p.file p.number → p.number ≤ counted_in counts p.file → IsTrue lacks_memory
+
 -- ---- what a tree holds
 
 pub record HasParties (count : ℕ) (tree : List Row) : Type 0 where
@@ -105,6 +123,10 @@ IsApart tree = (id : ℤ) → length (filter (has_rowid id) tree) ≤ 1
 -- a rowid above the last one, if there was one
 abbrev pub TakesRowid : Option ℤ → Row → Option ℤ → Type 0
 TakesRowid last row next = (id : ℤ) × (column row 0 ≡ Int id) × IfSome last (λ l. l <ℤ id) × (next ≡ Some id)
+
+-- a rowid that is no number, or none above the last one
+abbrev pub RefusesRowid : Option ℤ → Row → Bool → Type 0
+RefusesRowid last row is_strange = IsTrue is_strange ⊎ ((id l : ℤ) × (column row 0 ≡ Int id) × (last ≡ Some l) × (id ≤ℤ l))
 
 pub record HasDesk (d : Desk) (tree : List Row) : Type 0 where
   pub good : IsDesk d

@@ -1,5 +1,5 @@
 -- Rows within the limits of the program's types.
-use Rattle.std.specs.Prelude.{◌≡◌, ℕ, zero, suc, ◌<◌, ◌≤◌, ◌^◌, IsTrue, IfSome, [], ◌∷◌}
+use Rattle.std.specs.Prelude.{◌≡◌, ℕ, zero, suc, ◌<◌, ◌≤◌, ◌^◌, IsTrue, IfSome, IsUtf8, [], ◌∷◌}
 use Rattle.sqlite_value.specs.Order.{Row, column}
 use Rattle.permit_base.specs.Texts.{is_printable, is_lot, is_digest}
 use Rattle.permit_model.specs.Codes.{kind_code, stage_code}
@@ -31,12 +31,14 @@ pub record IsDesk (d : Desk) : Type 0 where
 pub record IsParty (p : Party) : Type 0 where
   pub id : IsObject p.id
   pub name : IsTrue (is_printable p.name)
+  pub utf8 : IsUtf8 p.name
   pub digest : IsTrue (is_digest p.digest)
 
 pub record IsParcel (p : Parcel) : Type 0 where
   pub id : IsObject p.id
   pub lot : IsTrue (is_lot p.lot)
   pub address : IsTrue (is_printable p.address)
+  pub utf8 : IsUtf8 p.address
   pub owner : IsObject p.owner
 
 pub record IsInterest (i : Interest) : Type 0 where
@@ -65,6 +67,7 @@ pub record IsFile (f : FileRow) : Type 0 where
   pub sound : IsSoundState f.state
   pub valuation : f.valuation ≤ 9999999999999
   pub description : IsTrue (is_printable f.description)
+  pub utf8 : IsUtf8 f.description
 
 pub record IsPaper (p : Paper) : Type 0 where
   pub file : IsObject p.file
@@ -72,6 +75,8 @@ pub record IsPaper (p : Paper) : Type 0 where
   pub day : p.day ≤ 100000
   pub author : IsObject p.author
   pub days : IsCount p.days
+  pub text : IsUtf8 p.text
+  pub terms : IsUtf8 p.terms
 
 -- the state's values in a row that a query of files shows
 pub record ShowsState (row : Row) (s : State) : Type 0 where

@@ -1,13 +1,15 @@
 //! The rows of the tables, tested one at a time.
 
-ghost use Rattle.std.specs.Prelude.{◌≡◌, ⊤, false, IsTrue, MatchBool, IfOk, IfSome};
+ghost use Rattle.std.specs.Prelude.{◌≡◌, false, [], IsTrue, MatchBool, IfOk, IfSome};
 ghost use Rattle.sqlite.specs.Given.{IsPlain};
 ghost use Rattle.sqlite.specs.Listing.{understood};
 ghost use Rattle.sqlite.specs.State.{HasCleanDisk, Survives};
 ghost use Rattle.sqlite.specs.Held.{state};
 ghost use Rattle.permit_sql.specs.Schema.{office_schema};
-ghost use Rattle.permit_sql.specs.Kept.{IsFine};
-ghost use Rattle.permit_sql.specs.Found.{TookTable, TakesParty, TakesParcel, TakesInterest, HasParties, HasParcels, HasInterests};
+ghost use Rattle.permit_model.specs.Tables.{Tables};
+ghost use Rattle.permit_sql.specs.Kept.{IsFine, Keeps};
+ghost use Rattle.permit_sql.specs.Taken.{Handed};
+ghost use Rattle.permit_sql.specs.Found.{TookTable, TakesParty, TakesParcel, TakesInterest, RefusesParty, RefusesParcel, RefusesInterest, HasParties, HasParcels, HasInterests, AreTyped};
 
 use crate::decode::{interest_in, parcel_of, party_of};
 use crate::each::{Taker, each_row};
@@ -26,6 +28,7 @@ pub(crate) fn takes_all<S: Alter, T: Taker>(
     requires calm { conn.old.in_transaction ≡ false }
     requires plain { IsPlain (understood office_schema sql.now) }
     ensures all { HasCleanDisk (state S.Store conn.new) → IfOk result (λ all. IsTrue all → ((state S.Store conn.old).now.schema ≡ office_schema) × TookTable T.Taker.took S.Store sql.now conn.old conn.new taker.old taker.new) }
+    ensures handed { HasCleanDisk (state S.Store conn.new) → IfOk result (λ all. Handed T.Taker.took S.Store sql.now [] conn.old conn.new taker.old taker.new all) }
     ensures left { IsFine (state S.Store conn.new) → IsFine (state S.Store conn.old) × ((state S.Store conn.new).now ≡ (state S.Store conn.old).now) }
     ensures crash { Survives (state S.Store conn.old) (state S.Store conn.new) (λ _. ⊥) }
     ensures calm { conn.new.in_transaction ≡ false }
@@ -47,15 +50,16 @@ struct Parties {
 }
 
 impl Taker for Parties {
-    ghost took = { λ a row b good. MatchBool good (TakesParty a.count row b.count) ⊤ };
+    ghost took = { λ a row b good. MatchBool good (TakesParty a.count row b.count) (RefusesParty a.count row b.lacks_memory) };
 
     fn take(&mut self, row: &Row) -> bool {
         let party = match party_of(row) {
             Ok(party) => party,
-            Err(fault) => {
-                self.lacks_memory = fault == RowFault::NoMemory;
+            Err(RowFault::NoMemory) => {
+                self.lacks_memory = true;
                 return false;
             }
+            Err(RowFault::Unreadable) => return false,
         };
         let Some(next) = self.count.checked_add(1) else {
             return false;
@@ -72,6 +76,7 @@ impl Taker for Parties {
 pub(crate) fn check_parties<S: Alter>(conn: &mut Connection<S>, count: u32) -> Got<bool>
     requires calm { conn.old.in_transaction ≡ false }
     ensures good { HasCleanDisk (state S.Store conn.new) → IfOk result (λ good. IsTrue good → HasParties count ((state S.Store conn.old).now.trees 1)) }
+    ensures kept { HasCleanDisk (state S.Store conn.new) → (t : Tables) → AreTyped t → Keeps t (state S.Store conn.old).now → count ≡ t.desk.parties → IfOk result IsTrue }
     ensures left { IsFine (state S.Store conn.new) → IsFine (state S.Store conn.old) × ((state S.Store conn.new).now ≡ (state S.Store conn.old).now) }
     ensures crash { Survives (state S.Store conn.old) (state S.Store conn.new) (λ _. ⊥) }
     ensures calm { conn.new.in_transaction ≡ false }
@@ -99,15 +104,16 @@ struct Parcels {
 }
 
 impl Taker for Parcels {
-    ghost took = { λ a row b good. MatchBool good (TakesParcel a.count row b.count) ⊤ };
+    ghost took = { λ a row b good. MatchBool good (TakesParcel a.count row b.count) (RefusesParcel a.count row b.lacks_memory) };
 
     fn take(&mut self, row: &Row) -> bool {
         let parcel = match parcel_of(row) {
             Ok(parcel) => parcel,
-            Err(fault) => {
-                self.lacks_memory = fault == RowFault::NoMemory;
+            Err(RowFault::NoMemory) => {
+                self.lacks_memory = true;
                 return false;
             }
+            Err(RowFault::Unreadable) => return false,
         };
         let Some(next) = self.count.checked_add(1) else {
             return false;
@@ -124,6 +130,7 @@ impl Taker for Parcels {
 pub(crate) fn check_parcels<S: Alter>(conn: &mut Connection<S>, count: u32) -> Got<bool>
     requires calm { conn.old.in_transaction ≡ false }
     ensures good { HasCleanDisk (state S.Store conn.new) → IfOk result (λ good. IsTrue good → HasParcels count ((state S.Store conn.old).now.trees 3)) }
+    ensures kept { HasCleanDisk (state S.Store conn.new) → (t : Tables) → AreTyped t → Keeps t (state S.Store conn.old).now → count ≡ t.desk.parcels → IfOk result IsTrue }
     ensures left { IsFine (state S.Store conn.new) → IsFine (state S.Store conn.old) × ((state S.Store conn.new).now ≡ (state S.Store conn.old).now) }
     ensures crash { Survives (state S.Store conn.old) (state S.Store conn.new) (λ _. ⊥) }
     ensures calm { conn.new.in_transaction ≡ false }
@@ -146,7 +153,8 @@ pub(crate) fn check_parcels<S: Alter>(conn: &mut Connection<S>, count: u32) -> G
 /// Whether the row is an interest's, its numbers within their limits.
 #[tactic(auto, using(crate::proofs::Checks::interest_taken))]
 fn is_interest(row: &Row) -> bool
-    ensures { IsTrue result → TakesInterest row.now }
+    ensures taken { IsTrue result → TakesInterest row.now }
+    ensures refused { result ≡ false → RefusesInterest row.now }
 {
     match interest_in(row) {
         Some((_, _)) => true,
@@ -159,7 +167,7 @@ fn is_interest(row: &Row) -> bool
 struct Interests;
 
 impl Taker for Interests {
-    ghost took = { λ a row b good. MatchBool good (TakesInterest row) ⊤ };
+    ghost took = { λ a row b good. MatchBool good (TakesInterest row) (RefusesInterest row) };
 
     fn take(&mut self, row: &Row) -> bool {
         is_interest(row)
@@ -170,6 +178,7 @@ impl Taker for Interests {
 pub(crate) fn check_interests<S: Alter>(conn: &mut Connection<S>) -> Got<bool>
     requires calm { conn.old.in_transaction ≡ false }
     ensures good { HasCleanDisk (state S.Store conn.new) → IfOk result (λ good. IsTrue good → HasInterests ((state S.Store conn.old).now.trees 5)) }
+    ensures kept { HasCleanDisk (state S.Store conn.new) → (t : Tables) → AreTyped t → Keeps t (state S.Store conn.old).now → IfOk result IsTrue }
     ensures left { IsFine (state S.Store conn.new) → IsFine (state S.Store conn.old) × ((state S.Store conn.new).now ≡ (state S.Store conn.old).now) }
     ensures crash { Survives (state S.Store conn.old) (state S.Store conn.new) (λ _. ⊥) }
     ensures calm { conn.new.in_transaction ≡ false }

@@ -1,10 +1,11 @@
 //! The rows of files and papers, tested one at a time.
 
-ghost use Rattle.std.specs.Prelude.{◌≡◌, ◌↔◌, ⊤, false, IsTrue, MatchBool, IfOk, IfSome, length};
+ghost use Rattle.std.specs.Prelude.{◌≡◌, ◌↔◌, false, IsTrue, MatchBool, IfOk, IfSome, IsSomeAnd, length, map};
 ghost use Rattle.sqlite.specs.State.{HasCleanDisk, Survives};
 ghost use Rattle.sqlite.specs.Held.{state};
-ghost use Rattle.permit_sql.specs.Kept.{IsFine};
-ghost use Rattle.permit_sql.specs.Found.{TakesFile, TakesPaper, TakesRowid, IsLater, HasFiles, HasPapers, IsApart};
+ghost use Rattle.permit_model.specs.Tables.{Tables};
+ghost use Rattle.permit_sql.specs.Kept.{IsFine, Keeps};
+ghost use Rattle.permit_sql.specs.Found.{TakesFile, TakesPaper, TakesRowid, RefusesFile, RefusesPaper, RefusesRowid, IsLater, HasFiles, HasPapers, IsApart, AreTyped};
 
 use crate::check::takes_all;
 use crate::decode::{file_of, paper_of};
@@ -22,15 +23,16 @@ struct Files {
 }
 
 impl Taker for Files {
-    ghost took = { λ a row b good. MatchBool good (TakesFile a.counts.items row b.counts.items) ⊤ };
+    ghost took = { λ a row b good. MatchBool good (TakesFile a.counts.items row b.counts.items) (RefusesFile a.counts.items row b.lacks_memory) };
 
     fn take(&mut self, row: &Row) -> bool {
         let file = match file_of(row) {
             Ok(file) => file,
-            Err(fault) => {
-                self.lacks_memory = fault == RowFault::NoMemory;
+            Err(RowFault::NoMemory) => {
+                self.lacks_memory = true;
                 return false;
             }
+            Err(RowFault::Unreadable) => return false,
         };
         if file.id.get() as usize != self.counts.len() + 1 {
             return false;
@@ -54,6 +56,7 @@ pub(crate) fn check_files<S: Alter>(
     requires calm { conn.old.in_transaction ≡ false }
     ensures good { HasCleanDisk (state S.Store conn.new) → IfOk result (λ o. IfSome o (λ counts. HasFiles counts.items ((state S.Store conn.old).now.trees 7))) }
     ensures counted { IfOk result (λ o. IfSome o (λ counts. length counts.items ≡ count)) }
+    ensures kept { HasCleanDisk (state S.Store conn.new) → (t : Tables) → AreTyped t → Keeps t (state S.Store conn.old).now → count ≡ t.desk.files → IfOk result (λ o. IsSomeAnd o (λ counts. counts.items ≡ map (λ f. f.state.papers) t.files)) }
     ensures left { IsFine (state S.Store conn.new) → IsFine (state S.Store conn.old) × ((state S.Store conn.new).now ≡ (state S.Store conn.old).now) }
     ensures crash { Survives (state S.Store conn.old) (state S.Store conn.new) (λ _. ⊥) }
     ensures calm { conn.new.in_transaction ≡ false }
@@ -81,7 +84,8 @@ pub(crate) fn check_files<S: Alter>(
 
 /// Whether the second is a later paper: of the same file with a higher number, or of a later file.
 fn is_later(file: u32, number: u32, next_file: u32, next_number: u32) -> bool
-    ensures { IsTrue result → IsLater file number next_file next_number }
+    ensures later { IsTrue result → IsLater file number next_file next_number }
+    ensures told { IsLater file number next_file next_number → IsTrue result }
 {
     if next_file == file {
         number < next_number
@@ -100,15 +104,16 @@ struct Papers {
 }
 
 impl Taker for Papers {
-    ghost took = { λ a row b good. MatchBool good (TakesPaper a.counts.items a.file a.number row b.file b.number × (b.counts.items ≡ a.counts.items)) ⊤ };
+    ghost took = { λ a row b good. MatchBool good (TakesPaper a.counts.items a.file a.number row b.file b.number × (b.counts.items ≡ a.counts.items)) (RefusesPaper a.counts.items a.file a.number row b.lacks_memory) };
 
     fn take(&mut self, row: &Row) -> bool {
         let paper = match paper_of(row) {
             Ok(paper) => paper,
-            Err(fault) => {
-                self.lacks_memory = fault == RowFault::NoMemory;
+            Err(RowFault::NoMemory) => {
+                self.lacks_memory = true;
                 return false;
             }
+            Err(RowFault::Unreadable) => return false,
         };
         let file = paper.file.get();
         let number = paper.number.get();
@@ -132,6 +137,7 @@ impl Taker for Papers {
 pub(crate) fn check_papers<S: Alter>(conn: &mut Connection<S>, counts: Vec<u16>) -> Got<bool>
     requires calm { conn.old.in_transaction ≡ false }
     ensures good { HasCleanDisk (state S.Store conn.new) → IfOk result (λ good. IsTrue good → HasPapers counts.items ((state S.Store conn.old).now.trees 8)) }
+    ensures kept { HasCleanDisk (state S.Store conn.new) → (t : Tables) → AreTyped t → Keeps t (state S.Store conn.old).now → counts.items ≡ map (λ f. f.state.papers) t.files → IfOk result IsTrue }
     ensures left { IsFine (state S.Store conn.new) → IsFine (state S.Store conn.old) × ((state S.Store conn.new).now ≡ (state S.Store conn.old).now) }
     ensures crash { Survives (state S.Store conn.old) (state S.Store conn.new) (λ _. ⊥) }
     ensures calm { conn.new.in_transaction ≡ false }
@@ -153,17 +159,19 @@ pub(crate) fn check_papers<S: Alter>(conn: &mut Connection<S>, counts: Vec<u16>)
     Ok(all)
 }
 
-/// The rowid that was read last.
+/// The rowid that was read last, and whether one was no number, which no table's is.
 #[derive(Drop)]
 struct Rowids {
     last: Option<i64>,
+    is_strange: bool,
 }
 
 impl Taker for Rowids {
-    ghost took = { λ a row b good. MatchBool good (TakesRowid a.last row b.last) ⊤ };
+    ghost took = { λ a row b good. MatchBool good (TakesRowid a.last row b.last) (RefusesRowid a.last row b.is_strange) };
 
     fn take(&mut self, row: &Row) -> bool {
         let Some(next) = whole_number(row, 0) else {
+            self.is_strange = true;
             return false;
         };
         if let Some(last) = self.last {
@@ -180,13 +188,18 @@ impl Taker for Rowids {
 pub(crate) fn check_rowids<S: Alter>(conn: &mut Connection<S>) -> Got<bool>
     requires calm { conn.old.in_transaction ≡ false }
     ensures good { HasCleanDisk (state S.Store conn.new) → IfOk result (λ good. IsTrue good → IsApart ((state S.Store conn.old).now.trees 8)) }
+    ensures kept { HasCleanDisk (state S.Store conn.new) → (t : Tables) → AreTyped t → Keeps t (state S.Store conn.old).now → IfOk result IsTrue }
     ensures left { IsFine (state S.Store conn.new) → IsFine (state S.Store conn.old) × ((state S.Store conn.new).now ≡ (state S.Store conn.old).now) }
     ensures crash { Survives (state S.Store conn.old) (state S.Store conn.new) (λ _. ⊥) }
     ensures calm { conn.new.in_transaction ≡ false }
 {
-    takes_all(
-        conn,
-        "SELECT rowid FROM paper ORDER BY rowid",
-        &mut Rowids { last: None },
-    )
+    let mut rowids = Rowids {
+        last: None,
+        is_strange: false,
+    };
+    let all = takes_all(conn, "SELECT rowid FROM paper ORDER BY rowid", &mut rowids)?;
+    if rowids.is_strange {
+        return Err(StoreError);
+    }
+    Ok(all)
 }

@@ -1,16 +1,16 @@
 //! A row that a query shows as a typed value.
 
-ghost use Rattle.std.specs.Prelude.{◌≡◌, [], ◌∷◌, List, map, Option, option_map, slice_get, IfOk, IfSome};
+ghost use Rattle.std.specs.Prelude.{◌≡◌, [], ◌∷◌, List, map, Option, option_map, slice_get, IfOk, IfErr, IfSome, IsSome};
 ghost use Rattle.permit_model.specs.Caller.{Party as TheParty};
-ghost use Rattle.permit_model.specs.Parcels.{Parcel as TheParcel};
+ghost use Rattle.permit_model.specs.Parcels.{Parcel as TheParcel, Interest as TheInterest};
 ghost use Rattle.permit_model.specs.Tables.{Desk as TheDesk, FileRow as TheRow, State as TheState, Paper as ThePaper};
 ghost use Rattle.permit_model.specs.SoundState.{IsSoundState};
-ghost use Rattle.permit_sql.specs.Rows.{int, shown_desk, shown_party, shown_parcel, shown_file, shown_paper};
+ghost use Rattle.permit_sql.specs.Rows.{int, shown_desk, shown_party, shown_parcel, shown_file, shown_interest, shown_paper};
 ghost use Rattle.permit_sql.specs.Kept.{IsNamed};
-ghost use Rattle.permit_sql.specs.Typed.{firsts, IsObject, IsDesk, IsParty, IsParcel, IsPaper, IsState, IsFile, ShowsState};
+ghost use Rattle.permit_sql.specs.Typed.{firsts, IsObject, IsDesk, IsParty, IsParcel, IsInterest, IsPaper, IsState, IsFile, ShowsState};
 
 use crate::fields::{
-    Read, cents, day, day_or_less, days_or_zero, digest, file_number, kind, lot, number,
+    Read, RowFault, cents, day, day_or_less, days_or_zero, digest, file_number, kind, lot, number,
     number_or_less, paper_number, parcel_number, party_number, party_or_zero, readable, role,
     short_number, small_number, sort, stage, step_or_less, string, text, truth,
 };
@@ -25,6 +25,7 @@ pub(crate) fn desk_in(row: &Row) -> Option<Desk>
     ensures read { (is : TheDesk) → row.now ≡ shown_desk is → IfSome result (λ d. d ≡ is) }
     ensures back { IfSome result (λ d. firsts 6 0 row.now ≡ shown_desk d) }
     ensures typed { IfSome result IsDesk }
+    ensures some { (is : TheDesk) → IsDesk is → row.now ≡ shown_desk is → IsSome result }
 {
     if number(row, 0)? != 1 {
         return None;
@@ -45,6 +46,7 @@ pub(crate) fn party_of(row: &Row) -> Read<Party>
     ensures read { (is : TheParty) → row.now ≡ shown_party is → IfOk result (λ p. p ≡ is) }
     ensures back { IfOk result (λ p. firsts 4 0 row.now ≡ shown_party p) }
     ensures typed { IfOk result IsParty }
+    ensures some { (is : TheParty) → IsParty is → row.now ≡ shown_party is → IfErr result (λ e. e ≡ RowFault.NoMemory) }
 {
     Ok(Party {
         id: readable(party_number(row, 0))?,
@@ -66,6 +68,7 @@ pub(crate) fn parcel_of(row: &Row) -> Read<Parcel>
     ensures read { (is : TheParcel) → row.now ≡ shown_parcel is → IfOk result (λ p. p ≡ is) }
     ensures back { IfOk result (λ p. firsts 4 0 row.now ≡ shown_parcel p) }
     ensures typed { IfOk result IsParcel }
+    ensures some { (is : TheParcel) → IsParcel is → row.now ≡ shown_parcel is → IfErr result (λ e. e ≡ RowFault.NoMemory) }
 {
     Ok(Parcel {
         id: readable(parcel_number(row, 0))?,
@@ -84,7 +87,8 @@ pub(crate) fn parcel_in(row: &Row) -> Option<Parcel>
 
 /// The parcel and the party of an interest's row.
 pub(crate) fn interest_in(row: &Row) -> Option<(ParcelId, PartyId)>
-    ensures { IfSome result (λ i. (firsts 2 0 row.now ≡ int i.0 ∷ int i.1 ∷ []) × IsObject i.0 × IsObject i.1) }
+    ensures back { IfSome result (λ i. (firsts 2 0 row.now ≡ int i.0 ∷ int i.1 ∷ []) × IsObject i.0 × IsObject i.1) }
+    ensures some { (is : TheInterest) → IsInterest is → row.now ≡ shown_interest is → IsSome result }
 {
     Some((
         ParcelId::new(number(row, 0)?)?,
@@ -97,6 +101,7 @@ pub(crate) fn paper_of(row: &Row) -> Read<Paper>
     ensures read { (is : ThePaper) → row.now ≡ shown_paper is → IfOk result (λ p. p ≡ is) }
     ensures back { IfOk result (λ p. firsts 9 0 row.now ≡ shown_paper p) }
     ensures typed { IfOk result IsPaper }
+    ensures some { (is : ThePaper) → IsPaper is → row.now ≡ shown_paper is → IfErr result (λ e. e ≡ RowFault.NoMemory) }
 {
     Ok(Paper {
         file: readable(file_number(row, 0))?,
@@ -124,6 +129,7 @@ fn fields_in(row: &Row) -> Option<StateFields>
     ensures back { IfSome result (ShowsState row.now) }
     ensures named { IfSome result IsNamed }
     ensures typed { IfSome result IsState }
+    ensures some { (is : TheRow) → IsState is.state → row.now ≡ shown_file is → IsSome result }
 {
     Some(StateFields {
         parcel: parcel_number(row, 1)?,
@@ -153,6 +159,7 @@ fn state_in(row: &Row) -> Option<FileState>
     ensures named { IfSome result IsNamed }
     ensures typed { IfSome result IsState }
     ensures sound { IfSome result IsSoundState }
+    ensures some { (is : TheRow) → IsFile is → IsNamed is.state → row.now ≡ shown_file is → IsSome result }
 {
     FileState::restore(fields_in(row)?)
 }
@@ -163,6 +170,7 @@ pub(crate) fn file_of(row: &Row) -> Read<FileRow>
     ensures back { IfOk result (λ f. firsts 20 0 row.now ≡ shown_file f) }
     ensures named { IfOk result (λ f. IsNamed f.state) }
     ensures typed { IfOk result IsFile }
+    ensures some { (is : TheRow) → IsFile is → IsNamed is.state → row.now ≡ shown_file is → IfErr result (λ e. e ≡ RowFault.NoMemory) }
 {
     Ok(FileRow {
         id: readable(file_number(row, 0))?,

@@ -1,11 +1,12 @@
 //! A field of a row as a typed value, or none where the field isn't one.
 
-ghost use Rattle.std.specs.Prelude.{◌≡◌, ◌≢◌, ◌<◌, ◌^◌, ℕ, ℤ, List, IfOk, IsSome, IsTrue, IfErr, Bool, Option, Some, None, IfSome, string_bytes, slice_get, option_map};
+ghost use Rattle.std.specs.Prelude.{◌≡◌, ◌≢◌, ◌<◌, ◌≤◌, ◌^◌, ℕ, ℤ, IsUtf8, List, IfOk, IsSome, IsTrue, IfErr, Bool, Option, Some, None, IfSome, string_bytes, slice_get, option_map};
 ghost use Rattle.sqlite.specs.declared.types.Value.TheVariants.{Int, Text as TextValue};
 ghost use Rattle.sqlite_value.specs.Order.{column};
 ghost use Rattle.permit_base.specs.Texts.{is_printable, is_lot, is_digest};
 ghost use Rattle.permit_base.specs.declared.words.Step.{Step as TheStep};
 ghost use Rattle.permit_sql.specs.Rows.{int, or_zero, or_less, step_value, flag};
+ghost use Rattle.permit_sql.specs.Typed.{IsObject};
 ghost use Rattle.permit_model.specs.Codes.{role_code, kind_code, stage_code, sort_code, step_code};
 
 use permit_base::values::{
@@ -60,6 +61,7 @@ pub(crate) fn long_number(row: &Row, at: usize) -> Option<u64>
 pub(crate) fn number_or_less(row: &Row, at: usize) -> Option<Option<u32>>
     ensures read { (o : Option ℕ) → column row.now at ≡ or_less o → IfSome result (λ x. x ≡ o) }
     ensures back { IfSome result (λ x. column row.now at ≡ or_less x) }
+    ensures some { (o : Option ℕ) → IfSome o (λ n. n < 2 ^ 32) → column row.now at ≡ or_less o → IsSome result }
 {
     let code = whole_number(row, at)?;
     if code == -1 {
@@ -72,6 +74,7 @@ pub(crate) fn number_or_less(row: &Row, at: usize) -> Option<Option<u32>>
 pub(crate) fn number_or_zero(row: &Row, at: usize) -> Option<Option<u32>>
     ensures read { (o : Option ℕ) → o ≢ Some 0 → column row.now at ≡ or_zero o → IfSome result (λ x. x ≡ o) }
     ensures back { IfSome result (λ x. (column row.now at ≡ or_zero x) × (x ≢ Some 0)) }
+    ensures some { (o : Option ℕ) → IfSome o (λ n. n < 2 ^ 32) → column row.now at ≡ or_zero o → IsSome result }
 {
     let code = number(row, at)?;
     if code == 0 {
@@ -84,6 +87,7 @@ pub(crate) fn number_or_zero(row: &Row, at: usize) -> Option<Option<u32>>
 pub(crate) fn small_number(row: &Row, at: usize) -> Option<u8>
     ensures read { (n : ℕ) → column row.now at ≡ int n → IfSome result (λ x. x ≡ n) }
     ensures back { IfSome result (λ x. column row.now at ≡ int x) }
+    ensures some { (n : ℕ) → n < 2 ^ 8 → column row.now at ≡ int n → IsSome result }
 {
     u8::try_from(number(row, at)?).ok()
 }
@@ -92,6 +96,7 @@ pub(crate) fn small_number(row: &Row, at: usize) -> Option<u8>
 pub(crate) fn short_number(row: &Row, at: usize) -> Option<u16>
     ensures read { (n : ℕ) → column row.now at ≡ int n → IfSome result (λ x. x ≡ n) }
     ensures back { IfSome result (λ x. column row.now at ≡ int x) }
+    ensures some { (n : ℕ) → n < 2 ^ 16 → column row.now at ≡ int n → IsSome result }
 {
     u16::try_from(number(row, at)?).ok()
 }
@@ -100,6 +105,7 @@ pub(crate) fn short_number(row: &Row, at: usize) -> Option<u16>
 pub(crate) fn party_number(row: &Row, at: usize) -> Option<PartyId>
     ensures read { (n : ℕ) → column row.now at ≡ int n → IfSome result (λ x. x ≡ n) }
     ensures back { IfSome result (λ x. column row.now at ≡ int x) }
+    ensures some { (n : ℕ) → IsObject n → column row.now at ≡ int n → IsSome result }
 {
     PartyId::new(number(row, at)?)
 }
@@ -108,6 +114,7 @@ pub(crate) fn party_number(row: &Row, at: usize) -> Option<PartyId>
 pub(crate) fn parcel_number(row: &Row, at: usize) -> Option<ParcelId>
     ensures read { (n : ℕ) → column row.now at ≡ int n → IfSome result (λ x. x ≡ n) }
     ensures back { IfSome result (λ x. column row.now at ≡ int x) }
+    ensures some { (n : ℕ) → IsObject n → column row.now at ≡ int n → IsSome result }
 {
     ParcelId::new(number(row, at)?)
 }
@@ -116,6 +123,7 @@ pub(crate) fn parcel_number(row: &Row, at: usize) -> Option<ParcelId>
 pub(crate) fn file_number(row: &Row, at: usize) -> Option<FileId>
     ensures read { (n : ℕ) → column row.now at ≡ int n → IfSome result (λ x. x ≡ n) }
     ensures back { IfSome result (λ x. column row.now at ≡ int x) }
+    ensures some { (n : ℕ) → IsObject n → column row.now at ≡ int n → IsSome result }
 {
     FileId::new(number(row, at)?)
 }
@@ -124,6 +132,7 @@ pub(crate) fn file_number(row: &Row, at: usize) -> Option<FileId>
 pub(crate) fn paper_number(row: &Row, at: usize) -> Option<PaperNumber>
     ensures read { (n : ℕ) → column row.now at ≡ int n → IfSome result (λ x. x ≡ n) }
     ensures back { IfSome result (λ x. column row.now at ≡ int x) }
+    ensures some { (n : ℕ) → (0 < n) × (n ≤ 9999) → column row.now at ≡ int n → IsSome result }
 {
     PaperNumber::new(number(row, at)?)
 }
@@ -132,6 +141,7 @@ pub(crate) fn paper_number(row: &Row, at: usize) -> Option<PaperNumber>
 pub(crate) fn cents(row: &Row, at: usize) -> Option<Cents>
     ensures read { (n : ℕ) → column row.now at ≡ int n → IfSome result (λ x. x ≡ n) }
     ensures back { IfSome result (λ x. column row.now at ≡ int x) }
+    ensures some { (n : ℕ) → n ≤ 9999999999999 → column row.now at ≡ int n → IsSome result }
 {
     Cents::new(long_number(row, at)?)
 }
@@ -140,6 +150,7 @@ pub(crate) fn cents(row: &Row, at: usize) -> Option<Cents>
 pub(crate) fn day(row: &Row, at: usize) -> Option<Day>
     ensures read { (n : ℕ) → column row.now at ≡ int n → IfSome result (λ x. x ≡ n) }
     ensures back { IfSome result (λ x. column row.now at ≡ int x) }
+    ensures some { (n : ℕ) → n ≤ 100000 → column row.now at ≡ int n → IsSome result }
 {
     Day::new(number(row, at)?)
 }
@@ -148,6 +159,7 @@ pub(crate) fn day(row: &Row, at: usize) -> Option<Day>
 pub(crate) fn party_or_zero(row: &Row, at: usize) -> Option<Option<PartyId>>
     ensures read { (o : Option ℕ) → o ≢ Some 0 → column row.now at ≡ or_zero o → IfSome result (λ x. x ≡ o) }
     ensures back { IfSome result (λ x. (column row.now at ≡ or_zero x) × (x ≢ Some 0)) }
+    ensures some { (o : Option ℕ) → IfSome o IsObject → column row.now at ≡ or_zero o → IsSome result }
 {
     match number_or_zero(row, at)? {
         None => Some(None),
@@ -159,6 +171,7 @@ pub(crate) fn party_or_zero(row: &Row, at: usize) -> Option<Option<PartyId>>
 pub(crate) fn days_or_zero(row: &Row, at: usize) -> Option<Option<Days>>
     ensures read { (o : Option ℕ) → o ≢ Some 0 → column row.now at ≡ or_zero o → IfSome result (λ x. x ≡ o) }
     ensures back { IfSome result (λ x. (column row.now at ≡ or_zero x) × (x ≢ Some 0)) }
+    ensures some { (o : Option ℕ) → IfSome o (λ n. (0 < n) × (n ≤ 365)) → column row.now at ≡ or_zero o → IsSome result }
 {
     match number_or_zero(row, at)? {
         None => Some(None),
@@ -170,6 +183,7 @@ pub(crate) fn days_or_zero(row: &Row, at: usize) -> Option<Option<Days>>
 pub(crate) fn day_or_less(row: &Row, at: usize) -> Option<Option<Day>>
     ensures read { (o : Option ℕ) → column row.now at ≡ or_less o → IfSome result (λ x. x ≡ o) }
     ensures back { IfSome result (λ x. column row.now at ≡ or_less x) }
+    ensures some { (o : Option ℕ) → IfSome o (λ n. n ≤ 100000) → column row.now at ≡ or_less o → IsSome result }
 {
     match number_or_less(row, at)? {
         None => Some(None),
@@ -181,9 +195,14 @@ pub(crate) fn day_or_less(row: &Row, at: usize) -> Option<Option<Day>>
 pub(crate) fn string(row: &Row, at: usize) -> Read<String>
     ensures read { (t : List ℕ) → column row.now at ≡ TextValue t → IfOk result (λ x. string_bytes x ≡ t) }
     ensures back { IfOk result (λ x. column row.now at ≡ TextValue (string_bytes x)) }
+    ensures utf8 { IfOk result (λ x. IsUtf8 (string_bytes x)) }
+    ensures some { (t : List ℕ) → IsUtf8 t → column row.now at ≡ TextValue t → IfErr result (λ e. e ≡ RowFault.NoMemory) }
 {
-    match row.get(at) {
-        Ok(text) => Ok(text),
+    match row.get::<String>(at) {
+        Ok(text) => {
+            let _bytes = text.as_str();
+            Ok(text)
+        }
         Err(Error::SqliteFailure(ErrorCode::OutOfMemory)) => Err(RowFault::NoMemory),
         Err(_) => Err(RowFault::Unreadable),
     }
@@ -194,6 +213,8 @@ pub(crate) fn text(row: &Row, at: usize) -> Read<Text>
     ensures read { (t : List ℕ) → column row.now at ≡ TextValue t → IfOk result (λ x. x ≡ t) }
     ensures back { IfOk result (λ x. column row.now at ≡ TextValue x) }
     ensures within { IfOk result (λ x. IsTrue (is_printable x)) }
+    ensures utf8 { IfOk result (λ x. IsUtf8 x) }
+    ensures some { (t : List ℕ) → IsTrue (is_printable t) → IsUtf8 t → column row.now at ≡ TextValue t → IfErr result (λ e. e ≡ RowFault.NoMemory) }
 {
     readable(Text::new(string(row, at)?))
 }
@@ -203,6 +224,7 @@ pub(crate) fn lot(row: &Row, at: usize) -> Read<Lot>
     ensures read { (t : List ℕ) → column row.now at ≡ TextValue t → IfOk result (λ x. x ≡ t) }
     ensures back { IfOk result (λ x. column row.now at ≡ TextValue x) }
     ensures within { IfOk result (λ x. IsTrue (is_lot x)) }
+    ensures some { (t : List ℕ) → IsTrue (is_lot t) → column row.now at ≡ TextValue t → IfErr result (λ e. e ≡ RowFault.NoMemory) }
 {
     readable(Lot::new(string(row, at)?))
 }
@@ -212,6 +234,7 @@ pub(crate) fn digest(row: &Row, at: usize) -> Read<Digest>
     ensures read { (t : List ℕ) → column row.now at ≡ TextValue t → IfOk result (λ x. x ≡ t) }
     ensures back { IfOk result (λ x. column row.now at ≡ TextValue x) }
     ensures within { IfOk result (λ x. IsTrue (is_digest x)) }
+    ensures some { (t : List ℕ) → IsTrue (is_digest t) → column row.now at ≡ TextValue t → IfErr result (λ e. e ≡ RowFault.NoMemory) }
 {
     readable(Digest::read(string(row, at)?.as_str()))
 }
@@ -231,6 +254,7 @@ pub(crate) fn readable<T>(value: Option<T>) -> Read<T>
 pub(crate) fn truth(row: &Row, at: usize) -> Option<bool>
     ensures read { (b : Bool) → column row.now at ≡ flag b → IfSome result (λ x. x ≡ b) }
     ensures back { IfSome result (λ x. column row.now at ≡ flag x) }
+    ensures some { (b : Bool) → column row.now at ≡ flag b → IsSome result }
 {
     match number(row, at)? {
         0 => Some(false),
@@ -251,6 +275,7 @@ fn word_at<W: Word>(code: u32) -> Option<W>
 pub(crate) fn role(row: &Row, at: usize) -> Option<Role>
     ensures read { (w : _) → column row.now at ≡ int (role_code w) → IfSome result (λ x. x ≡ w) }
     ensures back { IfSome result (λ x. column row.now at ≡ int (role_code x)) }
+    ensures some { (w : _) → column row.now at ≡ int (role_code w) → IsSome result }
 {
     word_at(number(row, at)?)
 }
@@ -260,6 +285,7 @@ pub(crate) fn role(row: &Row, at: usize) -> Option<Role>
 pub(crate) fn kind(row: &Row, at: usize) -> Option<Kind>
     ensures read { (w : _) → column row.now at ≡ int (kind_code w) → IfSome result (λ x. x ≡ w) }
     ensures back { IfSome result (λ x. column row.now at ≡ int (kind_code x)) }
+    ensures some { (w : _) → column row.now at ≡ int (kind_code w) → IsSome result }
 {
     word_at(number(row, at)?)
 }
@@ -269,6 +295,7 @@ pub(crate) fn kind(row: &Row, at: usize) -> Option<Kind>
 pub(crate) fn stage(row: &Row, at: usize) -> Option<Stage>
     ensures read { (w : _) → column row.now at ≡ int (stage_code w) → IfSome result (λ x. x ≡ w) }
     ensures back { IfSome result (λ x. column row.now at ≡ int (stage_code x)) }
+    ensures some { (w : _) → column row.now at ≡ int (stage_code w) → IsSome result }
 {
     word_at(number(row, at)?)
 }
@@ -278,6 +305,7 @@ pub(crate) fn stage(row: &Row, at: usize) -> Option<Stage>
 pub(crate) fn sort(row: &Row, at: usize) -> Option<PaperSort>
     ensures read { (w : _) → column row.now at ≡ int (sort_code w) → IfSome result (λ x. x ≡ w) }
     ensures back { IfSome result (λ x. column row.now at ≡ int (sort_code x)) }
+    ensures some { (w : _) → column row.now at ≡ int (sort_code w) → IsSome result }
 {
     word_at(number(row, at)?)
 }
@@ -287,6 +315,7 @@ pub(crate) fn sort(row: &Row, at: usize) -> Option<PaperSort>
 fn step_with(code: Option<u32>) -> Option<Option<Step>>
     ensures read { (o : Option TheStep) → code ≡ option_map step_code o → IfSome result (λ x. x ≡ o) }
     ensures back { IfSome result (λ x. code ≡ option_map step_code x) }
+    ensures some { (o : Option TheStep) → code ≡ option_map step_code o → IsSome result }
 {
     match code {
         None => Some(None),
@@ -298,6 +327,7 @@ fn step_with(code: Option<u32>) -> Option<Option<Step>>
 pub(crate) fn step_or_less(row: &Row, at: usize) -> Option<Option<Step>>
     ensures read { (o : Option TheStep) → column row.now at ≡ step_value o → IfSome result (λ x. x ≡ o) }
     ensures back { IfSome result (λ x. column row.now at ≡ step_value x) }
+    ensures some { (o : Option TheStep) → column row.now at ≡ step_value o → IsSome result }
 {
     step_with(number_or_less(row, at)?)
 }

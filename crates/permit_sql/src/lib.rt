@@ -12,9 +12,10 @@
 //! has so far given back what was written (`HasCleanDisk` of the connection after the call).
 //!
 //! **What an open finds.** `specs/Found.antt` says when the tables that a database keeps are typed: each row is within
-//! the limits of the program's types (`specs/Typed.antt`), parties, parcels and files are numbered from 1, and the
-//! desk counts them. An open reads the desk's version first, then compares the schema, then tests the rows one at a
-//! time, each table by one streamed query.
+//! the limits of the program's types (`specs/Typed.antt`), its texts in UTF-8, parties, parcels and files are numbered
+//! from 1, and the desk counts them. An open reads the desk's version first, then compares the schema, then tests the
+//! rows one at a time, each table by one streamed query. It calls rows damaged only where no such tables are kept; want
+//! of memory and a call that failed are the store's (`proofs/Refused.antt`).
 #![tactic(auto)]
 
 mod check;

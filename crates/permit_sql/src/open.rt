@@ -1,14 +1,17 @@
 //! Whether a database is the office's.
 
-ghost use Rattle.std.specs.Prelude.{◌≡◌, ◌⊎◌, false, IsTrue, IfOk, IfErr, IfSome, OnOk, IsPermutation, map, slice_get, Some, []};
+ghost use Rattle.std.specs.Prelude.{◌≡◌, ◌⊎◌, false, IsTrue, IfOk, IfErr, IfSome, OnOk, IsPermutation, map, slice_get, Some, [], ◌∷◌};
 ghost use Rattle.sqlite_value.specs.Order.{column};
 ghost use Rattle.sqlite.specs.Held.{state};
 ghost use Rattle.sqlite.specs.State.{HasCleanDisk, Survives};
 ghost use Rattle.permit_store.specs.declared.store.OpenError.TheVariants as open_error;
 ghost use Rattle.permit_sql.specs.Schema.{desk_table, office_schema};
-ghost use Rattle.permit_sql.specs.Kept.{IsFine};
+ghost use Rattle.permit_model.specs.Tables.{Tables, Desk as TheDesk};
+ghost use Rattle.permit_sql.specs.Rows.{shown_desk};
+ghost use Rattle.permit_sql.specs.Typed.{firsts, IsDesk};
+ghost use Rattle.permit_sql.specs.Kept.{IsFine, Keeps};
 ghost use Rattle.permit_sql.specs.Opening.{seen_desk, IsOther, HasOtherVersion};
-ghost use Rattle.permit_sql.specs.Found.{HasDesk, HasObjects, HasCases, KeepsTyped};
+ghost use Rattle.permit_sql.specs.Found.{HasDesk, HasObjects, HasCases, AreTyped, KeepsTyped};
 
 use crate::check::{check_interests, check_parcels, check_parties};
 use crate::check_files::{check_files, check_papers, check_rowids};
@@ -70,10 +73,23 @@ fn has_other_version<S: Alter>(conn: &mut Connection<S>) -> Got<bool>
     }
 }
 
+/// The desk of an answer of one row, of number 1 and version 1, within its limits.
+fn only_desk(rows: &[Row]) -> Option<Desk>
+    ensures back { IfSome result (λ d. (q : _) × (rows.now ≡ q ∷ []) × (firsts 6 0 q ≡ shown_desk d)) }
+    ensures typed { IfSome result IsDesk }
+    ensures some { (is : TheDesk) → IsDesk is → rows.now ≡ shown_desk is ∷ [] → result ≡ Some is }
+{
+    match rows {
+        [row] => desk_in(row),
+        _ => None,
+    }
+}
+
 /// The desk, where it has one row, of number 1 and version 1, within its limits. With another schema it fails.
 fn find_desk<S: Alter>(conn: &mut Connection<S>) -> Got<Option<Desk>>
     requires calm { conn.old.in_transaction ≡ false }
     ensures good { IsFine (state S.Store conn.new) → IfOk result (λ o. IfSome o (λ d. HasDesk d ((state S.Store conn.old).now.trees 0))) }
+    ensures kept { IsFine (state S.Store conn.new) → (t : Tables) → AreTyped t → Keeps t (state S.Store conn.old).now → IfOk result (λ o. o ≡ Some t.desk) }
     ensures left { IsFine (state S.Store conn.new) → IsFine (state S.Store conn.old) × ((state S.Store conn.new).now ≡ (state S.Store conn.old).now) }
     ensures crash { Survives (state S.Store conn.old) (state S.Store conn.new) (λ _. ⊥) }
     ensures calm { conn.new.in_transaction ≡ false }
@@ -82,16 +98,14 @@ fn find_desk<S: Alter>(conn: &mut Connection<S>) -> Got<Option<Desk>>
         return Err(StoreError);
     }
     let rows = desk_seen(conn)?;
-    match rows.as_slice() {
-        [row] => Ok(desk_in(row)),
-        _ => Ok(None),
-    }
+    Ok(only_desk(rows.as_slice()))
 }
 
 /// Whether the parties and parcels are as the desk counts them, and they and the interests within their limits.
 fn has_sound_objects<S: Alter>(conn: &mut Connection<S>, desk: Desk) -> Got<bool>
     requires calm { conn.old.in_transaction ≡ false }
     ensures good { IsFine (state S.Store conn.new) → IfOk result (λ good. IsTrue good → HasObjects desk (state S.Store conn.old).now.trees) }
+    ensures kept { IsFine (state S.Store conn.new) → (t : Tables) → AreTyped t → Keeps t (state S.Store conn.old).now → desk ≡ t.desk → IfOk result IsTrue }
     ensures left { IsFine (state S.Store conn.new) → IsFine (state S.Store conn.old) × ((state S.Store conn.new).now ≡ (state S.Store conn.old).now) }
     ensures crash { Survives (state S.Store conn.old) (state S.Store conn.new) (λ _. ⊥) }
     ensures calm { conn.new.in_transaction ≡ false }
@@ -109,6 +123,7 @@ fn has_sound_objects<S: Alter>(conn: &mut Connection<S>, desk: Desk) -> Got<bool
 fn has_sound_files<S: Alter>(conn: &mut Connection<S>, alloc: Global, desk: Desk) -> Got<bool>
     requires calm { conn.old.in_transaction ≡ false }
     ensures good { IsFine (state S.Store conn.new) → IfOk result (λ good. IsTrue good → HasCases desk (state S.Store conn.old).now.trees) }
+    ensures kept { IsFine (state S.Store conn.new) → (t : Tables) → AreTyped t → Keeps t (state S.Store conn.old).now → desk ≡ t.desk → IfOk result IsTrue }
     ensures left { IsFine (state S.Store conn.new) → IsFine (state S.Store conn.old) × ((state S.Store conn.new).now ≡ (state S.Store conn.old).now) }
     ensures crash { Survives (state S.Store conn.old) (state S.Store conn.new) (λ _. ⊥) }
     ensures calm { conn.new.in_transaction ≡ false }
@@ -126,6 +141,7 @@ fn has_sound_files<S: Alter>(conn: &mut Connection<S>, alloc: Global, desk: Desk
 fn has_sound_rows<S: Alter>(conn: &mut Connection<S>, alloc: Global) -> Got<bool>
     requires calm { conn.old.in_transaction ≡ false }
     ensures good { IsFine (state S.Store conn.new) → (state S.Store conn.old).now.schema ≡ office_schema → IfOk result (λ good. IsTrue good → KeepsTyped (state S.Store conn.old).now) }
+    ensures kept { IsFine (state S.Store conn.new) → KeepsTyped (state S.Store conn.old).now → IfOk result IsTrue }
     ensures left { IsFine (state S.Store conn.new) → IsFine (state S.Store conn.old) × ((state S.Store conn.new).now ≡ (state S.Store conn.old).now) }
     ensures crash { Survives (state S.Store conn.old) (state S.Store conn.new) (λ _. ⊥) }
     ensures calm { conn.new.in_transaction ≡ false }
@@ -143,6 +159,7 @@ fn has_sound_rows<S: Alter>(conn: &mut Connection<S>, alloc: Global) -> Got<bool
 fn check_tables<S: Alter>(conn: &mut Connection<S>, alloc: Global) -> Result<(), OpenError>
     requires calm { conn.old.in_transaction ≡ false }
     ensures typed { IsFine (state S.Store conn.new) → OnOk result (KeepsTyped (state S.Store conn.new).now) }
+    ensures damaged { IsFine (state S.Store conn.new) → IfErr result (λ e. e ≡ open_error.Damaged → ¬ KeepsTyped (state S.Store conn.old).now) }
     ensures left { IsFine (state S.Store conn.new) → IsFine (state S.Store conn.old) × ((state S.Store conn.new).now ≡ (state S.Store conn.old).now) }
     ensures refusal { IfErr result (λ e. (e ≡ open_error.Damaged) ⊎ (e ≡ open_error.Store)) }
     ensures crash { Survives (state S.Store conn.old) (state S.Store conn.new) (λ _. ⊥) }
@@ -163,6 +180,7 @@ fn check_versioned<S: Alter>(conn: &mut Connection<S>, alloc: Global) -> Result<
     requires calm { conn.old.in_transaction ≡ false }
     requires desk { slice_get (state S.Store conn.old).now.schema.tables 0 ≡ Some desk_table }
     ensures typed { IsFine (state S.Store conn.new) → OnOk result (KeepsTyped (state S.Store conn.new).now) }
+    ensures damaged { IsFine (state S.Store conn.new) → IfErr result (λ e. e ≡ open_error.Damaged → ¬ KeepsTyped (state S.Store conn.old).now) }
     ensures version { HasCleanDisk (state S.Store conn.new) → IfErr result (λ e. e ≡ open_error.Version → HasOtherVersion (state S.Store conn.old).now) }
     ensures told { HasCleanDisk (state S.Store conn.new) → HasOtherVersion (state S.Store conn.old).now → (result ≡ Err open_error.Version) ⊎ (result ≡ Err open_error.Store) }
     ensures left { IsFine (state S.Store conn.new) → IsFine (state S.Store conn.old) × ((state S.Store conn.new).now ≡ (state S.Store conn.old).now) }
@@ -180,6 +198,7 @@ fn check_versioned<S: Alter>(conn: &mut Connection<S>, alloc: Global) -> Result<
 /// Finds the office's tables in the database, which it leaves as it is.
 pub(crate) fn check<S: Alter>(conn: &mut Connection<S>, alloc: Global) -> Result<(), OpenError>
     ensures typed { IsFine (state S.Store conn.new) → OnOk result (KeepsTyped (state S.Store conn.new).now) }
+    ensures damaged { IsFine (state S.Store conn.new) → IfErr result (λ e. e ≡ open_error.Damaged → ¬ KeepsTyped (state S.Store conn.old).now) }
     ensures version { HasCleanDisk (state S.Store conn.new) → IfErr result (λ e. e ≡ open_error.Version → HasOtherVersion (state S.Store conn.old).now) }
     ensures told { HasCleanDisk (state S.Store conn.new) → HasOtherVersion (state S.Store conn.old).now → (result ≡ Err open_error.Version) ⊎ (result ≡ Err open_error.Store) }
     ensures left { IsFine (state S.Store conn.new) → IsFine (state S.Store conn.old) × ((state S.Store conn.new).now ≡ (state S.Store conn.old).now) }

@@ -106,10 +106,10 @@ impl<S: Alter> SqlStore<S> {
     }
 
     /// Opens the database that holds the office's tables, which it reads and leaves as they are. It refuses as
-    /// `Version` where the desk's row says another version than 1, which is tested first; as `Damaged` where the rows
-    /// are out of their limits, or aren't numbered and counted as the desk says; and as `Store` where a call failed,
-    /// memory was refused, a transaction is open, or the database has another schema than `create` makes. With a
-    /// refusal the connection comes back, its database as before.
+    /// `Version` where the desk's row says another version than 1, which is tested first; as `Damaged` only where the
+    /// rows are out of their limits, or aren't numbered and counted as the desk says; and as `Store` where a call failed
+    /// or gave a rowid that is no number, memory was refused, a transaction is open, or the database has another schema
+    /// than `create` makes. With a refusal the connection comes back, its database as before.
     pub fn open(
         alloc: Global,
         conn: Connection<S>,
@@ -123,6 +123,7 @@ impl<S: Alter> SqlStore<S> {
         ensures version { IfErr result (λ e. e.1 ≡ open_error.Version → HasCleanDisk (state S.Store e.0) → HasOtherVersion (state S.Store conn).now) }
         ensures told { IfErr result (λ e. HasCleanDisk (state S.Store e.0) → HasOtherVersion (state S.Store conn).now → (e.1 ≡ open_error.Version) ⊎ (e.1 ≡ open_error.Store)) }
         ensures first { IfOk result (λ s. HasCleanDisk (state S.Store s.conn) → ¬ HasOtherVersion (state S.Store conn).now) }
+        ensures damaged { IfErr result (λ e. e.1 ≡ open_error.Damaged → IsFine (state S.Store e.0) → ¬ KeepsTyped (state S.Store conn).now) }
         ensures refusal { IfErr result (λ e. (e.1 ≡ open_error.Damaged) ⊎ ((e.1 ≡ open_error.Version) ⊎ (e.1 ≡ open_error.Store))) }
     {
         let mut conn = conn;

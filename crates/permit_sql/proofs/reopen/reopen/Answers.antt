@@ -1,8 +1,8 @@
-use Rattle.std.proofs.Common.{◌≡◌, not, sym, subst, ap, ◌∙◌}
+use Rattle.std.proofs.Common.{not, sym, subst, ap, ◌∙◌}
 use Rattle.sqlite.specs.Files.{file_state}
 use Rattle.sqlite.specs.State.{HasCleanDisk}
 use Rattle.sqlite.proofs.Callers.{finds_again}
-use Rattle.permit_sql.specs.Kept.{Keeps, Shows}
+use Rattle.permit_sql.specs.Kept.{Shows}
 use Rattle.permit_sql.proofs.Reopening.{keeps_by_trees}
 use Rattle.permit_sql.proofs.reopen.reopen.Goals as goal
 
