@@ -1,5 +1,6 @@
 //! One request as bytes, and the answer as bytes.
 
+use crate::ask::{Ask, day};
 use permit_base::values::Day;
 use permit_http::inbox::Inbox;
 use permit_office::office::Office;
@@ -9,13 +10,14 @@ use std::alloc::Global;
 use std::test::Fail;
 
 /// The bytes of a request with its token and a JSON body.
-pub fn request(
-    alloc: Global,
-    method: &str,
-    path: &str,
-    token: &str,
-    body: &str,
-) -> Result<String, Fail> {
+pub fn request(alloc: Global, ask: &Ask<'_>) -> Result<String, Fail> {
+    let Ask {
+        token,
+        method,
+        path,
+        body,
+        ..
+    } = *ask;
     let size = body.len();
     Ok(format!(in alloc;
         "{method} {path} HTTP/1.1\r\nHost: localhost\r\nAuthorization: Bearer {token}\r\nContent-Length: {size}\r\n\r\n{body}"
@@ -25,8 +27,13 @@ pub fn request(
 /// The bytes of an answer that keeps the connection: its status line's end, and its body.
 pub fn answer(alloc: Global, status: &str, body: &str) -> Result<String, Fail> {
     let size = body.len();
+    let challenge = if status == "401 Unauthorized" {
+        "WWW-Authenticate: Bearer\r\n"
+    } else {
+        ""
+    };
     Ok(format!(in alloc;
-        "HTTP/1.1 {status}\r\nContent-Type: application/json\r\nContent-Length: {size}\r\n\r\n{body}"
+        "HTTP/1.1 {status}\r\nContent-Type: application/json\r\nContent-Length: {size}\r\n{challenge}\r\n{body}"
     )?)
 }
 
@@ -51,13 +58,9 @@ pub fn serve<S: Store + Drop>(
 pub fn asked<S: Store + Drop>(
     alloc: Global,
     office: &mut Office<S>,
-    method: &str,
-    path: &str,
-    token: &str,
-    body: &str,
-    day: Day,
+    ask: &Ask<'_>,
 ) -> Result<String, Fail> {
-    let bytes = request(alloc, method, path, token, body)?;
-    let (_, written) = serve(alloc, office, bytes.as_str().as_bytes(), day)?;
+    let bytes = request(alloc, ask)?;
+    let (_, written) = serve(alloc, office, bytes.as_str().as_bytes(), day(ask.day)?)?;
     Ok(written)
 }

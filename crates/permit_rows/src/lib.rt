@@ -4,17 +4,25 @@
 #[cfg(test)]
 mod applications;
 #[cfg(test)]
+mod ask;
+#[cfg(test)]
 mod exchange;
 #[cfg(test)]
 mod filing;
 #[cfg(test)]
 mod limits;
 #[cfg(test)]
+mod offices;
+#[cfg(test)]
 mod opening;
 #[cfg(test)]
 mod oversized_and_cut;
 #[cfg(test)]
 mod policies;
+#[cfg(test)]
+mod program;
+#[cfg(test)]
+mod rows;
 #[cfg(test)]
 mod script;
 #[cfg(test)]

@@ -1,67 +1,47 @@
 //! Limits of text and deadline, a clock that goes back, and policy faults.
 
-use crate::exchange::{answer, asked};
-use crate::opening::{TOKENS, day, founded, opened};
+use crate::ask::{TOKENS, day};
+use crate::offices::{over_database, over_vectors, token};
+use crate::rows::hold;
 use permit_base::outcome::{Reason, Refusal};
 use permit_base::request::{Asked, Command, Request};
-use permit_base::values::{Day, Days, Lot, ParcelId, PartyId, Text, Token};
+use permit_base::values::{Day, Days, Lot, ParcelId, PartyId, Text};
 use permit_base::words::{Kind, Stage};
 use permit_core::people::People;
 use permit_core::restore::StateFields;
 use permit_core::state::FileState;
+use permit_office::office::Office;
 use permit_office::reply::Reply;
 use permit_policy::fault::PolicyFault;
 use permit_policy::text::read_policy;
+use permit_store::store::Store;
 use std::alloc::Global;
 use std::test::Fail;
 
-/// The body of a filing whose description has so many bytes.
+/// A filing whose description has so many bytes, as a script has it.
 fn filing_of(alloc: Global, size: usize) -> Result<String, Fail> {
     let mut description = String::new(alloc);
     for _ in 0..size {
         description.push_str("a")?;
     }
     Ok(format!(in alloc;
-        "{{\"parcel\":1,\"kind\":\"construct\",\"valuation\":1,\"description\":\"{description}\"}}"
+        "> 5 19723 POST /files {{\"parcel\":1,\"kind\":\"construct\",\"valuation\":1,\"description\":\"{description}\"}}"
+    )?)
+}
+
+/// A filing with a description past its limit, and one with the longest.
+fn texts(alloc: Global) -> Result<String, Fail> {
+    let long = filing_of(alloc, 2001)?;
+    let full = filing_of(alloc, 2000)?;
+    Ok(format!(in alloc;
+        "{long}\n< 400 Bad Request {{\"refused\":\"syntax\"}}\n{full}\n< 200 OK {{\"day\":19723,\"done\":\"file\",\"number\":1}}\n"
     )?)
 }
 
 #[test]
 fn limits_of_text(rt: HostRuntime) -> Result<(), Fail> {
-    let alloc = rt.alloc();
-    let mut office = opened(alloc)?;
-    let long = asked(
-        alloc,
-        &mut office,
-        "POST",
-        "/files",
-        TOKENS[4],
-        filing_of(alloc, 2001)?.as_str(),
-        day(19723)?,
-    )?;
-    assert_eq!(rt;
-        long.as_str(),
-        answer(alloc, "400 Bad Request", "{\"refused\":\"syntax\"}")?.as_str()
-    );
-    let full = asked(
-        alloc,
-        &mut office,
-        "POST",
-        "/files",
-        TOKENS[4],
-        filing_of(alloc, 2000)?.as_str(),
-        day(19723)?,
-    )?;
-    assert_eq!(rt;
-        full.as_str(),
-        answer(
-            alloc,
-            "200 OK",
-            "{\"day\":19723,\"done\":\"file\",\"number\":1}"
-        )?
-        .as_str()
-    );
-    Ok(())
+    let script = texts(rt.alloc())?;
+    hold(&rt, &[script.as_str()])
 }
 
 /// A file in work with the deadline 199900 and an ask of so many days.
@@ -114,7 +94,7 @@ fn limits_of_deadline(rt: HostRuntime) -> Result<(), Fail> {
 /// A request of the official: a parcel of party 1 on a lot.
 fn parcel_on(alloc: Global, lot: &str) -> Result<Asked, Fail> {
     Ok(Asked {
-        token: Token::new(String::from_str(alloc, TOKENS[0])?).ok_or("a token")?,
+        token: token(alloc, TOKENS[0])?,
         request: Request::AddParcel {
             lot: Lot::new(String::from_str(alloc, lot)?).ok_or("a lot")?,
             address: Text::new(String::from_str(alloc, "1 High St")?).ok_or("an address")?,
@@ -126,7 +106,7 @@ fn parcel_on(alloc: Global, lot: &str) -> Result<Asked, Fail> {
 /// A request of the official to read parcel 1.
 fn read_parcel(alloc: Global) -> Result<Asked, Fail> {
     Ok(Asked {
-        token: Token::new(String::from_str(alloc, TOKENS[0])?).ok_or("a token")?,
+        token: token(alloc, TOKENS[0])?,
         request: Request::ReadParcel {
             parcel: ParcelId::new(1).ok_or("a parcel")?,
         },
@@ -144,10 +124,11 @@ fn word_of(reply: &Reply) -> &'static str {
     }
 }
 
-#[test]
-fn clock_that_goes_back(rt: HostRuntime) -> Result<(), Fail> {
-    let alloc = rt.alloc();
-    let mut office = founded(alloc)?;
+/// A run whose second request is on a day before the first's.
+fn run_back<S: Store + Drop>(
+    alloc: Global,
+    mut office: Office<S>,
+) -> Result<Vec<&'static str>, Fail> {
     let mut requests = Vec::new(alloc);
     requests.push((parcel_on(alloc, "B-1")?, day(20000)?))?;
     requests.push((parcel_on(alloc, "B-2")?, day(19990)?))?;
@@ -158,10 +139,15 @@ fn clock_that_goes_back(rt: HostRuntime) -> Result<(), Fail> {
     for reply in &replies {
         words.push(word_of(reply))?;
     }
-    assert_eq!(rt;
-        words.as_slice(),
-        ["done", "clock", "parcel", "parcel"].as_slice()
-    );
+    Ok(words)
+}
+
+#[test]
+fn clock_that_goes_back(rt: HostRuntime) -> Result<(), Fail> {
+    let wanted = ["done", "clock", "parcel", "parcel"].as_slice();
+    let alloc = rt.alloc();
+    assert_eq!(rt; run_back(alloc, over_vectors(alloc)?)?.as_slice(), wanted);
+    assert_eq!(rt; run_back(alloc, over_database(alloc)?)?.as_slice(), wanted);
     Ok(())
 }
 

@@ -1,70 +1,80 @@
 //! Oversized and cut requests.
 
-use crate::exchange::{answer, asked, request, serve};
+use crate::ask::{Ask, TOKENS, day};
+use crate::exchange::{request, serve};
 use crate::filing::HOUSE;
-use crate::opening::{TOKENS, day, opened};
+use crate::offices::{over_database, over_vectors};
+use crate::opening::OPENING;
+use crate::script::play;
+use permit_office::office::Office;
+use permit_store::store::Store;
 use permit_wire::serve::Served;
+use std::alloc::Global;
 use std::test::Fail;
 
-#[test]
-fn oversized_request(rt: HostRuntime) -> Result<(), Fail> {
-    let alloc = rt.alloc();
-    let mut office = opened(alloc)?;
+/// What an office says that has no file.
+const NO_FILE: &str = r#"
+> 1 19723 GET /files/1
+< 404 Not Found {"refused":"record"}
+"#;
+
+/// What is written for a body past its limit, and how the connection ends; behind it there is no file.
+fn oversized<S: Store + Drop>(
+    alloc: Global,
+    mut office: Office<S>,
+) -> Result<(Served, String), Fail> {
+    play(alloc, &mut office, OPENING)?;
     let token = TOKENS[4];
     let head = format!(in alloc;
         "POST /files HTTP/1.1\r\nHost: localhost\r\nAuthorization: Bearer {token}\r\nContent-Length: 16385\r\n\r\n{HOUSE}"
     )?;
-    let (served, written) = serve(alloc, &mut office, head.as_str().as_bytes(), day(19723)?)?;
-    assert_eq!(rt; served, Served::Closed);
+    let answered = serve(alloc, &mut office, head.as_str().as_bytes(), day(19723)?)?;
+    play(alloc, &mut office, NO_FILE)?;
+    Ok(answered)
+}
+
+#[test]
+fn oversized_request(rt: HostRuntime) -> Result<(), Fail> {
     let wanted =
         "HTTP/1.1 413 Content Too Large\r\nContent-Type: application/json\r\nContent-Length: 19\r\nConnection: close\r\n\r\n{\"refused\":\"large\"}";
-    assert_eq!(rt; written.as_str(), wanted);
-    let read = asked(
-        alloc,
-        &mut office,
-        "GET",
-        "/files/1",
-        TOKENS[0],
-        "",
-        day(19723)?,
-    )?;
-    assert_eq!(rt;
-        read.as_str(),
-        answer(alloc, "404 Not Found", "{\"refused\":\"record\"}")?.as_str()
-    );
+    let alloc = rt.alloc();
+    let (served, written) = oversized(alloc, over_vectors(alloc)?)?;
+    assert_eq!(rt; (served, written.as_str()), (Served::Closed, wanted));
+    let (served, written) = oversized(alloc, over_database(alloc)?)?;
+    assert_eq!(rt; (served, written.as_str()), (Served::Closed, wanted));
+    Ok(())
+}
+
+/// Fails where a filing that is cut short anywhere is answered; behind all there is no file.
+fn cut<S: Store + Drop>(alloc: Global, mut office: Office<S>) -> Result<(), Fail> {
+    play(alloc, &mut office, OPENING)?;
+    let ask = Ask {
+        token: TOKENS[4],
+        day: 19723,
+        method: "POST",
+        path: "/files",
+        body: HOUSE,
+    };
+    let whole = request(alloc, &ask)?;
+    let bytes = whole.as_str().as_bytes();
+    for (place, _) in bytes.iter().enumerate() {
+        let (served, written) = serve(alloc, &mut office, &bytes[..place], day(ask.day)?)?;
+        let wanted = if place == 0 {
+            Served::Ended
+        } else {
+            Served::ReadFailed
+        };
+        if served != wanted || !written.is_empty() {
+            return Err(Fail::new(format!(in alloc; "cut at {place}: {written}")?));
+        }
+    }
+    play(alloc, &mut office, NO_FILE)?;
     Ok(())
 }
 
 #[test]
 fn cut_request(rt: HostRuntime) -> Result<(), Fail> {
     let alloc = rt.alloc();
-    let mut office = opened(alloc)?;
-    let whole = request(alloc, "POST", "/files", TOKENS[4], HOUSE)?;
-    let bytes = whole.as_str().as_bytes();
-    for (place, _) in bytes.iter().enumerate() {
-        let (served, written) = serve(alloc, &mut office, &bytes[..place], day(19723)?)?;
-        assert_eq!(rt;
-            served,
-            if place == 0 {
-                Served::Ended
-            } else {
-                Served::ReadFailed
-            }
-        );
-        assert_eq!(rt; written.as_str(), "");
-    }
-    let read = asked(
-        alloc,
-        &mut office,
-        "GET",
-        "/files/1",
-        TOKENS[0],
-        "",
-        day(19723)?,
-    )?;
-    assert_eq!(rt;
-        read.as_str(),
-        answer(alloc, "404 Not Found", "{\"refused\":\"record\"}")?.as_str()
-    );
-    Ok(())
+    cut(alloc, over_vectors(alloc)?)?;
+    cut(alloc, over_database(alloc)?)
 }

@@ -1,43 +1,30 @@
 //! Unknown caller, missing record.
 
-use crate::exchange::{answer, asked};
-use crate::opening::{TOKENS, day, opened};
+use crate::rows::hold;
 use std::test::Fail;
+
+/// A token of nobody.
+const UNKNOWN: &[&str] = &[
+    r#"
+> 0 19723 GET /files/1
+< 401 Unauthorized {"refused":"caller"}
+"#,
+];
+
+/// A file that there is not.
+const MISSING: &[&str] = &[
+    r#"
+> 1 19723 GET /files/99
+< 404 Not Found {"refused":"record"}
+"#,
+];
 
 #[test]
 fn unknown_caller(rt: HostRuntime) -> Result<(), Fail> {
-    let mut office = opened(rt.alloc())?;
-    let written = asked(
-        rt.alloc(),
-        &mut office,
-        "GET",
-        "/files/1",
-        "0000000000000000",
-        "",
-        day(19723)?,
-    )?;
-    let wanted =
-        "HTTP/1.1 401 Unauthorized\r\nContent-Type: application/json\r\nContent-Length: 20\r\nWWW-Authenticate: Bearer\r\n\r\n{\"refused\":\"caller\"}";
-    assert_eq!(rt; written.as_str(), wanted);
-    Ok(())
+    hold(&rt, UNKNOWN)
 }
 
 #[test]
 fn missing_record(rt: HostRuntime) -> Result<(), Fail> {
-    let alloc = rt.alloc();
-    let mut office = opened(alloc)?;
-    let written = asked(
-        alloc,
-        &mut office,
-        "GET",
-        "/files/99",
-        TOKENS[0],
-        "",
-        day(19723)?,
-    )?;
-    assert_eq!(rt;
-        written.as_str(),
-        answer(alloc, "404 Not Found", "{\"refused\":\"record\"}")?.as_str()
-    );
-    Ok(())
+    hold(&rt, MISSING)
 }

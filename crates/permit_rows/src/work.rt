@@ -1,457 +1,356 @@
 //! Work on a file: inspections, notices, orders and certificates.
 
-use crate::opening::opened;
-use crate::script::{Turn, Wanted, plain, play, with};
-use permit_office::office::Office;
-use permit_store::plain::PlainStore;
-use std::alloc::Global;
+use crate::rows::hold;
 use std::test::Fail;
 
-/// The office in which party 5 filed on parcel 1, reviewed by 3 and with inspector 4 and contractor 6, all on the day
-/// 19790; the plans were approved then.
-fn approved(alloc: Global, filing: &'static str) -> Result<Office<PlainStore>, Fail> {
-    let mut office = opened(alloc)?;
-    play(
-        alloc,
-        &mut office,
-        &[
-            with(5, 19790, "/files", filing, Wanted::Made(1)),
-            with(
-                2,
-                19790,
-                "/files/1/assign-reviewer",
-                "{\"party\":3}",
-                Wanted::Done,
-            ),
-            with(
-                5,
-                19790,
-                "/files/1/name-contractor",
-                "{\"party\":6}",
-                Wanted::Done,
-            ),
-            plain(3, 19790, "/files/1/start-review", Wanted::Done),
-            plain(3, 19790, "/files/1/approve-plans", Wanted::Done),
-        ],
-    )?;
-    Ok(office)
-}
+/// A construction that party 5 files on parcel 1.
+const CONSTRUCT: &str = r#"
+> 5 19790 POST /files {"parcel":1,"kind":"construct","valuation":1,"description":"House"}
+< 200 OK {"day":19790,"done":"file","number":1}
+"#;
 
-/// The same, issued on 19800 (paper 1) and with inspector 4.
-fn issued(alloc: Global, filing: &'static str) -> Result<Office<PlainStore>, Fail> {
-    let mut office = approved(alloc, filing)?;
-    play(
-        alloc,
-        &mut office,
-        &[
-            with(
-                2,
-                19790,
-                "/files/1/assign-inspector",
-                "{\"party\":4}",
-                Wanted::Done,
-            ),
-            plain(1, 19800, "/files/1/issue", Wanted::Made(1)),
-        ],
-    )?;
-    Ok(office)
-}
+/// An alteration that party 5 files on parcel 1.
+const ALTER: &str = r#"
+> 5 19790 POST /files {"parcel":1,"kind":"alter","valuation":1,"description":"Wall"}
+< 200 OK {"day":19790,"done":"file","number":1}
+"#;
 
-/// The same, begun on 19810.
-fn begun(alloc: Global, filing: &'static str) -> Result<Office<PlainStore>, Fail> {
-    let mut office = issued(alloc, filing)?;
-    play(
-        alloc,
-        &mut office,
-        &[plain(6, 19810, "/files/1/begin-work", Wanted::Done)],
-    )?;
-    Ok(office)
-}
+/// A repair that party 5 files on parcel 1.
+const REPAIR: &str = r#"
+> 5 19790 POST /files {"parcel":1,"kind":"repair","valuation":1,"description":"Roof"}
+< 200 OK {"day":19790,"done":"file","number":1}
+"#;
 
-const CONSTRUCT: &str =
-    "{\"parcel\":1,\"kind\":\"construct\",\"valuation\":1,\"description\":\"House\"}";
+/// A demolition that party 5 files on parcel 1.
+const DEMOLISH: &str = r#"
+> 5 19790 POST /files {"parcel":1,"kind":"demolish","valuation":1,"description":"Shed"}
+< 200 OK {"day":19790,"done":"file","number":1}
+"#;
 
-const ALTER: &str = "{\"parcel\":1,\"kind\":\"alter\",\"valuation\":1,\"description\":\"Wall\"}";
+/// Its review by 3, with contractor 6, all on the day of the filing; the plans are approved.
+const APPROVED: &str = r#"
+> 2 19790 POST /files/1/assign-reviewer {"party":3}
+< 200 OK {"day":19790,"done":"assign-reviewer","number":null}
+> 5 19790 POST /files/1/name-contractor {"party":6}
+< 200 OK {"day":19790,"done":"name-contractor","number":null}
+> 3 19790 POST /files/1/start-review
+< 200 OK {"day":19790,"done":"start-review","number":null}
+> 3 19790 POST /files/1/approve-plans
+< 200 OK {"day":19790,"done":"approve-plans","number":null}
+"#;
 
-const REPAIR: &str = "{\"parcel\":1,\"kind\":\"repair\",\"valuation\":1,\"description\":\"Roof\"}";
+/// Its permit, paper 1, with inspector 4.
+const ISSUED: &str = r#"
+> 2 19790 POST /files/1/assign-inspector {"party":4}
+< 200 OK {"day":19790,"done":"assign-inspector","number":null}
+> 1 19800 POST /files/1/issue
+< 200 OK {"day":19800,"done":"issue","number":1}
+"#;
 
-const DEMOLISH: &str =
-    "{\"parcel\":1,\"kind\":\"demolish\",\"valuation\":1,\"description\":\"Shed\"}";
+/// The beginning of its work.
+const BEGUN: &str = r#"
+> 6 19810 POST /files/1/begin-work
+< 200 OK {"day":19810,"done":"begin-work","number":null}
+"#;
 
-/// A step, requested by the contractor and approved by the inspector on 19820.
-const fn step(body: &'static str) -> [Turn; 2] {
-    [
-        with(6, 19820, "/files/1/request-inspection", body, Wanted::Done),
-        with(4, 19820, "/files/1/approve-step", body, Wanted::Done),
-    ]
-}
+/// The step `footing`, requested by the contractor and approved by the inspector.
+const FOOTING: &str = r#"
+> 6 19820 POST /files/1/request-inspection {"step":"footing"}
+< 200 OK {"day":19820,"done":"request-inspection","number":null}
+> 4 19820 POST /files/1/approve-step {"step":"footing"}
+< 200 OK {"day":19820,"done":"approve-step","number":null}
+"#;
 
-const FOOTING: &str = "{\"step\":\"footing\"}";
+/// The step `slab`, requested by the contractor and approved by the inspector.
+const SLAB: &str = r#"
+> 6 19820 POST /files/1/request-inspection {"step":"slab"}
+< 200 OK {"day":19820,"done":"request-inspection","number":null}
+> 4 19820 POST /files/1/approve-step {"step":"slab"}
+< 200 OK {"day":19820,"done":"approve-step","number":null}
+"#;
 
-const SLAB: &str = "{\"step\":\"slab\"}";
+/// The step `frame`, requested by the contractor and approved by the inspector.
+const FRAME: &str = r#"
+> 6 19820 POST /files/1/request-inspection {"step":"frame"}
+< 200 OK {"day":19820,"done":"request-inspection","number":null}
+> 4 19820 POST /files/1/approve-step {"step":"frame"}
+< 200 OK {"day":19820,"done":"approve-step","number":null}
+"#;
 
-const FRAME: &str = "{\"step\":\"frame\"}";
+/// The step `lath`, requested by the contractor and approved by the inspector.
+const LATH: &str = r#"
+> 6 19820 POST /files/1/request-inspection {"step":"lath"}
+< 200 OK {"day":19820,"done":"request-inspection","number":null}
+> 4 19820 POST /files/1/approve-step {"step":"lath"}
+< 200 OK {"day":19820,"done":"approve-step","number":null}
+"#;
 
-const LATH: &str = "{\"step\":\"lath\"}";
+/// The step `final`, requested by the contractor and approved by the inspector.
+const FINAL: &str = r#"
+> 6 19820 POST /files/1/request-inspection {"step":"final"}
+< 200 OK {"day":19820,"done":"request-inspection","number":null}
+> 4 19820 POST /files/1/approve-step {"step":"final"}
+< 200 OK {"day":19820,"done":"approve-step","number":null}
+"#;
 
-const FINAL: &str = "{\"step\":\"final\"}";
+/// An inspector with an interest in the parcel.
+const CONFLICT: &[&str] = &[
+    CONSTRUCT,
+    APPROVED,
+    r#"
+> 7 19795 POST /parcels/1/declare
+< 200 OK {"day":19795,"done":"declare","number":null}
+> 2 19795 POST /files/1/assign-inspector {"party":7}
+< 409 Conflict {"reason":"interested","refused":"not-admitted"}
+> 2 19795 POST /files/1/assign-inspector {"party":4}
+< 200 OK {"day":19795,"done":"assign-inspector","number":null}
+> 1 19800 POST /files/1/issue
+< 200 OK {"day":19800,"done":"issue","number":1}
+> 6 19810 POST /files/1/begin-work
+< 200 OK {"day":19810,"done":"begin-work","number":null}
+> 6 19820 POST /files/1/request-inspection {"step":"footing"}
+< 200 OK {"day":19820,"done":"request-inspection","number":null}
+> 4 19820 POST /parcels/1/declare
+< 200 OK {"day":19820,"done":"declare","number":null}
+> 4 19820 POST /files/1/approve-step {"step":"footing"}
+< 403 Forbidden {"refused":"denied","rule":"no-conflict"}
+"#,
+];
+
+/// A step out of its order.
+const STEPS_OF_CONSTRUCTION: &[&str] = &[
+    CONSTRUCT,
+    APPROVED,
+    ISSUED,
+    BEGUN,
+    FOOTING,
+    r#"
+> 6 19820 POST /files/1/request-inspection {"step":"frame"}
+< 409 Conflict {"reason":"step","refused":"not-admitted"}
+"#,
+];
+
+/// A kind of work that begins with that step.
+const STEPS_OF_ALTERATION: &[&str] = &[
+    ALTER,
+    APPROVED,
+    ISSUED,
+    BEGUN,
+    r#"
+> 6 19820 POST /files/1/request-inspection {"step":"frame"}
+< 200 OK {"day":19820,"done":"request-inspection","number":null}
+"#,
+];
+
+/// A notice that is open when the step is to be approved.
+const NOTICE: &[&str] = &[
+    REPAIR,
+    APPROVED,
+    ISSUED,
+    BEGUN,
+    r#"
+> 6 19820 POST /files/1/request-inspection {"step":"frame"}
+< 200 OK {"day":19820,"done":"request-inspection","number":null}
+> 4 19820 POST /files/1/notice {"text":"Nails"}
+< 200 OK {"day":19820,"done":"notice","number":2}
+> 6 19820 POST /files/1/request-inspection {"step":"frame"}
+< 200 OK {"day":19820,"done":"request-inspection","number":null}
+> 4 19820 POST /files/1/approve-step {"step":"frame"}
+< 409 Conflict {"reason":"notice-open","refused":"not-admitted"}
+> 4 19820 POST /files/1/clear-notice {"paper":1}
+< 409 Conflict {"reason":"no-such-notice","refused":"not-admitted"}
+> 1 19820 GET /files/1
+~ "notices":1,"papers":[{"author":1,"day":19800,"days":0,"number":1,"open":false,"sort":"permit","terms":"","text":""},{"author":4,"day":19820,"days":0,"number":2,"open":true,"sort":"notice","terms":"","text":"Nails"}],
+> 4 19820 POST /files/1/clear-notice {"paper":2}
+< 200 OK {"day":19820,"done":"clear-notice","number":null}
+> 4 19820 POST /files/1/clear-notice {"paper":2}
+< 409 Conflict {"reason":"no-such-notice","refused":"not-admitted"}
+> 4 19820 POST /files/1/approve-step {"step":"frame"}
+< 200 OK {"day":19820,"done":"approve-step","number":null}
+> 1 19820 GET /files/1
+~ "next":"final","notices":0,
+~ "done":["frame"],
+"#,
+];
+
+/// A stop work order, and its lifting.
+const STOP: &[&str] = &[
+    CONSTRUCT,
+    APPROVED,
+    ISSUED,
+    BEGUN,
+    r#"
+> 1 19810 GET /files/1
+~ "deadline":19990,
+> 4 19820 POST /files/1/stop {"text":"Unsafe","conditions":"Shore it"}
+< 200 OK {"day":19820,"done":"stop","number":2}
+> 6 19820 POST /files/1/request-inspection {"step":"footing"}
+< 409 Conflict {"reason":"stopped","refused":"not-admitted"}
+> 1 19830 POST /files/1/lift
+< 200 OK {"day":19830,"done":"lift","number":3}
+> 1 19830 GET /files/1
+~ "deadline":19990,
+~ "sort":"stop","terms":"Shore it","text":"Unsafe"
+~ "stopped":false,
+> 6 19830 POST /files/1/request-inspection {"step":"footing"}
+< 200 OK {"day":19830,"done":"request-inspection","number":null}
+> 1 19830 GET /files/1
+~ "deadline":20010,
+"#,
+];
+
+/// A construction to its certificate.
+const CERTIFICATE: &[&str] = &[
+    CONSTRUCT,
+    APPROVED,
+    ISSUED,
+    BEGUN,
+    FOOTING,
+    SLAB,
+    FRAME,
+    LATH,
+    FINAL,
+    r#"
+> 1 19820 GET /files/1
+~ "stage":"finaled",
+~ "next":null,
+> 1 19830 POST /files/1/certify
+< 200 OK {"day":19830,"done":"certify","number":2}
+> 1 19830 GET /files/1
+~ "stage":"certified",
+~ "timing":"none",
+~ "deadline":null,
+"#,
+];
+
+/// A kind of work that has no certificate.
+const NO_CERTIFICATE: &[&str] = &[
+    DEMOLISH,
+    APPROVED,
+    ISSUED,
+    BEGUN,
+    FINAL,
+    r#"
+> 1 19830 POST /files/1/certify
+< 409 Conflict {"reason":"kind","refused":"not-admitted"}
+"#,
+];
+
+/// Work that begins on the last day.
+const LAST_DAY: &[&str] = &[
+    CONSTRUCT,
+    APPROVED,
+    ISSUED,
+    r#"
+> 1 19980 GET /files/1
+~ "deadline":19980,
+~ "stage":"issued",
+> 6 19980 POST /files/1/begin-work
+< 200 OK {"day":19980,"done":"begin-work","number":null}
+> 1 19980 GET /files/1
+~ "deadline":20160,
+"#,
+];
+
+/// Work that would begin on the day behind it.
+const DAY_BEHIND: &[&str] = &[
+    CONSTRUCT,
+    APPROVED,
+    ISSUED,
+    r#"
+> 6 19981 POST /files/1/begin-work
+< 403 Forbidden {"refused":"denied","rule":"closed-to-public"}
+> 1 19981 POST /files/1/begin-work
+< 409 Conflict {"reason":"stage","refused":"not-admitted"}
+"#,
+];
+
+/// Temporary certificates, the later in place of the earlier.
+const TEMPORARY: &[&str] = &[
+    CONSTRUCT,
+    APPROVED,
+    ISSUED,
+    BEGUN,
+    r#"
+> 1 19850 POST /files/1/temporary {"days":60,"text":"Ground floor"}
+< 200 OK {"day":19850,"done":"temporary","number":2}
+> 1 19850 GET /files/1
+~ "temporary":19910,
+~ "deadline":19990,
+> 1 19860 POST /files/1/temporary {"days":30,"text":"Ground floor"}
+< 200 OK {"day":19860,"done":"temporary","number":3}
+> 1 19860 GET /files/1
+~ "temporary":19890,
+~ "deadline":19990,
+> 1 19860 POST /files/1/temporary {"days":181,"text":"Ground floor"}
+< 409 Conflict {"reason":"days","refused":"not-admitted"}
+"#,
+];
+
+/// A permit that lapsed and is revoked, and a stop on its file.
+const REVOKED: &[&str] = &[
+    CONSTRUCT,
+    APPROVED,
+    ISSUED,
+    r#"
+> 1 19981 GET /files/1
+~ "stage":"lapsed",
+> 1 19981 POST /files/1/revoke {"text":"Lapsed"}
+< 200 OK {"day":19981,"done":"revoke","number":2}
+> 1 19981 GET /files/1
+~ "stage":"revoked",
+~ "deadline":null,
+~ "timing":"none",
+> 1 19981 POST /files/1/revoke {"text":"Lapsed"}
+< 409 Conflict {"reason":"stage","refused":"not-admitted"}
+> 1 19981 POST /files/1/stop {"text":"Unsafe","conditions":"Shore it"}
+< 200 OK {"day":19981,"done":"stop","number":3}
+> 1 19981 POST /files/1/stop {"text":"Unsafe","conditions":"Shore it"}
+< 409 Conflict {"reason":"stopped","refused":"not-admitted"}
+> 1 19981 POST /files/1/lift
+< 200 OK {"day":19981,"done":"lift","number":4}
+"#,
+];
 
 #[test]
 fn interested_inspector_conflict_at_approval(rt: HostRuntime) -> Result<(), Fail> {
-    let mut office = approved(rt.alloc(), CONSTRUCT)?;
-    play(
-        rt.alloc(),
-        &mut office,
-        &[
-            plain(7, 19795, "/parcels/1/declare", Wanted::Done),
-            with(
-                2,
-                19795,
-                "/files/1/assign-inspector",
-                "{\"party\":7}",
-                Wanted::Not("interested"),
-            ),
-            with(
-                2,
-                19795,
-                "/files/1/assign-inspector",
-                "{\"party\":4}",
-                Wanted::Done,
-            ),
-            plain(1, 19800, "/files/1/issue", Wanted::Made(1)),
-            plain(6, 19810, "/files/1/begin-work", Wanted::Done),
-            with(
-                6,
-                19820,
-                "/files/1/request-inspection",
-                FOOTING,
-                Wanted::Done,
-            ),
-            plain(4, 19820, "/parcels/1/declare", Wanted::Done),
-            with(
-                4,
-                19820,
-                "/files/1/approve-step",
-                FOOTING,
-                Wanted::Denied("no-conflict"),
-            ),
-        ],
-    )
+    hold(&rt, CONFLICT)
 }
 
 #[test]
 fn steps_in_order(rt: HostRuntime) -> Result<(), Fail> {
-    let mut office = begun(rt.alloc(), CONSTRUCT)?;
-    play(rt.alloc(), &mut office, &step(FOOTING))?;
-    play(
-        rt.alloc(),
-        &mut office,
-        &[with(
-            6,
-            19820,
-            "/files/1/request-inspection",
-            FRAME,
-            Wanted::Not("step"),
-        )],
-    )?;
-    let mut office = begun(rt.alloc(), ALTER)?;
-    play(
-        rt.alloc(),
-        &mut office,
-        &[with(6, 19820, "/files/1/request-inspection", FRAME, Wanted::Done)],
-    )
+    hold(&rt, STEPS_OF_CONSTRUCTION)?;
+    hold(&rt, STEPS_OF_ALTERATION)
 }
 
 #[test]
 fn notice_blocks_approval(rt: HostRuntime) -> Result<(), Fail> {
-    let mut office = begun(rt.alloc(), REPAIR)?;
-    play(
-        rt.alloc(),
-        &mut office,
-        &[
-            with(6, 19820, "/files/1/request-inspection", FRAME, Wanted::Done),
-            with(
-                4,
-                19820,
-                "/files/1/notice",
-                "{\"text\":\"Nails\"}",
-                Wanted::Made(2),
-            ),
-            with(6, 19820, "/files/1/request-inspection", FRAME, Wanted::Done),
-            with(
-                4,
-                19820,
-                "/files/1/approve-step",
-                FRAME,
-                Wanted::Not("notice-open"),
-            ),
-            with(
-                4,
-                19820,
-                "/files/1/clear-notice",
-                "{\"paper\":1}",
-                Wanted::Not("no-such-notice"),
-            ),
-            plain(
-                1,
-                19820,
-                "/files/1",
-                Wanted::Shown(&[
-                    "\"notices\":1,\"papers\":[{\"author\":1,\"day\":19800,\"days\":0,\"number\":1,\"open\":false,\"sort\":\"permit\",\"terms\":\"\",\"text\":\"\"},{\"author\":4,\"day\":19820,\"days\":0,\"number\":2,\"open\":true,\"sort\":\"notice\",\"terms\":\"\",\"text\":\"Nails\"}],",
-                ]),
-            ),
-            with(
-                4,
-                19820,
-                "/files/1/clear-notice",
-                "{\"paper\":2}",
-                Wanted::Done,
-            ),
-            with(
-                4,
-                19820,
-                "/files/1/clear-notice",
-                "{\"paper\":2}",
-                Wanted::Not("no-such-notice"),
-            ),
-            with(4, 19820, "/files/1/approve-step", FRAME, Wanted::Done),
-            plain(
-                1,
-                19820,
-                "/files/1",
-                Wanted::Shown(&["\"next\":\"final\",\"notices\":0,", "\"done\":[\"frame\"],"]),
-            ),
-        ],
-    )
+    hold(&rt, NOTICE)
 }
 
 #[test]
 fn stop_order_leaves_the_deadline(rt: HostRuntime) -> Result<(), Fail> {
-    let mut office = begun(rt.alloc(), CONSTRUCT)?;
-    play(
-        rt.alloc(),
-        &mut office,
-        &[
-            plain(
-                1,
-                19810,
-                "/files/1",
-                Wanted::Shown(&["\"deadline\":19990,"]),
-            ),
-            with(
-                4,
-                19820,
-                "/files/1/stop",
-                "{\"text\":\"Unsafe\",\"conditions\":\"Shore it\"}",
-                Wanted::Made(2),
-            ),
-            with(
-                6,
-                19820,
-                "/files/1/request-inspection",
-                FOOTING,
-                Wanted::Not("stopped"),
-            ),
-            plain(1, 19830, "/files/1/lift", Wanted::Made(3)),
-            plain(
-                1,
-                19830,
-                "/files/1",
-                Wanted::Shown(&[
-                    "\"deadline\":19990,",
-                    "\"sort\":\"stop\",\"terms\":\"Shore it\",\"text\":\"Unsafe\"",
-                    "\"stopped\":false,",
-                ]),
-            ),
-            with(
-                6,
-                19830,
-                "/files/1/request-inspection",
-                FOOTING,
-                Wanted::Done,
-            ),
-            plain(
-                1,
-                19830,
-                "/files/1",
-                Wanted::Shown(&["\"deadline\":20010,"]),
-            ),
-        ],
-    )
+    hold(&rt, STOP)
 }
 
 #[test]
 fn certificates_by_kind(rt: HostRuntime) -> Result<(), Fail> {
-    let mut office = begun(rt.alloc(), CONSTRUCT)?;
-    for body in [FOOTING, SLAB, FRAME, LATH, FINAL] {
-        play(rt.alloc(), &mut office, &step(body))?;
-    }
-    play(
-        rt.alloc(),
-        &mut office,
-        &[
-            plain(
-                1,
-                19820,
-                "/files/1",
-                Wanted::Shown(&["\"stage\":\"finaled\",", "\"next\":null,"]),
-            ),
-            plain(1, 19830, "/files/1/certify", Wanted::Made(2)),
-            plain(
-                1,
-                19830,
-                "/files/1",
-                Wanted::Shown(&[
-                    "\"stage\":\"certified\",",
-                    "\"timing\":\"none\",",
-                    "\"deadline\":null,",
-                ]),
-            ),
-        ],
-    )?;
-    let mut office = begun(rt.alloc(), DEMOLISH)?;
-    play(rt.alloc(), &mut office, &step(FINAL))?;
-    play(
-        rt.alloc(),
-        &mut office,
-        &[plain(1, 19830, "/files/1/certify", Wanted::Not("kind"))],
-    )
+    hold(&rt, CERTIFICATE)?;
+    hold(&rt, NO_CERTIFICATE)
 }
 
 #[test]
 fn begin_work_on_the_last_day(rt: HostRuntime) -> Result<(), Fail> {
-    let mut office = issued(rt.alloc(), CONSTRUCT)?;
-    play(
-        rt.alloc(),
-        &mut office,
-        &[
-            plain(
-                1,
-                19980,
-                "/files/1",
-                Wanted::Shown(&["\"deadline\":19980,", "\"stage\":\"issued\","]),
-            ),
-            plain(6, 19980, "/files/1/begin-work", Wanted::Done),
-            plain(
-                1,
-                19980,
-                "/files/1",
-                Wanted::Shown(&["\"deadline\":20160,"]),
-            ),
-        ],
-    )?;
-    let mut office = issued(rt.alloc(), CONSTRUCT)?;
-    play(
-        rt.alloc(),
-        &mut office,
-        &[
-            plain(
-                6,
-                19981,
-                "/files/1/begin-work",
-                Wanted::Denied("closed-to-public"),
-            ),
-            plain(1, 19981, "/files/1/begin-work", Wanted::Not("stage")),
-        ],
-    )
+    hold(&rt, LAST_DAY)?;
+    hold(&rt, DAY_BEHIND)
 }
 
 #[test]
 fn temporary_certificates(rt: HostRuntime) -> Result<(), Fail> {
-    let mut office = begun(rt.alloc(), CONSTRUCT)?;
-    play(
-        rt.alloc(),
-        &mut office,
-        &[
-            with(
-                1,
-                19850,
-                "/files/1/temporary",
-                "{\"days\":60,\"text\":\"Ground floor\"}",
-                Wanted::Made(2),
-            ),
-            plain(
-                1,
-                19850,
-                "/files/1",
-                Wanted::Shown(&["\"temporary\":19910,", "\"deadline\":19990,"]),
-            ),
-            with(
-                1,
-                19860,
-                "/files/1/temporary",
-                "{\"days\":30,\"text\":\"Ground floor\"}",
-                Wanted::Made(3),
-            ),
-            plain(
-                1,
-                19860,
-                "/files/1",
-                Wanted::Shown(&["\"temporary\":19890,", "\"deadline\":19990,"]),
-            ),
-            with(
-                1,
-                19860,
-                "/files/1/temporary",
-                "{\"days\":181,\"text\":\"Ground floor\"}",
-                Wanted::Not("days"),
-            ),
-        ],
-    )
+    hold(&rt, TEMPORARY)
 }
 
 #[test]
 fn revoke_a_lapsed_permit(rt: HostRuntime) -> Result<(), Fail> {
-    let mut office = issued(rt.alloc(), CONSTRUCT)?;
-    play(
-        rt.alloc(),
-        &mut office,
-        &[
-            plain(
-                1,
-                19981,
-                "/files/1",
-                Wanted::Shown(&["\"stage\":\"lapsed\","]),
-            ),
-            with(
-                1,
-                19981,
-                "/files/1/revoke",
-                "{\"text\":\"Lapsed\"}",
-                Wanted::Made(2),
-            ),
-            plain(
-                1,
-                19981,
-                "/files/1",
-                Wanted::Shown(&[
-                    "\"stage\":\"revoked\",",
-                    "\"deadline\":null,",
-                    "\"timing\":\"none\",",
-                ]),
-            ),
-            with(
-                1,
-                19981,
-                "/files/1/revoke",
-                "{\"text\":\"Lapsed\"}",
-                Wanted::Not("stage"),
-            ),
-            with(
-                1,
-                19981,
-                "/files/1/stop",
-                "{\"text\":\"Unsafe\",\"conditions\":\"Shore it\"}",
-                Wanted::Made(3),
-            ),
-            with(
-                1,
-                19981,
-                "/files/1/stop",
-                "{\"text\":\"Unsafe\",\"conditions\":\"Shore it\"}",
-                Wanted::Not("stopped"),
-            ),
-            plain(1, 19981, "/files/1/lift", Wanted::Made(4)),
-        ],
-    )
+    hold(&rt, REVOKED)
 }
