@@ -200,6 +200,7 @@ pub(crate) fn string(row: &Row, at: usize) -> Read<String>
 {
     match row.get::<String>(at) {
         Ok(text) => {
+            // Its contract says that a string's bytes are UTF-8.
             let _bytes = text.as_str();
             Ok(text)
         }
