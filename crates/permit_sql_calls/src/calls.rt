@@ -44,7 +44,7 @@ fn file(number: u32) -> Result<FileId, Fail> {
     Ok(FileId::new(number).ok_or("a file")?)
 }
 
-fn founder(alloc: Global) -> Result<Founder, Fail> {
+pub(crate) fn founder(alloc: Global) -> Result<Founder, Fail> {
     let name = text(alloc, "Official")?;
     Ok(Founder::new(name, digest(FIRST)?, day(19700)?).ok_or("a founder")?)
 }

@@ -6,3 +6,5 @@
 mod calls;
 #[cfg(test)]
 mod opening;
+#[cfg(test)]
+mod reopening;
