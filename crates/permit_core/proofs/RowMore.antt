@@ -16,6 +16,7 @@ use Rattle.permit_model.specs.Deadline.{deadline}
 use Rattle.permit_model.specs.Admission.{first_failing, file_tests, tests_on, reason_against}
 use Rattle.permit_model.specs.Tables.{State, state_of}
 use Rattle.permit_model.specs.Machine.{IsHistory, paper_number, entry_of}
+use Rattle.permit_model.proofs.Notices.{notices_after as open_after, open_more, fresh}
 use Rattle.permit_model.proofs.Appending.{base_stage-more, FallFrom, open_fall, length-cleared}
 use Rattle.permit_model.proofs.Projection.{filing_numbered, found_has_id, WasAdmitted, WereAdmitted, DoneTo, done_to}
 use Rattle.permit_model.proofs.StopOrders.{stopped_by_order, released_by_lift}
@@ -93,13 +94,18 @@ falling_few bound (n ∷ ns) f = omega (arith, falling_few (n - 1) ns f.2, f.0, 
 pub notices_few : (filing : Filing) (acts : List Act) → WereAdmitted filing acts → length (open_notices acts) ≤ paper_count acts
 notices_few filing acts w = falling_few (paper_count acts) (open_notices acts) (open_fall acts (are_numbered filing acts w))
 
-notices_more : (filing : Filing) (caller day : ℕ) (command : Command) (number : Option ℕ) (before : List Act) → WasAdmitted filing (act_by caller day command number) before → WereAdmitted filing before →
-    length (open_notices (act_by caller day command number ∷ before)) ≡ notices_after command (length (open_notices before))
-notices_more filing caller day (Notice text) number before w all = rw (w.numbered) (omega arith)
-notices_more filing caller day (ClearNotice paper) number before w all =
+counted_after : (filing : Filing) (caller day : ℕ) (command : Command) (number : Option ℕ) (before : List Act) → WasAdmitted filing (act_by caller day command number) before → WereAdmitted filing before →
+    length (open_after command number (open_notices before)) ≡ notices_after command (length (open_notices before))
+counted_after filing caller day (Notice text) number before w all = rw (w.numbered) (omega arith)
+counted_after filing caller day (ClearNotice paper) number before w all =
     let there : has_number (open_notices before) paper ≡ true = not_false (has_number (open_notices before) paper) (tests_passed filing (act_by caller day (ClearNotice paper) number) before w).1.0 in
     omega (arith, length-cleared (paper_count before) paper (open_notices before) (open_fall before (are_numbered filing before all)) there)
-notices_more filing caller day _ number before w all = refl
+counted_after filing caller day _ number before w all = refl
+
+notices_more : (filing : Filing) (caller day : ℕ) (command : Command) (number : Option ℕ) (before : List Act) → WasAdmitted filing (act_by caller day command number) before → WereAdmitted filing before →
+    length (open_notices (act_by caller day command number ∷ before)) ≡ notices_after command (length (open_notices before))
+notices_more filing caller day command number before w all =
+    ap length (open_more caller day command number before (fresh filing caller day command number before w all)) ∙ counted_after filing caller day command number before w all
 
 -- ---- the whole row
 

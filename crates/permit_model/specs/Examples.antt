@@ -306,12 +306,13 @@ revoking_turns =
     on_one 1 19981 (Revoke (codes "Void")) ∷ on_one 1 19981 (Revoke (codes "Void"))
     ∷ on_one 1 19981 (Stop (codes "Stop") (codes "Leave")) ∷ on_one 1 19981 (Stop (codes "Stop") (codes "Leave")) ∷ on_one 1 19981 Lift ∷ []
 
--- a file in the stage working with the deadline 199900: one long ask, which no type allows, stands for many short ones
+-- work begun on a day that no type allows, which stands for many extensions
+abbrev pub far_turns : List Turn
+far_turns = approved_file Construct 199700 ++ on_one 1 199700 Issue ∷ on_one 6 199720 BeginWork ∷ []
+
+-- a file in the stage working with the deadline 199900
 abbrev pub far_file : History
-far_file =
-    record { caller = 1; day = 19810; deed = Accepted (OnFile 1 GrantExtension); number = Some 3 }
-    ∷ record { caller = 5; day = 19810; deed = Accepted (OnFile 1 (AskExtension 179910 (codes "Long"))); number = Some 2 }
-    ∷ after (begun_file Construct) opening
+far_file = after far_turns opening
 
 -- ---- parcels
 

@@ -11,6 +11,7 @@ ghost use Rattle.permit_base.specs.declared.request.Command.TheVariants.{Approve
 ghost use Rattle.permit_base.specs.declared.request.Request.TheVariants.{ReadFile};
 ghost use Rattle.permit_model.specs.Days.{timing_on};
 ghost use Rattle.permit_model.specs.Tables.{tables};
+ghost use Rattle.permit_model.specs.Machine.{IsHistory};
 ghost use Rattle.permit_model.specs.Examples.{opening, asks, on_one, replies, after, last_reply, done, made, denied, not_admitted, shown, turn, read_after, state_after, begun_file, file_house, house_state, house_shown, extended_house, ask_turns, issued_file, extended_file, begun_extended_file, requested_file, late_grant, returned_file, resubmitted_file, rejected_file, review_of_own, far_file};
 
 /// An application filed on 19723 (2024-01-01) has the deadline 19903 (2024-06-29). On that day it is open, also for
@@ -95,9 +96,10 @@ pub fn begin_work_on_the_last_day()
 
 /// With the deadline at 199900, a grant of 100 days gives 200000, and one of 101 days would be too far.
 pub fn limits_of_text_and_deadline()
-    ensures before { shown (turn far_file (asks 1 19810 (ReadFile 1))).reply ≡ Some (stage.Working, timing.Ahead, Some 199900) }
-    ensures granted { shown (last_reply (on_one 5 19810 (AskExtension 100 (codes "Ill")) ∷ on_one 1 19810 GrantExtension ∷ []) (asks 1 19810 (ReadFile 1)) far_file) ≡ Some (stage.Working, timing.Ahead, Some 200000) }
-    ensures too_far { last_reply (on_one 5 19810 (AskExtension 101 (codes "Ill")) ∷ []) (on_one 1 19810 GrantExtension) far_file ≡ not_admitted reason.Far }
+    ensures history { IsHistory far_file }
+    ensures before { shown (turn far_file (asks 1 199720 (ReadFile 1))).reply ≡ Some (stage.Working, timing.Ahead, Some 199900) }
+    ensures granted { shown (last_reply (on_one 5 199720 (AskExtension 100 (codes "Ill")) ∷ on_one 1 199720 GrantExtension ∷ []) (asks 1 199720 (ReadFile 1)) far_file) ≡ Some (stage.Working, timing.Ahead, Some 200000) }
+    ensures too_far { last_reply (on_one 5 199720 (AskExtension 101 (codes "Ill")) ∷ []) (on_one 1 199720 GrantExtension) far_file ≡ not_admitted reason.Far }
 {}
 
 /// A deadline is near with 30 days left and ahead with 31. Once the permit is issued 180 days may be asked for, and 181
