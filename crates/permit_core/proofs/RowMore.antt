@@ -3,11 +3,12 @@ use Rattle.std.proofs.Common.{◌≡◌, ◌≤◌, ℕ, ◌+◌, ◌-◌, Bool,
 use Rattle.std.specs.Prelude.{Option, None, Some, unwrap_or, option_map, filter, ◌==◌, if◌then◌else◌}
 use Rattle.std.specs.List.{cons_option}
 use Rattle.std.proofs.lemmas.Bool.{eq-eqb}
+use Rattle.permit_base.specs.declared.words.Kind.{Kind}
 use Rattle.permit_base.specs.declared.words.Step.{Step}
 use Rattle.permit_base.specs.declared.words.Step.TheVariants.{Final}
 use Rattle.permit_base.specs.declared.request.Command.{Command}
 use Rattle.permit_base.specs.declared.request.Command.TheVariants.{Reject, Issue, AskExtension, GrantExtension, RefuseExtension, BeginWork, RequestInspection, ApproveStep, Notice, ClearNotice, Stop, Lift, Revoke, Certify}
-use Rattle.permit_base.specs.declared.request.Request.TheVariants.{OnFile}
+use Rattle.permit_base.specs.declared.request.Request.TheVariants.{File, OnFile}
 use Rattle.permit_model.specs.Search.{add_last, has_number}
 use Rattle.permit_model.specs.History.{Entry, History, last_day}
 use Rattle.permit_model.specs.Files.{Filing, Act, CaseFile, act_of, acts_on, filings, case_file, case_numbered}
@@ -16,12 +17,15 @@ use Rattle.permit_model.specs.Deadline.{deadline}
 use Rattle.permit_model.specs.Admission.{first_failing, file_tests, tests_on, reason_against}
 use Rattle.permit_model.specs.Tables.{State, state_of}
 use Rattle.permit_model.specs.Machine.{IsHistory, paper_number, entry_of}
+use Rattle.permit_model.proofs.Notices.{notices_after as open_after, open_more, fresh}
 use Rattle.permit_model.proofs.Appending.{base_stage-more, FallFrom, open_fall, length-cleared}
-use Rattle.permit_model.proofs.Projection.{filing_numbered, found_has_id, WasAdmitted, WereAdmitted, DoneTo, done_to}
+use Rattle.permit_model.proofs.Projection.{filing_numbered, find_last, found_has_id, no_acts, WasAdmitted, WereAdmitted, DoneTo, done_to}
+use Rattle.permit_model.proofs.Numbers.{files_below}
 use Rattle.permit_model.proofs.StopOrders.{stopped_by_order, released_by_lift}
 use Rattle.permit_model.proofs.Fronts.{are_numbered}
 use Rattle.permit_model.proofs.Deadlines as deadlines
 use Rattle.permit_model.proofs.Deadlines.{act_by, case_of, tests_passed, unanchored, deadline_more}
+use Rattle.permit_core.specs.Views.{filed_by}
 use Rattle.permit_core.specs.RowAfter.{deadline_after, done_after, request_after, requested_after, ask_after, stopped_after, notices_after, papers_after, row_after, file_after}
 
 -- ---- the deadline
@@ -93,13 +97,18 @@ falling_few bound (n ∷ ns) f = omega (arith, falling_few (n - 1) ns f.2, f.0, 
 pub notices_few : (filing : Filing) (acts : List Act) → WereAdmitted filing acts → length (open_notices acts) ≤ paper_count acts
 notices_few filing acts w = falling_few (paper_count acts) (open_notices acts) (open_fall acts (are_numbered filing acts w))
 
-notices_more : (filing : Filing) (caller day : ℕ) (command : Command) (number : Option ℕ) (before : List Act) → WasAdmitted filing (act_by caller day command number) before → WereAdmitted filing before →
-    length (open_notices (act_by caller day command number ∷ before)) ≡ notices_after command (length (open_notices before))
-notices_more filing caller day (Notice text) number before w all = rw (w.numbered) (omega arith)
-notices_more filing caller day (ClearNotice paper) number before w all =
+counted_after : (filing : Filing) (caller day : ℕ) (command : Command) (number : Option ℕ) (before : List Act) → WasAdmitted filing (act_by caller day command number) before → WereAdmitted filing before →
+    length (open_after command number (open_notices before)) ≡ notices_after command (length (open_notices before))
+counted_after filing caller day (Notice text) number before w all = rw (w.numbered) (omega arith)
+counted_after filing caller day (ClearNotice paper) number before w all =
     let there : has_number (open_notices before) paper ≡ true = not_false (has_number (open_notices before) paper) (tests_passed filing (act_by caller day (ClearNotice paper) number) before w).1.0 in
     omega (arith, length-cleared (paper_count before) paper (open_notices before) (open_fall before (are_numbered filing before all)) there)
-notices_more filing caller day _ number before w all = refl
+counted_after filing caller day _ number before w all = refl
+
+notices_more : (filing : Filing) (caller day : ℕ) (command : Command) (number : Option ℕ) (before : List Act) → WasAdmitted filing (act_by caller day command number) before → WereAdmitted filing before →
+    length (open_notices (act_by caller day command number ∷ before)) ≡ notices_after command (length (open_notices before))
+notices_more filing caller day command number before w all =
+    ap length (open_more caller day command number before (fresh filing caller day command number before w all)) ∙ counted_after filing caller day command number before w all
 
 -- ---- the whole row
 
@@ -162,3 +171,16 @@ recorded_by h id day caller file after command (Some filing) e there was is =
 pub recorded : (h : History) (id day caller : ℕ) (file after : CaseFile) (command : Command) → case_numbered h id ≡ Some file → case_numbered (entry_of h day caller (OnFile id command) ∷ h) id ≡ Some after →
     after ≡ file_after day command caller file
 recorded h id day caller file after command there is = recorded_by h id day caller file after command (filing_numbered (filings h) id) refl there there is
+
+-- ---- the file of the history with a filing added
+
+-- the new file is found by the next number, and nothing was done to it
+pub filing_recorded : (h : History) (day caller parcel : ℕ) (kind : Kind) (valuation : ℕ) (description : List ℕ) → IsHistory h →
+    case_numbered (entry_of h day caller (File parcel kind valuation description) ∷ h) (length (filings h) + 1) ≡ Some (filed_by caller parcel kind day (length (filings h) + 1) valuation description)
+filing_recorded h day caller parcel kind valuation description is =
+    let n : ℕ = length (filings h) + 1 in
+    let new : Filing = (filed_by caller parcel kind day n valuation description).filing in
+    let none : filing_numbered (filings h) n ≡ None = files_below h is n (omega arith) in
+    ap (option_map (case_file (entry_of h day caller (File parcel kind valuation description) ∷ h)))
+    (find_last (filings h) new n None none ∙ ap (λ (b : Bool). if b then Some new else None) (eq-eqb n n refl))
+    ∙ ap (λ acts. Some (case_of new acts)) (no_acts h n is none)

@@ -1,9 +1,10 @@
 //! The state of a file.
 
-ghost use Rattle.std.specs.Prelude.{◌≡◌, ℕ, List, [], Option, Some, false, IsTrue, length};
+ghost use Rattle.std.specs.Prelude.{◌≡◌, ◌+◌, ◌∷◌, ℕ, List, [], Option, Some, option_map, false, IsTrue, length};
 ghost use Rattle.permit_model.specs.History.{History};
-ghost use Rattle.permit_model.specs.Machine.{IsHistory};
-ghost use Rattle.permit_model.specs.Files.{CaseFile, case_numbered};
+ghost use Rattle.permit_base.specs.declared.request.Request.TheVariants.{File};
+ghost use Rattle.permit_model.specs.Machine.{IsHistory, entry_of};
+ghost use Rattle.permit_model.specs.Files.{CaseFile, filings, case_numbered};
 ghost use Rattle.permit_model.specs.Parcels;
 ghost use Rattle.permit_model.specs.Parcels.{has_interest};
 ghost use Rattle.permit_model.specs.Facts.{stage_on, timing_of, relations_to_file};
@@ -76,9 +77,12 @@ fn past_stage(stage: Stage) -> Stage
 }
 
 impl FileState {
-    /// The state of an application filed on a day: its deadline is 180 days later (IBC 2018, section 105.3.2).
+    /// The state of an application filed on a day: its deadline is 180 days later (IBC 2018, section 105.3.2). It is
+    /// that of the new file in the history with the filing added.
     pub fn file(applicant: PartyId, parcel: ParcelId, kind: Kind, day: Day) -> FileState
-        ensures { (id valuation : ℕ) (description : List ℕ) → result ≡ state_of (filed_by applicant parcel kind day id valuation description) }
+        ensures row { (id valuation : ℕ) (description : List ℕ) → result ≡ state_of (filed_by applicant parcel kind day id valuation description) }
+        ensures recorded { (h : History) (valuation : ℕ) (description : List ℕ) → IsHistory h
+            → option_map state_of (case_numbered (entry_of h day applicant (File parcel kind valuation description) ∷ h) (length (filings h) + 1)) ≡ Some result }
     {
         FileState {
             parcel,

@@ -9,7 +9,7 @@ use Rattle.permit_base.specs.declared.request.Command.TheVariants.{GrantExtensio
 use Rattle.permit_model.specs.Search.{or_else, latest}
 use Rattle.permit_model.specs.Days.{term, greatest}
 use Rattle.permit_model.specs.Files.{Filing, Act, CaseFile}
-use Rattle.permit_model.specs.Work.{pending_ask, open_notices}
+use Rattle.permit_model.specs.Work.{pending_ask, notices_given, is_cleared, open_notices}
 use Rattle.permit_model.specs.BaseStage.{stage_given, base_stage}
 use Rattle.permit_model.specs.Deadline.{extended, anchor_reaches, deadline}
 use Rattle.std.proofs.lemmas.Bool.{eqb-true, ne_eqb}
@@ -17,7 +17,7 @@ use Rattle.permit_base.specs.declared.request.Request.TheVariants.{OnFile}
 use Rattle.permit_model.specs.Search.{when}
 use Rattle.permit_model.specs.History.{Accepted, Entry, History}
 use Rattle.permit_model.specs.Files.{act_of, acts_on, filings, case_file, case_files}
-use Rattle.permit_model.specs.Work.{makes_paper, paper_count, notices_after}
+use Rattle.permit_model.specs.Work.{makes_paper, paper_count}
 use Rattle.permit_model.specs.Tables.{state_of}
 
 -- the file with one more act
@@ -120,11 +120,11 @@ FallFrom-more : (bound more : ℕ) (ns : List ℕ) → bound ≤ more → FallFr
 FallFrom-more bound more [] h f = tt
 FallFrom-more bound more (n ∷ ns) h f = (omega (arith, f.0), f.1, f.2)
 
-FallFrom-filter : (bound paper : ℕ) (ns : List ℕ) → FallFrom bound ns → FallFrom bound (filter (λ n. not (n == paper)) ns)
-FallFrom-filter bound paper [] f = tt
-FallFrom-filter bound paper (n ∷ ns) f = elim (n == paper) as (λ b. FallFrom bound (cond (not b) (n ∷ filter (λ n. not (n == paper)) ns) (filter (λ n. not (n == paper)) ns))) [
-  | true ↦ FallFrom-more (n - 1) bound (filter (λ n. not (n == paper)) ns) (omega (arith, f.0)) (FallFrom-filter (n - 1) paper ns f.2)
-  | false ↦ (f.0, f.1, FallFrom-filter (n - 1) paper ns f.2)
+FallFrom-filter : (bound : ℕ) (keeps : ℕ → Bool) (ns : List ℕ) → FallFrom bound ns → FallFrom bound (filter keeps ns)
+FallFrom-filter bound keeps [] f = tt
+FallFrom-filter bound keeps (n ∷ ns) f = elim (keeps n) as (λ b. FallFrom bound (cond b (n ∷ filter keeps ns) (filter keeps ns))) [
+  | true ↦ (f.0, f.1, FallFrom-filter (n - 1) keeps ns f.2)
+  | false ↦ FallFrom-more (n - 1) bound (filter keeps ns) (omega (arith, f.0)) (FallFrom-filter (n - 1) keeps ns f.2)
 ]
 
 -- nothing above the bound is taken out
@@ -152,16 +152,19 @@ pub length-cleared : (bound paper : ℕ) (ns : List ℕ) → FallFrom bound ns �
 length-cleared bound paper [] f there = cc
 length-cleared bound paper (n ∷ ns) f there = cleared_here paper n ns (n == paper) refl f.2 f.1 there (length-cleared (n - 1) paper ns f.2)
 
--- one more command keeps the numbers of the open notices falling
+-- one more command keeps the numbers of the notices falling
 fall_more : (caller day : ℕ) (command : Command) (number : Option ℕ) (before : List Act) → number ≡ when (makes_paper command) (paper_count before + 1) →
-    FallFrom (paper_count before) (open_notices before) →
-    FallFrom (paper_count (record { caller = caller; day = day; command = command; number = number } ∷ before)) (notices_after command number (open_notices before))
+    FallFrom (paper_count before) (notices_given before) →
+    FallFrom (paper_count (record { caller = caller; day = day; command = command; number = number } ∷ before)) (notices_given (record { caller = caller; day = day; command = command; number = number } ∷ before))
 fall_more caller day (Notice text) number before e f =
-    rw e (omega arith, omega arith, FallFrom-more (paper_count before) (paper_count before + 1 - 1) (open_notices before) (omega arith) f)
-fall_more caller day (ClearNotice paper) number before e f = FallFrom-filter (paper_count before) paper (open_notices before) f
-fall_more caller day _ number before e f = FallFrom-more (paper_count before) _ (open_notices before) (omega arith) f
+    rw e (omega arith, omega arith, FallFrom-more (paper_count before) (paper_count before + 1 - 1) (notices_given before) (omega arith) f)
+fall_more caller day _ number before e f = FallFrom-more (paper_count before) _ (notices_given before) (omega arith) f
+
+-- the notices have falling numbers, up to the count of papers
+given_fall : (acts : List Act) → AreNumbered acts → FallFrom (paper_count acts) (notices_given acts)
+given_fall [] numbered = tt
+given_fall (act ∷ before) numbered = fall_more act.caller act.day act.command act.number before numbered.0 (given_fall before numbered.1)
 
 -- the open notices have falling numbers, up to the count of papers
 pub open_fall : (acts : List Act) → AreNumbered acts → FallFrom (paper_count acts) (open_notices acts)
-open_fall [] numbered = tt
-open_fall (act ∷ before) numbered = fall_more act.caller act.day act.command act.number before numbered.0 (open_fall before numbered.1)
+open_fall acts numbered = FallFrom-filter (paper_count acts) (λ n. not (is_cleared acts n)) (notices_given acts) (given_fall acts numbered)

@@ -84,13 +84,15 @@ timed_keeps : (policy : Policy) (h : History) (day : ℕ) (caller : Party) (requ
 timed_keeps policy h day caller request is party true e = is
 timed_keeps policy h day caller request is party false e = served_keeps policy h day caller request is party (not_below day (last_day h) e)
 
-known_keeps : (policy : Policy) (h : History) (digest : List ℕ) (day : ℕ) (request : Request) → IsHistory h → (caller : Option Party) → who h digest ≡ caller → IsHistory (known policy h day request caller).history
-known_keeps policy h digest day request is None e = is
-known_keeps policy h digest day request is (Some caller) e = timed_keeps policy h day caller request is (found_by_number (parties h) digest caller e) (nat_lt day (last_day h)) refl
+-- a step of a party that is there goes from a history to a history
+pub known_keeps : (policy : Policy) (h : History) (day : ℕ) (request : Request) → IsHistory h → (caller : Option Party) → ((p : Party) → caller ≡ Some p → IsTrue (is_party h p.id)) →
+    IsHistory (known policy h day request caller).history
+known_keeps policy h day request is None there = is
+known_keeps policy h day request is (Some caller) there = timed_keeps policy h day caller request is (there caller refl) (nat_lt day (last_day h)) refl
 
 -- a step goes from a history to a history
 pub step_keeps : (policy : Policy) (h : History) (digest : List ℕ) (request : Request) (day : ℕ) → IsHistory h → IsHistory (step_as policy h digest request day).history
-step_keeps policy h digest request day is = known_keeps policy h digest day request is (who h digest) refl
+step_keeps policy h digest request day is = known_keeps policy h day request is (who h digest) (found_by_number (parties h) digest)
 
 -- a run goes from a history to a history
 pub run_keeps : (policy : Policy) (requests : List (Asked × ℕ)) (h : History) → IsHistory h → IsHistory (history_after policy requests h)

@@ -1,5 +1,5 @@
 -- Parties, parcels, files and the papers of a file are numbered by their places, and nothing is said of one that isn't there.
-use Rattle.std.proofs.Common.{◌≡◌, ◌<◌, ◌+◌, ℕ, ◌==◌, Bool, true, false, cond, List, [], ◌∷◌, ◌++◌, length, refl, ◌∙◌, ap, subst, arith, length-append}
+use Rattle.std.proofs.Common.{◌≡◌, ◌<◌, ◌+◌, ℕ, ◌==◌, Bool, true, false, cond, List, [], ◌∷◌, ◌++◌, length, refl, sym, ◌∙◌, ap, subst, arith, length-append}
 use Rattle.std.specs.Prelude.{Option, None, Some, is_some, find, option_map, unwrap_or, slice_get, IsTrue, ◌&&◌, if◌then◌else◌}
 use Rattle.std.proofs.lemmas.Bool.{eqb-true}
 use Rattle.std.proofs.lemmas.List.{length-map}
@@ -15,7 +15,8 @@ use Rattle.permit_model.specs.Numbering.{IsNumbered}
 use Rattle.permit_model.specs.Caller.{Party, parties, party_numbered}
 use Rattle.permit_model.specs.Files.{Act, CaseFile, case_file, case_files, case_numbered}
 use Rattle.permit_model.specs.Work.{open_notices, paper_sort, paper_count}
-use Rattle.permit_model.specs.Tables.{Paper, paper_days, paper_text, paper_terms, is_notice, paper_by, papers_from, papers_of}
+use Rattle.permit_model.specs.Tables.{Paper, paper_days, paper_text, paper_terms, is_notice, paper_by, papers_of}
+use Rattle.permit_model.proofs.Papers.{papers_from, papers_of-case}
 use Rattle.permit_model.proofs.Appending.{AreNumbered}
 use Rattle.permit_model.proofs.Projection.{done_to}
 use Rattle.permit_model.proofs.Fronts.{are_numbered}
@@ -235,8 +236,10 @@ has_papers file open_now [] numbered = (tt, refl)
 has_papers file open_now (act ∷ before) numbered = papers_more file open_now act before (paper_sort act.command) refl numbered.0 (has_papers file open_now before numbered.1)
 
 -- the papers of a file are numbered from 1, up to their count
-pub papers_numbered : (h : History) (id : ℕ) (file : CaseFile) → IsHistory h → case_numbered h id ≡ Some file → HasPapers (paper_count file.acts) (papers_of file)
-papers_numbered h id file is there = has_papers file.filing.id (open_notices file.acts) file.acts (are_numbered file.filing file.acts (done_to h id file is there).admitted)
+pub papers_numbered : (h : History) (id : ℕ) (file : CaseFile) → IsHistory h → case_numbered h id ≡ Some file → HasPapers (paper_count file.acts) (papers_of h file.filing.id)
+papers_numbered h id file is there =
+    subst (HasPapers (paper_count file.acts)) (sym (papers_of-case h id file there))
+    (has_papers file.filing.id (open_notices file.acts) file.acts (are_numbered file.filing file.acts (done_to h id file is there).admitted))
 
 -- ---- places
 

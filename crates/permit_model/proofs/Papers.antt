@@ -1,6 +1,6 @@
--- The papers of the table that are one file's are the papers of that file.
-use Rattle.std.proofs.Common.{◌≡◌, ℕ, Bool, true, false, cond, ◌==◌, List, [], ◌∷◌, ◌++◌, refl, ◌∙◌, ap}
-use Rattle.std.specs.Prelude.{Option, None, Some, filter, option_map, if◌then◌else◌}
+-- The papers of the table that name a file are those that its acts make.
+use Rattle.std.proofs.Common.{◌≡◌, ℕ, Bool, true, false, cond, ◌==◌, List, [], ◌∷◌, ◌++◌, refl, ◌∙◌, ap, subst}
+use Rattle.std.specs.Prelude.{Option, None, Some, filter, option_map, unwrap_or, if◌then◌else◌}
 use Rattle.std.specs.List.{cons_option}
 use Rattle.std.proofs.lemmas.Bool.{eqb-true}
 use Rattle.permit_base.specs.declared.words.PaperSort.{PaperSort}
@@ -8,9 +8,15 @@ use Rattle.permit_base.specs.declared.request.Command.{Command}
 use Rattle.permit_base.specs.declared.request.Request.TheVariants.{OnFile}
 use Rattle.permit_model.specs.Search.{add_last}
 use Rattle.permit_model.specs.History.{Deed, Accepted, Entry, History}
-use Rattle.permit_model.specs.Files.{Filing, Act, act_of, acts_on, case_file}
+use Rattle.permit_model.specs.Files.{Filing, Act, act_of, acts_on, CaseFile, case_file, case_numbered, filings}
 use Rattle.permit_model.specs.Work.{open_notices, paper_sort}
-use Rattle.permit_model.specs.Tables.{Paper, paper_by, papers_from, papers_of, papers_made, tables}
+use Rattle.permit_model.specs.Tables.{Paper, paper_by, papers_of, papers_made}
+use Rattle.permit_model.proofs.Projection.{filing_numbered}
+
+-- the papers that the acts make, oldest first
+abbrev pub papers_from : ℕ → List ℕ → List Act → List Paper
+papers_from file open_now [] = []
+papers_from file open_now (act ∷ before) = add_last (papers_from file open_now before) (paper_by file open_now act before)
 
 -- the papers of a file in a list
 abbrev pub of_file : ℕ → List Paper → List Paper
@@ -59,6 +65,14 @@ papers_by_file : (file : ℕ) (now before : History) → of_file file (papers_ma
 papers_by_file file now [] = refl
 papers_by_file file now (entry ∷ before) = deed_more file now entry.caller entry.day entry.deed entry.number before (papers_by_file file now before)
 
--- the papers of the table that are a file's
-pub papers_of-tables : (h : History) (filing : Filing) → of_file filing.id (tables h).papers ≡ papers_of (case_file h filing)
-papers_of-tables h filing = papers_by_file filing.id h h
+found_by : (h : History) (file : CaseFile) (o : Option Filing) → option_map (case_file h) o ≡ Some file → case_file h file.filing ≡ file
+found_by h file None there = cc
+found_by h file (Some filing) there =
+    let same : case_file h filing ≡ file = ap (λ o. unwrap_or o (case_file h filing)) there in
+    subst (λ (x : CaseFile). case_file h x.filing ≡ x) same refl
+
+-- the papers that name a file are those that its acts make
+pub papers_of-case : (h : History) (id : ℕ) (file : CaseFile) → case_numbered h id ≡ Some file → papers_of h file.filing.id ≡ papers_from file.filing.id (open_notices file.acts) file.acts
+papers_of-case h id file there =
+    papers_by_file file.filing.id h h
+    ∙ ap (λ (x : CaseFile). papers_from file.filing.id (open_notices x.acts) x.acts) (found_by h file (filing_numbered (filings h) id) there)

@@ -7,9 +7,9 @@ use Rattle.permit_base.specs.declared.words.Stage.TheVariants as stage
 use Rattle.permit_base.specs.declared.outcome.Refusal.TheVariants as refusal
 use Rattle.permit_base.specs.declared.request.Filter.TheVariants.{All}
 use Rattle.permit_base.specs.declared.request.Command.{Command}
-use Rattle.permit_base.specs.declared.request.Command.TheVariants.{AssignReviewer, AssignInspector, NameContractor, StartReview, ApprovePlans, Issue, AskExtension, GrantExtension, RefuseExtension, BeginWork, RequestInspection, ApproveStep, Notice, ClearNotice, Stop, Lift, Revoke, Temporary}
+use Rattle.permit_base.specs.declared.request.Command.TheVariants.{AssignReviewer, AssignInspector, NameContractor, StartReview, Return, Resubmit, ApprovePlans, Reject, Issue, AskExtension, GrantExtension, RefuseExtension, BeginWork, RequestInspection, ApproveStep, Notice, ClearNotice, Stop, Lift, Revoke, Temporary}
 use Rattle.permit_base.specs.declared.request.Request.{Request}
-use Rattle.permit_base.specs.declared.request.Request.TheVariants.{AddParty, AddParcel, Transfer, Declare, File, ReadFile, ListFiles, Register, OnFile}
+use Rattle.permit_base.specs.declared.request.Request.TheVariants.{AddParty, AddParcel, Transfer, Declare, ReadParcel, File, ReadFile, ListFiles, Register, OnFile}
 use Rattle.permit_model.specs.History.{Founding, Accepted, Entry, History}
 use Rattle.permit_model.specs.Caller.{party_numbered}
 use Rattle.permit_model.specs.Machine.{Reply, Done, FileShown, Listed, RegisterShown, Refused, Outcome, known}
@@ -141,9 +141,13 @@ abbrev pub rows_opened : Policy → History → ℕ → Option Party → Filter 
 rows_opened policy h day None wanted = 0
 rows_opened policy h day (Some caller) wanted = length (opened policy h day caller wanted)
 
+-- how many rows a listing opens for the party with the number
+abbrev pub opened_by_filter : Policy → History → ℕ → ℕ → Filter → ℕ
+opened_by_filter policy h party day wanted = rows_opened policy h day (party_numbered h party) wanted
+
 -- how many rows a listing of all files opens for the party with the number
 abbrev pub opened_for : Policy → History → ℕ → ℕ → ℕ
-opened_for policy h party day = rows_opened policy h day (party_numbered h party) All
+opened_for policy h party day = opened_by_filter policy h party day All
 
 -- ---- files
 
@@ -227,6 +231,23 @@ begun_extended_file = extended_file ++ on_one 6 19810 BeginWork ∷ []
 abbrev pub requested_file : List Turn
 requested_file = begun_extended_file ++ on_one 6 20000 (RequestInspection Footing) ∷ []
 
+-- the same permit, with 100 days asked before work began and granted after it
+abbrev pub late_grant : List Turn
+late_grant = issued_file ++ on_one 5 19800 (AskExtension 100 (codes "Ill")) ∷ on_one 6 19810 BeginWork ∷ on_one 1 19820 GrantExtension ∷ []
+
+-- an application that its reviewer returns
+abbrev pub returned_file : List Turn
+returned_file =
+    file_house ∷ on_one 2 19723 (AssignReviewer 3) ∷ on_one 3 19730 StartReview ∷ on_one 3 19730 (Return (codes "No plan")) ∷ []
+
+-- its plans are approved in vain, and it is resubmitted twice
+abbrev pub resubmitted_file : List Turn
+resubmitted_file = returned_file ++ on_one 3 19730 ApprovePlans ∷ on_one 5 19740 (Resubmit (codes "Plan")) ∷ on_one 5 19740 (Resubmit (codes "Plan")) ∷ []
+
+-- the same, rejected twice
+abbrev pub rejected_file : List Turn
+rejected_file = resubmitted_file ++ on_one 3 19750 (Reject (codes "Too tall")) ∷ on_one 3 19750 (Reject (codes "Too tall")) ∷ []
+
 -- the clerk transfers the parcel of a file in review to its reviewer
 abbrev pub review_of_own : List Turn
 review_of_own = file_house ∷ on_one 2 19723 (AssignReviewer 3) ∷ on_one 3 19723 StartReview ∷ asks 2 19723 (Transfer 1 3) ∷ []
@@ -247,6 +268,17 @@ abbrev pub notice_cleared : List Turn
 notice_cleared =
     on_one 6 19830 (RequestInspection Frame) ∷ on_one 4 19830 (ApproveStep Frame) ∷ on_one 4 19830 (ClearNotice 1) ∷ on_one 4 19830 (ClearNotice 2)
     ∷ on_one 4 19830 (ApproveStep Frame) ∷ []
+
+-- two notices at two inspections of a repair, of which the first is cleared twice
+abbrev pub one_of_two_cleared : List Turn
+one_of_two_cleared =
+    notice_given ++ on_one 6 19821 (RequestInspection Frame) ∷ on_one 4 19821 (Notice (codes "Bolts"))
+    ∷ on_one 4 19830 (ClearNotice 2) ∷ on_one 4 19830 (ClearNotice 2) ∷ []
+
+-- the inspection requested anew, and approved once the second notice is cleared as well
+abbrev pub other_cleared : List Turn
+other_cleared =
+    on_one 6 19830 (RequestInspection Frame) ∷ on_one 4 19830 (ApproveStep Frame) ∷ on_one 4 19830 (ClearNotice 3) ∷ on_one 4 19830 (ApproveStep Frame) ∷ []
 
 -- the step frame of a repair waits for its inspection
 abbrev pub pending_repair : History
@@ -274,12 +306,29 @@ revoking_turns =
     on_one 1 19981 (Revoke (codes "Void")) ∷ on_one 1 19981 (Revoke (codes "Void"))
     ∷ on_one 1 19981 (Stop (codes "Stop") (codes "Leave")) ∷ on_one 1 19981 (Stop (codes "Stop") (codes "Leave")) ∷ on_one 1 19981 Lift ∷ []
 
--- a file in the stage working with the deadline 199900: one long ask, which no type allows, stands for many short ones
+-- work begun on a day that no type allows, which stands for many extensions
+abbrev pub far_turns : List Turn
+far_turns = approved_file Construct 199700 ++ on_one 1 199700 Issue ∷ on_one 6 199720 BeginWork ∷ []
+
+-- a file in the stage working with the deadline 199900
 abbrev pub far_file : History
-far_file =
-    record { caller = 1; day = 19810; deed = Accepted (OnFile 1 GrantExtension); number = Some 3 }
-    ∷ record { caller = 5; day = 19810; deed = Accepted (OnFile 1 (AskExtension 179910 (codes "Long"))); number = Some 2 }
-    ∷ after (begun_file Construct) opening
+far_file = after far_turns opening
+
+-- ---- parcels
+
+-- the clerk transfers a parcel that isn't there, parcel 1 to nobody and to its owner, and twice to party 6; its former
+-- owner would transfer it, and both owners read it
+abbrev pub transfer_turns : List Turn
+transfer_turns =
+    asks 2 19723 (Transfer 99 99) ∷ asks 2 19723 (Transfer 1 99) ∷ asks 2 19723 (Transfer 1 5) ∷ asks 2 19723 (Transfer 1 6) ∷ asks 2 19723 (Transfer 1 6)
+    ∷ asks 5 19723 (Transfer 1 5) ∷ asks 5 19723 (ReadParcel 1) ∷ asks 6 19723 (ReadParcel 1) ∷ []
+
+-- an inspector declares an interest twice in one parcel, in another one and in one that isn't there; another inspector
+-- declares one in the first, and its owner may not
+abbrev pub declaring_turns : List Turn
+declaring_turns =
+    asks 7 19723 (Declare 1) ∷ asks 7 19723 (Declare 1) ∷ asks 7 19723 (Declare 2) ∷ asks 7 19723 (Declare 99) ∷ asks 4 19723 (Declare 1)
+    ∷ asks 5 19723 (Declare 1) ∷ []
 
 -- ---- listings
 
@@ -288,6 +337,17 @@ abbrev pub three_files : History
 three_files = after
     (file_house ∷ asks 6 19723 (File 2 Repair 100 (codes "Roof")) ∷ asks 6 19723 (File 2 Alter 100 (codes "Wall"))
     ∷ asks 6 19723 (OnFile 2 (NameContractor 5)) ∷ []) opening
+
+-- file 1 of party 5 with the deadline 19903, file 2 of party 6 with the same and in review by 3, file 3 of party 6 with
+-- the deadline 19933
+abbrev pub staged_files : History
+staged_files = after
+    (file_house ∷ asks 6 19723 (File 2 Repair 100 (codes "Roof")) ∷ asks 2 19723 (OnFile 2 (AssignReviewer 3)) ∷ asks 3 19723 (OnFile 2 StartReview)
+    ∷ asks 6 19753 (File 2 Alter 100 (codes "Wall")) ∷ []) opening
+
+-- the numbers of the files that a party lists on a day, in these files
+abbrev pub lists : ℕ → ℕ → Filter → List ℕ
+lists party day wanted = numbers (turn staged_files (asks party day (ListFiles wanted))).reply
 
 -- owners are denied, and assigned reviewers may list
 abbrev pub own_denied : Policy

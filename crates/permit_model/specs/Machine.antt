@@ -108,9 +108,9 @@ shown_parcel None = Refused refusal.Record
 shown_parcel (Some p) = ParcelShown p
 
 -- the file's row and papers, or that it isn't there
-abbrev pub shown_file : ℕ → Option CaseFile → Reply
-shown_file day None = Refused refusal.Record
-shown_file day (Some file) = FileShown (file_view day file) (papers_of file)
+abbrev pub shown_file : History → ℕ → Option CaseFile → Reply
+shown_file h day None = Refused refusal.Record
+shown_file h day (Some file) = FileShown (file_view day file) (papers_of h file.filing.id)
 
 -- a command that nothing stands against adds its entry and gives its number
 abbrev pub admitted : History → Entry → Option Reason → Outcome
@@ -120,7 +120,7 @@ admitted h entry (Some reason) = refused h (refusal.NotAdmitted reason)
 -- what a request gives once the caller may make it
 abbrev pub performed : Policy → History → ℕ → Party → Request → Outcome
 performed policy h day caller (ReadParcel id) = unchanged h (shown_parcel (parcel_numbered h id))
-performed policy h day caller (ReadFile id) = unchanged h (shown_file day (case_numbered h id))
+performed policy h day caller (ReadFile id) = unchanged h (shown_file h day (case_numbered h id))
 performed policy h day caller (ListFiles wanted) = unchanged h (Listed (listing policy h day caller wanted))
 performed policy h day caller (Register kind) = unchanged h (RegisterShown kind (listing policy h day caller (register_filter kind)))
 performed policy h day caller request = admitted h (entry_of h day caller.id request) (reason_against h day caller.id request)

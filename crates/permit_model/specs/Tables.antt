@@ -1,5 +1,5 @@
 -- The rows that the tables keep, read off the history.
-use Rattle.std.specs.Prelude.{ℕ, Bool, true, false, ◌&&◌, List, [], ◌∷◌, map, length, Option, None, option_map, unwrap_or, slice_get}
+use Rattle.std.specs.Prelude.{ℕ, Bool, true, false, ◌&&◌, List, [], ◌∷◌, map, filter, ◌==◌, length, Option, None, option_map, unwrap_or, slice_get}
 use Rattle.permit_base.specs.declared.words.Kind.{Kind}
 use Rattle.permit_base.specs.declared.words.Step.{Step}
 use Rattle.permit_base.specs.declared.words.Stage.{Stage}
@@ -148,15 +148,6 @@ paper_by file open_now act before =
       is_open = is_notice s && has_number open_now (unwrap_or act.number 0);
     }) (paper_sort act.command)
 
--- the papers of the acts, oldest first
-abbrev pub papers_from : ℕ → List ℕ → List Act → List Paper
-papers_from file open_now [] = []
-papers_from file open_now (act ∷ before) = add_last (papers_from file open_now before) (paper_by file open_now act before)
-
--- the papers of a file, in the order of their numbers
-abbrev pub papers_of : CaseFile → List Paper
-papers_of file = papers_from file.filing.id (open_notices file.acts) file.acts
-
 -- the paper of a deed, with the history that is now and the one before the deed
 abbrev pub paper_of_deed : History → Entry → Deed → History → Option Paper
 paper_of_deed now entry (Accepted (OnFile file command)) before = paper_by file (open_notices (acts_on file now)) (act_of entry command) (acts_on file before)
@@ -166,6 +157,10 @@ paper_of_deed now entry _ before = None
 abbrev pub papers_made : History → History → List Paper
 papers_made now [] = []
 papers_made now (entry ∷ before) = add_last (papers_made now before) (paper_of_deed now entry entry.deed before)
+
+-- the papers of the file with the number: those that name it
+abbrev pub papers_of : History → ℕ → List Paper
+papers_of h id = filter (λ p. p.file == id) (papers_made h h)
 
 -- ---- all tables
 

@@ -2,15 +2,17 @@
 
 ghost use Rattle.std.specs.Prelude.{◌≡◌, ◌∷◌, [], ◌++◌, None, Some, codes, false};
 ghost use Rattle.permit_base.specs.declared.words.Kind.TheVariants.{Construct};
+ghost use Rattle.permit_base.specs.declared.words.Step.TheVariants.{Footing};
 ghost use Rattle.permit_base.specs.declared.words.Stage.TheVariants as stage;
 ghost use Rattle.permit_base.specs.declared.words.Timing.TheVariants as timing;
 ghost use Rattle.permit_base.specs.declared.words.PaperSort.TheVariants as sort;
 ghost use Rattle.permit_base.specs.declared.outcome.Reason.TheVariants as reason;
-ghost use Rattle.permit_base.specs.declared.request.Command.TheVariants.{ApprovePlans, AskExtension, GrantExtension, BeginWork, Temporary};
+ghost use Rattle.permit_base.specs.declared.request.Command.TheVariants.{ApprovePlans, AskExtension, GrantExtension, BeginWork, RequestInspection, Temporary};
 ghost use Rattle.permit_base.specs.declared.request.Request.TheVariants.{ReadFile};
 ghost use Rattle.permit_model.specs.Days.{timing_on};
 ghost use Rattle.permit_model.specs.Tables.{tables};
-ghost use Rattle.permit_model.specs.Examples.{opening, asks, on_one, replies, after, last_reply, done, made, denied, not_admitted, shown, turn, read_after, state_after, begun_file, file_house, house_state, house_shown, extended_house, ask_turns, issued_file, extended_file, begun_extended_file, requested_file, review_of_own, far_file};
+ghost use Rattle.permit_model.specs.Machine.{IsHistory};
+ghost use Rattle.permit_model.specs.Examples.{opening, asks, on_one, replies, after, last_reply, done, made, denied, not_admitted, shown, turn, read_after, state_after, begun_file, file_house, house_state, house_shown, extended_house, ask_turns, issued_file, extended_file, begun_extended_file, requested_file, late_grant, returned_file, resubmitted_file, rejected_file, review_of_own, far_file};
 
 /// An application filed on 19723 (2024-01-01) has the deadline 19903 (2024-06-29). On that day it is open, also for
 /// its applicant; from the next day on it is abandoned and closed to the public.
@@ -60,6 +62,29 @@ pub fn asks_grants_and_issue()
     ensures row { state_after ask_turns 19740 ≡ Some (record house_state { reviewer = Some 3; stage = stage.Issued; deadline = Some 19920; ask = None; papers = 4 }) }
 {}
 
+/// A reviewer returns an application, its applicant resubmits it, and the reviewer rejects it: each makes a paper with
+/// its reasons, and each has its stage. A rejected application has no deadline.
+pub fn return_resubmit_reject()
+    ensures replies { replies rejected_file opening ≡
+        made 1 ∷ done ∷ done ∷ made 1 ∷ not_admitted reason.Stage ∷ made 2 ∷ not_admitted reason.Stage ∷ made 3 ∷ not_admitted reason.Stage ∷ [] }
+    ensures returned { read_after returned_file 19730 ≡ Some (stage.Returned, timing.Ahead, Some 19903) }
+    ensures resubmitted { read_after resubmitted_file 19740 ≡ Some (stage.Review, timing.Ahead, Some 19903) }
+    ensures rejected { read_after rejected_file 19904 ≡ Some (stage.Rejected, timing.Untimed, None) }
+    ensures papers { (tables (after rejected_file opening)).papers ≡
+        record { file = 1; number = 1; day = 19730; author = 3; sort = sort.Returned; days = 0; text = codes "No plan"; terms = []; is_open = false }
+        ∷ record { file = 1; number = 2; day = 19740; author = 5; sort = sort.Resubmitted; days = 0; text = codes "Plan"; terms = []; is_open = false }
+        ∷ record { file = 1; number = 3; day = 19750; author = 3; sort = sort.Rejected; days = 0; text = codes "Too tall"; terms = []; is_open = false }
+        ∷ [] }
+{}
+
+/// An extension that is asked before work begins and granted after it moves the deadline that the beginning set: from
+/// 19990 to 20090, which an inspection requested on 19830 leaves.
+pub fn grant_after_work_began()
+    ensures begun { read_after (issued_file ++ on_one 5 19800 (AskExtension 100 (codes "Ill")) ∷ on_one 6 19810 BeginWork ∷ []) 19810 ≡ Some (stage.Working, timing.Ahead, Some 19990) }
+    ensures granted { read_after late_grant 19820 ≡ Some (stage.Working, timing.Ahead, Some 20090) }
+    ensures requested { read_after (late_grant ++ on_one 6 19830 (RequestInspection Footing) ∷ []) 19830 ≡ Some (stage.Working, timing.Ahead, Some 20090) }
+{}
+
 /// Work may begin on the deadline day, which moves the deadline to 20160. A day later the contractor finds the permit
 /// closed, and the official finds it lapsed.
 pub fn begin_work_on_the_last_day()
@@ -71,9 +96,10 @@ pub fn begin_work_on_the_last_day()
 
 /// With the deadline at 199900, a grant of 100 days gives 200000, and one of 101 days would be too far.
 pub fn limits_of_text_and_deadline()
-    ensures before { shown (turn far_file (asks 1 19810 (ReadFile 1))).reply ≡ Some (stage.Working, timing.Ahead, Some 199900) }
-    ensures granted { shown (last_reply (on_one 5 19810 (AskExtension 100 (codes "Ill")) ∷ on_one 1 19810 GrantExtension ∷ []) (asks 1 19810 (ReadFile 1)) far_file) ≡ Some (stage.Working, timing.Ahead, Some 200000) }
-    ensures too_far { last_reply (on_one 5 19810 (AskExtension 101 (codes "Ill")) ∷ []) (on_one 1 19810 GrantExtension) far_file ≡ not_admitted reason.Far }
+    ensures history { IsHistory far_file }
+    ensures before { shown (turn far_file (asks 1 199720 (ReadFile 1))).reply ≡ Some (stage.Working, timing.Ahead, Some 199900) }
+    ensures granted { shown (last_reply (on_one 5 199720 (AskExtension 100 (codes "Ill")) ∷ on_one 1 199720 GrantExtension ∷ []) (asks 1 199720 (ReadFile 1)) far_file) ≡ Some (stage.Working, timing.Ahead, Some 200000) }
+    ensures too_far { last_reply (on_one 5 199720 (AskExtension 101 (codes "Ill")) ∷ []) (on_one 1 199720 GrantExtension) far_file ≡ not_admitted reason.Far }
 {}
 
 /// A deadline is near with 30 days left and ahead with 31. Once the permit is issued 180 days may be asked for, and 181

@@ -49,7 +49,7 @@ pub fn records_are_numbered()
     ensures parties { (h : History) → IsHistory h → IsNumbered (λ (p : Party). p.id) (parties h) }
     ensures parcels { (h : History) → IsHistory h → IsNumbered (λ (p : Parcel). p.id) (parcels h) }
     ensures files { (h : History) → IsHistory h → IsNumbered (λ (f : CaseFile). f.filing.id) (case_files h) }
-    ensures papers { OfEachFile (λ h file. IsNumbered (λ (p : Paper). p.number) (papers_of file)) }
+    ensures papers { OfEachFile (λ h file. IsNumbered (λ (p : Paper). p.number) (papers_of h file.filing.id)) }
 {}
 
 /// A finaled or certified file has every required step approved, in order, and no open notice; on a certified file no

@@ -2,11 +2,13 @@
 
 ghost use Rattle.std.specs.Prelude.{◌≡◌, ◌∷◌, [], ◌++◌, codes};
 ghost use Rattle.permit_base.specs.declared.words.RegisterKind.TheVariants.{Files};
-ghost use Rattle.permit_base.specs.declared.request.Filter.TheVariants.{All};
-ghost use Rattle.permit_base.specs.declared.request.Request.TheVariants.{ListFiles};
-ghost use Rattle.permit_model.specs.Machine.{Listed};
+ghost use Rattle.permit_base.specs.declared.words.Stage.TheVariants.{Filed, Review, Abandoned};
+ghost use Rattle.permit_base.specs.declared.outcome.Refusal.TheVariants as refusal;
+ghost use Rattle.permit_base.specs.declared.request.Filter.TheVariants.{All, InStage, Due};
+ghost use Rattle.permit_base.specs.declared.request.Request.TheVariants.{ListFiles, Register};
+ghost use Rattle.permit_model.specs.Machine.{Listed, Refused};
 ghost use Rattle.permit_model.specs.StandardPolicy.{standard_policy};
-ghost use Rattle.permit_model.specs.Examples.{founded, opening, asks, after, last_reply, numbers, reply_under, opened_for, file_house, three_files, own_denied, assigned_files, register_by, line_end};
+ghost use Rattle.permit_model.specs.Examples.{founded, opening, asks, after, last_reply, numbers, reply_under, opened_for, opened_by_filter, file_house, three_files, staged_files, lists, own_denied, assigned_files, register_by, line_end};
 
 /// After the founding alone a listing is empty and opens no row.
 pub fn founding_alone_lists_nothing()
@@ -21,6 +23,38 @@ pub fn who_lists_which_files()
     ensures holder_opened { opened_for standard_policy three_files 5 19723 ≡ 3 }
     ensures clerk { numbers (last_reply [] (asks 2 19723 (ListFiles All)) three_files) ≡ 1 ∷ 2 ∷ 3 ∷ [] }
     ensures clerk_opened { opened_for standard_policy three_files 2 19723 ≡ 3 }
+{}
+
+/// A listing and a register are refused to one who is no party, and then on a day below that of the last accepted
+/// command.
+pub fn callers_and_clock_of_listings()
+    ensures caller { last_reply [] (asks 8 19723 (ListFiles All)) three_files ≡ Refused refusal.Caller }
+    ensures caller_first { last_reply [] (asks 8 19722 (ListFiles All)) three_files ≡ Refused refusal.Caller }
+    ensures clock { last_reply [] (asks 1 19722 (ListFiles All)) three_files ≡ Refused refusal.Clock }
+    ensures register_caller { last_reply [] (asks 8 19722 (Register Files)) three_files ≡ Refused refusal.Caller }
+    ensures register_clock { last_reply [] (asks 1 19722 (Register Files)) three_files ≡ Refused refusal.Clock }
+{}
+
+/// A listing by a stage holds the files that are in it on the day: those past their deadline are abandoned.
+pub fn listings_by_stage()
+    ensures filed { lists 1 19873 (InStage Filed) ≡ 1 ∷ 3 ∷ [] }
+    ensures in_review { lists 1 19873 (InStage Review) ≡ 2 ∷ [] }
+    ensures none_abandoned { lists 1 19903 (InStage Abandoned) ≡ [] }
+    ensures abandoned { lists 1 19904 (InStage Abandoned) ≡ 1 ∷ 2 ∷ [] }
+    ensures still_filed { lists 1 19904 (InStage Filed) ≡ 3 ∷ [] }
+    ensures by_applicant { lists 5 19873 (InStage Filed) ≡ 1 ∷ [] }
+{}
+
+/// A listing of what is due holds the files with at most 30 days left, and those past their deadline, which are closed
+/// to the public.
+pub fn listings_of_what_is_due()
+    ensures none_due { lists 1 19872 Due ≡ [] }
+    ensures near { lists 1 19873 Due ≡ 1 ∷ 2 ∷ [] }
+    ensures past { lists 1 19904 Due ≡ 1 ∷ 2 ∷ 3 ∷ [] }
+    ensures by_reviewer { lists 3 19873 Due ≡ 2 ∷ [] }
+    ensures by_applicant { lists 6 19904 Due ≡ 3 ∷ [] }
+    ensures opened { opened_by_filter standard_policy staged_files 5 19873 Due ≡ 2 }
+    ensures closed { opened_by_filter standard_policy staged_files 5 19904 Due ≡ 0 }
 {}
 
 /// A reviewer who is assigned to nothing lists nothing, and the register that it asks for has no line.

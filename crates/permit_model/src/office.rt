@@ -10,8 +10,9 @@ ghost use Rattle.permit_base.specs.declared.request.Command.TheVariants.{NameCon
 ghost use Rattle.permit_base.specs.declared.request.Filter.TheVariants.{All};
 ghost use Rattle.permit_base.specs.declared.request.Request.TheVariants.{ReadParcel, File, ReadFile, ListFiles, OnFile};
 ghost use Rattle.permit_model.specs.Machine.{ParcelShown, Listed, Refused, replies_to};
+ghost use Rattle.permit_model.specs.Tables.{tables};
 ghost use Rattle.permit_model.specs.StandardPolicy.{standard_policy};
-ghost use Rattle.permit_model.specs.Examples.{founded_with_token, opening_requests, opening, asks, on_one, replies, after, last_reply, made, denied, not_admitted, house_state, file_shown, reply_under, opened_for, three_files, parcel_list};
+ghost use Rattle.permit_model.specs.Examples.{founded_with_token, opening_requests, opening, asks, on_one, replies, after, last_reply, done, made, denied, not_admitted, house_state, file_shown, reply_under, opened_for, three_files, transfer_turns, declaring_turns, parcel_list};
 
 /// The opening by tokens, whose digests are computed by SHA-256: a token that is taken, one of no party, a member of
 /// the public who may add no parcel, and a file that isn't there.
@@ -37,6 +38,24 @@ pub fn clock_that_goes_back()
         ≡ made 1 ∷ Refused refusal.Clock
         ∷ file_shown (record house_state { filed = 20000; deadline = Some 20180 }) 1 (codes "House") stage.Filed timing.Ahead
         ∷ ParcelShown (record { id = 2; lot = codes "A-2"; address = codes "2 Main St"; owner = 6 }) ∷ [] }
+{}
+
+/// A transfer is refused where the parcel isn't there, whoever is to receive it, where its receiver isn't there, and
+/// where the receiver is the owner. The receiver then reads the parcel, and the former owner no more.
+pub fn transfers_refused()
+    ensures replies { replies transfer_turns opening ≡
+        Refused refusal.Record ∷ not_admitted reason.Person ∷ not_admitted reason.Taken ∷ done ∷ not_admitted reason.Taken
+        ∷ denied (codes "default") ∷ denied (codes "default")
+        ∷ ParcelShown (record { id = 1; lot = codes "A-1"; address = codes "1 Main St"; owner = 6 }) ∷ [] }
+{}
+
+/// An interest in a parcel is declared once by a party: a second declaration is refused, and one by another party or in
+/// another parcel isn't.
+pub fn second_declaration()
+    ensures replies { replies declaring_turns opening ≡
+        done ∷ not_admitted reason.Taken ∷ done ∷ Refused refusal.Record ∷ done ∷ denied (codes "default") ∷ [] }
+    ensures interests { (tables (after declaring_turns opening)).interests ≡
+        record { parcel = 1; party = 7 } ∷ record { parcel = 2; party = 7 } ∷ record { parcel = 1; party = 4 } ∷ [] }
 {}
 
 /// A policy without rules denies every request on one record by the rule `default`, and a listing under it is empty

@@ -23,11 +23,15 @@ pub fn files_register()
         ++ codes "files 1" ++ line_end }
 {}
 
-/// The register of deadlines on the deadline day.
+/// The register of deadlines on the deadline day, and on the day after it, when a day is missing.
 pub fn deadlines_register()
-    ensures text { register_after (file_house ∷ []) Deadlines 19903 ≡
+    ensures on_the_day { register_after (file_house ∷ []) Deadlines 19903 ≡
         codes " FILE STAGE     TIMING DEADLINE      LEFT" ++ line_end
         ++ codes "    1 filed     near   2024-06-29       0" ++ line_end
+        ++ codes "files 1" ++ line_end }
+    ensures past { register_after (file_house ∷ []) Deadlines 19904 ≡
+        codes " FILE STAGE     TIMING DEADLINE      LEFT" ++ line_end
+        ++ codes "    1 abandoned past   2024-06-29      -1" ++ line_end
         ++ codes "files 1" ++ line_end }
 {}
 

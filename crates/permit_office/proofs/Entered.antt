@@ -3,7 +3,7 @@ use Rattle.std.proofs.Common.{◌≡◌, ◌<◌, ◌≤◌, ◌+◌, ℕ, ◌==
 use Rattle.std.specs.Prelude.{Option, None, Some, find, filter, option_map, unwrap_or, is_some, if◌then◌else◌, IsTrue, ◌||◌, ◌&&◌, nat_le, nat_lt}
 use Rattle.std.proofs.lemmas.Bool.Decides.{nat_tests}
 use Rattle.std.proofs.lemmas.List.{length-map}
-use Rattle.std.proofs.lemmas.Bool.{eq-eqb}
+use Rattle.std.proofs.lemmas.Bool.{eq-eqb, eqb-true}
 use Rattle.permit_base.specs.declared.words.PaperSort.{PaperSort}
 use Rattle.permit_base.specs.declared.words.PaperSort.TheVariants as sort
 use Rattle.permit_base.specs.declared.request.Command.{Command}
@@ -13,11 +13,13 @@ use Rattle.permit_model.specs.Search.{add_last, has_number, when}
 use Rattle.permit_model.specs.History.{Entry, History}
 use Rattle.permit_model.specs.Parcels.{parcels}
 use Rattle.permit_model.specs.Files.{Filing, Act, acts_on, filings, CaseFile, case_file, case_files, case_numbered}
-use Rattle.permit_model.specs.Work.{open_notices, notices_after, paper_sort, makes_paper, paper_count}
+use Rattle.permit_model.specs.Work.{is_cleared, open_notices, paper_sort, makes_paper, paper_count}
 use Rattle.permit_model.specs.Tables.{State, FileRow, Paper, paper_by, papers_made, paper_days, paper_text, paper_terms, is_notice, file_row, state_of, tables}
 use Rattle.permit_model.specs.Admission.{most_papers, first_failing, file_tests, tests_on, reason_against}
 use Rattle.permit_model.proofs.Fronts.{AllPass, all_pass}
 use Rattle.permit_model.specs.Machine.{IsHistory, entry_of, paper_number}
+use Rattle.permit_model.proofs.Notices.{notices_after, IsFresh, uncleared}
+use Rattle.permit_model.proofs.Projection.{WereAdmitted, were_admitted}
 use Rattle.permit_model.proofs.Appending.{command_entry, with_act, touched, case_files-command}
 use Rattle.permit_core.specs.Naming.{named_paper}
 use Rattle.permit_core.specs.RowAfter.{file_after, papers_after}
@@ -47,22 +49,28 @@ sorted : (id caller day number : ℕ) (command : Command) (made : Option ℕ) (o
 sorted id caller day number command made open_now before papers None e numbered plain unnamed = rw (e, unnamed) refl
 sorted id caller day number command made open_now before papers (Some s) e numbered plain unnamed = rw (e, numbered refl, plain s refl) refl
 
-plain_papers : (h : History) (id caller day number : ℕ) (command : Command) (made : Option ℕ) → ((n : Option ℕ) (o : List ℕ) → notices_after command n o ≡ o) →
+plain_papers : (h : History) (id caller day number : ℕ) (command : Command) (made : Option ℕ) → ((acts : List Act) → IsFresh acts command made) → ((n : Option ℕ) (o : List ℕ) → notices_after command n o ≡ o) →
     (is_some (paper_sort command) ≡ true → unwrap_or made 0 ≡ number) → ((s : PaperSort) → paper_sort command ≡ Some s → is_notice s ≡ false) → named_paper command ≡ None →
     papers_now id caller day command made h ≡ papers_entered id number day caller command (acts_on id h) (paper_sort command) (named_paper command) (papers_made h h)
-plain_papers h id caller day number command made same numbered plain unnamed =
+plain_papers h id caller day number command made fresh same numbered plain unnamed =
     let later : History = command_entry caller day id command made ∷ h in
     ap (λ ps. add_last ps (paper_by id (open_in later id) (act_now caller day command made) (acts_on id h)))
-    (papers_stay later h (λ file. open_after caller day id command made h file ∙ unopened (id == file) command made (open_in h file) same) h)
+    (papers_stay later h (λ file. open_after caller day id command made h file (λ e. fresh (acts_on file h)) ∙ unopened (id == file) command made (open_in h file) same) h)
     ∙ sorted id caller day number command made (open_in later id) (acts_on id h) (papers_made h h) (paper_sort command) refl numbered plain unnamed
 
 -- ---- a notice
 
-notice_papers : (h : History) (id caller day number : ℕ) (text : List ℕ) → IsHistory h → paper_count (acts_on id h) < number →
+-- the notice's number is above those that a clearing named
+fresh_on : (h : History) (filing : Filing) (id number file : ℕ) → WereAdmitted filing (acts_on id h) → paper_count (acts_on id h) < number → (id == file) ≡ true → is_cleared (acts_on file h) number ≡ false
+fresh_on h filing id number file admitted above e =
+    ap (λ k. is_cleared (acts_on k h) number) (sym (eqb-true id file e)) ∙ uncleared filing (acts_on id h) number admitted above
+
+notice_papers : (h : History) (filing : Filing) (id caller day number : ℕ) (text : List ℕ) → IsHistory h → WereAdmitted filing (acts_on id h) → paper_count (acts_on id h) < number →
     papers_now id caller day (Notice text) (Some number) h ≡ papers_entered id number day caller (Notice text) (acts_on id h) (Some sort.Notice) None (papers_made h h)
-notice_papers h id caller day number text is above =
+notice_papers h filing id caller day number text is admitted above =
     let later : History = command_entry caller day id (Notice text) (Some number) ∷ h in
-    let opened = open_after caller day id (Notice text) (Some number) h in
+    let opened : (file : ℕ) → open_in later file ≡ (if id == file then number ∷ open_in h file else open_in h file) =
+    λ file. open_after caller day id (Notice text) (Some number) h file (fresh_on h filing id number file admitted above) in
     let here : open_in later id ≡ number ∷ open_in h id = opened id ∙ ap (λ (b : Bool). if b then number ∷ open_in h id else open_in h id) (eq-eqb id id refl) in
     let it : (number == number) ≡ true = eq-eqb number number refl in
     ap (λ ps. add_last ps (paper_by id (open_in later id) (act_now caller day (Notice text) (Some number)) (acts_on id h))) (papers_below later h id number opened h (are_below h id number is above))
@@ -74,7 +82,7 @@ notice_papers h id caller day number text is above =
 clearing_papers : (h : History) (id caller day number cleared : ℕ) (made : Option ℕ) →
     papers_now id caller day (ClearNotice cleared) made h ≡ papers_entered id number day caller (ClearNotice cleared) (acts_on id h) None (Some cleared) (papers_made h h)
 clearing_papers h id caller day number cleared made =
-    papers_close (command_entry caller day id (ClearNotice cleared) made ∷ h) h id cleared (open_after caller day id (ClearNotice cleared) made h) h
+    papers_close (command_entry caller day id (ClearNotice cleared) made ∷ h) h id cleared (λ file. open_after caller day id (ClearNotice cleared) made h file (λ e. tt)) h
 
 -- ---- any command
 
@@ -82,14 +90,14 @@ next_paper : (command : Command) (count : ℕ) (b : Bool) → b ≡ true → unw
 next_paper command count true e = refl
 next_paper command count false e = cc
 
-papers_after_command : (h : History) (id caller day : ℕ) (command : Command) → IsHistory h →
+papers_after_command : (h : History) (filing : Filing) (id caller day : ℕ) (command : Command) → IsHistory h → WereAdmitted filing (acts_on id h) →
     papers_now id caller day command (when (makes_paper command) (paper_count (acts_on id h) + 1)) h
     ≡ papers_entered id (paper_count (acts_on id h) + 1) day caller command (acts_on id h) (paper_sort command) (named_paper command) (papers_made h h)
-papers_after_command h id caller day (Notice text) is = notice_papers h id caller day (paper_count (acts_on id h) + 1) text is (omega arith)
-papers_after_command h id caller day (ClearNotice cleared) is = clearing_papers h id caller day (paper_count (acts_on id h) + 1) cleared (when (makes_paper (ClearNotice cleared)) (paper_count (acts_on id h) + 1))
-papers_after_command h id caller day command is =
+papers_after_command h filing id caller day (Notice text) is admitted = notice_papers h filing id caller day (paper_count (acts_on id h) + 1) text is admitted (omega arith)
+papers_after_command h filing id caller day (ClearNotice cleared) is admitted = clearing_papers h id caller day (paper_count (acts_on id h) + 1) cleared (when (makes_paper (ClearNotice cleared)) (paper_count (acts_on id h) + 1))
+papers_after_command h filing id caller day command is admitted =
     plain_papers h id caller day (paper_count (acts_on id h) + 1) command (when (makes_paper command) (paper_count (acts_on id h) + 1))
-    (λ n o. refl) (next_paper command (paper_count (acts_on id h)) (makes_paper command)) (λ s e. cc) refl
+    (λ acts. tt) (λ n o. refl) (next_paper command (paper_count (acts_on id h)) (makes_paper command)) (λ s e. cc) refl
 
 -- ---- the tables
 
@@ -125,7 +133,7 @@ command_at h day caller command f is found papers e =
     ∙ ap (λ cs. record (tables h) { desk = record (tables h).desk { last = day }; files = map file_row cs; papers = papers }) (sym (case_files-command caller day f.id command number h))
     ∙ ap (λ k. record (tables h) { desk = record (tables h).desk { last = day; files = k }; files = map file_row (case_files later); papers = papers }) count
     ∙ ap (λ ps. record (tables h) { desk = record (tables h).desk { last = day; files = length (case_files later) }; files = map file_row (case_files later); papers = ps })
-    (e ∙ counted f.id day caller command act (acts_on f.id h) (papers_made h h) (paper_sort command) ∙ sym (papers_after_command h f.id caller day command is))
+    (e ∙ counted f.id day caller command act (acts_on f.id h) (papers_made h h) (paper_sort command) ∙ sym (papers_after_command h f f.id caller day command is (were_admitted h f.id f is found)))
 
 -- the tables after a command on a file are the tables with the file's new row and its effect on the papers
 abbrev pub IsEntered : History → ℕ → ℕ → Command → ℕ → State → List Paper → Type 0

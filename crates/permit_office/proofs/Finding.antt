@@ -20,7 +20,6 @@ use Rattle.permit_model.specs.Facts.{Facts, parcel_facts, file_facts}
 use Rattle.permit_model.specs.Policy.{Policy, decision}
 use Rattle.permit_model.specs.Tables.{Paper, FileRow, file_row, file_view, papers_of, tables}
 use Rattle.permit_model.specs.Machine.{Outcome, FileShown, ParcelShown, shown_parcel, decided, judged, served, refused, unchanged, shown_file}
-use Rattle.permit_model.proofs.Papers.{papers_of-tables}
 use Rattle.permit_policy.specs.Denial.{denied}
 use Rattle.permit_office.proofs.Lists.{find_mapped}
 use Rattle.permit_office.proofs.Deciding.{allowed_outcome}
@@ -82,21 +81,21 @@ read_judged policy h day caller id file found =
     ap (λ (o : Option CaseFile). judged policy h day caller (ReadFile id) (option_map (λ f. file_facts h day caller f action.Read) o)) found
 
 pub read_shown : (policy : Policy) (h : History) (day : ℕ) (caller : Party) (id : ℕ) (file : CaseFile) → case_numbered h id ≡ Some file → None ≡ denied (decision policy (file_facts h day caller file action.Read)) →
-    served policy h day caller (ReadFile id) ≡ unchanged h (FileShown (file_view day file) (papers_of file))
+    served policy h day caller (ReadFile id) ≡ unchanged h (FileShown (file_view day file) (papers_of h file.filing.id))
 read_shown policy h day caller id file found allowed =
     read_judged policy h day caller id file found
     ∙ allowed_outcome policy h day caller (ReadFile id) (decision policy (file_facts h day caller file action.Read)) allowed
-    ∙ ap (λ (o : Option CaseFile). unchanged h (shown_file day o)) found
+    ∙ ap (λ (o : Option CaseFile). unchanged h (shown_file h day o)) found
 
 -- a row with its stage, its timing and its papers is the file shown
 pub shown_as : (h : History) (day id : ℕ) (filing : Filing) (row : FileRow) (s : Stage) (t : Timing) (ps : List Paper) → row ≡ file_row (case_file h filing) → filing.id ≡ id →
     s ≡ row_stage day row.state → t ≡ row_timing day row.state → ps ≡ filter (λ p. p.file == id) (tables h).papers →
-    FileShown (record { row = row; stage = s; timing = t }) ps ≡ FileShown (file_view day (case_file h filing)) (papers_of (case_file h filing))
+    FileShown (record { row = row; stage = s; timing = t }) ps ≡ FileShown (file_view day (case_file h filing)) (papers_of h filing.id)
 shown_as h day id filing row s t ps e named es et ep =
     ap (λ x. FileShown (record { row = row; stage = x; timing = t }) ps) es
     ∙ ap (λ x. FileShown (record { row = row; stage = row_stage day row.state; timing = x }) ps) et
     ∙ ap (λ (r : FileRow). FileShown (record { row = r; stage = row_stage day r.state; timing = row_timing day r.state }) ps) e
-    ∙ ap (λ x. FileShown (file_view day (case_file h filing)) x) (ep ∙ ap (λ k. filter (λ p. p.file == k) (tables h).papers) (sym named) ∙ papers_of-tables h filing)
+    ∙ ap (λ x. FileShown (file_view day (case_file h filing)) x) (ep ∙ ap (papers_of h) (sym named))
 
 -- a declaration's parcel is there, and one that is read
 pub declare_judged : (policy : Policy) (h : History) (day : ℕ) (caller : Party) (parcel : ℕ) (land : Parcel) → parcel_numbered h parcel ≡ Some land →

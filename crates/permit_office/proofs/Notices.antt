@@ -12,10 +12,11 @@ use Rattle.permit_base.specs.declared.request.Request.TheVariants.{OnFile}
 use Rattle.permit_model.specs.Search.{add_last, has_number, when}
 use Rattle.permit_model.specs.History.{Deed, Founding, Accepted, Entry, History}
 use Rattle.permit_model.specs.Files.{Filing, Act, act_of, acts_on, filings, CaseFile, case_file, case_numbered}
-use Rattle.permit_model.specs.Work.{open_notices, notices_after, paper_sort, makes_paper, paper_count}
+use Rattle.permit_model.specs.Work.{open_notices, paper_sort, makes_paper, paper_count}
 use Rattle.permit_model.specs.Tables.{Paper, paper_by, paper_of_deed, papers_made, paper_days, paper_text, paper_terms, is_notice}
 use Rattle.permit_model.specs.Machine.{IsHistory, IsFounding, MayFollow, IsAccepted, paper_number}
 use Rattle.permit_model.proofs.Appending.{command_entry}
+use Rattle.permit_model.proofs.Notices.{notices_after, IsFresh, open_more}
 use Rattle.permit_store.specs.Changes.{closed_by}
 use Rattle.permit_office.proofs.Finding.{found_number}
 
@@ -26,16 +27,16 @@ open_in h file = open_notices (acts_on file h)
 abbrev pub act_now : (caller day : ℕ) → Command → Option ℕ → Act
 act_now caller day command number = record { caller = caller; day = day; command = command; number = number }
 
-open_by : (act : Act) (acts : List Act) (command : Command) (b : Bool) →
-    open_notices (cons_option (option_map (λ (c : Command). record act { command = c }) (if b then Some command else None)) acts)
-    ≡ (if b then notices_after command act.number (open_notices acts) else open_notices acts)
-open_by act acts command true = refl
-open_by act acts command false = refl
+open_by : (caller day : ℕ) (command : Command) (number : Option ℕ) (acts : List Act) (b : Bool) → (b ≡ true → IsFresh acts command number) →
+    open_notices (cons_option (option_map (λ (c : Command). act_now caller day c number) (if b then Some command else None)) acts)
+    ≡ (if b then notices_after command number (open_notices acts) else open_notices acts)
+open_by caller day command number acts true fresh = open_more caller day command number acts (fresh refl)
+open_by caller day command number acts false fresh = refl
 
 -- the open notices of each file after a command
-pub open_after : (caller day id : ℕ) (command : Command) (number : Option ℕ) (h : History) (file : ℕ) →
+pub open_after : (caller day id : ℕ) (command : Command) (number : Option ℕ) (h : History) (file : ℕ) → ((id == file) ≡ true → IsFresh (acts_on file h) command number) →
     open_in (command_entry caller day id command number ∷ h) file ≡ (if id == file then notices_after command number (open_in h file) else open_in h file)
-open_after caller day id command number h file = open_by (act_now caller day command number) (acts_on file h) command (id == file)
+open_after caller day id command number h file fresh = open_by caller day command number (acts_on file h) (id == file) fresh
 
 -- ---- papers that stay
 

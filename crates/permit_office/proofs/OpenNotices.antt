@@ -10,12 +10,11 @@ use Rattle.permit_base.specs.declared.request.Command.TheVariants.{Notice, Clear
 use Rattle.permit_model.specs.Search.{add_last, has_number, when}
 use Rattle.permit_model.specs.History.{History}
 use Rattle.permit_model.specs.Files.{Act, CaseFile, case_file, case_numbered}
-use Rattle.permit_model.specs.Work.{open_notices, notices_after, paper_sort, makes_paper, paper_count}
-use Rattle.permit_model.specs.Tables.{Paper, paper_by, papers_from, papers_of, paper_days, paper_text, paper_terms, is_notice, tables}
+use Rattle.permit_model.specs.Work.{notices_given, is_cleared, open_notices, paper_sort}
+use Rattle.permit_model.specs.Tables.{Paper, paper_by, papers_of, paper_days, paper_text, paper_terms, is_notice, tables}
 use Rattle.permit_model.specs.Machine.{IsHistory}
-use Rattle.permit_model.proofs.Papers.{papers_of-tables}
+use Rattle.permit_model.proofs.Papers.{papers_from, papers_of-case}
 use Rattle.permit_office.proofs.Finding.{IsCase, case_found}
-use Rattle.permit_office.proofs.Notices.{without}
 
 -- whether a paper of the sort is a notice
 abbrev gives_notice : Option PaperSort → Bool
@@ -84,25 +83,36 @@ given_by : (b c d : Bool) → (b || c) ≡ true → (c ≡ true → d ≡ true) 
 given_by true c d e ih = refl
 given_by false c d e ih = ih e
 
-kept_by : (b c : Bool) → (if b then false else c) ≡ true → c ≡ true
-kept_by true c e = cc
-kept_by false c e = e
-
-given_more : (caller day n : ℕ) (command : Command) (number : Option ℕ) (before : List Act) → has_number (notices_after command number (open_notices before)) n ≡ true →
-    (has_number (open_notices before) n ≡ true → was_given n before ≡ true) → was_given n (record { caller = caller; day = day; command = command; number = number } ∷ before) ≡ true
+given_more : (caller day n : ℕ) (command : Command) (number : Option ℕ) (before : List Act) → has_number (notices_given (record { caller = caller; day = day; command = command; number = number } ∷ before)) n ≡ true →
+    (has_number (notices_given before) n ≡ true → was_given n before ≡ true) → was_given n (record { caller = caller; day = day; command = command; number = number } ∷ before) ≡ true
 given_more caller day n (Notice text) None before e ih = either (0 == n) (was_given n before) (ih e)
   where
     either : (b c : Bool) → c ≡ true → (b || c) ≡ true
     either true c e = refl
     either false c e = e
-given_more caller day n (Notice text) (Some k) before e ih = given_by (k == n) (has_number (open_notices before) n) (was_given n before) e ih
-given_more caller day n (ClearNotice paper) number before e ih = ih (kept_by (n == paper) (has_number (open_notices before) n) (sym (without paper n (open_notices before)) ∙ e))
+given_more caller day n (Notice text) (Some k) before e ih = given_by (k == n) (has_number (notices_given before) n) (was_given n before) e ih
 given_more caller day n command number before e ih = ih e
+
+given_at_all : (n : ℕ) (acts : List Act) → has_number (notices_given acts) n ≡ true → was_given n acts ≡ true
+given_at_all n [] e = cc
+given_at_all n (act ∷ before) e = given_more act.caller act.day n act.command act.number before e (given_at_all n before)
+
+kept_here : (b : Bool) (m n : ℕ) (rest ns : List ℕ) → has_number (cond b (m ∷ rest) rest) n ≡ true → (has_number rest n ≡ true → has_number ns n ≡ true) → ((m == n) || has_number ns n) ≡ true
+kept_here true m n rest ns e ih = given_by (m == n) (has_number rest n) (has_number ns n) e ih
+kept_here false m n rest ns e ih = either (m == n) (has_number ns n) (ih e)
+  where
+    either : (b c : Bool) → c ≡ true → (b || c) ≡ true
+    either true c e = refl
+    either false c e = e
+
+-- a number that is kept was there
+kept : (keeps : ℕ → Bool) (n : ℕ) (ns : List ℕ) → has_number (filter keeps ns) n ≡ true → has_number ns n ≡ true
+kept keeps n [] e = cc
+kept keeps n (m ∷ ns) e = kept_here (keeps m) m n (filter keeps ns) ns e (kept keeps n ns)
 
 -- a notice that is open was given
 given : (n : ℕ) (acts : List Act) → has_number (open_notices acts) n ≡ true → was_given n acts ≡ true
-given n [] e = cc
-given n (act ∷ before) e = given_more act.caller act.day n act.command act.number before e (given n before)
+given n acts e = given_at_all n acts (kept (λ m. not (is_cleared acts m)) n (notices_given acts) e)
 
 both_by : (b c : Bool) → (b ≡ true → c ≡ true) → (b && c) ≡ b
 both_by true c e = e refl
@@ -113,7 +123,8 @@ pub open_papers : (h : History) (id n : ℕ) (one : CaseFile) → case_numbered 
     list_any (is_open_of n) (filter (λ p. p.file == id) (tables h).papers) ≡ has_number (open_notices one.acts) n
 open_papers h id n one there =
     let c : IsCase h id one = case_found h id one there in
-    ap (λ k. list_any (is_open_of n) (filter (λ (p : Paper). p.file == k) (tables h).papers)) (sym c.named)
-    ∙ ap (list_any (is_open_of n)) (papers_of-tables h c.filing ∙ ap papers_of c.is)
+    let named : one.filing.id ≡ id = ap (λ (x : CaseFile). x.filing.id) (sym c.is) ∙ c.named in
+    ap (λ k. list_any (is_open_of n) (papers_of h k)) (sym named)
+    ∙ ap (list_any (is_open_of n)) (papers_of-case h id one there)
     ∙ open_from one.filing.id n (open_notices one.acts) one.acts
     ∙ both_by (has_number (open_notices one.acts) n) (was_given n one.acts) (given n one.acts)

@@ -103,9 +103,9 @@ parcel_own : (o : Option Parcel) → is_store (shown_parcel o) ≡ false
 parcel_own None = refl
 parcel_own (Some p) = refl
 
-file_own : (day : ℕ) (o : Option CaseFile) → is_store (shown_file day o) ≡ false
-file_own day None = refl
-file_own day (Some p) = refl
+file_own : (h : History) (day : ℕ) (o : Option CaseFile) → is_store (shown_file h day o) ≡ false
+file_own h day None = refl
+file_own h day (Some p) = refl
 
 admitted_own : (h : History) (entry : Entry) (o : Option Reason) → is_store (admitted h entry o).reply ≡ false
 admitted_own h entry None = refl
@@ -113,7 +113,7 @@ admitted_own h entry (Some why) = refl
 
 performed_own : (policy : Policy) (h : History) (day : ℕ) (caller : Party) (request : Request) → is_store (performed policy h day caller request).reply ≡ false
 performed_own policy h day caller (ReadParcel id) = parcel_own (parcel_numbered h id)
-performed_own policy h day caller (ReadFile id) = file_own day (case_numbered h id)
+performed_own policy h day caller (ReadFile id) = file_own h day (case_numbered h id)
 performed_own policy h day caller (ListFiles wanted) = refl
 performed_own policy h day caller (Register kind) = refl
 performed_own policy h day caller (AddParty name role token) = admitted_own h (entry_of h day caller.id (AddParty name role token)) (reason_against h day caller.id (AddParty name role token))

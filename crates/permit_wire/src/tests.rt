@@ -5,6 +5,7 @@ ghost use Rattle.std.specs.Prelude.{◌≤◌};
 use crate::error::WireError;
 use crate::read::read_request;
 use crate::serve::{Served, serve_one};
+use permit_base::digests::digest;
 use permit_base::request::Request;
 use permit_base::values::{Day, Text, Token};
 use permit_base::words::Kind;
@@ -97,7 +98,7 @@ const REFUSED_AND_CLOSED: &[u8] =
 fn founded(alloc: Global) -> Option<Office<PlainStore>> {
     let token = Token::new(String::from_str(alloc, "abcdefghijklmnopqrstuvwxyz").ok()?)?;
     let name = Text::new(String::from_str(alloc, "Official").ok()?)?;
-    let founder = Founder::new(name, token.digest()?, Day::new(19700)?)?;
+    let founder = Founder::new(name, digest(&token).ok()?, Day::new(19700)?)?;
     let store = PlainStore::create(alloc, &founder).ok()?;
     let policy = read_policy(alloc, "").ok()?;
     Office::open(store, policy).ok()
