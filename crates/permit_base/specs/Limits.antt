@@ -5,9 +5,17 @@ use Rattle.std.specs.Prelude.{ℕ, Bool, ◌&&◌, nat_le, if◌then◌else◌, 
 abbrev pub is_between : ℕ → ℕ → ℕ → Bool
 is_between low high n = nat_le low n && nat_le n high
 
+-- the most parties, parcels and files
+abbrev pub most_records : ℕ
+most_records = 99999
+
+-- the most papers of a file
+abbrev pub most_papers : ℕ
+most_papers = 9999
+
 -- the numbers of parties, parcels and files
 abbrev pub is_object_number : ℕ → Bool
-is_object_number = is_between 1 99999
+is_object_number = is_between 1 most_records
 
 -- days since 1970-01-01
 abbrev pub is_day : ℕ → Bool
@@ -19,7 +27,7 @@ is_days = is_between 1 365
 
 -- the numbers of a file's papers
 abbrev pub is_paper_number : ℕ → Bool
-is_paper_number = is_between 1 9999
+is_paper_number = is_between 1 most_papers
 
 -- an amount in cents
 abbrev pub is_cents : ℕ → Bool

@@ -18,7 +18,8 @@ use Rattle.permit_model.specs.Days.{is_past, last_deadline}
 use Rattle.permit_model.specs.Steps.{required_steps}
 use Rattle.permit_model.specs.Facts.{past_stage}
 use Rattle.permit_model.specs.Work.{makes_paper}
-use Rattle.permit_model.specs.Admission.{most_papers, stoppable_stages}
+use Rattle.permit_model.specs.Admission.{stoppable_stages}
+use Rattle.permit_base.specs.Limits.{most_papers}
 use Rattle.permit_model.specs.Tables.{State, next_in_row}
 use Rattle.permit_model.specs.SoundState.{is_stored, is_timed, is_completed, is_certified, deadline_stands, is_for, is_finished, request_dated, IsSoundState}
 use Rattle.permit_model.proofs.Fronts.{AllPass, all_pass, same_step, is_it}

@@ -4,7 +4,7 @@ use Rattle.permit_base.specs.declared.words.Step.{Step}
 use Rattle.permit_base.specs.declared.words.Step.TheVariants.{Final}
 use Rattle.permit_base.specs.declared.request.Command.{Command}
 use Rattle.permit_base.specs.declared.request.Command.TheVariants.{Reject, Issue, AskExtension, GrantExtension, RefuseExtension, BeginWork, RequestInspection, ApproveStep, Notice, ClearNotice, Stop, Lift, Revoke, Temporary, Certify}
-use Rattle.permit_model.specs.Search.{or_else}
+use Rattle.std.specs.Option.{option_or}
 use Rattle.permit_model.specs.Days.{term}
 use Rattle.permit_model.specs.People.{contractor_named, reviewer_named, inspector_named}
 use Rattle.permit_model.specs.Work.{temporary_told, makes_paper}
@@ -85,9 +85,9 @@ papers_after command papers = if makes_paper command then papers + 1 else papers
 -- the row after a command of the day
 abbrev pub row_after : ℕ → Command → State → State
 row_after day command s = record s {
-  contractor = or_else (contractor_named command) s.contractor;
-  reviewer = or_else (reviewer_named command) s.reviewer;
-  inspector = or_else (inspector_named command) s.inspector;
+  contractor = option_or (contractor_named command) s.contractor;
+  reviewer = option_or (reviewer_named command) s.reviewer;
+  inspector = option_or (inspector_named command) s.inspector;
   stage = unwrap_or (stage_given command) s.stage;
   deadline = deadline_after command day s.ask s.deadline;
   done = done_after command s.done;
@@ -97,7 +97,7 @@ row_after day command s = record s {
   stopped = stopped_after command s.stopped;
   notices = notices_after command s.notices;
   papers = papers_after command s.papers;
-  temporary = or_else (temporary_told command day) s.temporary;
+  temporary = option_or (temporary_told command day) s.temporary;
 }
 
 -- the file after a command of the caller on the day, with the number of the paper that it makes

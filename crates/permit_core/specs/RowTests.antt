@@ -15,7 +15,9 @@ use Rattle.permit_model.specs.Search.{is_number}
 use Rattle.permit_model.specs.Codes.{is_role, is_stage_among}
 use Rattle.permit_model.specs.Days.{last_deadline}
 use Rattle.permit_model.specs.Steps.{has_certificates}
-use Rattle.permit_model.specs.Admission.{Test, first_failing, reviewing_stages, inspecting_stages, open_stages, stoppable_stages, revocable_stages, ask_limit, is_the_step, most_papers, days_above}
+use Rattle.permit_model.specs.Admission.{Test, first_failing, reviewing_stages, inspecting_stages, stoppable_stages, revocable_stages, ask_limit, is_the_step, days_above}
+use Rattle.permit_base.specs.Limits.{most_papers}
+use Rattle.permit_model.specs.BaseStage.{open_stages}
 use Rattle.permit_model.specs.Tables.{State, next_in_row}
 use Rattle.permit_core.specs.Views.{row_stage}
 

@@ -2,7 +2,7 @@
 
 ghost use Rattle.std.specs.Prelude.{◌≡◌, ◌≤◌, ◌<◌, ◌+◌, ◌^◌, ◌∷◌, ℕ, true, None, Some, unwrap_or, option_map};
 ghost use Rattle.permit_base.specs.declared.request.Request.TheVariants.{OnFile};
-ghost use Rattle.permit_model.specs.Search.{or_else};
+ghost use Rattle.std.specs.Option.{option_or};
 ghost use Rattle.permit_model.specs.History.{History, last_day};
 ghost use Rattle.permit_model.specs.Files.{CaseFile, case_numbered};
 ghost use Rattle.permit_model.specs.People.{contractor_named, reviewer_named, inspector_named};
@@ -27,7 +27,7 @@ const TERM: u32 = 180;
 
 /// The contractor after a command.
 fn contractor_after(contractor: Option<PartyId>, command: &Command) -> Option<PartyId>
-    ensures { result ≡ or_else (contractor_named command.now) contractor }
+    ensures { result ≡ option_or (contractor_named command.now) contractor }
 {
     match command {
         Command::NameContractor { party } => Some(*party),
@@ -37,7 +37,7 @@ fn contractor_after(contractor: Option<PartyId>, command: &Command) -> Option<Pa
 
 /// The reviewer after a command.
 fn reviewer_after(reviewer: Option<PartyId>, command: &Command) -> Option<PartyId>
-    ensures { result ≡ or_else (reviewer_named command.now) reviewer }
+    ensures { result ≡ option_or (reviewer_named command.now) reviewer }
 {
     match command {
         Command::AssignReviewer { party } => Some(*party),
@@ -47,7 +47,7 @@ fn reviewer_after(reviewer: Option<PartyId>, command: &Command) -> Option<PartyI
 
 /// The inspector after a command.
 fn inspector_after(inspector: Option<PartyId>, command: &Command) -> Option<PartyId>
-    ensures { result ≡ or_else (inspector_named command.now) inspector }
+    ensures { result ≡ option_or (inspector_named command.now) inspector }
 {
     match command {
         Command::AssignInspector { party } => Some(*party),
@@ -199,7 +199,7 @@ fn papers_after(papers: u16, command: &Command) -> u16
 
 /// The day until which the last temporary certificate runs, after a command of the day.
 fn temporary_after(temporary: Option<u32>, day: Day, command: &Command) -> Option<u32>
-    ensures { result ≡ or_else (temporary_told command.now day) temporary }
+    ensures { result ≡ option_or (temporary_told command.now day) temporary }
 {
     match command {
         Command::Temporary { days, .. } => Some(day.get() + days.get()),

@@ -6,7 +6,8 @@ use Rattle.permit_model.specs.Search.{has_number}
 use Rattle.permit_base.specs.declared.words.Stage.TheVariants as stage
 use Rattle.permit_base.specs.declared.request.Command.{Command}
 use Rattle.permit_base.specs.declared.request.Command.TheVariants.{GrantExtension, BeginWork, Notice, ClearNotice}
-use Rattle.permit_model.specs.Search.{or_else, latest}
+use Rattle.std.specs.Option.{option_or}
+use Rattle.permit_model.specs.Search.{latest}
 use Rattle.permit_model.specs.Days.{term, greatest}
 use Rattle.permit_model.specs.Files.{Filing, Act, CaseFile}
 use Rattle.permit_model.specs.Work.{pending_ask, notices_given, is_cleared, open_notices}
@@ -26,13 +27,13 @@ with_act file act = record { filing = file.filing; acts = act ∷ file.acts }
 
 -- ---- the stage
 
-unwrap_or-or_else : {A : Type 0} (a b : Option A) (d : A) → unwrap_or (or_else a b) d ≡ unwrap_or a (unwrap_or b d)
-unwrap_or-or_else None b d = refl
-unwrap_or-or_else (Some x) b d = refl
+unwrap_or-option_or : {A : Type 0} (a b : Option A) (d : A) → unwrap_or (option_or a b) d ≡ unwrap_or a (unwrap_or b d)
+unwrap_or-option_or None b d = refl
+unwrap_or-option_or (Some x) b d = refl
 
 -- an act gives its stage, or leaves the one before
 pub base_stage-more : (act : Act) (acts : List Act) → base_stage (act ∷ acts) ≡ unwrap_or (stage_given act.command) (base_stage acts)
-base_stage-more act acts = unwrap_or-or_else (stage_given act.command) (latest (λ a. stage_given a.command) acts) stage.Filed
+base_stage-more act acts = unwrap_or-option_or (stage_given act.command) (latest (λ a. stage_given a.command) acts) stage.Filed
 
 -- ---- the deadline
 

@@ -5,7 +5,7 @@ use Rattle.std.proofs.lemmas.Bool.{eqb-true}
 use Rattle.std.proofs.lemmas.List.{length-map}
 use Rattle.std.proofs.lemmas.Bool.Decides.{nat_tests}
 use Rattle.permit_base.specs.declared.request.Request.TheVariants.{AddParty, AddParcel, Transfer, File}
-use Rattle.permit_model.specs.Search.{in_order, add_last, latest, or_else, when, has_number}
+use Rattle.permit_model.specs.Search.{in_order, add_last, latest, when, has_number}
 use Rattle.permit_model.specs.History.{Deed, Founding, Accepted, Entry, History}
 use Rattle.permit_model.specs.Parcels.{Parcel, parcel_added, parcel_now, parcels, parcel_numbered, receiver_by}
 use Rattle.permit_model.specs.Files.{Filing, filings}
@@ -23,6 +23,7 @@ use Rattle.permit_model.proofs.Fronts.{are_numbered}
 use Rattle.permit_base.specs.Digests.{digest_of}
 use Rattle.permit_base.specs.declared.words.PaperSort.{PaperSort}
 use Rattle.std.specs.List.{All}
+use Rattle.std.specs.Option.{option_or}
 
 find_none_by : {A : Type 0} (x : A) (rest more : Option A) (b : Bool) → cond b (Some x) rest ≡ None → (rest ≡ None → more ≡ None) → cond b (Some x) more ≡ None
 find_none_by x rest more true none ih = cc
@@ -81,7 +82,7 @@ not_there : (h : History) (id : ℕ) → find (λ (p : Parcel). p.id == id) (in_
 not_there h id none = find_mapped (parcel_now h) (λ (p : Parcel). p.id == id) (λ (p : Parcel). p.id == id) (λ p. refl) (in_order parcel_added h) ∙ ap (option_map (parcel_now h)) none
 
 transfer_none : (h : History) (id parcel to : ℕ) (b : Bool) → (parcel == id) ≡ b → find (λ (p : Parcel). p.id == id) (in_order parcel_added h) ≡ None → IsTrue (is_some (parcel_numbered h parcel)) →
-    latest (λ (e : Entry). receiver_by id e.deed) h ≡ None → or_else (if b then Some to else None) (latest (λ (e : Entry). receiver_by id e.deed) h) ≡ None
+    latest (λ (e : Entry). receiver_by id e.deed) h ≡ None → option_or (if b then Some to else None) (latest (λ (e : Entry). receiver_by id e.deed) h) ≡ None
 transfer_none h id parcel to true e none there ih =
     let same : parcel ≡ id = eqb-true parcel id e in
     let bad : IsTrue (is_some (parcel_numbered h id)) = subst (λ x. IsTrue (is_some (parcel_numbered h x))) same there in

@@ -11,7 +11,8 @@ use Rattle.permit_base.specs.declared.outcome.Reason.TheVariants as reason
 use Rattle.permit_base.specs.declared.request.Command.{Command}
 use Rattle.permit_base.specs.declared.request.Command.TheVariants.{AssignReviewer, AssignInspector, NameContractor, StartReview, Return, Resubmit, ApprovePlans, Reject, Issue, AskExtension, GrantExtension, RefuseExtension, BeginWork, RequestInspection, ApproveStep, Notice, ClearNotice, Stop, Lift, Revoke, Temporary, Certify}
 use Rattle.permit_base.specs.declared.request.Request.{Request}
-use Rattle.permit_base.specs.declared.request.Request.TheVariants.{AddParty, AddParcel, Transfer, Declare, File, OnFile}
+use Rattle.permit_base.specs.declared.request.Request.TheVariants.{AddParty, AddParcel, Transfer, Declare, ReadParcel, File, ReadFile, ListFiles, Register, OnFile}
+use Rattle.permit_base.specs.Limits.{most_records, most_papers}
 use Rattle.permit_base.specs.Digests.{digest_of}
 use Rattle.permit_model.specs.Search.{is_number, has_number}
 use Rattle.permit_model.specs.Codes.{is_step, is_stage_among}
@@ -23,16 +24,9 @@ use Rattle.permit_model.specs.Parcels.{parcels, owner, has_interest}
 use Rattle.permit_model.specs.Files.{CaseFile, filings, case_numbered}
 use Rattle.permit_model.specs.People.{contractor}
 use Rattle.permit_model.specs.Work.{next_of, pending_step, pending_ask, open_notices, is_stopped, paper_count}
+use Rattle.permit_model.specs.BaseStage.{permit_stages, open_stages}
 use Rattle.permit_model.specs.Deadline.{deadline}
 use Rattle.permit_model.specs.Facts.{stage_on}
-
--- the most parties, parcels and files
-abbrev pub most_records : ℕ
-most_records = 99999
-
--- the most papers of a file
-abbrev pub most_papers : ℕ
-most_papers = 9999
 
 -- a test: whether it fails the command, and the reason that is then answered
 abbrev pub Test : Type 0
@@ -52,10 +46,6 @@ reviewing_stages = stage.Filed ∷ stage.Review ∷ stage.Returned ∷ []
 -- the stages from approval of the plans to the end of the work
 abbrev pub inspecting_stages : List Stage
 inspecting_stages = stage.Approved ∷ stage.Issued ∷ stage.Working ∷ []
-
--- the six stages with a deadline
-abbrev pub open_stages : List Stage
-open_stages = stage.Filed ∷ stage.Review ∷ stage.Returned ∷ stage.Approved ∷ stage.Issued ∷ stage.Working ∷ []
 
 -- the stages in which work is stopped and released
 abbrev pub stoppable_stages : List Stage
@@ -99,9 +89,7 @@ days_above limit days = (nat_lt limit days, reason.Days)
 
 -- the most days that may be asked in a stage
 abbrev pub ask_limit : Stage → ℕ
-ask_limit stage.Issued = 180
-ask_limit stage.Working = 180
-ask_limit _ = 90
+ask_limit s = if is_stage_among permit_stages s then 180 else 90
 
 -- an ask is pending
 abbrev pub ask_pending : CaseFile → Test
@@ -188,7 +176,7 @@ abbrev pub tests_on : History → ℕ → Option CaseFile → Command → List T
 tests_on h day None command = []
 tests_on h day (Some file) command = file_tests h day file command
 
--- the tests of a request of the caller on the day; a request that asks for nothing to be changed has none
+-- the tests of a request of the caller on the day; a read, a listing and a register change nothing, and have none
 abbrev pub tests : History → ℕ → ℕ → Request → List Test
 tests h day caller (AddParty name role token) = (is_some (who h (digest_of token)), reason.Taken) ∷ (nat_le most_records (length (parties h)), reason.Full) ∷ []
 tests h day caller (AddParcel lot address owner) = no_party h owner ∷ (list_any (λ p. bytes_eq p.lot lot) (parcels h), reason.Taken) ∷ (nat_le most_records (length (parcels h)), reason.Full) ∷ []
@@ -196,7 +184,10 @@ tests h day caller (Transfer parcel to) = no_party h to ∷ (is_number (owner h 
 tests h day caller (Declare parcel) = (has_interest h parcel caller, reason.Taken) ∷ []
 tests h day caller (File parcel kind valuation description) = (nat_le most_records (length (filings h)), reason.Full) ∷ []
 tests h day caller (OnFile file command) = tests_on h day (case_numbered h file) command
-tests h day caller _ = []
+tests h day caller (ReadParcel parcel) = []
+tests h day caller (ReadFile file) = []
+tests h day caller (ListFiles filter) = []
+tests h day caller (Register kind) = []
 
 -- the reason for which the request isn't admitted, or None where it is
 abbrev pub reason_against : History → ℕ → ℕ → Request → Option Reason

@@ -1,13 +1,13 @@
 -- The deadline of a file: the greatest day to which an anchor reaches.
 use Rattle.std.specs.Prelude.{ℕ, ◌+◌, Bool, true, false, if◌then◌else◌, List, [], ◌∷◌, Option, None, Some, unwrap_or, map}
 use Rattle.permit_base.specs.declared.words.Stage.{Stage}
-use Rattle.permit_base.specs.declared.words.Stage.TheVariants as stage
 use Rattle.permit_base.specs.declared.request.Command.{Command}
-use Rattle.permit_base.specs.declared.request.Command.TheVariants.{Issue, GrantExtension, BeginWork, RequestInspection, ApproveStep, Notice}
+use Rattle.permit_base.specs.declared.request.Command.TheVariants.{AssignReviewer, AssignInspector, NameContractor, StartReview, Return, Resubmit, ApprovePlans, Reject, Issue, AskExtension, GrantExtension, RefuseExtension, BeginWork, RequestInspection, ApproveStep, Notice, ClearNotice, Stop, Lift, Revoke, Temporary, Certify}
+use Rattle.permit_model.specs.Codes.{is_stage_among}
 use Rattle.permit_model.specs.Days.{term, greatest}
 use Rattle.permit_model.specs.Files.{Act, CaseFile}
 use Rattle.permit_model.specs.Work.{pending_ask}
-use Rattle.permit_model.specs.BaseStage.{base_stage}
+use Rattle.permit_model.specs.BaseStage.{application_stages, permit_stages, base_stage}
 
 -- the days that a command grants: those of the ask that is pending before it
 abbrev pub days_granted : Command → List Act → ℕ
@@ -21,7 +21,23 @@ is_anchor BeginWork = true
 is_anchor (RequestInspection step) = true
 is_anchor (ApproveStep step) = true
 is_anchor (Notice text) = true
-is_anchor _ = false
+is_anchor (AssignReviewer party) = false
+is_anchor (AssignInspector party) = false
+is_anchor (NameContractor party) = false
+is_anchor StartReview = false
+is_anchor (Return text) = false
+is_anchor (Resubmit text) = false
+is_anchor ApprovePlans = false
+is_anchor (Reject text) = false
+is_anchor (AskExtension days text) = false
+is_anchor GrantExtension = false
+is_anchor (RefuseExtension text) = false
+is_anchor (ClearNotice paper) = false
+is_anchor (Stop text conditions) = false
+is_anchor Lift = false
+is_anchor (Revoke text) = false
+is_anchor (Temporary days text) = false
+is_anchor Certify = false
 
 -- a day to which an anchor reaches, with the days that are granted after it
 abbrev pub extended : ℕ → List ℕ → List ℕ
@@ -40,15 +56,12 @@ anchor_reaches (act ∷ before) =
     then (act.day + term) ∷ extended (days_granted act.command before) (anchor_reaches before)
     else extended (days_granted act.command before) (anchor_reaches before)
 
--- the deadline in a stage: the filing's reach before issuance, the greatest reach after it, none once the work is over
+-- the deadline in a stage: the filing's reach in those of an application, the greatest reach in those of a permit, else none
 abbrev pub deadline_in : Stage → ℕ → List Act → Option ℕ
-deadline_in stage.Filed filed acts = Some (filing_reach filed acts)
-deadline_in stage.Review filed acts = Some (filing_reach filed acts)
-deadline_in stage.Returned filed acts = Some (filing_reach filed acts)
-deadline_in stage.Approved filed acts = Some (filing_reach filed acts)
-deadline_in stage.Issued filed acts = greatest (anchor_reaches acts)
-deadline_in stage.Working filed acts = greatest (anchor_reaches acts)
-deadline_in _ filed acts = None
+deadline_in s filed acts =
+    if is_stage_among application_stages s
+    then Some (filing_reach filed acts)
+    else (if is_stage_among permit_stages s then greatest (anchor_reaches acts) else None)
 
 -- the deadline of a file, where one stands
 abbrev pub deadline : CaseFile → Option ℕ

@@ -50,7 +50,10 @@ object_of (ReadParcel parcel) = OneParcel parcel Office
 object_of (File parcel kind valuation description) = OneParcel parcel New
 object_of (ReadFile file) = OneFile file
 object_of (OnFile file command) = OneFile file
-object_of _ = TheOffice
+object_of (AddParty name role token) = TheOffice
+object_of (AddParcel lot address owner) = TheOffice
+object_of (ListFiles filter) = TheOffice
+object_of (Register kind) = TheOffice
 
 -- the facts on an object, or None where it isn't there
 abbrev pub facts_on : History → ℕ → Party → Action → Object → Option Facts
@@ -81,7 +84,12 @@ number_made h (AddParty name role token) = Some (length (parties h) + 1)
 number_made h (AddParcel lot address owner) = Some (length (parcels h) + 1)
 number_made h (File parcel kind valuation description) = Some (length (filings h) + 1)
 number_made h (OnFile file command) = paper_number command (case_numbered h file)
-number_made h _ = None
+number_made h (Transfer parcel to) = None
+number_made h (Declare parcel) = None
+number_made h (ReadParcel parcel) = None
+number_made h (ReadFile file) = None
+number_made h (ListFiles filter) = None
+number_made h (Register kind) = None
 
 -- the entry of a request of the caller on the day
 abbrev pub entry_of : History → ℕ → ℕ → Request → Entry
@@ -117,13 +125,22 @@ abbrev pub admitted : History → Entry → Option Reason → Outcome
 admitted h entry None = record { reply = Done entry.number; history = entry ∷ h }
 admitted h entry (Some reason) = refused h (refusal.NotAdmitted reason)
 
+-- what a command gives once the caller may make it
+abbrev pub commanded : History → ℕ → ℕ → Request → Outcome
+commanded h day caller request = admitted h (entry_of h day caller request) (reason_against h day caller request)
+
 -- what a request gives once the caller may make it
 abbrev pub performed : Policy → History → ℕ → Party → Request → Outcome
 performed policy h day caller (ReadParcel id) = unchanged h (shown_parcel (parcel_numbered h id))
 performed policy h day caller (ReadFile id) = unchanged h (shown_file h day (case_numbered h id))
 performed policy h day caller (ListFiles wanted) = unchanged h (Listed (listing policy h day caller wanted))
 performed policy h day caller (Register kind) = unchanged h (RegisterShown kind (listing policy h day caller (register_filter kind)))
-performed policy h day caller request = admitted h (entry_of h day caller.id request) (reason_against h day caller.id request)
+performed policy h day caller (AddParty name role token) = commanded h day caller.id (AddParty name role token)
+performed policy h day caller (AddParcel lot address owner) = commanded h day caller.id (AddParcel lot address owner)
+performed policy h day caller (Transfer parcel to) = commanded h day caller.id (Transfer parcel to)
+performed policy h day caller (Declare parcel) = commanded h day caller.id (Declare parcel)
+performed policy h day caller (File parcel kind valuation description) = commanded h day caller.id (File parcel kind valuation description)
+performed policy h day caller (OnFile file command) = commanded h day caller.id (OnFile file command)
 
 -- the first matching rule decides
 abbrev pub decided : Policy → History → ℕ → Party → Request → Decision → Outcome
@@ -134,11 +151,22 @@ abbrev pub judged : Policy → History → ℕ → Party → Request → Option 
 judged policy h day caller request None = refused h refusal.Record
 judged policy h day caller request (Some facts) = decided policy h day caller request (decision policy facts)
 
+-- a request that the policy decides as a whole
+abbrev pub judged_whole : Policy → History → ℕ → Party → Request → Outcome
+judged_whole policy h day caller request = judged policy h day caller request (facts_of h day caller request)
+
 -- a request of a known caller on a day that isn't below the last; a listing asks for no record, and of no rule as a whole
 abbrev pub served : Policy → History → ℕ → Party → Request → Outcome
 served policy h day caller (ListFiles wanted) = performed policy h day caller (ListFiles wanted)
 served policy h day caller (Register kind) = performed policy h day caller (Register kind)
-served policy h day caller request = judged policy h day caller request (facts_of h day caller request)
+served policy h day caller (AddParty name role token) = judged_whole policy h day caller (AddParty name role token)
+served policy h day caller (AddParcel lot address owner) = judged_whole policy h day caller (AddParcel lot address owner)
+served policy h day caller (Transfer parcel to) = judged_whole policy h day caller (Transfer parcel to)
+served policy h day caller (Declare parcel) = judged_whole policy h day caller (Declare parcel)
+served policy h day caller (ReadParcel parcel) = judged_whole policy h day caller (ReadParcel parcel)
+served policy h day caller (File parcel kind valuation description) = judged_whole policy h day caller (File parcel kind valuation description)
+served policy h day caller (ReadFile file) = judged_whole policy h day caller (ReadFile file)
+served policy h day caller (OnFile file command) = judged_whole policy h day caller (OnFile file command)
 
 -- the caller has to be known, and the day not below the last
 abbrev pub known : Policy → History → ℕ → Request → Option Party → Outcome
@@ -173,7 +201,12 @@ is_command (ReadParcel id) = false
 is_command (ReadFile id) = false
 is_command (ListFiles wanted) = false
 is_command (Register kind) = false
-is_command _ = true
+is_command (AddParty name role token) = true
+is_command (AddParcel lot address owner) = true
+is_command (Transfer parcel to) = true
+is_command (Declare parcel) = true
+is_command (File parcel kind valuation description) = true
+is_command (OnFile file command) = true
 
 -- a request that was accepted of the party, on a day that isn't below the last
 pub record IsAccepted (before : History) (entry : Entry) (request : Request) : Type 0 where

@@ -3,14 +3,13 @@ use Rattle.std.specs.Prelude.{ℕ, Bool, true, false, ◌&&◌, not, if◌then�
 use Rattle.std.specs.List.{flat_map}
 use Rattle.permit_base.specs.declared.words.Role.{Role}
 use Rattle.permit_base.specs.declared.words.Stage.{Stage}
-use Rattle.permit_base.specs.declared.words.Stage.TheVariants as stage
 use Rattle.permit_base.specs.declared.words.Timing.{Timing}
-use Rattle.permit_base.specs.declared.words.Timing.TheVariants.{Untimed, Past, Near, Ahead}
 use Rattle.permit_base.specs.declared.words.Relation.{Relation}
 use Rattle.permit_base.specs.declared.words.Relation.TheVariants as relation
 use Rattle.permit_base.specs.declared.words.Relations.{Relations}
 use Rattle.permit_base.specs.declared.words.Action.TheVariants as action
 use Rattle.permit_base.specs.declared.request.Filter.{Filter}
+use Rattle.permit_base.specs.Words.{all_stages, all_timings, all_relations}
 use Rattle.permit_model.specs.Codes.{is_stage, is_timing, is_relation}
 use Rattle.permit_model.specs.History.{History}
 use Rattle.permit_model.specs.Caller.{Party}
@@ -26,23 +25,11 @@ pub record Cell : Type 0 where
   pub stopped : Bool
   pub timing : Timing
 
--- the 14 stages
-abbrev pub all_stages : List Stage
-all_stages = stage.Filed ∷ stage.Review ∷ stage.Returned ∷ stage.Approved ∷ stage.Rejected ∷ stage.Issued ∷ stage.Working ∷ stage.Revoked ∷ stage.Finaled ∷ stage.Certified ∷ stage.Abandoned ∷ stage.Lapsed ∷ stage.New ∷ stage.Office ∷ []
-
--- the four timings
-abbrev pub all_timings : List Timing
-all_timings = Untimed ∷ Past ∷ Near ∷ Ahead ∷ []
-
--- the six relations
-abbrev pub all_relations : List Relation
-all_relations = relation.Applicant ∷ relation.Contractor ∷ relation.Owner ∷ relation.AssignedReviewer ∷ relation.AssignedInspector ∷ relation.Conflict ∷ []
-
 -- the cells of a stage, stopped or not
 abbrev pub cells_of : Stage → Bool → List Cell
 cells_of s b = map (λ t. record { stage = s; stopped = b; timing = t }) all_timings
 
--- the 112 cells
+-- the 112 cells: 14 stages, stopped or not, four timings
 abbrev pub cells : List Cell
 cells = flat_map (λ s. flat_map (cells_of s) (false ∷ true ∷ [])) all_stages
 

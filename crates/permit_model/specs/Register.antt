@@ -3,8 +3,7 @@ use Rattle.std.specs.Prelude.{ℕ, zero, suc, ◌+◌, ◌-◌, ◌%◌, Bool, n
 use Rattle.permit_base.specs.declared.words.RegisterKind.{RegisterKind}
 use Rattle.permit_base.specs.declared.words.RegisterKind.TheVariants.{Files, Deadlines, Inspections}
 use Rattle.permit_base.specs.Words.{kind_word, stage_word, timing_word, step_word}
-use Rattle.permit_model.specs.Tables.{FileView}
-pub use Rattle.permit_model.specs.Tables.{next_in_row}
+use Rattle.permit_model.specs.Tables.{FileView, next_in_row}
 
 -- ---- dates
 

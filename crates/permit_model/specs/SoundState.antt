@@ -3,8 +3,9 @@ use Rattle.std.specs.Prelude.{Bool, true, false, not, ◌&&◌, ◌||◌, ◌==�
 use Rattle.permit_base.specs.declared.words.Step.{Step}
 use Rattle.permit_base.specs.declared.words.Stage.{Stage}
 use Rattle.permit_base.specs.declared.words.Stage.TheVariants as stage
-use Rattle.permit_model.specs.Codes.{is_step}
+use Rattle.permit_model.specs.Codes.{is_step, is_stage_among}
 use Rattle.permit_model.specs.Steps.{required_steps}
+use Rattle.permit_model.specs.BaseStage.{open_stages}
 use Rattle.permit_model.specs.Tables.{State, next_in_row}
 
 -- abandoned, lapsed, new and office are never stored
@@ -13,17 +14,20 @@ is_stored stage.Abandoned = false
 is_stored stage.Lapsed = false
 is_stored stage.New = false
 is_stored stage.Office = false
-is_stored _ = true
+is_stored stage.Filed = true
+is_stored stage.Review = true
+is_stored stage.Returned = true
+is_stored stage.Approved = true
+is_stored stage.Rejected = true
+is_stored stage.Issued = true
+is_stored stage.Working = true
+is_stored stage.Revoked = true
+is_stored stage.Finaled = true
+is_stored stage.Certified = true
 
 -- the six stages in which a deadline stands
 abbrev pub is_timed : Stage → Bool
-is_timed stage.Filed = true
-is_timed stage.Review = true
-is_timed stage.Returned = true
-is_timed stage.Approved = true
-is_timed stage.Issued = true
-is_timed stage.Working = true
-is_timed _ = false
+is_timed s = is_stage_among open_stages s
 
 -- the work is over, with every step approved
 abbrev pub is_completed : Stage → Bool

@@ -9,7 +9,7 @@ use Rattle.permit_base.specs.declared.words.Action.TheVariants as action
 use Rattle.permit_base.specs.declared.words.Effect.TheVariants.{Allow, Deny}
 use Rattle.permit_model.specs.Policy.{Policy}
 
--- what no party may do on its own work
+-- what nobody may do on a parcel of its interest, nor staff on a file or a parcel of its own
 abbrev pub judging_actions : List Action
 judging_actions = action.StartReview ∷ action.Return ∷ action.ApprovePlans ∷ action.Reject ∷ action.Issue ∷ action.ApproveStep ∷ action.Notice ∷ action.ClearNotice ∷ action.Temporary ∷ action.Certify ∷ []
 

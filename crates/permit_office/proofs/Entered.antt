@@ -9,13 +9,14 @@ use Rattle.permit_base.specs.declared.words.PaperSort.TheVariants as sort
 use Rattle.permit_base.specs.declared.request.Command.{Command}
 use Rattle.permit_base.specs.declared.request.Command.TheVariants.{Return, Resubmit, Reject, Issue, AskExtension, GrantExtension, RefuseExtension, Notice, ClearNotice, Stop, Lift, Revoke, Temporary, Certify}
 use Rattle.permit_base.specs.declared.request.Request.TheVariants.{OnFile}
+use Rattle.permit_base.specs.Limits.{most_papers}
 use Rattle.permit_model.specs.Search.{add_last, has_number, when}
 use Rattle.permit_model.specs.History.{Entry, History}
 use Rattle.permit_model.specs.Parcels.{parcels}
 use Rattle.permit_model.specs.Files.{Filing, Act, acts_on, filings, CaseFile, case_file, case_files, case_numbered}
 use Rattle.permit_model.specs.Work.{is_cleared, open_notices, paper_sort, makes_paper, paper_count}
 use Rattle.permit_model.specs.Tables.{State, FileRow, Paper, paper_by, papers_made, paper_days, paper_text, paper_terms, is_notice, file_row, state_of, tables}
-use Rattle.permit_model.specs.Admission.{most_papers, first_failing, file_tests, tests_on, reason_against}
+use Rattle.permit_model.specs.Admission.{first_failing, file_tests, tests_on, reason_against}
 use Rattle.permit_model.proofs.Fronts.{AllPass, all_pass}
 use Rattle.permit_model.specs.Machine.{IsHistory, entry_of, paper_number}
 use Rattle.permit_model.proofs.Notices.{notices_after, IsFresh, uncleared}

@@ -6,7 +6,8 @@ use Rattle.permit_base.specs.declared.words.Role.{Role}
 use Rattle.permit_base.specs.declared.words.Kind.{Kind}
 use Rattle.permit_base.specs.declared.request.Request.TheVariants.{AddParty, AddParcel, File, OnFile, Declare, Transfer}
 use Rattle.permit_base.specs.Digests.{digest_of}
-use Rattle.permit_model.specs.Search.{in_order, add_last, latest, or_else}
+use Rattle.permit_model.specs.Search.{in_order, add_last, latest}
+use Rattle.std.specs.Option.{option_or}
 use Rattle.permit_store.specs.Changes.{given_to}
 use Rattle.std.proofs.lemmas.Bool.Decides.{nat_tests}
 use Rattle.permit_model.specs.History.{Deed, Founding, Accepted, Entry, History}
@@ -132,7 +133,7 @@ same_way : (a b : ℕ) → (a == b) ≡ (b == a)
 same_way a b = grind (arith, nat_tests)
 
 given_by : (p : Parcel) (parcel to owner : ℕ) (before : Option ℕ) (a b : Bool) → a ≡ b →
-    (if a then record p { owner = to } else record p { owner = unwrap_or before owner }) ≡ record p { owner = unwrap_or (or_else (if b then Some to else None) before) owner }
+    (if a then record p { owner = to } else record p { owner = unwrap_or before owner }) ≡ record p { owner = unwrap_or (option_or (if b then Some to else None) before) owner }
 given_by p parcel to owner before true true e = refl
 given_by p parcel to owner before false false e = refl
 given_by p parcel to owner before true false e = cc

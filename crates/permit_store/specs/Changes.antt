@@ -4,7 +4,7 @@ use Rattle.std.specs.Borrow.{Bor}
 use Rattle.std.specs.Option.{option_copied}
 use Rattle.std.specs.List.{list_any}
 use Rattle.permit_model.specs.Parcels.{Parcel}
-use Rattle.permit_model.specs.Admission.{most_records, most_papers}
+use Rattle.permit_base.specs.Limits.{most_records, most_papers}
 use Rattle.permit_model.specs.Tables.{State, FileRow, Paper, is_notice, Tables}
 use Rattle.permit_store.specs.declared.change.Change.{Change}
 use Rattle.permit_store.specs.declared.change.Change.TheVariants.{NewParty, NewParcel, NewOwner, NewInterest, NewFile, NewRow}
