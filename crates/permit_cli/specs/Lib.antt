@@ -1,4 +1,5 @@
 pub mod Asking
+pub mod Days
 pub mod Faults
 pub mod Founders
 pub mod Plans

@@ -13,7 +13,7 @@ use Rattle.permit_cli.specs.declared.plan.Plan.TheVariants.{Name, CheckPolicy, I
 
 -- an option with a value, which may be left out
 abbrev pub optional_option : Text → Rule
-optional_option name = record (new_rule name) { long = Some name; action = Some Set }
+optional_option name = record (new_rule name) { long = Some name; value_names = 1; action = Some Set }
 
 -- an option with a value, which has to be there
 abbrev pub required_option : Text → Rule
@@ -21,7 +21,7 @@ required_option name = record (optional_option name) { required = true }
 
 -- a word by its place, which may be left out
 abbrev pub optional_word : Text → Rule
-optional_word name = record (new_rule name) { action = Some Set }
+optional_word name = record (new_rule name) { value_names = 1; action = Some Set }
 
 -- a word by its place, which has to be there
 abbrev pub required_word : Text → Rule

@@ -1,4 +1,7 @@
 //! The office's database: one file with its log beside it.
+//!
+//! What works on a database is generic over its store, and the file is named in one function alone: each call of a
+//! generic function at the file's store costs the prover half a minute.
 
 use crate::asking::ask;
 use crate::fault::Fault;
@@ -8,9 +11,30 @@ use permit_policy::Policy;
 use permit_sql::store::SqlStore;
 use permit_store::founder::Founder;
 use permit_store::store::OpenError;
-use sqlite::{Alter, Connection, Error, ErrorCode, File, FileStore};
+use sqlite::{Alter, Connection, Error, ErrorCode};
 use std::alloc::Global;
-use std::fs;
+
+/// What is done on a database.
+#[derive(Drop)]
+pub enum Work<'a> {
+    /// An office is founded in it.
+    Found(Founder),
+    /// The office in it serves one request.
+    Serve {
+        policy: Policy,
+        request: &'a str,
+        day: Day,
+    },
+}
+
+/// What came of it.
+#[derive(Drop)]
+pub enum Done {
+    /// The office stands, with its first party.
+    Founded,
+    /// The answer's bytes.
+    Served(Vec<u8>),
+}
 
 /// Why a database is not opened.
 fn of_opening(error: Error) -> Fault {
@@ -22,31 +46,15 @@ fn of_opening(error: Error) -> Fault {
     }
 }
 
-/// Opens the file, or makes it.
-fn connect(rt: &HostRuntime, path: &str) -> Result<Connection<FileStore<File>>, Fault> {
-    match Connection::open(rt, path) {
-        Ok(conn) => Ok(conn),
-        Err(error) => Err(of_opening(error)),
-    }
-}
-
-/// Copies the log into the file. Where that fails, the log stays beside the file, and what was accepted stands in it.
-fn shut(conn: Connection<FileStore<File>>) {
-    let _ = conn.close();
-}
-
-/// Founds an office in the database at a path, which is made where there is none.
-pub fn found(rt: &HostRuntime, path: &str, founder: &Founder) -> Result<(), Fault> {
-    let conn = connect(rt, path)?;
-    match SqlStore::create(rt.alloc(), conn, founder) {
-        Ok(store) => {
-            shut(store.into_connection());
-            Ok(())
-        }
-        Err((conn, why)) => {
-            shut(conn);
-            Err(Fault::Database(why))
-        }
+/// Founds an office in a database.
+fn found_in<S: Alter + Drop>(
+    alloc: Global,
+    conn: Connection<S>,
+    founder: &Founder,
+) -> (Connection<S>, Result<Done, Fault>) {
+    match SqlStore::create(alloc, conn, founder) {
+        Ok(store) => (store.into_connection(), Ok(Done::Founded)),
+        Err((conn, why)) => (conn, Err(Fault::Database(why))),
     }
 }
 
@@ -65,38 +73,54 @@ fn office_in<S: Alter + Drop>(
     }
 }
 
-/// Has the office in a database serve one request, and gives the connection back with the answer.
+/// Has the office in a database serve one request.
 fn serve_in<S: Alter + Drop>(
     alloc: Global,
     conn: Connection<S>,
     policy: Policy,
     request: &str,
     day: Day,
-) -> (Connection<S>, Result<Vec<u8>, Fault>) {
+) -> (Connection<S>, Result<Done, Fault>) {
     match office_in(alloc, conn, policy) {
         Ok(office) => {
             let mut office = office;
-            let answer = ask(alloc, &mut office, request, day).map_err(Fault::from);
-            (office.into_store().into_connection(), answer)
+            let done = match ask(alloc, &mut office, request, day) {
+                Ok(answer) => Ok(Done::Served(answer)),
+                Err(_) => Err(Fault::memory()),
+            };
+            (office.into_store().into_connection(), done)
         }
         Err((conn, why)) => (conn, Err(Fault::Database(why))),
     }
 }
 
-/// Has the office in the database at a path serve one request, and closes the database. No file is made where there is
-/// none.
-pub fn serve(
-    rt: &HostRuntime,
-    path: &str,
-    policy: Policy,
-    request: &str,
-    day: Day,
-) -> Result<Vec<u8>, Fault> {
-    if let Ok(false) = fs::exists(rt, path) {
-        return Err(Fault::Database(OpenError::Store));
+/// Does the work on a database, and gives its connection back.
+fn work_in<S: Alter + Drop>(
+    alloc: Global,
+    conn: Connection<S>,
+    work: Work<'_>,
+) -> (Connection<S>, Result<Done, Fault>) {
+    match work {
+        Work::Found(founder) => found_in(alloc, conn, &founder),
+        Work::Serve {
+            policy,
+            request,
+            day,
+        } => serve_in(alloc, conn, policy, request, day),
     }
-    let conn = connect(rt, path)?;
-    let (conn, answer) = serve_in(rt.alloc(), conn, policy, request, day);
-    shut(conn);
-    answer
+}
+
+/// Does the work on the database at a path, which is made where there is none, and closes it.
+///
+/// Closing copies the log into the file. Where that fails, the log stays beside the file, and what was accepted stands
+/// in it.
+pub fn work_at(rt: &HostRuntime, path: &str, work: Work<'_>) -> Result<Done, Fault> {
+    match Connection::open(rt, path) {
+        Ok(conn) => {
+            let (conn, done) = work_in(rt.alloc(), conn, work);
+            let _ = conn.close();
+            done
+        }
+        Err(error) => Err(of_opening(error)),
+    }
 }

@@ -22,7 +22,7 @@ pub enum Plan<'a> {
 pub struct DayWords<'a> {
     /// A date, which goes before the clock.
     pub day: Option<&'a str>,
-    /// The zone in which the clock is read, as a POSIX rule; without one it is `UTC0`.
+    /// The zone in which the clock is read, as a POSIX rule; without one it is `UTC0`. It has to be one beside a date too.
     pub zone: Option<&'a str>,
 }
 

@@ -1,20 +1,32 @@
 //! What the program does and prints.
 
 ghost use Rattle.std.specs.Prelude.{◌≡◌, ◌≤◌};
-ghost use Rattle.permit_cli.specs.Faults.{fault_status};
+ghost use Rattle.permit_cli.specs.Faults.{fault_status, IsStatusOf};
 
 use crate::asking::{print, show};
-use crate::database::{found, serve};
+use crate::database::{Done, Work, work_at};
 use crate::days::day_of_run;
 use crate::fault::Fault;
 use crate::founding::founder;
 use crate::plan::{ActWords, InitWords, Plan, PlanFault};
 use crate::request::request;
-use crate::words::plan;
+use crate::words::{plan, words_given};
 use permit_policy::Policy;
 use permit_policy::text::read_policy;
+use permit_store::store::OpenError;
 use std::fs;
 use std::io::Write;
+
+/// What a plan came to, and so what is printed.
+#[derive(Drop)]
+enum Outcome {
+    /// The program's name was asked for.
+    Name,
+    /// The policy has so many rules.
+    Rules(usize),
+    /// The work on the database is done.
+    Worked(Done),
+}
 
 /// Says a fault on standard error, whose own failure nobody can be told, and gives its status.
 fn complain<E: Write>(fault: &Fault, err: &mut E) -> u8
@@ -26,7 +38,7 @@ fn complain<E: Write>(fault: &Fault, err: &mut E) -> u8
 
 /// Says why the words give no plan, or the help that they ask for.
 fn without_plan<O: Write, E: Write>(fault: &PlanFault, out: &mut O, err: &mut E) -> u8
-    ensures { result ≤ 2 }
+    ensures { IsStatusOf fault.now result }
 {
     match fault {
         PlanFault::Help(text) => match out.write_all(text.as_bytes()) {
@@ -52,42 +64,61 @@ fn policy_at(rt: &HostRuntime, path: &str) -> Result<Policy, Fault> {
     }
 }
 
-/// Reads the policy at a path and prints how many rules it has.
-fn check_policy<O: Write>(rt: &HostRuntime, path: &str, out: &mut O) -> Result<(), Fault> {
-    let rules = policy_at(rt, path)?.rules();
-    match writeln!(out, "rules {rules}") {
-        Ok(()) => Ok(()),
-        Err(_) => Err(Fault::Output),
-    }
+/// Reads the policy at a path, and counts its rules.
+fn check_policy(rt: &HostRuntime, path: &str) -> Result<Outcome, Fault> {
+    Ok(Outcome::Rules(policy_at(rt, path)?.rules()))
 }
 
-/// Founds an office, and prints its first party.
-fn init<O: Write>(rt: &HostRuntime, words: &InitWords<'_>, out: &mut O) -> Result<(), Fault> {
+/// Founds an office.
+fn init(rt: &HostRuntime, words: &InitWords<'_>) -> Result<Outcome, Fault> {
     let day = day_of_run(rt, &words.days)?;
     let founder = founder(rt.alloc(), words.name, words.token, day)?;
-    found(rt, words.db, &founder)?;
-    print(out, "party 1")
+    let done = work_at(rt, words.db, Work::Found(founder))?;
+    Ok(Outcome::Worked(done))
 }
 
-/// Has the office serve one request, and prints the answer's body.
-///
-/// The database is closed before anything is printed, so that what is printed stands.
-fn act<O: Write>(rt: &HostRuntime, words: &ActWords<'_>, out: &mut O) -> Result<(), Fault> {
+/// Has the office serve one request. No database is made where there is none.
+fn act(rt: &HostRuntime, words: &ActWords<'_>) -> Result<Outcome, Fault> {
     let request = request(rt.alloc(), words)?;
     let day = day_of_run(rt, &words.days)?;
     let policy = policy_at(rt, words.policy)?;
-    let answer = serve(rt, words.db, policy, request.as_str(), day)?;
-    show(answer.as_slice(), out)
+    if let Ok(false) = fs::exists(rt, words.db) {
+        return Err(Fault::Database(OpenError::Store));
+    }
+    let work = Work::Serve {
+        policy,
+        request: request.as_str(),
+        day,
+    };
+    Ok(Outcome::Worked(work_at(rt, words.db, work)?))
 }
 
-/// Does what a plan asks for.
-fn carry_out<O: Write>(rt: &HostRuntime, plan: &Plan<'_>, out: &mut O) -> Result<(), Fault> {
+/// Does what a plan asks for. The database is closed before anything is printed, so that what is printed stands.
+fn carry_out(rt: &HostRuntime, plan: &Plan<'_>) -> Result<Outcome, Fault> {
     match plan {
-        Plan::Name => print(out, "permit"),
-        Plan::CheckPolicy { policy } => check_policy(rt, policy, out),
-        Plan::Init(words) => init(rt, words, out),
-        Plan::Act(words) => act(rt, words, out),
+        Plan::Name => Ok(Outcome::Name),
+        Plan::CheckPolicy { policy } => check_policy(rt, policy),
+        Plan::Init(words) => init(rt, words),
+        Plan::Act(words) => act(rt, words),
     }
+}
+
+/// Prints what a plan came to. The refusal that an answer tells is the fault then.
+fn tell<O: Write>(outcome: &Outcome, out: &mut O) -> Result<(), Fault> {
+    match outcome {
+        Outcome::Name => print(out, "permit"),
+        Outcome::Rules(rules) => match writeln!(out, "rules {rules}") {
+            Ok(()) => Ok(()),
+            Err(_) => Err(Fault::Output),
+        },
+        Outcome::Worked(Done::Founded) => print(out, "party 1"),
+        Outcome::Worked(Done::Served(answer)) => show(answer.as_slice(), out),
+    }
+}
+
+/// Does what a plan asks for, and prints what it came to.
+fn perform<O: Write>(rt: &HostRuntime, plan: &Plan<'_>, out: &mut O) -> Result<(), Fault> {
+    tell(&carry_out(rt, plan)?, out)
 }
 
 /// Runs the program on the words behind its name, and gives its status: 0 done, 1 refused, 2 bad words or files.
@@ -101,10 +132,20 @@ pub fn run_words<O: Write, E: Write>(
     ensures { result ≤ 2 }
 {
     match plan(rt.alloc(), words) {
-        Ok(plan) => match carry_out(rt, &plan, out) {
+        Ok(plan) => match perform(rt, &plan, out) {
             Ok(()) => 0,
             Err(fault) => complain(&fault, err),
         },
+        Err(fault) => without_plan(&fault, out, err),
+    }
+}
+
+/// Runs the program on the words that the process has, as `run_words` does.
+pub fn run<O: Write, E: Write>(rt: &HostRuntime, out: &mut O, err: &mut E) -> u8
+    ensures { result ≤ 2 }
+{
+    match words_given(rt) {
+        Ok(words) => run_words(rt, words.as_slice(), out, err),
         Err(fault) => without_plan(&fault, out, err),
     }
 }

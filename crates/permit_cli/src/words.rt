@@ -9,6 +9,24 @@ use crate::plan::{ActWords, DayWords, InitWords, Plan, PlanFault};
 use clap::error::ErrorKind;
 use clap::{ArgMatches, Command, Error};
 use std::alloc::Global;
+use std::{env, io};
+
+/// Bad words, with the line that says why.
+fn bad(alloc: Global, line: &str) -> PlanFault {
+    match String::from_str(alloc, line) {
+        Ok(text) => PlanFault::Words(text),
+        Err(_) => PlanFault::Memory,
+    }
+}
+
+/// The words behind the program's name, as the process has them.
+pub fn words_given(rt: &HostRuntime) -> Result<Vec<String>, PlanFault> {
+    match env::args(rt) {
+        Ok(words) => Ok(words.skip(1).collect(rt.alloc())?),
+        Err(error) if error.kind() == io::ErrorKind::OutOfMemory => Err(PlanFault::Memory),
+        Err(_) => Err(bad(rt.alloc(), "error: a word is not UTF-8\n")),
+    }
+}
 
 /// What an error of the parser says.
 fn fault(alloc: Global, error: &Error) -> PlanFault {
@@ -106,10 +124,7 @@ fn no_subcommand(alloc: Global, words: &[String]) -> PlanFault {
         return PlanFault::Memory;
     };
     match command.try_get_matches_from(words) {
-        Ok(_) => match String::from_str(alloc, "error: no subcommand is named\n") {
-            Ok(text) => PlanFault::Words(text),
-            Err(_) => PlanFault::Memory,
-        },
+        Ok(_) => bad(alloc, "error: no subcommand is named\n"),
         Err(error) => fault(alloc, &error),
     }
 }

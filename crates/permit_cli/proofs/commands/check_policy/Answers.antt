@@ -6,4 +6,4 @@ use Rattle.permit_cli.proofs.commands.check_policy.Goals as goal
 
 pub returns : goal.returns
 unfolding check_policy_app
-returns c = IfOk-weaker c.with_required.result _ _ (λ r h. h ∙ ap (λ a. with_rule a (required_option (codes "policy"))) c.new-command.ensures.app) c.with_required.ensures
+returns c = IfOk-weaker c.with_required.result _ _ (λ r h. h ∙ ap (λ a. with_rule a (required_option (codes "policy"))) c.in_ok-command.ensures) c.with_required.ensures

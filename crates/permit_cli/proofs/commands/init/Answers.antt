@@ -7,7 +7,7 @@ use Rattle.permit_cli.proofs.commands.init.Goals as goal
 pub returns : goal.returns
 unfolding init_app
 returns c =
-    let db = c.in_ok-command.ensures ∙ ap (λ a. with_rule a (required_option (codes "db"))) c.new-command.ensures.app in
-    let name = c.in_ok-command-2.ensures ∙ ap (λ a. with_rule a (required_option (codes "name"))) db in
-    let token = c.in_ok-command-3.ensures ∙ ap (λ a. with_rule a (required_option (codes "token"))) name in
+    let db = c.in_ok-command-2.ensures ∙ ap (λ a. with_rule a (required_option (codes "db"))) c.in_ok-command.ensures in
+    let name = c.in_ok-command-3.ensures ∙ ap (λ a. with_rule a (required_option (codes "name"))) db in
+    let token = c.in_ok-command-4.ensures ∙ ap (λ a. with_rule a (required_option (codes "token"))) name in
     IfOk-weaker c.with_days.result _ _ (λ r h. h ∙ ap with_days token) c.with_days.ensures
