@@ -1,5 +1,6 @@
 -- A file's state is its fields.
-use Rattle.std.proofs.Common.{◌≡◌, ℕ, Bool, Option, ap, ◌∙◌}
+use Rattle.std.proofs.Common.{◌≡◌, ℕ, Bool, Option, None, ap, subst, sym, true≢false, ◌∙◌}
+use Rattle.std.specs.Prelude.{IsSome}
 use Rattle.permit_base.specs.declared.words.Kind.{Kind}
 use Rattle.permit_base.specs.declared.words.Step.{Step}
 use Rattle.permit_base.specs.declared.words.Stage.{Stage}
@@ -29,3 +30,7 @@ state_is s parcel_1 applicant_1 contractor_1 reviewer_1 inspector_1 kind_1 filed
     ∙ ap (λ (x : ℕ). is_state (record { parcel = s.parcel; applicant = s.applicant; contractor = s.contractor; reviewer = s.reviewer; inspector = s.inspector; kind = s.kind; filed = s.filed; stage = s.stage; deadline = s.deadline; done = s.done; request = s.request; requested = s.requested; ask = s.ask; stopped = s.stopped; notices = x; papers = papers_1; temporary = temporary_1 })) e14
     ∙ ap (λ (x : ℕ). is_state (record { parcel = s.parcel; applicant = s.applicant; contractor = s.contractor; reviewer = s.reviewer; inspector = s.inspector; kind = s.kind; filed = s.filed; stage = s.stage; deadline = s.deadline; done = s.done; request = s.request; requested = s.requested; ask = s.ask; stopped = s.stopped; notices = s.notices; papers = x; temporary = temporary_1 })) e15
     ∙ ap (λ (x : Option ℕ). is_state (record { parcel = s.parcel; applicant = s.applicant; contractor = s.contractor; reviewer = s.reviewer; inspector = s.inspector; kind = s.kind; filed = s.filed; stage = s.stage; deadline = s.deadline; done = s.done; request = s.request; requested = s.requested; ask = s.ask; stopped = s.stopped; notices = s.notices; papers = s.papers; temporary = x })) e16
+
+-- what is none is not some
+pub not_some : {A P : Type 0} (o : Option A) → o ≡ None → IsSome o → P
+not_some o none some = absurd (true≢false (sym (subst IsSome none some)))

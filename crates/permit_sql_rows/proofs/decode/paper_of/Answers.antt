@@ -1,4 +1,5 @@
 use Rattle.std.proofs.Common.{◌≡◌, ℕ, Bool, List, IfSome, ap, subst, refl}
+use Rattle.permit_sql_rows.proofs.Stated.{not_some}
 use Rattle.sqlite_value.specs.Order.{column}
 use Rattle.permit_base.specs.declared.words.PaperSort.{PaperSort}
 use Rattle.permit_model.specs.Tables.{Paper}
@@ -21,3 +22,24 @@ returns-clause-read c = λ is e.
     (c.in_ok-string.ensures.read is.text (at 6))
     (c.in_ok-string-2.ensures.read is.terms (at 7))
     (subst (λ o. IfSome o (λ x. x ≡ is.is_open)) c.in_ok-readable-7.ensures.ok (c.truth.ensures.read is.is_open (at 8)))
+
+pub returns-in_err-readable-clause-some : goal.returns-in_err-readable-clause-some
+returns-in_err-readable-clause-some c = λ is good e. not_some _ (rw c.in_err-readable.was at c.readable.ensures.err).0 (c.file_number.ensures.some is.file good.file (ap (λ r. column r 0) e))
+
+pub returns-in_err-readable-2-clause-some : goal.returns-in_err-readable-2-clause-some
+returns-in_err-readable-2-clause-some c = λ is good e. not_some _ (rw c.in_err-readable-2.was at c.readable-2.ensures.err).0 (c.paper_number.ensures.some is.number good.number (ap (λ r. column r 1) e))
+
+pub returns-in_err-readable-3-clause-some : goal.returns-in_err-readable-3-clause-some
+returns-in_err-readable-3-clause-some c = λ is good e. not_some _ (rw c.in_err-readable-3.was at c.readable-3.ensures.err).0 (c.day.ensures.some is.day good.day (ap (λ r. column r 2) e))
+
+pub returns-in_err-readable-4-clause-some : goal.returns-in_err-readable-4-clause-some
+returns-in_err-readable-4-clause-some c = λ is good e. not_some _ (rw c.in_err-readable-4.was at c.readable-4.ensures.err).0 (c.party_number.ensures.some is.author good.author (ap (λ r. column r 3) e))
+
+pub returns-in_err-readable-5-clause-some : goal.returns-in_err-readable-5-clause-some
+returns-in_err-readable-5-clause-some c = λ is good e. not_some _ (rw c.in_err-readable-5.was at c.readable-5.ensures.err).0 (c.sort.ensures.some is.sort (ap (λ r. column r 4) e))
+
+pub returns-in_err-readable-6-clause-some : goal.returns-in_err-readable-6-clause-some
+returns-in_err-readable-6-clause-some c = λ is good e. not_some _ (rw c.in_err-readable-6.was at c.readable-6.ensures.err).0 (c.number.ensures.some is.days good.days (ap (λ r. column r 5) e))
+
+pub returns-in_err-readable-7-clause-some : goal.returns-in_err-readable-7-clause-some
+returns-in_err-readable-7-clause-some c = λ is good e. not_some _ (rw c.in_err-readable-7.was at c.readable-7.ensures.err).0 (c.truth.ensures.some is.is_open (ap (λ r. column r 8) e))
