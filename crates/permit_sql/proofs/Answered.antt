@@ -18,12 +18,12 @@ use Rattle.sqlite_keyed.proofs.SortLemmas.{sorted_unique}
 use Rattle.sqlite.specs.State.{State, Shown}
 use Rattle.sqlite.proofs.Callers.{reads_as}
 use Rattle.permit_model.specs.Tables.{Tables}
-use Rattle.permit_sql.specs.Schema.{office_schema}
-use Rattle.permit_sql.specs.Rows.{int, party_row, parcel_row, file_row, shown_party, shown_parcel, shown_file}
-use Rattle.permit_sql.specs.Kept.{Keeps}
+use Rattle.permit_sql_rows.specs.Schema.{office_schema}
+use Rattle.permit_sql_rows.specs.Rows.{int, party_row, parcel_row, file_row, shown_party, shown_parcel, shown_file}
+use Rattle.permit_sql_rows.specs.Kept.{Keeps}
 use Rattle.permit_sql.specs.Found.{IsNumbered, AreTyped}
 use Rattle.permit_sql.specs.WholeTexts.{each_party, each_parcel, each_file}
-use Rattle.permit_sql.proofs.Lookups.{plain_query, answers}
+use Rattle.permit_sql_statements.proofs.Lookups.{plain_query, answers}
 use Rattle.permit_sql.proofs.WholeMeanings.{each_party_query, each_party_is, each_party_plain, each_party_unlisted, each_parcel_query, each_parcel_is, each_parcel_plain, each_parcel_unlisted, each_file_query, each_file_is, each_file_plain, each_file_unlisted}
 
 -- ---- a table whose rows are keyed by their numbers

@@ -20,14 +20,14 @@ use Rattle.sqlite.specs.Held.{Held, state}
 use Rattle.sqlite.proofs.Callers.{reads_as}
 use Rattle.permit_model.specs.Caller.{Party}
 use Rattle.permit_model.specs.Parcels.{Parcel}
-use Rattle.permit_sql.specs.Schema.{office_schema, key_column, int_column, text_column, party_table, parcel_table}
-use Rattle.permit_sql.specs.Rows.{int, party_row, parcel_row, shown_party, shown_parcel}
-use Rattle.permit_sql.specs.Typed.{firsts, IsObject, IsParty, IsParcel}
+use Rattle.permit_sql_rows.specs.Schema.{office_schema, key_column, int_column, text_column, party_table, parcel_table}
+use Rattle.permit_sql_rows.specs.Rows.{int, party_row, parcel_row, shown_party, shown_parcel}
+use Rattle.permit_sql_rows.specs.Typed.{firsts, IsObject, IsParty, IsParcel}
 use Rattle.permit_sql.specs.Found.{TookTable, TakesParty, TakesParcel, TakesInterest, RefusesParty, RefusesParcel, HasParties, HasParcels}
 use Rattle.permit_sql.specs.declared.check.Parties.{Parties}
 use Rattle.permit_sql.specs.declared.check.Parcels.{Parcels}
 use Rattle.permit_sql.specs.WholeTexts.{each_party, each_parcel}
-use Rattle.permit_sql.proofs.Lookups.{text_is, one_test}
+use Rattle.permit_sql_statements.proofs.Lookups.{text_is, one_test}
 use Rattle.permit_sql.proofs.Wholes.{whole_shown}
 use Rattle.permit_sql.proofs.WholeMeanings.{each_party_query, each_party_is, each_party_plain, each_party_unlisted, each_parcel_query, each_parcel_is, each_parcel_plain, each_parcel_unlisted}
 use Rattle.permit_sql.proofs.Shaped.{keyed_rows}

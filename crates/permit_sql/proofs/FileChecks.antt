@@ -24,9 +24,9 @@ use Rattle.sqlite.specs.Held.{Held, state}
 use Rattle.sqlite.proofs.Callers.{reads_as}
 use Rattle.permit_model.specs.Parcels.{Interest}
 use Rattle.permit_model.specs.Tables.{FileRow, Paper}
-use Rattle.permit_sql.specs.Schema.{office_schema, key_column, file_table, interest_table, paper_table}
-use Rattle.permit_sql.specs.Rows.{file_row, shown_file, shown_interest, shown_paper}
-use Rattle.permit_sql.specs.Typed.{firsts, IsInterest, IsPaper}
+use Rattle.permit_sql_rows.specs.Schema.{office_schema, key_column, file_table, interest_table, paper_table}
+use Rattle.permit_sql_rows.specs.Rows.{file_row, shown_file, shown_interest, shown_paper}
+use Rattle.permit_sql_rows.specs.Typed.{firsts, IsInterest, IsPaper}
 use Rattle.permit_sql.specs.Taken.{TookAll}
 use Rattle.permit_sql.specs.Found.{TookTable, TakesFile, TakesInterest, TakesPaper, TakesRowid, RefusesFile, RefusesInterest, RefusesPaper, RefusesRowid, IsLater, IsNumbered, IsRising, IsGoodFile, IsApart, counted_in, HasFiles, HasInterests, HasPapers}
 use Rattle.permit_sql.specs.declared.check.Interests.{Interests}

@@ -1,20 +1,3 @@
-pub mod Coded
-pub mod Stated
-pub mod Permuted
-pub mod Lookups
-pub mod QueryTexts
-pub mod WriteTexts
-pub mod ReadLemmas
-pub mod WriteLemmas
-pub mod Effects
-pub mod Writes
-pub mod Keeping
-pub mod Creating
-pub mod Closing
-pub mod Commits
-pub mod Committing
-pub mod KeptLemmas
-pub mod Shapes
 pub mod Wholes
 pub mod Version
 pub mod Reopening
@@ -29,4 +12,3 @@ pub mod Neighbours
 pub mod Answered
 pub mod PapersAnswered
 pub mod Refused
-pub mod Ascii

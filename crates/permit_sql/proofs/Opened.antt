@@ -6,9 +6,9 @@ use Rattle.std.proofs.lemmas.Bool.Decides.{nat_tests}
 use Rattle.sqlite_trees.specs.Tree.{IsAscending}
 use Rattle.sqlite.specs.Effect.{Database}
 use Rattle.permit_model.specs.Tables.{Tables, Desk, FileRow, Paper}
-use Rattle.permit_sql.specs.Schema.{office_schema}
-use Rattle.permit_sql.specs.Kept.{IsNamed, AreKeyed, AreInTrees, papers_counted}
-use Rattle.permit_sql.specs.Typed.{IsFile, IsPaper}
+use Rattle.permit_sql_rows.specs.Schema.{office_schema}
+use Rattle.permit_sql_rows.specs.Kept.{IsNamed, AreKeyed, AreInTrees, papers_counted}
+use Rattle.permit_sql_rows.specs.Typed.{IsFile, IsPaper}
 use Rattle.permit_sql.specs.Found.{IsNumbered, IsLater, IsRising, IsGoodFile, IsApart, counted_in, HasDesk, HasParties, HasParcels, HasFiles, HasInterests, HasPapers, AreTyped, KeepsTyped}
 
 all_of : {A : Type 0} {P Q : A → Type 0} → ((x : A) → P x → Q x) → (xs : List A) → AllByRecursion P xs → AllByRecursion Q xs

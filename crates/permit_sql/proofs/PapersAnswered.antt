@@ -22,14 +22,14 @@ use Rattle.sqlite.specs.State.{State, Shown}
 use Rattle.sqlite.proofs.Callers.{reads_as}
 use Rattle.permit_model.specs.Parcels.{Interest}
 use Rattle.permit_model.specs.Tables.{Tables, Paper}
-use Rattle.permit_sql.specs.Schema.{office_schema}
-use Rattle.permit_sql.specs.Rows.{int, shown_interest, shown_paper}
-use Rattle.permit_sql.specs.Kept.{Keeps, papers_counted}
-use Rattle.permit_sql.specs.Typed.{firsts, IsInterest, IsPaper}
+use Rattle.permit_sql_rows.specs.Schema.{office_schema}
+use Rattle.permit_sql_rows.specs.Rows.{int, shown_interest, shown_paper}
+use Rattle.permit_sql_rows.specs.Kept.{Keeps, papers_counted}
+use Rattle.permit_sql_rows.specs.Typed.{firsts, IsInterest, IsPaper}
 use Rattle.permit_sql.specs.Found.{AreTyped, IsLater, IsRising, counted_in}
 use Rattle.permit_sql.specs.WholeTexts.{each_interest, each_paper, each_rowid}
-use Rattle.permit_sql.proofs.Lookups.{answers}
-use Rattle.permit_sql.proofs.Permuted.{no_more}
+use Rattle.permit_sql_statements.proofs.Lookups.{answers}
+use Rattle.permit_sql_statements.proofs.Permuted.{no_more}
 use Rattle.permit_sql.proofs.Opened.{counts_of}
 use Rattle.permit_sql.proofs.Wholes.{whole_shown}
 use Rattle.permit_sql.proofs.Answered.{each_one}

@@ -18,10 +18,10 @@ use Rattle.sqlite.proofs.Callers.{command_of, EndsIn, begins_shown}
 use Rattle.permit_model.specs.Caller.{Party}
 use Rattle.permit_model.specs.Parcels.{Parcel}
 use Rattle.permit_model.specs.Tables.{Tables, FileRow, Paper}
-use Rattle.permit_sql.specs.Schema.{office_schema}
-use Rattle.permit_sql.specs.Rows.{int, shown_party, shown_parcel, shown_file, shown_interest, shown_paper}
-use Rattle.permit_sql.specs.Kept.{Keeps, IsNamed}
-use Rattle.permit_sql.specs.Typed.{IsParty, IsParcel, IsInterest, IsFile, IsPaper}
+use Rattle.permit_sql_rows.specs.Schema.{office_schema}
+use Rattle.permit_sql_rows.specs.Rows.{int, shown_party, shown_parcel, shown_file, shown_interest, shown_paper}
+use Rattle.permit_sql_rows.specs.Kept.{Keeps, IsNamed}
+use Rattle.permit_sql_rows.specs.Typed.{IsParty, IsParcel, IsInterest, IsFile, IsPaper}
 use Rattle.permit_sql.specs.Taken.{TookAll, Handed}
 use Rattle.permit_sql.specs.Found.{IsNumbered, IsRising, IsGoodFile, counted_in, AreTyped}
 use Rattle.permit_sql.specs.declared.check.Parties.{Parties}
@@ -31,7 +31,7 @@ use Rattle.permit_sql.specs.declared.check_files.Files.{Files}
 use Rattle.permit_sql.specs.declared.check_files.Papers.{Papers}
 use Rattle.permit_sql.specs.declared.check_files.Rowids.{Rowids}
 use Rattle.permit_sql.specs.WholeTexts.{each_party, each_parcel, each_interest, each_file, each_paper, each_rowid}
-use Rattle.permit_sql.proofs.QueryTexts.{alone, names_of}
+use Rattle.permit_sql_statements.proofs.QueryTexts.{alone, names_of}
 use Rattle.permit_sql.proofs.WholeMeanings.{each_party_is, each_parcel_is, each_interest_is, each_file_is, each_paper_is, each_rowid_is}
 use Rattle.permit_sql.proofs.Checks.{party_took, parcel_took}
 use Rattle.permit_sql.proofs.FileChecks.{interest_took, file_took, paper_took, rowid_took}

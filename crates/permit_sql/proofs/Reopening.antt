@@ -6,7 +6,7 @@ use Rattle.sqlite_trees.specs.Objects.{catalog_tree}
 use Rattle.sqlite_catalog.proofs.ReadLemmas.{lists_once}
 use Rattle.sqlite.specs.Effect.{Database, IsDatabase}
 use Rattle.permit_model.specs.Tables.{Tables}
-use Rattle.permit_sql.specs.Kept.{AreInTrees, Keeps}
+use Rattle.permit_sql_rows.specs.Kept.{AreInTrees, Keeps}
 
 -- the list of tables in the trees fixes the schema
 pub keeps_by_trees : (a b : Database) (t : Tables) → Keeps t a → IsDatabase a → IsDatabase b → b.trees ≡ a.trees → Keeps t b

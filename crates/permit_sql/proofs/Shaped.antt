@@ -14,7 +14,7 @@ use Rattle.sqlite_schema.specs.declared.schema.Table.{Table}
 use Rattle.sqlite_schema.specs.declared.schema.Schema.{Schema}
 use Rattle.sqlite_schema.specs.declared.schema.Constraint.TheVariants.{Datatype, NotNull}
 use Rattle.sqlite_schema.specs.Rules.{are_typed, are_present, suits, passes}
-use Rattle.permit_sql.specs.Typed.{firsts}
+use Rattle.permit_sql_rows.specs.Typed.{firsts}
 
 -- ---- a row has as many values as its table has columns
 

@@ -4,7 +4,7 @@ use Rattle.std.specs.List.{AllByRecursion}
 use Rattle.std.proofs.lemmas.List.Sorted.{IsPermutation-map, IsPermutation-sym}
 use Rattle.sqlite_keyed.proofs.ListLemmas.{map-map, map_same}
 use Rattle.sqlite_value.specs.Order.{Row}
-use Rattle.permit_sql.specs.Typed.{firsts}
+use Rattle.permit_sql_rows.specs.Typed.{firsts}
 use Rattle.permit_sql.specs.Found.{IsNumbered}
 use Rattle.permit_sql.specs.Taken.{TookAll}
 

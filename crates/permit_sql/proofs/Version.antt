@@ -20,17 +20,17 @@ use Rattle.sqlite_schema.specs.declared.schema.Column.{Column}
 use Rattle.sqlite_schema.specs.declared.schema.Constraint.TheVariants.{Datatype, NotNull}
 use Rattle.sqlite_schema.specs.Rules.{Keeps as KeepsRule}
 use Rattle.permit_model.specs.Tables.{Desk, Tables}
-use Rattle.permit_sql.specs.Schema.{desk_table, office_schema, key_column, int_column}
-use Rattle.permit_sql.specs.Rows.{shown_desk, desk_row}
-use Rattle.permit_sql.specs.Typed.{firsts, IsDesk}
-use Rattle.permit_sql.specs.Kept.{Keeps}
+use Rattle.permit_sql_rows.specs.Schema.{desk_table, office_schema, key_column, int_column}
+use Rattle.permit_sql_rows.specs.Rows.{shown_desk, desk_row}
+use Rattle.permit_sql_rows.specs.Typed.{firsts, IsDesk}
+use Rattle.permit_sql_rows.specs.Kept.{Keeps}
 use Rattle.permit_sql.specs.Found.{HasDesk}
 use Rattle.permit_sql.proofs.Shaped.{keyed_rows, IsKeyedRow}
 use Rattle.permit_sql.proofs.Checks.{with_null}
-use Rattle.permit_sql.specs.Texts.{read_desk}
+use Rattle.permit_sql_statements.specs.Texts.{read_desk}
 use Rattle.permit_sql.specs.Opening.{seen_desk, IsOther, HasOtherVersion}
 use Rattle.permit_sql.proofs.Wholes.{whole_shown}
-use Rattle.permit_sql.proofs.QueryTexts.{alone, read_desk_query, names_of}
+use Rattle.permit_sql_statements.proofs.QueryTexts.{alone, read_desk_query, names_of}
 
 module _ (more : List Table) (indexes : List Index) (views : List View) where
   abbrev pub begun : Schema

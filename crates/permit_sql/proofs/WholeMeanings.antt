@@ -8,10 +8,10 @@ use Rattle.sqlite_sql.specs.Term.{col}
 use Rattle.sqlite_sql.specs.Query.{Query, inner, end}
 use Rattle.sqlite_schema.specs.declared.command.Command.TheVariants.{Select}
 use Rattle.sqlite.proofs.Callers.{command_of, IsPlain}
-use Rattle.permit_sql.specs.Schema.{office_schema}
+use Rattle.permit_sql_rows.specs.Schema.{office_schema}
 use Rattle.permit_sql.specs.WholeTexts.{each_party, each_parcel, each_interest, each_file, each_paper, each_rowid}
-use Rattle.permit_sql.proofs.Lookups.{plain_query}
-use Rattle.permit_sql.proofs.QueryTexts.{alone, names_of, columns_of}
+use Rattle.permit_sql_statements.proofs.Lookups.{plain_query}
+use Rattle.permit_sql_statements.proofs.QueryTexts.{alone, names_of, columns_of}
 
 abbrev pub each_party_query : Query
 each_party_query = plain_query (inner 1 end) [] (col 1 0 ∷ columns_of 3 2) ((col 1 0, ascending Binary) ∷ [])

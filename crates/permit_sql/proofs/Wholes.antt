@@ -7,7 +7,7 @@ use Rattle.sqlite_value.specs.declared.keys.Key.{Key}
 use Rattle.sqlite_sql.specs.Term.{Term, eval_all}
 use Rattle.sqlite_sql.specs.Query.{Query, inner, end, IsAnswer, Output, output, matches}
 use Rattle.sqlite_trees.specs.Tree.{Trees}
-use Rattle.permit_sql.proofs.Lookups.{plain_query, answers}
+use Rattle.permit_sql_statements.proofs.Lookups.{plain_query, answers}
 
 module _ (tree : ℕ) (project : List Term) (order : List (Term × Key)) where
   abbrev whole : Query

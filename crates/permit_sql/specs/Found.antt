@@ -11,10 +11,10 @@ use Rattle.sqlite.specs.Held.{Held, state}
 use Rattle.permit_model.specs.Caller.{Party}
 use Rattle.permit_model.specs.Parcels.{Parcel, Interest}
 use Rattle.permit_model.specs.Tables.{Tables, Desk, FileRow, Paper}
-use Rattle.permit_sql.specs.Rows.{desk_row, party_row, parcel_row, file_row, shown_party, shown_parcel, shown_file, shown_interest, shown_paper}
-use Rattle.permit_sql.specs.Kept.{IsNamed, Keeps}
+use Rattle.permit_sql_rows.specs.Rows.{desk_row, party_row, parcel_row, file_row, shown_party, shown_parcel, shown_file, shown_interest, shown_paper}
+use Rattle.permit_sql_rows.specs.Kept.{IsNamed, Keeps}
 use Rattle.permit_sql.specs.Taken.{TookAll}
-use Rattle.permit_sql.specs.Typed.{firsts, IsDesk, IsParty, IsParcel, IsInterest, IsFile, IsPaper}
+use Rattle.permit_sql_rows.specs.Typed.{firsts, IsDesk, IsParty, IsParcel, IsInterest, IsFile, IsPaper}
 
 -- a taker took the whole answer to a query of a sound database, which is as it was
 abbrev pub TookTable : {T : Type 0} → (T → Row → T → Bool → Type 0) → {S : Type 0} → Ghosts S → List ℕ → Held S → Held S → T → T → Type 0

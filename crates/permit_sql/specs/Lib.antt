@@ -1,13 +1,6 @@
-pub mod Schema
-pub mod Shape
-pub mod Texts
-pub mod Rows
-pub mod Kept
+pub use Rattle.permit_sql_rows.specs.Schema
+pub use Rattle.permit_sql_rows.specs.Kept
 pub mod Opening
-pub mod Steps
-pub mod StepOf
-pub mod Founding
 pub mod Taken
-pub mod Typed
 pub mod Found
 pub mod WholeTexts

@@ -4,7 +4,7 @@ use Rattle.sqlite.specs.declared.types.Value.{Value}
 use Rattle.sqlite.specs.declared.types.Value.TheVariants.{Int}
 use Rattle.sqlite_value.specs.Order.{Row, column}
 use Rattle.sqlite.specs.Effect.{Database}
-use Rattle.permit_sql.specs.Schema.{desk_table}
+use Rattle.permit_sql_rows.specs.Schema.{desk_table}
 
 -- what a query of all columns shows of a row of the desk's tree, with the rowid in the first column
 abbrev pub seen_desk : Row → Row

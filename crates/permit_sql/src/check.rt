@@ -5,16 +5,16 @@ ghost use Rattle.sqlite.specs.Given.{IsPlain};
 ghost use Rattle.sqlite.specs.Listing.{understood};
 ghost use Rattle.sqlite.specs.State.{HasCleanDisk, Survives};
 ghost use Rattle.sqlite.specs.Held.{state};
-ghost use Rattle.permit_sql.specs.Schema.{office_schema};
+ghost use Rattle.permit_sql_rows.specs.Schema.{office_schema};
 ghost use Rattle.permit_model.specs.Tables.{Tables};
-ghost use Rattle.permit_sql.specs.Kept.{IsFine, Keeps};
+ghost use Rattle.permit_sql_rows.specs.Kept.{IsFine, Keeps};
 ghost use Rattle.permit_sql.specs.Taken.{Handed};
 ghost use Rattle.permit_sql.specs.Found.{TookTable, TakesParty, TakesParcel, TakesInterest, RefusesParty, RefusesParcel, RefusesInterest, HasParties, HasParcels, HasInterests, AreTyped};
 
-use crate::decode::{interest_in, parcel_of, party_of};
 use crate::each::{Taker, each_row};
-use crate::fields::RowFault;
-use crate::schema::is_office;
+use permit_sql_rows::decode::{interest_in, parcel_of, party_of};
+use permit_sql_rows::fields::RowFault;
+use permit_sql_rows::schema::is_office;
 use permit_store::store::{Got, StoreError};
 use sqlite::{Alter, Connection, Row};
 

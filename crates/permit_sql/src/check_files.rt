@@ -4,13 +4,13 @@ ghost use Rattle.std.specs.Prelude.{◌≡◌, ◌↔◌, false, IsTrue, MatchBo
 ghost use Rattle.sqlite.specs.State.{HasCleanDisk, Survives};
 ghost use Rattle.sqlite.specs.Held.{state};
 ghost use Rattle.permit_model.specs.Tables.{Tables};
-ghost use Rattle.permit_sql.specs.Kept.{IsFine, Keeps};
+ghost use Rattle.permit_sql_rows.specs.Kept.{IsFine, Keeps};
 ghost use Rattle.permit_sql.specs.Found.{TakesFile, TakesPaper, TakesRowid, RefusesFile, RefusesPaper, RefusesRowid, IsLater, HasFiles, HasPapers, IsApart, AreTyped};
 
 use crate::check::takes_all;
-use crate::decode::{file_of, paper_of};
 use crate::each::Taker;
-use crate::fields::{RowFault, whole_number};
+use permit_sql_rows::decode::{file_of, paper_of};
+use permit_sql_rows::fields::{RowFault, whole_number};
 use permit_store::store::{Got, StoreError};
 use sqlite::{Alter, Connection, Row};
 use std::alloc::Global;

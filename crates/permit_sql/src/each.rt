@@ -7,7 +7,7 @@ ghost use Rattle.sqlite.specs.Values.{bound};
 ghost use Rattle.sqlite.specs.Held.{state};
 ghost use Rattle.sqlite.specs.Given.{IsPlain};
 ghost use Rattle.sqlite.specs.Listing.{understood};
-ghost use Rattle.permit_sql.specs.Kept.{IsFine};
+ghost use Rattle.permit_sql_rows.specs.Kept.{IsFine};
 ghost use Rattle.permit_sql.specs.Taken.{Handed};
 
 use sqlite::{Alter, Connection, Error, ErrorCode, Row};

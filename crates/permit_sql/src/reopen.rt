@@ -4,7 +4,7 @@ ghost use Rattle.std.specs.Prelude.{IfSome};
 ghost use Rattle.sqlite.specs.State.{HasCleanDisk};
 ghost use Rattle.sqlite.specs.Files.{file_state};
 ghost use Rattle.permit_model.specs.Tables.{Tables};
-ghost use Rattle.permit_sql.specs.Kept.{Keeps};
+ghost use Rattle.permit_sql_rows.specs.Kept.{Keeps};
 
 use crate::store::SqlStore;
 use permit_store::store::Store;

@@ -10,19 +10,19 @@ ghost use Rattle.permit_store.specs.Founding.{founding};
 ghost use Rattle.permit_store.specs.Changes.{Fits, changed};
 ghost use Rattle.permit_store.specs.Counts.{failed_after, handed_after, next_count};
 ghost use Rattle.permit_store.specs.declared.store.OpenError.TheVariants as open_error;
-ghost use Rattle.permit_sql.specs.Schema.{empty_schema};
-ghost use Rattle.permit_sql.specs.Kept.{Keeps, Shows, IsFine};
+ghost use Rattle.permit_sql_rows.specs.Schema.{empty_schema};
+ghost use Rattle.permit_sql_rows.specs.Kept.{Keeps, Shows, IsFine};
 ghost use Rattle.permit_sql.specs.Opening.{HasOtherVersion};
 ghost use Rattle.permit_sql.specs.Found.{KeepsTyped};
 
-use crate::commit::commit_in;
-use crate::create::create_in;
 use crate::open::check;
-use crate::read::{
+use permit_base::values::{Day, Digest, FileId, Lot, ParcelId, PartyId};
+use permit_sql_statements::commit::commit_in;
+use permit_sql_statements::create::create_in;
+use permit_sql_statements::read::{
     find_parcel, find_party, has_interest, read_desk, read_file, read_papers, read_parcel,
     read_party,
 };
-use permit_base::values::{Day, Digest, FileId, Lot, ParcelId, PartyId};
 use permit_store::founder::Founder;
 use permit_store::rows::{Change, Desk, FileRow, Paper, Parcel, Party};
 use permit_store::store::{Got, OpenError, Store, StoreError};
@@ -159,7 +159,7 @@ impl<S: Alter> Store for SqlStore<S> {
     ghost use Rattle.sqlite_trees.specs.View.{doubt as disk_doubt};
     ghost use Rattle.sqlite.specs.State.{HasCleanDisk};
     ghost use Rattle.sqlite.specs.Held.{state};
-    ghost use Rattle.permit_sql.specs.Kept.{Shows};
+    ghost use Rattle.permit_sql_rows.specs.Kept.{Shows};
 
     ghost holds = { λ s t. HasCleanDisk (state S.Store s.conn) → Shows t (state S.Store s.conn) };
 

@@ -8,7 +8,7 @@ use Rattle.sqlite.proofs.StateLemmas.{survives_weaker, survives_then}
 use Rattle.sqlite.proofs.Callers.{IsPlain, given_begin, begun_plain, never_commits, unchanged_then}
 use Rattle.sqlite.specs.Given.{IsRefused}
 use Rattle.permit_sql.specs.Taken.{TookAll, Handed}
-use Rattle.permit_sql.proofs.KeptLemmas.{failed_open, failed_same}
+use Rattle.permit_sql_statements.proofs.KeptLemmas.{failed_open, failed_same}
 use Rattle.permit_sql.proofs.each.each_row.Goals as goal
 
 commits_nothing : (sql : List ℕ) (params : Row) (old new : State) → IsPlain (understood old.now.schema sql) → Survives old new (CommitsShowing sql params old) → Survives old new (λ _. ⊥)

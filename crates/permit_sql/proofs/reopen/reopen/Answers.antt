@@ -2,7 +2,7 @@ use Rattle.std.proofs.Common.{not, sym, subst, ap, ◌∙◌}
 use Rattle.sqlite.specs.Files.{file_state}
 use Rattle.sqlite.specs.State.{HasCleanDisk}
 use Rattle.sqlite.proofs.Callers.{finds_again}
-use Rattle.permit_sql.specs.Kept.{Shows}
+use Rattle.permit_sql_rows.specs.Kept.{Shows}
 use Rattle.permit_sql.proofs.Reopening.{keeps_by_trees}
 use Rattle.permit_sql.proofs.reopen.reopen.Goals as goal
 

@@ -1,7 +1,7 @@
 use Rattle.std.proofs.Common.{Result, Ok, Err, OnErr, sym, subst, arith}
 use Rattle.sqlite.specs.State.{HasCleanDisk}
 use Rattle.sqlite.specs.Held.{state}
-use Rattle.permit_sql.specs.Kept.{Shows}
+use Rattle.permit_sql_rows.specs.Kept.{Shows}
 use Rattle.permit_sql.proofs.store.SqlStoreStore.commit.Goals as goal
 
 on_err_any : {T E P : Type 0} (r : Result T E) → P → OnErr r P

@@ -1,7 +1,7 @@
 use Rattle.std.proofs.Common.{sym, subst, arith}
 use Rattle.sqlite.specs.State.{HasCleanDisk}
 use Rattle.sqlite.specs.Held.{state}
-use Rattle.permit_sql.specs.Kept.{Shows}
+use Rattle.permit_sql_rows.specs.Kept.{Shows}
 use Rattle.permit_sql.proofs.store.SqlStoreStore.parcel_by_lot.Goals as goal
 
 pub returns-in-Ok-clause-found : goal.returns-in-Ok-clause-found

@@ -1,0 +1,4 @@
+pub mod Coded
+pub mod Stated
+pub mod Shapes
+pub mod Ascii

@@ -1,0 +1,5 @@
+pub mod Schema
+pub mod Shape
+pub mod Rows
+pub mod Kept
+pub mod Typed

@@ -1,0 +1,188 @@
+//! A row that a query shows as a typed value.
+
+ghost use Rattle.std.specs.Prelude.{◌≡◌, [], ◌∷◌, List, map, Option, option_map, slice_get, IfOk, IfErr, IfSome, IsSome};
+ghost use Rattle.permit_model.specs.Caller.{Party as TheParty};
+ghost use Rattle.permit_model.specs.Parcels.{Parcel as TheParcel, Interest as TheInterest};
+ghost use Rattle.permit_model.specs.Tables.{Desk as TheDesk, FileRow as TheRow, State as TheState, Paper as ThePaper};
+ghost use Rattle.permit_model.specs.SoundState.{IsSoundState};
+ghost use Rattle.permit_sql_rows.specs.Rows.{int, shown_desk, shown_party, shown_parcel, shown_file, shown_interest, shown_paper};
+ghost use Rattle.permit_sql_rows.specs.Kept.{IsNamed};
+ghost use Rattle.permit_sql_rows.specs.Typed.{firsts, IsObject, IsDesk, IsParty, IsParcel, IsInterest, IsPaper, IsState, IsFile, ShowsState};
+
+use crate::fields::{
+    Read, RowFault, cents, day, day_or_less, days_or_zero, digest, file_number, kind, lot, number,
+    number_or_less, paper_number, parcel_number, party_number, party_or_zero, readable, role,
+    short_number, small_number, sort, stage, step_or_less, string, text, truth,
+};
+use permit_base::values::{ParcelId, PartyId};
+use permit_core::restore::StateFields;
+use permit_core::state::FileState;
+use permit_store::rows::{Desk, FileRow, Paper, Parcel, Party};
+use sqlite::Row;
+
+/// The desk's row, which is number 1 and of version 1.
+pub fn desk_in(row: &Row) -> Option<Desk>
+    ensures read { (is : TheDesk) → row.now ≡ shown_desk is → IfSome result (λ d. d ≡ is) }
+    ensures back { IfSome result (λ d. firsts 6 0 row.now ≡ shown_desk d) }
+    ensures typed { IfSome result IsDesk }
+    ensures some { (is : TheDesk) → IsDesk is → row.now ≡ shown_desk is → IsSome result }
+{
+    if number(row, 0)? != 1 {
+        return None;
+    }
+    if number(row, 1)? != 1 {
+        return None;
+    }
+    Some(Desk {
+        last: day(row, 2)?,
+        parties: number(row, 3)?,
+        parcels: number(row, 4)?,
+        files: number(row, 5)?,
+    })
+}
+
+/// A party's row.
+pub fn party_of(row: &Row) -> Read<Party>
+    ensures read { (is : TheParty) → row.now ≡ shown_party is → IfOk result (λ p. p ≡ is) }
+    ensures back { IfOk result (λ p. firsts 4 0 row.now ≡ shown_party p) }
+    ensures typed { IfOk result IsParty }
+    ensures some { (is : TheParty) → IsParty is → row.now ≡ shown_party is → IfErr result (λ e. e ≡ RowFault.NoMemory) }
+{
+    Ok(Party {
+        id: readable(party_number(row, 0))?,
+        name: text(row, 1)?,
+        role: readable(role(row, 2))?,
+        digest: digest(row, 3)?,
+    })
+}
+
+/// The same, or none.
+pub fn party_in(row: &Row) -> Option<Party>
+    ensures { (is : TheParty) → row.now ≡ shown_party is → IfSome result (λ p. p ≡ is) }
+{
+    party_of(row).ok()
+}
+
+/// A parcel's row.
+pub fn parcel_of(row: &Row) -> Read<Parcel>
+    ensures read { (is : TheParcel) → row.now ≡ shown_parcel is → IfOk result (λ p. p ≡ is) }
+    ensures back { IfOk result (λ p. firsts 4 0 row.now ≡ shown_parcel p) }
+    ensures typed { IfOk result IsParcel }
+    ensures some { (is : TheParcel) → IsParcel is → row.now ≡ shown_parcel is → IfErr result (λ e. e ≡ RowFault.NoMemory) }
+{
+    Ok(Parcel {
+        id: readable(parcel_number(row, 0))?,
+        lot: lot(row, 1)?,
+        address: text(row, 2)?,
+        owner: readable(party_number(row, 3))?,
+    })
+}
+
+/// The same, or none.
+pub fn parcel_in(row: &Row) -> Option<Parcel>
+    ensures { (is : TheParcel) → row.now ≡ shown_parcel is → IfSome result (λ p. p ≡ is) }
+{
+    parcel_of(row).ok()
+}
+
+/// The parcel and the party of an interest's row.
+pub fn interest_in(row: &Row) -> Option<(ParcelId, PartyId)>
+    ensures back { IfSome result (λ i. (firsts 2 0 row.now ≡ int i.0 ∷ int i.1 ∷ []) × IsObject i.0 × IsObject i.1) }
+    ensures some { (is : TheInterest) → IsInterest is → row.now ≡ shown_interest is → IsSome result }
+{
+    Some((
+        ParcelId::new(number(row, 0)?)?,
+        PartyId::new(number(row, 1)?)?,
+    ))
+}
+
+/// A paper's row.
+pub fn paper_of(row: &Row) -> Read<Paper>
+    ensures read { (is : ThePaper) → row.now ≡ shown_paper is → IfOk result (λ p. p ≡ is) }
+    ensures back { IfOk result (λ p. firsts 9 0 row.now ≡ shown_paper p) }
+    ensures typed { IfOk result IsPaper }
+    ensures some { (is : ThePaper) → IsPaper is → row.now ≡ shown_paper is → IfErr result (λ e. e ≡ RowFault.NoMemory) }
+{
+    Ok(Paper {
+        file: readable(file_number(row, 0))?,
+        number: readable(paper_number(row, 1))?,
+        day: readable(day(row, 2))?,
+        author: readable(party_number(row, 3))?,
+        sort: readable(sort(row, 4))?,
+        days: readable(number(row, 5))?,
+        text: string(row, 6)?,
+        terms: string(row, 7)?,
+        is_open: readable(truth(row, 8))?,
+    })
+}
+
+/// The same, or none.
+pub fn paper_in(row: &Row) -> Option<Paper>
+    ensures { (is : ThePaper) → row.now ≡ shown_paper is → IfSome result (λ p. p ≡ is) }
+{
+    paper_of(row).ok()
+}
+
+/// What of a file's row its state keeps.
+fn fields_in(row: &Row) -> Option<StateFields>
+    ensures read { (is : TheRow) → IsNamed is.state → row.now ≡ shown_file is → IfSome result (λ f. f ≡ is.state) }
+    ensures back { IfSome result (ShowsState row.now) }
+    ensures named { IfSome result IsNamed }
+    ensures typed { IfSome result IsState }
+    ensures some { (is : TheRow) → IsState is.state → row.now ≡ shown_file is → IsSome result }
+{
+    Some(StateFields {
+        parcel: parcel_number(row, 1)?,
+        applicant: party_number(row, 2)?,
+        contractor: party_or_zero(row, 3)?,
+        reviewer: party_or_zero(row, 4)?,
+        inspector: party_or_zero(row, 5)?,
+        kind: kind(row, 6)?,
+        filed: day(row, 9)?,
+        stage: stage(row, 10)?,
+        deadline: number_or_less(row, 11)?,
+        done: small_number(row, 12)?,
+        request: step_or_less(row, 13)?,
+        requested: day_or_less(row, 14)?,
+        ask: days_or_zero(row, 15)?,
+        stopped: truth(row, 16)?,
+        notices: short_number(row, 17)?,
+        papers: short_number(row, 18)?,
+        temporary: number_or_less(row, 19)?,
+    })
+}
+
+/// The state in a file's row.
+fn state_in(row: &Row) -> Option<FileState>
+    ensures read { (is : TheRow) → IsNamed is.state → row.now ≡ shown_file is → IfSome result (λ s. s ≡ is.state) }
+    ensures back { IfSome result (ShowsState row.now) }
+    ensures named { IfSome result IsNamed }
+    ensures typed { IfSome result IsState }
+    ensures sound { IfSome result IsSoundState }
+    ensures some { (is : TheRow) → IsFile is → IsNamed is.state → row.now ≡ shown_file is → IsSome result }
+{
+    FileState::restore(fields_in(row)?)
+}
+
+/// A file's row.
+pub fn file_of(row: &Row) -> Read<FileRow>
+    ensures read { (is : TheRow) → IsNamed is.state → row.now ≡ shown_file is → IfOk result (λ f. f ≡ is) }
+    ensures back { IfOk result (λ f. firsts 20 0 row.now ≡ shown_file f) }
+    ensures named { IfOk result (λ f. IsNamed f.state) }
+    ensures typed { IfOk result IsFile }
+    ensures some { (is : TheRow) → IsFile is → IsNamed is.state → row.now ≡ shown_file is → IfErr result (λ e. e ≡ RowFault.NoMemory) }
+{
+    Ok(FileRow {
+        id: readable(file_number(row, 0))?,
+        state: readable(state_in(row))?,
+        valuation: readable(cents(row, 7))?,
+        description: text(row, 8)?,
+    })
+}
+
+/// The same, or none.
+pub fn file_in(row: &Row) -> Option<FileRow>
+    ensures { (is : TheRow) → IsNamed is.state → row.now ≡ shown_file is → IfSome result (λ f. f ≡ is) }
+{
+    file_of(row).ok()
+}

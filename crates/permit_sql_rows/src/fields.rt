@@ -1,0 +1,334 @@
+//! A field of a row as a typed value, or none where the field isn't one.
+
+ghost use Rattle.std.specs.Prelude.{◌≡◌, ◌≢◌, ◌<◌, ◌≤◌, ◌^◌, ℕ, ℤ, IsUtf8, List, IfOk, IsSome, IsTrue, IfErr, Bool, Option, Some, None, IfSome, string_bytes, slice_get, option_map};
+ghost use Rattle.sqlite.specs.declared.types.Value.TheVariants.{Int, Text as TextValue};
+ghost use Rattle.sqlite_value.specs.Order.{column};
+ghost use Rattle.permit_base.specs.Texts.{is_printable, is_lot, is_digest};
+ghost use Rattle.permit_base.specs.declared.words.Step.{Step as TheStep};
+ghost use Rattle.permit_sql_rows.specs.Rows.{int, or_zero, or_less, step_value, flag};
+ghost use Rattle.permit_sql_rows.specs.Typed.{IsObject};
+ghost use Rattle.permit_model.specs.Codes.{role_code, kind_code, stage_code, sort_code, step_code};
+
+use permit_base::values::{
+    Cents, Day, Days, Digest, FileId, Lot, PaperNumber, ParcelId, PartyId, Text,
+};
+use permit_base::words::{Kind, PaperSort, Role, Stage, Step, Word};
+use sqlite::{Error, ErrorCode, Row};
+use sqlite_value::value::ValueRef;
+
+/// Why a row isn't read as a typed value.
+#[derive(Clone, Copy, Debug, PartialEq, Eq)]
+pub enum RowFault {
+    /// Memory was refused.
+    NoMemory,
+    /// A field is out of its limits.
+    Unreadable,
+}
+
+/// What reading a row gives.
+pub type Read<T> = Result<T, RowFault>;
+
+/// A number, which may be below 0.
+pub fn whole_number(row: &Row, at: usize) -> Option<i64>
+    ensures read { (z : ℤ) → column row.now at ≡ Int z → result ≡ Some z }
+    ensures back { IfSome result (λ x. column row.now at ≡ Int x) }
+{
+    match row.get_ref(at) {
+        Ok(ValueRef::Int(number)) => Some(number),
+        _ => None,
+    }
+}
+
+/// A number.
+pub(crate) fn number(row: &Row, at: usize) -> Option<u32>
+    ensures read { (n : ℕ) → column row.now at ≡ int n → IfSome result (λ x. x ≡ n) }
+    ensures back { IfSome result (λ x. column row.now at ≡ int x) }
+    ensures some { (n : ℕ) → n < 2 ^ 32 → column row.now at ≡ int n → IsSome result }
+{
+    u32::try_from(whole_number(row, at)?).ok()
+}
+
+/// A number of up to 64 bits.
+pub(crate) fn long_number(row: &Row, at: usize) -> Option<u64>
+    ensures read { (n : ℕ) → column row.now at ≡ int n → IfSome result (λ x. x ≡ n) }
+    ensures back { IfSome result (λ x. column row.now at ≡ int x) }
+    ensures some { (n : ℕ) → n < 2 ^ 63 → column row.now at ≡ int n → IsSome result }
+{
+    u64::try_from(whole_number(row, at)?).ok()
+}
+
+/// A number where -1 stands for none.
+pub(crate) fn number_or_less(row: &Row, at: usize) -> Option<Option<u32>>
+    ensures read { (o : Option ℕ) → column row.now at ≡ or_less o → IfSome result (λ x. x ≡ o) }
+    ensures back { IfSome result (λ x. column row.now at ≡ or_less x) }
+    ensures some { (o : Option ℕ) → IfSome o (λ n. n < 2 ^ 32) → column row.now at ≡ or_less o → IsSome result }
+{
+    let code = whole_number(row, at)?;
+    if code == -1 {
+        return Some(None);
+    }
+    Some(Some(number(row, at)?))
+}
+
+/// A number where 0 stands for none.
+pub(crate) fn number_or_zero(row: &Row, at: usize) -> Option<Option<u32>>
+    ensures read { (o : Option ℕ) → o ≢ Some 0 → column row.now at ≡ or_zero o → IfSome result (λ x. x ≡ o) }
+    ensures back { IfSome result (λ x. (column row.now at ≡ or_zero x) × (x ≢ Some 0)) }
+    ensures some { (o : Option ℕ) → IfSome o (λ n. n < 2 ^ 32) → column row.now at ≡ or_zero o → IsSome result }
+{
+    let code = number(row, at)?;
+    if code == 0 {
+        return Some(None);
+    }
+    Some(Some(code))
+}
+
+/// A number of up to 8 bits.
+pub(crate) fn small_number(row: &Row, at: usize) -> Option<u8>
+    ensures read { (n : ℕ) → column row.now at ≡ int n → IfSome result (λ x. x ≡ n) }
+    ensures back { IfSome result (λ x. column row.now at ≡ int x) }
+    ensures some { (n : ℕ) → n < 2 ^ 8 → column row.now at ≡ int n → IsSome result }
+{
+    u8::try_from(number(row, at)?).ok()
+}
+
+/// A number of up to 16 bits.
+pub(crate) fn short_number(row: &Row, at: usize) -> Option<u16>
+    ensures read { (n : ℕ) → column row.now at ≡ int n → IfSome result (λ x. x ≡ n) }
+    ensures back { IfSome result (λ x. column row.now at ≡ int x) }
+    ensures some { (n : ℕ) → n < 2 ^ 16 → column row.now at ≡ int n → IsSome result }
+{
+    u16::try_from(number(row, at)?).ok()
+}
+
+/// The number of a party.
+pub(crate) fn party_number(row: &Row, at: usize) -> Option<PartyId>
+    ensures read { (n : ℕ) → column row.now at ≡ int n → IfSome result (λ x. x ≡ n) }
+    ensures back { IfSome result (λ x. column row.now at ≡ int x) }
+    ensures some { (n : ℕ) → IsObject n → column row.now at ≡ int n → IsSome result }
+{
+    PartyId::new(number(row, at)?)
+}
+
+/// The number of a parcel.
+pub(crate) fn parcel_number(row: &Row, at: usize) -> Option<ParcelId>
+    ensures read { (n : ℕ) → column row.now at ≡ int n → IfSome result (λ x. x ≡ n) }
+    ensures back { IfSome result (λ x. column row.now at ≡ int x) }
+    ensures some { (n : ℕ) → IsObject n → column row.now at ≡ int n → IsSome result }
+{
+    ParcelId::new(number(row, at)?)
+}
+
+/// The number of a file.
+pub(crate) fn file_number(row: &Row, at: usize) -> Option<FileId>
+    ensures read { (n : ℕ) → column row.now at ≡ int n → IfSome result (λ x. x ≡ n) }
+    ensures back { IfSome result (λ x. column row.now at ≡ int x) }
+    ensures some { (n : ℕ) → IsObject n → column row.now at ≡ int n → IsSome result }
+{
+    FileId::new(number(row, at)?)
+}
+
+/// The number of a paper.
+pub(crate) fn paper_number(row: &Row, at: usize) -> Option<PaperNumber>
+    ensures read { (n : ℕ) → column row.now at ≡ int n → IfSome result (λ x. x ≡ n) }
+    ensures back { IfSome result (λ x. column row.now at ≡ int x) }
+    ensures some { (n : ℕ) → (0 < n) × (n ≤ 9999) → column row.now at ≡ int n → IsSome result }
+{
+    PaperNumber::new(number(row, at)?)
+}
+
+/// An amount of money.
+pub(crate) fn cents(row: &Row, at: usize) -> Option<Cents>
+    ensures read { (n : ℕ) → column row.now at ≡ int n → IfSome result (λ x. x ≡ n) }
+    ensures back { IfSome result (λ x. column row.now at ≡ int x) }
+    ensures some { (n : ℕ) → n ≤ 9999999999999 → column row.now at ≡ int n → IsSome result }
+{
+    Cents::new(long_number(row, at)?)
+}
+
+/// A day.
+pub(crate) fn day(row: &Row, at: usize) -> Option<Day>
+    ensures read { (n : ℕ) → column row.now at ≡ int n → IfSome result (λ x. x ≡ n) }
+    ensures back { IfSome result (λ x. column row.now at ≡ int x) }
+    ensures some { (n : ℕ) → n ≤ 100000 → column row.now at ≡ int n → IsSome result }
+{
+    Day::new(number(row, at)?)
+}
+
+/// The number of a party, where 0 stands for none.
+pub(crate) fn party_or_zero(row: &Row, at: usize) -> Option<Option<PartyId>>
+    ensures read { (o : Option ℕ) → o ≢ Some 0 → column row.now at ≡ or_zero o → IfSome result (λ x. x ≡ o) }
+    ensures back { IfSome result (λ x. (column row.now at ≡ or_zero x) × (x ≢ Some 0)) }
+    ensures some { (o : Option ℕ) → IfSome o IsObject → column row.now at ≡ or_zero o → IsSome result }
+{
+    match number_or_zero(row, at)? {
+        None => Some(None),
+        Some(number) => Some(Some(PartyId::new(number)?)),
+    }
+}
+
+/// A count of days, where 0 stands for none.
+pub(crate) fn days_or_zero(row: &Row, at: usize) -> Option<Option<Days>>
+    ensures read { (o : Option ℕ) → o ≢ Some 0 → column row.now at ≡ or_zero o → IfSome result (λ x. x ≡ o) }
+    ensures back { IfSome result (λ x. (column row.now at ≡ or_zero x) × (x ≢ Some 0)) }
+    ensures some { (o : Option ℕ) → IfSome o (λ n. (0 < n) × (n ≤ 365)) → column row.now at ≡ or_zero o → IsSome result }
+{
+    match number_or_zero(row, at)? {
+        None => Some(None),
+        Some(number) => Some(Some(Days::new(number)?)),
+    }
+}
+
+/// A day, where -1 stands for none.
+pub(crate) fn day_or_less(row: &Row, at: usize) -> Option<Option<Day>>
+    ensures read { (o : Option ℕ) → column row.now at ≡ or_less o → IfSome result (λ x. x ≡ o) }
+    ensures back { IfSome result (λ x. column row.now at ≡ or_less x) }
+    ensures some { (o : Option ℕ) → IfSome o (λ n. n ≤ 100000) → column row.now at ≡ or_less o → IsSome result }
+{
+    match number_or_less(row, at)? {
+        None => Some(None),
+        Some(number) => Some(Some(Day::new(number)?)),
+    }
+}
+
+/// A string, which may be empty.
+pub(crate) fn string(row: &Row, at: usize) -> Read<String>
+    ensures read { (t : List ℕ) → column row.now at ≡ TextValue t → IfOk result (λ x. string_bytes x ≡ t) }
+    ensures back { IfOk result (λ x. column row.now at ≡ TextValue (string_bytes x)) }
+    ensures utf8 { IfOk result (λ x. IsUtf8 (string_bytes x)) }
+    ensures some { (t : List ℕ) → IsUtf8 t → column row.now at ≡ TextValue t → IfErr result (λ e. e ≡ RowFault.NoMemory) }
+{
+    match row.get::<String>(at) {
+        Ok(text) => {
+            // Its contract says that a string's bytes are UTF-8.
+            let _bytes = text.as_str();
+            Ok(text)
+        }
+        Err(Error::SqliteFailure(ErrorCode::OutOfMemory)) => Err(RowFault::NoMemory),
+        Err(_) => Err(RowFault::Unreadable),
+    }
+}
+
+/// A text within its limits.
+pub(crate) fn text(row: &Row, at: usize) -> Read<Text>
+    ensures read { (t : List ℕ) → column row.now at ≡ TextValue t → IfOk result (λ x. x ≡ t) }
+    ensures back { IfOk result (λ x. column row.now at ≡ TextValue x) }
+    ensures within { IfOk result (λ x. IsTrue (is_printable x)) }
+    ensures utf8 { IfOk result (λ x. IsUtf8 x) }
+    ensures some { (t : List ℕ) → IsTrue (is_printable t) → IsUtf8 t → column row.now at ≡ TextValue t → IfErr result (λ e. e ≡ RowFault.NoMemory) }
+{
+    readable(Text::new(string(row, at)?))
+}
+
+/// A lot.
+pub(crate) fn lot(row: &Row, at: usize) -> Read<Lot>
+    ensures read { (t : List ℕ) → column row.now at ≡ TextValue t → IfOk result (λ x. x ≡ t) }
+    ensures back { IfOk result (λ x. column row.now at ≡ TextValue x) }
+    ensures within { IfOk result (λ x. IsTrue (is_lot x)) }
+    ensures some { (t : List ℕ) → IsTrue (is_lot t) → column row.now at ≡ TextValue t → IfErr result (λ e. e ≡ RowFault.NoMemory) }
+{
+    readable(Lot::new(string(row, at)?))
+}
+
+/// A digest.
+pub(crate) fn digest(row: &Row, at: usize) -> Read<Digest>
+    ensures read { (t : List ℕ) → column row.now at ≡ TextValue t → IfOk result (λ x. x ≡ t) }
+    ensures back { IfOk result (λ x. column row.now at ≡ TextValue x) }
+    ensures within { IfOk result (λ x. IsTrue (is_digest x)) }
+    ensures some { (t : List ℕ) → IsTrue (is_digest t) → column row.now at ≡ TextValue t → IfErr result (λ e. e ≡ RowFault.NoMemory) }
+{
+    readable(Digest::read(string(row, at)?.as_str()))
+}
+
+/// The value, or that the row is unreadable.
+pub(crate) fn readable<T>(value: Option<T>) -> Read<T>
+    ensures ok { IfOk result (λ x. value ≡ Some x) }
+    ensures err { IfErr result (λ e. (value ≡ None) × (e ≡ RowFault.Unreadable)) }
+{
+    match value {
+        Some(value) => Ok(value),
+        None => Err(RowFault::Unreadable),
+    }
+}
+
+/// 1 or 0.
+pub(crate) fn truth(row: &Row, at: usize) -> Option<bool>
+    ensures read { (b : Bool) → column row.now at ≡ flag b → IfSome result (λ x. x ≡ b) }
+    ensures back { IfSome result (λ x. column row.now at ≡ flag x) }
+    ensures some { (b : Bool) → column row.now at ≡ flag b → IsSome result }
+{
+    match number(row, at)? {
+        0 => Some(false),
+        1 => Some(true),
+        _ => None,
+    }
+}
+
+/// The word with a code.
+fn word_at<W: Word>(code: u32) -> Option<W>
+    ensures { result ≡ slice_get W.every code }
+{
+    W::all().get(code as usize).copied()
+}
+
+/// A role by its code.
+#[tactic(auto, using(crate::proofs::Coded::role_back, crate::proofs::Coded::role_code_of))]
+pub(crate) fn role(row: &Row, at: usize) -> Option<Role>
+    ensures read { (w : _) → column row.now at ≡ int (role_code w) → IfSome result (λ x. x ≡ w) }
+    ensures back { IfSome result (λ x. column row.now at ≡ int (role_code x)) }
+    ensures some { (w : _) → column row.now at ≡ int (role_code w) → IsSome result }
+{
+    word_at(number(row, at)?)
+}
+
+/// A kind of work by its code.
+#[tactic(auto, using(crate::proofs::Coded::kind_back, crate::proofs::Coded::kind_code_of))]
+pub(crate) fn kind(row: &Row, at: usize) -> Option<Kind>
+    ensures read { (w : _) → column row.now at ≡ int (kind_code w) → IfSome result (λ x. x ≡ w) }
+    ensures back { IfSome result (λ x. column row.now at ≡ int (kind_code x)) }
+    ensures some { (w : _) → column row.now at ≡ int (kind_code w) → IsSome result }
+{
+    word_at(number(row, at)?)
+}
+
+/// A stage by its code.
+#[tactic(auto, using(crate::proofs::Coded::stage_back, crate::proofs::Coded::stage_code_of))]
+pub(crate) fn stage(row: &Row, at: usize) -> Option<Stage>
+    ensures read { (w : _) → column row.now at ≡ int (stage_code w) → IfSome result (λ x. x ≡ w) }
+    ensures back { IfSome result (λ x. column row.now at ≡ int (stage_code x)) }
+    ensures some { (w : _) → column row.now at ≡ int (stage_code w) → IsSome result }
+{
+    word_at(number(row, at)?)
+}
+
+/// A sort of paper by its code.
+#[tactic(auto, using(crate::proofs::Coded::sort_back, crate::proofs::Coded::sort_code_of))]
+pub(crate) fn sort(row: &Row, at: usize) -> Option<PaperSort>
+    ensures read { (w : _) → column row.now at ≡ int (sort_code w) → IfSome result (λ x. x ≡ w) }
+    ensures back { IfSome result (λ x. column row.now at ≡ int (sort_code x)) }
+    ensures some { (w : _) → column row.now at ≡ int (sort_code w) → IsSome result }
+{
+    word_at(number(row, at)?)
+}
+
+/// The step with a code, if there is a code.
+#[tactic(auto, using(crate::proofs::Coded::step_back, crate::proofs::Coded::step_code_of))]
+fn step_with(code: Option<u32>) -> Option<Option<Step>>
+    ensures read { (o : Option TheStep) → code ≡ option_map step_code o → IfSome result (λ x. x ≡ o) }
+    ensures back { IfSome result (λ x. code ≡ option_map step_code x) }
+    ensures some { (o : Option TheStep) → code ≡ option_map step_code o → IsSome result }
+{
+    match code {
+        None => Some(None),
+        Some(code) => Some(Some(word_at(code)?)),
+    }
+}
+
+/// A step by its code, where -1 stands for none.
+pub(crate) fn step_or_less(row: &Row, at: usize) -> Option<Option<Step>>
+    ensures read { (o : Option TheStep) → column row.now at ≡ step_value o → IfSome result (λ x. x ≡ o) }
+    ensures back { IfSome result (λ x. column row.now at ≡ step_value x) }
+    ensures some { (o : Option TheStep) → column row.now at ≡ step_value o → IsSome result }
+{
+    step_with(number_or_less(row, at)?)
+}

@@ -1,0 +1,508 @@
+-- What the statements of a creation make of an empty database.
+use Rattle.std.proofs.Common.{◌≡◌, ℕ, arith, IsPermutation, true, false, List, [], ◌∷◌, ◌++◌, map, drop, None, Ok, Result, refl, sym, ap, subst, ◌∙◌}
+use Rattle.sqlite_tied.specs.Compute.{everything}
+use Rattle.sqlite.specs.Listing.{understood}
+use Rattle.sqlite_resolve.specs.Compile.{table_defined_by, index_defined_by}
+use Rattle.sqlite_catalog.specs.Change.{created, indexed, next_tree, KeepsRows}
+use Rattle.sqlite_schema.specs.declared.schema.Table.{Table}
+use Rattle.sqlite_schema.specs.declared.schema.Schema.{Schema}
+use Rattle.sqlite_schema.specs.declared.schema.Index.{Index}
+use Rattle.sqlite_schema.specs.declared.command.Command.TheVariants.{CreateTable, CreateIndex}
+use Rattle.std.specs.List.{AllByRecursion}
+use Rattle.sqlite_trees.specs.Tree.{Trees, put_row}
+use Rattle.sqlite_trees.specs.declared.store.Store.{Ghosts}
+use Rattle.sqlite_keyed.proofs.ListLemmas.{IsPermutation-same}
+use Rattle.sqlite.specs.Effect.{Database}
+use Rattle.sqlite.specs.Does.{Tally, Does, lacks_sequence}
+use Rattle.sqlite.specs.State.{State, Writes, Executes, mode_of}
+use Rattle.sqlite.specs.Held.{Held, state}
+use Rattle.sqlite.proofs.Callers.{runs_as, command_of, statement_of, IsPlain}
+use Rattle.permit_model.specs.Caller.{Party}
+use Rattle.permit_model.specs.Tables.{Desk, Tables}
+use Rattle.permit_sql_rows.specs.Schema.{desk_table, party_table, parcel_table, interest_table, file_table, paper_table, all_tables, key_indexes, cell_index, applicant_index, contractor_index, reviewer_index, inspector_index, parcel_index, owner_index, interested_index, office_schema, empty_schema, table_schema}
+use Rattle.permit_sql_rows.specs.Rows.{int, desk_row, party_row, shown_party}
+use Rattle.permit_sql_rows.specs.Kept.{AreKeyed, AreInTrees, Keeps}
+use Rattle.permit_sql_statements.specs.Steps.{RanAll}
+use Rattle.permit_sql_statements.specs.Founding.{founding_steps}
+use Rattle.permit_sql_statements.specs.Texts.{create_desk, create_party, create_parcel, create_interest, create_file, create_paper, index_cell, index_applicant, index_contractor, index_reviewer, index_inspector, index_parcel, index_owner, index_interested}
+use Rattle.permit_sql_statements.proofs.Permuted.{put_more}
+use Rattle.permit_sql_statements.proofs.Writes.{founds_desk, adds_party}
+use Rattle.permit_sql_statements.proofs.Keeping.{Apart, keeps_parties, keyed_party}
+use Rattle.permit_sql_statements.proofs.WriteLemmas.{went, same_value}
+
+-- the text makes this table under this schema
+record Makes (s : Schema) (text : List ℕ) (table : Table) : Type 0 where
+  command : command_of (understood s text) ≡ CreateTable
+  statement : statement_of text (understood s text) ≡ text
+  plain : IsPlain (understood s text)
+  defines : table_defined_by text ≡ Ok table
+  whole : lacks_sequence (created s table) ≡ false
+
+record Made (s : Schema) (table : Table) (old new : Database) : Type 0 where
+  schema : new.schema ≡ created s table
+  empty : new.trees (next_tree s) ≡ []
+  others : KeepsRows s.tables old.trees new.trees
+
+makes : (s : Schema) (text : List ℕ) (table : Table) → Makes s text table → (old new : State) (count : ℕ) → old.now.schema ≡ s → Executes text [] old new (Ok count) → Made s table old.now new.now
+makes s text table m old new count has h =
+    let w = subst (λ t. Writes old new None CreateTable t [] count) m.statement (runs_as text [] old new s has CreateTable m.command m.plain count h) in
+    let all = went w.changed in
+    let first = went all.1 in
+    let made = first.1 in
+    let both : ◌≡◌ {A = Result Table Rattle.sqlite_resolve.specs.declared.error.CompileError.CompileError} (Ok made.table) (Ok table) = sym made.defined ∙ m.defines in
+    let same : made.table ≡ table = same_value both in
+    let schema : first.0.schema ≡ created s table = made.is ∙ ap (λ x. created x made.table) has ∙ ap (created s) same in
+    let plain : lacks_sequence first.0.schema ≡ false = ap lacks_sequence schema ∙ m.whole in
+    let now : new.now ≡ first.0 = ap (λ (p : Tally × Database). p.1) (same_value all.2) ∙ same_value (rw plain at first.2) in
+    record {
+      schema = ap (λ (d : Database). d.schema) now ∙ schema;
+      empty = ap (λ (d : Database). d.trees (next_tree s)) now ∙ subst (λ x. first.0.trees (next_tree x) ≡ []) has made.empty;
+      others = subst (λ (d : Database). KeepsRows s.tables old.now.trees d.trees) (sym now) (subst (λ x. KeepsRows x.tables old.now.trees first.0.trees) has made.others);
+    }
+
+abbrev pub made_1 : Schema
+made_1 = created empty_schema desk_table
+
+abbrev pub made_2 : Schema
+made_2 = created made_1 (record party_table { tree = 0 })
+
+abbrev pub made_3 : Schema
+made_3 = created made_2 (record parcel_table { tree = 0 })
+
+abbrev pub made_4 : Schema
+made_4 = created made_3 (record interest_table { tree = 0 })
+
+abbrev pub made_5 : Schema
+made_5 = created made_4 (record file_table { tree = 0 })
+
+abbrev pub made_6 : Schema
+made_6 = created made_5 (record paper_table { tree = 0 })
+
+makes_desk : Makes empty_schema create_desk desk_table
+unfolding understood everything
+makes_desk = record { command = refl; statement = refl; plain = (refl, refl); defines = refl; whole = refl }
+
+makes_party : Makes made_1 create_party (record party_table { tree = 0 })
+unfolding understood everything
+makes_party = record { command = refl; statement = refl; plain = (refl, refl); defines = refl; whole = refl }
+
+makes_parcel : Makes made_2 create_parcel (record parcel_table { tree = 0 })
+unfolding understood everything
+makes_parcel = record { command = refl; statement = refl; plain = (refl, refl); defines = refl; whole = refl }
+
+makes_interest : Makes made_3 create_interest (record interest_table { tree = 0 })
+unfolding understood everything
+makes_interest = record { command = refl; statement = refl; plain = (refl, refl); defines = refl; whole = refl }
+
+makes_file : Makes made_4 create_file (record file_table { tree = 0 })
+unfolding understood everything
+makes_file = record { command = refl; statement = refl; plain = (refl, refl); defines = refl; whole = refl }
+
+makes_paper : Makes made_5 create_paper (record paper_table { tree = 0 })
+unfolding understood everything
+makes_paper = record { command = refl; statement = refl; plain = (refl, refl); defines = refl; whole = refl }
+
+six_is : made_6 ≡ table_schema
+unfolding understood everything
+six_is = refl
+
+abbrev pub AreBlank : List Table → Trees → Type 0
+AreBlank tables db = AllByRecursion (λ (t : Table). db t.tree ≡ []) tables
+
+blank_more : (ts : List Table) (t : Table) (old new : Trees) → AreBlank ts old → KeepsRows ts old new → new t.tree ≡ [] → AreBlank (ts ++ t ∷ []) new
+blank_more [] t old new blank kept empty = (empty, tt)
+blank_more (x ∷ xs) t old new blank kept empty = (kept.0 ∙ blank.0, blank_more xs t old new blank.1 kept.1 empty)
+
+blank_still : (ts : List Table) (old new : Trees) → AreBlank ts old → KeepsRows ts old new → AreBlank ts new
+blank_still [] old new blank kept = tt
+blank_still (x ∷ xs) old new blank kept = (kept.0 ∙ blank.0, blank_still xs old new blank.1 kept.1)
+
+-- a database that has these tables alone, with no rows
+pub record IsBlank (s : Schema) (db : Database) : Type 0 where
+  pub schema : db.schema ≡ s
+  pub blank : AreBlank s.tables db.trees
+
+more : (s : Schema) (text : List ℕ) (table : Table) → Makes s text table → (old new : State) (count : ℕ) → IsBlank s old.now → Executes text [] old new (Ok count) → IsBlank (created s table) new.now
+more s text table m old new count was h =
+    let it = makes s text table m old new count was.schema h in
+    record { schema = it.schema; blank = blank_more s.tables (record table { tree = next_tree s }) old.now.trees new.now.trees was.blank it.others it.empty }
+
+abbrev pub schema_1 : Schema
+schema_1 = record { tables = all_tables; indexes = key_indexes ++ cell_index ∷ []; views = [] }
+
+cell_defined : index_defined_by file_table index_cell ≡ Ok (record cell_index { tree = 0 })
+unfolding understood everything
+cell_defined = refl
+
+cell_whole : indexed table_schema file_table (record cell_index { tree = 0 }) ≡ schema_1
+unfolding understood everything
+cell_whole = refl
+
+cell_command : command_of (understood table_schema index_cell) ≡ CreateIndex 4
+unfolding understood everything
+cell_command = refl
+
+cell_statement : statement_of index_cell (understood table_schema index_cell) ≡ index_cell
+unfolding understood everything
+cell_statement = refl
+
+cell_plain : IsPlain (understood table_schema index_cell)
+unfolding understood everything
+cell_plain = (refl, refl)
+
+cell_made : (old new : State) (count : ℕ) → IsBlank table_schema old.now → Executes index_cell [] old new (Ok count) → IsBlank schema_1 new.now
+cell_made old new count was h =
+    let w = subst (λ t. Writes old new None (CreateIndex 4) t [] count) cell_statement (runs_as index_cell [] old new table_schema was.schema (CreateIndex 4) cell_command cell_plain count h) in
+    let does = subst (λ s. Does old.step_limit (mode_of old) [] (record old.now { schema = s }) index_cell None (CreateIndex 4) (Ok (w.tally, new.now))) was.schema w.changed in
+    let all = went does in
+    let made = all.1 in
+    let both : ◌≡◌ {A = Result Index Rattle.sqlite_resolve.specs.declared.error.CompileError.CompileError} (Ok made.index) (Ok (record cell_index { tree = 0 })) = sym made.defined ∙ cell_defined in
+    let same : made.index ≡ record cell_index { tree = 0 } = same_value both in
+    let now : new.now ≡ all.0 = ap (λ (p : Tally × Database). p.1) (same_value all.2) in
+    let schema : all.0.schema ≡ schema_1 = made.is ∙ ap (indexed table_schema file_table) same ∙ cell_whole in
+    record {
+      schema = ap (λ (d : Database). d.schema) now ∙ schema;
+      blank = subst (λ (d : Database). AreBlank table_schema.tables d.trees) (sym now) (blank_still table_schema.tables old.now.trees all.0.trees was.blank made.rows);
+    }
+
+abbrev pub schema_2 : Schema
+schema_2 = record { tables = all_tables; indexes = key_indexes ++ cell_index ∷ applicant_index ∷ []; views = [] }
+
+applicant_defined : index_defined_by file_table index_applicant ≡ Ok (record applicant_index { tree = 0 })
+unfolding understood everything
+applicant_defined = refl
+
+applicant_whole : indexed schema_1 file_table (record applicant_index { tree = 0 }) ≡ schema_2
+unfolding understood everything
+applicant_whole = refl
+
+applicant_command : command_of (understood schema_1 index_applicant) ≡ CreateIndex 4
+unfolding understood everything
+applicant_command = refl
+
+applicant_statement : statement_of index_applicant (understood schema_1 index_applicant) ≡ index_applicant
+unfolding understood everything
+applicant_statement = refl
+
+applicant_plain : IsPlain (understood schema_1 index_applicant)
+unfolding understood everything
+applicant_plain = (refl, refl)
+
+applicant_made : (old new : State) (count : ℕ) → IsBlank schema_1 old.now → Executes index_applicant [] old new (Ok count) → IsBlank schema_2 new.now
+applicant_made old new count was h =
+    let w = subst (λ t. Writes old new None (CreateIndex 4) t [] count) applicant_statement (runs_as index_applicant [] old new schema_1 was.schema (CreateIndex 4) applicant_command applicant_plain count h) in
+    let does = subst (λ s. Does old.step_limit (mode_of old) [] (record old.now { schema = s }) index_applicant None (CreateIndex 4) (Ok (w.tally, new.now))) was.schema w.changed in
+    let all = went does in
+    let made = all.1 in
+    let both : ◌≡◌ {A = Result Index Rattle.sqlite_resolve.specs.declared.error.CompileError.CompileError} (Ok made.index) (Ok (record applicant_index { tree = 0 })) = sym made.defined ∙ applicant_defined in
+    let same : made.index ≡ record applicant_index { tree = 0 } = same_value both in
+    let now : new.now ≡ all.0 = ap (λ (p : Tally × Database). p.1) (same_value all.2) in
+    let schema : all.0.schema ≡ schema_2 = made.is ∙ ap (indexed schema_1 file_table) same ∙ applicant_whole in
+    record {
+      schema = ap (λ (d : Database). d.schema) now ∙ schema;
+      blank = subst (λ (d : Database). AreBlank schema_1.tables d.trees) (sym now) (blank_still schema_1.tables old.now.trees all.0.trees was.blank made.rows);
+    }
+
+abbrev pub schema_3 : Schema
+schema_3 = record { tables = all_tables; indexes = key_indexes ++ cell_index ∷ applicant_index ∷ contractor_index ∷ []; views = [] }
+
+contractor_defined : index_defined_by file_table index_contractor ≡ Ok (record contractor_index { tree = 0 })
+unfolding understood everything
+contractor_defined = refl
+
+contractor_whole : indexed schema_2 file_table (record contractor_index { tree = 0 }) ≡ schema_3
+unfolding understood everything
+contractor_whole = refl
+
+contractor_command : command_of (understood schema_2 index_contractor) ≡ CreateIndex 4
+unfolding understood everything
+contractor_command = refl
+
+contractor_statement : statement_of index_contractor (understood schema_2 index_contractor) ≡ index_contractor
+unfolding understood everything
+contractor_statement = refl
+
+contractor_plain : IsPlain (understood schema_2 index_contractor)
+unfolding understood everything
+contractor_plain = (refl, refl)
+
+contractor_made : (old new : State) (count : ℕ) → IsBlank schema_2 old.now → Executes index_contractor [] old new (Ok count) → IsBlank schema_3 new.now
+contractor_made old new count was h =
+    let w = subst (λ t. Writes old new None (CreateIndex 4) t [] count) contractor_statement (runs_as index_contractor [] old new schema_2 was.schema (CreateIndex 4) contractor_command contractor_plain count h) in
+    let does = subst (λ s. Does old.step_limit (mode_of old) [] (record old.now { schema = s }) index_contractor None (CreateIndex 4) (Ok (w.tally, new.now))) was.schema w.changed in
+    let all = went does in
+    let made = all.1 in
+    let both : ◌≡◌ {A = Result Index Rattle.sqlite_resolve.specs.declared.error.CompileError.CompileError} (Ok made.index) (Ok (record contractor_index { tree = 0 })) = sym made.defined ∙ contractor_defined in
+    let same : made.index ≡ record contractor_index { tree = 0 } = same_value both in
+    let now : new.now ≡ all.0 = ap (λ (p : Tally × Database). p.1) (same_value all.2) in
+    let schema : all.0.schema ≡ schema_3 = made.is ∙ ap (indexed schema_2 file_table) same ∙ contractor_whole in
+    record {
+      schema = ap (λ (d : Database). d.schema) now ∙ schema;
+      blank = subst (λ (d : Database). AreBlank schema_2.tables d.trees) (sym now) (blank_still schema_2.tables old.now.trees all.0.trees was.blank made.rows);
+    }
+
+abbrev pub schema_4 : Schema
+schema_4 = record { tables = all_tables; indexes = key_indexes ++ cell_index ∷ applicant_index ∷ contractor_index ∷ reviewer_index ∷ []; views = [] }
+
+reviewer_defined : index_defined_by file_table index_reviewer ≡ Ok (record reviewer_index { tree = 0 })
+unfolding understood everything
+reviewer_defined = refl
+
+reviewer_whole : indexed schema_3 file_table (record reviewer_index { tree = 0 }) ≡ schema_4
+unfolding understood everything
+reviewer_whole = refl
+
+reviewer_command : command_of (understood schema_3 index_reviewer) ≡ CreateIndex 4
+unfolding understood everything
+reviewer_command = refl
+
+reviewer_statement : statement_of index_reviewer (understood schema_3 index_reviewer) ≡ index_reviewer
+unfolding understood everything
+reviewer_statement = refl
+
+reviewer_plain : IsPlain (understood schema_3 index_reviewer)
+unfolding understood everything
+reviewer_plain = (refl, refl)
+
+reviewer_made : (old new : State) (count : ℕ) → IsBlank schema_3 old.now → Executes index_reviewer [] old new (Ok count) → IsBlank schema_4 new.now
+reviewer_made old new count was h =
+    let w = subst (λ t. Writes old new None (CreateIndex 4) t [] count) reviewer_statement (runs_as index_reviewer [] old new schema_3 was.schema (CreateIndex 4) reviewer_command reviewer_plain count h) in
+    let does = subst (λ s. Does old.step_limit (mode_of old) [] (record old.now { schema = s }) index_reviewer None (CreateIndex 4) (Ok (w.tally, new.now))) was.schema w.changed in
+    let all = went does in
+    let made = all.1 in
+    let both : ◌≡◌ {A = Result Index Rattle.sqlite_resolve.specs.declared.error.CompileError.CompileError} (Ok made.index) (Ok (record reviewer_index { tree = 0 })) = sym made.defined ∙ reviewer_defined in
+    let same : made.index ≡ record reviewer_index { tree = 0 } = same_value both in
+    let now : new.now ≡ all.0 = ap (λ (p : Tally × Database). p.1) (same_value all.2) in
+    let schema : all.0.schema ≡ schema_4 = made.is ∙ ap (indexed schema_3 file_table) same ∙ reviewer_whole in
+    record {
+      schema = ap (λ (d : Database). d.schema) now ∙ schema;
+      blank = subst (λ (d : Database). AreBlank schema_3.tables d.trees) (sym now) (blank_still schema_3.tables old.now.trees all.0.trees was.blank made.rows);
+    }
+
+abbrev pub schema_5 : Schema
+schema_5 = record { tables = all_tables; indexes = key_indexes ++ cell_index ∷ applicant_index ∷ contractor_index ∷ reviewer_index ∷ inspector_index ∷ []; views = [] }
+
+inspector_defined : index_defined_by file_table index_inspector ≡ Ok (record inspector_index { tree = 0 })
+unfolding understood everything
+inspector_defined = refl
+
+inspector_whole : indexed schema_4 file_table (record inspector_index { tree = 0 }) ≡ schema_5
+unfolding understood everything
+inspector_whole = refl
+
+inspector_command : command_of (understood schema_4 index_inspector) ≡ CreateIndex 4
+unfolding understood everything
+inspector_command = refl
+
+inspector_statement : statement_of index_inspector (understood schema_4 index_inspector) ≡ index_inspector
+unfolding understood everything
+inspector_statement = refl
+
+inspector_plain : IsPlain (understood schema_4 index_inspector)
+unfolding understood everything
+inspector_plain = (refl, refl)
+
+inspector_made : (old new : State) (count : ℕ) → IsBlank schema_4 old.now → Executes index_inspector [] old new (Ok count) → IsBlank schema_5 new.now
+inspector_made old new count was h =
+    let w = subst (λ t. Writes old new None (CreateIndex 4) t [] count) inspector_statement (runs_as index_inspector [] old new schema_4 was.schema (CreateIndex 4) inspector_command inspector_plain count h) in
+    let does = subst (λ s. Does old.step_limit (mode_of old) [] (record old.now { schema = s }) index_inspector None (CreateIndex 4) (Ok (w.tally, new.now))) was.schema w.changed in
+    let all = went does in
+    let made = all.1 in
+    let both : ◌≡◌ {A = Result Index Rattle.sqlite_resolve.specs.declared.error.CompileError.CompileError} (Ok made.index) (Ok (record inspector_index { tree = 0 })) = sym made.defined ∙ inspector_defined in
+    let same : made.index ≡ record inspector_index { tree = 0 } = same_value both in
+    let now : new.now ≡ all.0 = ap (λ (p : Tally × Database). p.1) (same_value all.2) in
+    let schema : all.0.schema ≡ schema_5 = made.is ∙ ap (indexed schema_4 file_table) same ∙ inspector_whole in
+    record {
+      schema = ap (λ (d : Database). d.schema) now ∙ schema;
+      blank = subst (λ (d : Database). AreBlank schema_4.tables d.trees) (sym now) (blank_still schema_4.tables old.now.trees all.0.trees was.blank made.rows);
+    }
+
+abbrev pub schema_6 : Schema
+schema_6 = record { tables = all_tables; indexes = key_indexes ++ cell_index ∷ applicant_index ∷ contractor_index ∷ reviewer_index ∷ inspector_index ∷ parcel_index ∷ []; views = [] }
+
+parcel_defined : index_defined_by file_table index_parcel ≡ Ok (record parcel_index { tree = 0 })
+unfolding understood everything
+parcel_defined = refl
+
+parcel_whole : indexed schema_5 file_table (record parcel_index { tree = 0 }) ≡ schema_6
+unfolding understood everything
+parcel_whole = refl
+
+parcel_command : command_of (understood schema_5 index_parcel) ≡ CreateIndex 4
+unfolding understood everything
+parcel_command = refl
+
+parcel_statement : statement_of index_parcel (understood schema_5 index_parcel) ≡ index_parcel
+unfolding understood everything
+parcel_statement = refl
+
+parcel_plain : IsPlain (understood schema_5 index_parcel)
+unfolding understood everything
+parcel_plain = (refl, refl)
+
+parcel_made : (old new : State) (count : ℕ) → IsBlank schema_5 old.now → Executes index_parcel [] old new (Ok count) → IsBlank schema_6 new.now
+parcel_made old new count was h =
+    let w = subst (λ t. Writes old new None (CreateIndex 4) t [] count) parcel_statement (runs_as index_parcel [] old new schema_5 was.schema (CreateIndex 4) parcel_command parcel_plain count h) in
+    let does = subst (λ s. Does old.step_limit (mode_of old) [] (record old.now { schema = s }) index_parcel None (CreateIndex 4) (Ok (w.tally, new.now))) was.schema w.changed in
+    let all = went does in
+    let made = all.1 in
+    let both : ◌≡◌ {A = Result Index Rattle.sqlite_resolve.specs.declared.error.CompileError.CompileError} (Ok made.index) (Ok (record parcel_index { tree = 0 })) = sym made.defined ∙ parcel_defined in
+    let same : made.index ≡ record parcel_index { tree = 0 } = same_value both in
+    let now : new.now ≡ all.0 = ap (λ (p : Tally × Database). p.1) (same_value all.2) in
+    let schema : all.0.schema ≡ schema_6 = made.is ∙ ap (indexed schema_5 file_table) same ∙ parcel_whole in
+    record {
+      schema = ap (λ (d : Database). d.schema) now ∙ schema;
+      blank = subst (λ (d : Database). AreBlank schema_5.tables d.trees) (sym now) (blank_still schema_5.tables old.now.trees all.0.trees was.blank made.rows);
+    }
+
+abbrev pub schema_7 : Schema
+schema_7 = record { tables = all_tables; indexes = key_indexes ++ cell_index ∷ applicant_index ∷ contractor_index ∷ reviewer_index ∷ inspector_index ∷ parcel_index ∷ owner_index ∷ []; views = [] }
+
+owner_defined : index_defined_by parcel_table index_owner ≡ Ok (record owner_index { tree = 0 })
+unfolding understood everything
+owner_defined = refl
+
+owner_whole : indexed schema_6 parcel_table (record owner_index { tree = 0 }) ≡ schema_7
+unfolding understood everything
+owner_whole = refl
+
+owner_command : command_of (understood schema_6 index_owner) ≡ CreateIndex 2
+unfolding understood everything
+owner_command = refl
+
+owner_statement : statement_of index_owner (understood schema_6 index_owner) ≡ index_owner
+unfolding understood everything
+owner_statement = refl
+
+owner_plain : IsPlain (understood schema_6 index_owner)
+unfolding understood everything
+owner_plain = (refl, refl)
+
+owner_made : (old new : State) (count : ℕ) → IsBlank schema_6 old.now → Executes index_owner [] old new (Ok count) → IsBlank schema_7 new.now
+owner_made old new count was h =
+    let w = subst (λ t. Writes old new None (CreateIndex 2) t [] count) owner_statement (runs_as index_owner [] old new schema_6 was.schema (CreateIndex 2) owner_command owner_plain count h) in
+    let does = subst (λ s. Does old.step_limit (mode_of old) [] (record old.now { schema = s }) index_owner None (CreateIndex 2) (Ok (w.tally, new.now))) was.schema w.changed in
+    let all = went does in
+    let made = all.1 in
+    let both : ◌≡◌ {A = Result Index Rattle.sqlite_resolve.specs.declared.error.CompileError.CompileError} (Ok made.index) (Ok (record owner_index { tree = 0 })) = sym made.defined ∙ owner_defined in
+    let same : made.index ≡ record owner_index { tree = 0 } = same_value both in
+    let now : new.now ≡ all.0 = ap (λ (p : Tally × Database). p.1) (same_value all.2) in
+    let schema : all.0.schema ≡ schema_7 = made.is ∙ ap (indexed schema_6 parcel_table) same ∙ owner_whole in
+    record {
+      schema = ap (λ (d : Database). d.schema) now ∙ schema;
+      blank = subst (λ (d : Database). AreBlank schema_6.tables d.trees) (sym now) (blank_still schema_6.tables old.now.trees all.0.trees was.blank made.rows);
+    }
+
+interested_defined : index_defined_by interest_table index_interested ≡ Ok (record interested_index { tree = 0 })
+unfolding understood everything
+interested_defined = refl
+
+interested_whole : indexed schema_7 interest_table (record interested_index { tree = 0 }) ≡ office_schema
+unfolding understood everything
+interested_whole = refl
+
+interested_command : command_of (understood schema_7 index_interested) ≡ CreateIndex 3
+unfolding understood everything
+interested_command = refl
+
+interested_statement : statement_of index_interested (understood schema_7 index_interested) ≡ index_interested
+unfolding understood everything
+interested_statement = refl
+
+interested_plain : IsPlain (understood schema_7 index_interested)
+unfolding understood everything
+interested_plain = (refl, refl)
+
+interested_made : (old new : State) (count : ℕ) → IsBlank schema_7 old.now → Executes index_interested [] old new (Ok count) → IsBlank office_schema new.now
+interested_made old new count was h =
+    let w = subst (λ t. Writes old new None (CreateIndex 3) t [] count) interested_statement (runs_as index_interested [] old new schema_7 was.schema (CreateIndex 3) interested_command interested_plain count h) in
+    let does = subst (λ s. Does old.step_limit (mode_of old) [] (record old.now { schema = s }) index_interested None (CreateIndex 3) (Ok (w.tally, new.now))) was.schema w.changed in
+    let all = went does in
+    let made = all.1 in
+    let both : ◌≡◌ {A = Result Index Rattle.sqlite_resolve.specs.declared.error.CompileError.CompileError} (Ok made.index) (Ok (record interested_index { tree = 0 })) = sym made.defined ∙ interested_defined in
+    let same : made.index ≡ record interested_index { tree = 0 } = same_value both in
+    let now : new.now ≡ all.0 = ap (λ (p : Tally × Database). p.1) (same_value all.2) in
+    let schema : all.0.schema ≡ office_schema = made.is ∙ ap (indexed schema_7 interest_table) same ∙ interested_whole in
+    record {
+      schema = ap (λ (d : Database). d.schema) now ∙ schema;
+      blank = subst (λ (d : Database). AreBlank schema_7.tables d.trees) (sym now) (blank_still schema_7.tables old.now.trees all.0.trees was.blank made.rows);
+    }
+
+-- ---- the founding
+
+abbrev pub no_rows : Desk → Tables
+no_rows d = record { desk = d; parties = []; parcels = []; interests = []; files = []; papers = [] }
+
+none_keyed : (d : Desk) → AreKeyed (no_rows d)
+none_keyed d = record { parties = λ id. omega arith; digests = λ d. omega arith; parcels = λ id. omega arith; lots = λ l. omega arith; files = λ id. omega arith; named = tt; papers = λ f. tt; counted = λ f. tt }
+
+desk_founded : (old new : State) (last count : ℕ) → IsBlank office_schema old.now → Executes Rattle.permit_sql_statements.specs.Texts.found_desk (int last ∷ []) old new (Ok count)
+    → (new.now.schema ≡ office_schema) × AreInTrees (no_rows (record { last = last; parties = 1; parcels = 0; files = 0 })) new.now.trees
+desk_founded old new last count was h =
+    let it = founds_desk old new count was.schema last h in
+    let o = it.leaves.others in
+    let b = was.blank in
+    let e1 : new.now.trees 1 ≡ [] = o.1.0 (λ e. absurd (omega (arith, e))) ∙ b.1.0 in
+    let e3 : new.now.trees 3 ≡ [] = o.1.1.0 (λ e. absurd (omega (arith, e))) ∙ b.1.1.0 in
+    let e5 : new.now.trees 5 ≡ [] = o.1.1.1.0 (λ e. absurd (omega (arith, e))) ∙ b.1.1.1.0 in
+    let e7 : new.now.trees 7 ≡ [] = o.1.1.1.1.0 (λ e. absurd (omega (arith, e))) ∙ b.1.1.1.1.0 in
+    let e8 : new.now.trees 8 ≡ [] = o.1.1.1.1.1.0 (λ e. absurd (omega (arith, e))) ∙ b.1.1.1.1.1.0 in (
+      it.leaves.schema,
+      record {
+        desk = it.row ∙ ap (put_row (desk_row (record { last = last; parties = 1; parcels = 0; files = 0 }))) b.0;
+        parties = IsPermutation-same _ _ (sym e1);
+        parcels = IsPermutation-same _ _ (sym e3);
+        interests = IsPermutation-same _ _ (sym (ap (map (drop 1)) e5));
+        files = IsPermutation-same _ _ (sym e7);
+        papers = IsPermutation-same _ _ (sym (ap (map (drop 1)) e8));
+        apart = subst Apart (sym e8) (λ id. omega arith);
+      },
+    )
+
+pub founding_made : {S : Type 0} (g : Ghosts S) (old : Held S) (db : Database) (last : ℕ) (p : Party) → (state g old).now.schema ≡ empty_schema
+    → RanAll g (founding_steps (int last ∷ []) (shown_party p)) old db → Keeps (record (no_rows (record { last = last; parties = 1; parcels = 0; files = 0 })) { parties = p ∷ [] }) db
+founding_made g old db last p none ran =
+    let s0 = state g (record old { in_transaction = true }) in
+    let r1 = ran.ran in
+    let r2 = r1.3 in
+    let r3 = r2.3 in
+    let r4 = r3.3 in
+    let r5 = r4.3 in
+    let r6 = r5.3 in
+    let r7 = r6.3 in
+    let r8 = r7.3 in
+    let r9 = r8.3 in
+    let r10 = r9.3 in
+    let r11 = r10.3 in
+    let r12 = r11.3 in
+    let r13 = r12.3 in
+    let r14 = r13.3 in
+    let r15 = r14.3 in
+    let r16 = r15.3 in
+    let b0 : IsBlank empty_schema s0.now = record { schema = none; blank = tt } in
+    let b1 = more empty_schema create_desk desk_table makes_desk s0 (state g r1.0) r1.1 b0 r1.2 in
+    let b2 = more made_1 create_party _ makes_party (state g r1.0) (state g r2.0) r2.1 b1 r2.2 in
+    let b3 = more made_2 create_parcel _ makes_parcel (state g r2.0) (state g r3.0) r3.1 b2 r3.2 in
+    let b4 = more made_3 create_interest _ makes_interest (state g r3.0) (state g r4.0) r4.1 b3 r4.2 in
+    let b5 = more made_4 create_file _ makes_file (state g r4.0) (state g r5.0) r5.1 b4 r5.2 in
+    let b6 = more made_5 create_paper _ makes_paper (state g r5.0) (state g r6.0) r6.1 b5 r6.2 in
+    let c0 : IsBlank table_schema (state g r6.0).now = subst (λ s. IsBlank s (state g r6.0).now) six_is b6 in
+    let c1 = cell_made (state g r6.0) (state g r7.0) r7.1 c0 r7.2 in
+    let c2 = applicant_made (state g r7.0) (state g r8.0) r8.1 c1 r8.2 in
+    let c3 = contractor_made (state g r8.0) (state g r9.0) r9.1 c2 r9.2 in
+    let c4 = reviewer_made (state g r9.0) (state g r10.0) r10.1 c3 r10.2 in
+    let c5 = inspector_made (state g r10.0) (state g r11.0) r11.1 c4 r11.2 in
+    let c6 = parcel_made (state g r11.0) (state g r12.0) r12.1 c5 r12.2 in
+    let c7 = owner_made (state g r12.0) (state g r13.0) r13.1 c6 r13.2 in
+    let c8 = interested_made (state g r13.0) (state g r14.0) r14.1 c7 r14.2 in
+    let desk = desk_founded (state g r14.0) (state g r15.0) last r15.1 c8 r15.2 in
+    let t0 = no_rows (record { last = last; parties = 1; parcels = 0; files = 0 }) in
+    let party = adds_party (state g r15.0) (state g r16.0) r16.1 desk.0 p r16.2 in
+    let there = subst (IsPermutation (map party_row (p ∷ []))) (sym party.row) (put_more (λ (q : Party). q.id) party_row (λ q. refl) p [] ((state g r15.0).now.trees 1) party.fresh desk.1.parties) in
+    let k = keeps_parties (state g r15.0).now (state g r16.0).now t0 desk.1 (p ∷ []) party.leaves there in
+    let same : db ≡ (state g r16.0).now = ran.is ∙ ap (λ (h : Held _). (state g h).now) r16.3 in
+    record {
+      schema = ap (λ (x : Database). x.schema) same ∙ party.leaves.schema;
+      keyed = keyed_party t0 (none_keyed _) p refl refl;
+      rows = subst (λ (x : Database). AreInTrees (record t0 { parties = p ∷ [] }) x.trees) (sym same) k;
+    }

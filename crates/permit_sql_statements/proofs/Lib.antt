@@ -1,0 +1,14 @@
+pub mod Permuted
+pub mod Lookups
+pub mod QueryTexts
+pub mod WriteTexts
+pub mod ReadLemmas
+pub mod WriteLemmas
+pub mod Effects
+pub mod Writes
+pub mod Keeping
+pub mod Creating
+pub mod Closing
+pub mod Commits
+pub mod Committing
+pub mod KeptLemmas

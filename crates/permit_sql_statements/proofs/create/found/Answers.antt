@@ -1,0 +1,51 @@
+use Rattle.std.proofs.Common.{◌≡◌, ◌∙◌, ◌∷◌, List, ap₂, refl, subst, OnOk}
+use Rattle.sqlite.specs.Effect.{Database}
+use Rattle.sqlite.specs.State.{Survives}
+use Rattle.sqlite.specs.Held.{state}
+use Rattle.sqlite.specs.Values.{bound}
+use Rattle.permit_sql_statements.specs.Steps.{Step, RanAll}
+use Rattle.permit_sql_statements.proofs.create.found.Goals as goal
+
+pub returns-clause-all : goal.returns-clause-all
+returns-clause-all g c clean =
+    subst (λ (l : List Step). OnOk c.run_all.result (RanAll g.S.Store l c.args.conn.now (state g.S.Store c.run_all.new.conn).committed))
+    (ap₂ ◌∷◌ (ap₂ (λ a b. (a, bound b)) c.step.ensures.0 (c.step.ensures.1 ∙ c.requires.bare))
+    (ap₂ ◌∷◌ (ap₂ (λ a b. (a, bound b)) c.step-2.ensures.0 (c.step-2.ensures.1 ∙ c.requires.bare))
+    (ap₂ ◌∷◌ (ap₂ (λ a b. (a, bound b)) c.step-3.ensures.0 (c.step-3.ensures.1 ∙ c.requires.bare))
+    (ap₂ ◌∷◌ (ap₂ (λ a b. (a, bound b)) c.step-4.ensures.0 (c.step-4.ensures.1 ∙ c.requires.bare))
+    (ap₂ ◌∷◌ (ap₂ (λ a b. (a, bound b)) c.step-5.ensures.0 (c.step-5.ensures.1 ∙ c.requires.bare))
+    (ap₂ ◌∷◌ (ap₂ (λ a b. (a, bound b)) c.step-6.ensures.0 (c.step-6.ensures.1 ∙ c.requires.bare))
+    (ap₂ ◌∷◌ (ap₂ (λ a b. (a, bound b)) c.step-7.ensures.0 (c.step-7.ensures.1 ∙ c.requires.bare))
+    (ap₂ ◌∷◌ (ap₂ (λ a b. (a, bound b)) c.step-8.ensures.0 (c.step-8.ensures.1 ∙ c.requires.bare))
+    (ap₂ ◌∷◌ (ap₂ (λ a b. (a, bound b)) c.step-9.ensures.0 (c.step-9.ensures.1 ∙ c.requires.bare))
+    (ap₂ ◌∷◌ (ap₂ (λ a b. (a, bound b)) c.step-10.ensures.0 (c.step-10.ensures.1 ∙ c.requires.bare))
+    (ap₂ ◌∷◌ (ap₂ (λ a b. (a, bound b)) c.step-11.ensures.0 (c.step-11.ensures.1 ∙ c.requires.bare))
+    (ap₂ ◌∷◌ (ap₂ (λ a b. (a, bound b)) c.step-12.ensures.0 (c.step-12.ensures.1 ∙ c.requires.bare))
+    (ap₂ ◌∷◌ (ap₂ (λ a b. (a, bound b)) c.step-13.ensures.0 (c.step-13.ensures.1 ∙ c.requires.bare))
+    (ap₂ ◌∷◌ (ap₂ (λ a b. (a, bound b)) c.step-14.ensures.0 (c.step-14.ensures.1 ∙ c.requires.bare))
+    (ap₂ ◌∷◌ (ap₂ (λ a b. (a, bound b)) c.step-15.ensures.0 (c.step-15.ensures.1))
+    (ap₂ ◌∷◌ (ap₂ (λ a b. (a, bound b)) c.step-16.ensures.0 (c.step-16.ensures.1))
+    (refl)))))))))))))))))
+    (c.run_all.ensures.all clean)
+
+pub returns-clause-crash : goal.returns-clause-crash
+returns-clause-crash g c =
+    subst (λ (l : List Step). Survives (state g.S.Store c.args.conn.now) (state g.S.Store c.run_all.new.conn) (λ trees. (db : Database) × RanAll g.S.Store l c.args.conn.now db × (trees ≡ db.trees)))
+    (ap₂ ◌∷◌ (ap₂ (λ a b. (a, bound b)) c.step.ensures.0 (c.step.ensures.1 ∙ c.requires.bare))
+    (ap₂ ◌∷◌ (ap₂ (λ a b. (a, bound b)) c.step-2.ensures.0 (c.step-2.ensures.1 ∙ c.requires.bare))
+    (ap₂ ◌∷◌ (ap₂ (λ a b. (a, bound b)) c.step-3.ensures.0 (c.step-3.ensures.1 ∙ c.requires.bare))
+    (ap₂ ◌∷◌ (ap₂ (λ a b. (a, bound b)) c.step-4.ensures.0 (c.step-4.ensures.1 ∙ c.requires.bare))
+    (ap₂ ◌∷◌ (ap₂ (λ a b. (a, bound b)) c.step-5.ensures.0 (c.step-5.ensures.1 ∙ c.requires.bare))
+    (ap₂ ◌∷◌ (ap₂ (λ a b. (a, bound b)) c.step-6.ensures.0 (c.step-6.ensures.1 ∙ c.requires.bare))
+    (ap₂ ◌∷◌ (ap₂ (λ a b. (a, bound b)) c.step-7.ensures.0 (c.step-7.ensures.1 ∙ c.requires.bare))
+    (ap₂ ◌∷◌ (ap₂ (λ a b. (a, bound b)) c.step-8.ensures.0 (c.step-8.ensures.1 ∙ c.requires.bare))
+    (ap₂ ◌∷◌ (ap₂ (λ a b. (a, bound b)) c.step-9.ensures.0 (c.step-9.ensures.1 ∙ c.requires.bare))
+    (ap₂ ◌∷◌ (ap₂ (λ a b. (a, bound b)) c.step-10.ensures.0 (c.step-10.ensures.1 ∙ c.requires.bare))
+    (ap₂ ◌∷◌ (ap₂ (λ a b. (a, bound b)) c.step-11.ensures.0 (c.step-11.ensures.1 ∙ c.requires.bare))
+    (ap₂ ◌∷◌ (ap₂ (λ a b. (a, bound b)) c.step-12.ensures.0 (c.step-12.ensures.1 ∙ c.requires.bare))
+    (ap₂ ◌∷◌ (ap₂ (λ a b. (a, bound b)) c.step-13.ensures.0 (c.step-13.ensures.1 ∙ c.requires.bare))
+    (ap₂ ◌∷◌ (ap₂ (λ a b. (a, bound b)) c.step-14.ensures.0 (c.step-14.ensures.1 ∙ c.requires.bare))
+    (ap₂ ◌∷◌ (ap₂ (λ a b. (a, bound b)) c.step-15.ensures.0 (c.step-15.ensures.1))
+    (ap₂ ◌∷◌ (ap₂ (λ a b. (a, bound b)) c.step-16.ensures.0 (c.step-16.ensures.1))
+    (refl)))))))))))))))))
+    c.run_all.ensures.crash

@@ -1,0 +1,19 @@
+use Rattle.std.proofs.Common.{◌∙◌, ap, slice_get}
+use Rattle.std.specs.Prelude.{bytes_eq}
+use Rattle.std.proofs.lemmas.Result.{IfOk-weaker}
+use Rattle.sqlite.specs.Held.{state}
+use Rattle.permit_sql_rows.specs.Rows.{shown_party}
+use Rattle.permit_sql_statements.proofs.KeptLemmas.{shown_open}
+use Rattle.permit_sql_statements.proofs.QueryTexts.{find_party_plain}
+use Rattle.permit_sql_statements.proofs.ReadLemmas.{digest_shown, first_of}
+use Rattle.permit_sql_statements.proofs.read.digest_rows.Goals as goal
+
+pub returns-clause-found : goal.returns-clause-found
+returns-clause-found g c t clean there =
+    IfOk-weaker c.rows_of.result _ _ (λ rows h. ap (λ l. slice_get l 0) (digest_shown (state g.S.Store c.args.conn.now) (state g.S.Store c.rows_of.new.conn) t rows.items (there (shown_open _ _ (state g.S.Store c.args.conn.now) (state g.S.Store c.rows_of.new.conn) rows.items h)) c.args.digest.now (rw (c.params-to_sql.ensures, c.as_str.ensures.same) at h)) ∙ first_of shown_party (λ p. bytes_eq p.digest c.args.digest.now) t.parties) (c.rows_of.ensures.shown clean)
+
+pub returns-clause-kept : goal.returns-clause-kept
+returns-clause-kept g c t clean there = c.rows_of.ensures.kept find_party_plain t clean there
+
+pub returns-clause-crash : goal.returns-clause-crash
+returns-clause-crash g c t there = c.rows_of.ensures.crash find_party_plain t there

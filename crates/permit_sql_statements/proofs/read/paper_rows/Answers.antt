@@ -1,0 +1,16 @@
+use Rattle.std.proofs.lemmas.Result.{IfOk-weaker}
+use Rattle.sqlite.specs.Held.{state}
+use Rattle.permit_sql_statements.proofs.KeptLemmas.{shown_open}
+use Rattle.permit_sql_statements.proofs.QueryTexts.{read_papers_plain}
+use Rattle.permit_sql_statements.proofs.ReadLemmas.{papers_shown}
+use Rattle.permit_sql_statements.proofs.read.paper_rows.Goals as goal
+
+pub returns-clause-found : goal.returns-clause-found
+returns-clause-found g c t clean there =
+    IfOk-weaker c.rows_of.result _ _ (λ rows h. papers_shown (state g.S.Store c.args.conn.now) (state g.S.Store c.rows_of.new.conn) t rows.items (there (shown_open _ _ (state g.S.Store c.args.conn.now) (state g.S.Store c.rows_of.new.conn) rows.items h)) c.args.file (rw (c.params-to_sql.ensures, c.get.ensures.same) at h)) (c.rows_of.ensures.shown clean)
+
+pub returns-clause-kept : goal.returns-clause-kept
+returns-clause-kept g c t clean there = c.rows_of.ensures.kept read_papers_plain t clean there
+
+pub returns-clause-crash : goal.returns-clause-crash
+returns-clause-crash g c t there = c.rows_of.ensures.crash read_papers_plain t there

@@ -1,0 +1,394 @@
+//! The changes of the tables, each in one transaction. The desk that a change is given is the one after it.
+
+ghost use Rattle.std.specs.Prelude.{◌≡◌, ◌≢◌, ◌≤◌, ◌+◌, ℕ, false, Some, OnOk, OnErr, IfOk};
+ghost use Rattle.sqlite_trees.specs.View.{doubt};
+ghost use Rattle.sqlite.specs.Effect.{Database};
+ghost use Rattle.sqlite.specs.State.{HasCleanDisk, Survives};
+ghost use Rattle.sqlite.specs.Held.{state};
+ghost use Rattle.permit_model.specs.Tables.{Tables};
+ghost use Rattle.permit_store.specs.Changes.{changed, Fits};
+ghost use Rattle.permit_store.specs.declared.change.Change.TheVariants.{NewParty, NewParcel, NewOwner, NewInterest, NewFile, NewRow};
+ghost use Rattle.permit_store.specs.declared.change.RowEffect.TheVariants as effect;
+ghost use Rattle.permit_sql_rows.specs.Kept.{IsNamed, Keeps, Shows};
+
+use crate::read::read_desk;
+use crate::turns::{turn_three, turn_two};
+use permit_base::values::{
+    Cents, Day, Days, Digest, FileId, Lot, PaperNumber, ParcelId, PartyId, Text,
+};
+use permit_base::words::Role;
+use permit_core::restore::StateFields;
+use permit_core::state::FileState;
+use permit_sql_rows::values::{
+    desk_values, file_values, pair_values, paper_values, parcel_values, party_values, row_values,
+};
+use permit_store::rows::{Change, Desk, NewPaper, RowEffect};
+use permit_store::store::{Got, StoreError};
+use sqlite::{Alter, Connection};
+
+/// Sets the desk's row.
+const SET_DESK: &str =
+    "UPDATE desk SET last = ?1, parties = ?2, parcels = ?3, files = ?4 WHERE id = 1";
+
+/// Sets what may change in a file's row.
+const SET_FILE: &str =
+    "UPDATE file SET contractor = ?2, reviewer = ?3, inspector = ?4, kind = ?5, filed = ?6, stage = ?7, deadline = ?8, done = ?9, request = ?10, requested = ?11, ask = ?12, stopped = ?13, notices = ?14, papers = ?15, temporary = ?16 WHERE id = ?1";
+
+/// A party's number isn't 0.
+fn is_party(party: Option<PartyId>)
+    ensures { party ≢ Some 0 }
+{
+    if let Some(party) = party {
+        let _number = party.get();
+    }
+}
+
+/// A count of days isn't 0.
+fn is_count(days: Option<Days>)
+    ensures { days ≢ Some 0 }
+{
+    if let Some(days) = days {
+        let _number = days.get();
+    }
+}
+
+/// The fields of a row, in which no number is 0.
+fn fields_of(row: &FileState) -> StateFields
+    ensures same { result ≡ row.now }
+    ensures named { IsNamed row.now }
+{
+    let fields = row.fields();
+    is_party(fields.contractor);
+    is_party(fields.reviewer);
+    is_party(fields.inspector);
+    is_count(fields.ask);
+    fields
+}
+
+/// Adds a party, whose number is the desk's count of parties.
+fn add_party<S: Alter>(
+    conn: &mut Connection<S>,
+    desk: &Desk,
+    name: &Text,
+    role: Role,
+    digest: &Digest,
+) -> Got<()>
+    requires calm { conn.old.in_transaction ≡ false }
+    ensures made { (t : Tables) (day : ℕ) → HasCleanDisk (state S.Store conn.new) → Shows t (state S.Store conn.old) → desk.now ≡ (changed t (NewParty name.entry role digest.entry) day).desk → Fits t (NewParty name.entry role digest.entry) day
+        → OnOk result (Shows (changed t (NewParty name.entry role digest.entry) day) (state S.Store conn.new)) }
+    ensures kept { (t : Tables) → HasCleanDisk (state S.Store conn.new) → Shows t (state S.Store conn.old) → OnErr result (Shows t (state S.Store conn.new)) }
+    ensures calm { conn.new.in_transaction ≡ false }
+    ensures doubt { doubt (state S.Store conn.old).is_clean ≤ doubt (state S.Store conn.new).is_clean }
+    ensures crash { Survives (state S.Store conn.old) (state S.Store conn.new) (λ trees. (t : Tables) (day : ℕ) → Keeps t (state S.Store conn.old).now → desk.now ≡ (changed t (NewParty name.entry role digest.entry) day).desk → Fits t (NewParty name.entry role digest.entry) day
+        → (db : Database) × Keeps (changed t (NewParty name.entry role digest.entry) day) db × (trees ≡ db.trees)) }
+{
+    let party = party_values(desk, name, role, digest);
+    let office = desk_values(desk);
+    turn_two(
+        conn,
+        "INSERT INTO party (id, name, role, digest) VALUES (?1, ?2, ?3, ?4)",
+        &party,
+        SET_DESK,
+        &office,
+    )
+}
+
+/// Adds a parcel, whose number is the desk's count of parcels.
+fn add_parcel<S: Alter>(
+    conn: &mut Connection<S>,
+    desk: &Desk,
+    lot: &Lot,
+    address: &Text,
+    owner: PartyId,
+) -> Got<()>
+    requires calm { conn.old.in_transaction ≡ false }
+    ensures made { (t : Tables) (day : ℕ) → HasCleanDisk (state S.Store conn.new) → Shows t (state S.Store conn.old) → desk.now ≡ (changed t (NewParcel lot.entry address.entry owner) day).desk → Fits t (NewParcel lot.entry address.entry owner) day
+        → OnOk result (Shows (changed t (NewParcel lot.entry address.entry owner) day) (state S.Store conn.new)) }
+    ensures kept { (t : Tables) → HasCleanDisk (state S.Store conn.new) → Shows t (state S.Store conn.old) → OnErr result (Shows t (state S.Store conn.new)) }
+    ensures calm { conn.new.in_transaction ≡ false }
+    ensures doubt { doubt (state S.Store conn.old).is_clean ≤ doubt (state S.Store conn.new).is_clean }
+    ensures crash { Survives (state S.Store conn.old) (state S.Store conn.new) (λ trees. (t : Tables) (day : ℕ) → Keeps t (state S.Store conn.old).now → desk.now ≡ (changed t (NewParcel lot.entry address.entry owner) day).desk → Fits t (NewParcel lot.entry address.entry owner) day
+        → (db : Database) × Keeps (changed t (NewParcel lot.entry address.entry owner) day) db × (trees ≡ db.trees)) }
+{
+    let parcel = parcel_values(desk, lot, address, owner);
+    let office = desk_values(desk);
+    turn_two(
+        conn,
+        "INSERT INTO parcel (id, lot, address, owner) VALUES (?1, ?2, ?3, ?4)",
+        &parcel,
+        SET_DESK,
+        &office,
+    )
+}
+
+/// Gives a parcel another owner.
+fn set_owner<S: Alter>(
+    conn: &mut Connection<S>,
+    desk: &Desk,
+    parcel: ParcelId,
+    owner: PartyId,
+) -> Got<()>
+    requires calm { conn.old.in_transaction ≡ false }
+    ensures made { (t : Tables) (day : ℕ) → HasCleanDisk (state S.Store conn.new) → Shows t (state S.Store conn.old) → desk.now ≡ (changed t (NewOwner parcel owner) day).desk → Fits t (NewOwner parcel owner) day
+        → OnOk result (Shows (changed t (NewOwner parcel owner) day) (state S.Store conn.new)) }
+    ensures kept { (t : Tables) → HasCleanDisk (state S.Store conn.new) → Shows t (state S.Store conn.old) → OnErr result (Shows t (state S.Store conn.new)) }
+    ensures calm { conn.new.in_transaction ≡ false }
+    ensures doubt { doubt (state S.Store conn.old).is_clean ≤ doubt (state S.Store conn.new).is_clean }
+    ensures crash { Survives (state S.Store conn.old) (state S.Store conn.new) (λ trees. (t : Tables) (day : ℕ) → Keeps t (state S.Store conn.old).now → desk.now ≡ (changed t (NewOwner parcel owner) day).desk → Fits t (NewOwner parcel owner) day
+        → (db : Database) × Keeps (changed t (NewOwner parcel owner) day) db × (trees ≡ db.trees)) }
+{
+    let pair = pair_values(parcel.get(), owner.get());
+    let office = desk_values(desk);
+    turn_two(
+        conn,
+        "UPDATE parcel SET owner = ?2 WHERE id = ?1",
+        &pair,
+        SET_DESK,
+        &office,
+    )
+}
+
+/// Adds an interest of a party in a parcel.
+fn add_interest<S: Alter>(
+    conn: &mut Connection<S>,
+    desk: &Desk,
+    parcel: ParcelId,
+    party: PartyId,
+) -> Got<()>
+    requires calm { conn.old.in_transaction ≡ false }
+    ensures made { (t : Tables) (day : ℕ) → HasCleanDisk (state S.Store conn.new) → Shows t (state S.Store conn.old) → desk.now ≡ (changed t (NewInterest parcel party) day).desk → Fits t (NewInterest parcel party) day
+        → OnOk result (Shows (changed t (NewInterest parcel party) day) (state S.Store conn.new)) }
+    ensures kept { (t : Tables) → HasCleanDisk (state S.Store conn.new) → Shows t (state S.Store conn.old) → OnErr result (Shows t (state S.Store conn.new)) }
+    ensures calm { conn.new.in_transaction ≡ false }
+    ensures doubt { doubt (state S.Store conn.old).is_clean ≤ doubt (state S.Store conn.new).is_clean }
+    ensures crash { Survives (state S.Store conn.old) (state S.Store conn.new) (λ trees. (t : Tables) (day : ℕ) → Keeps t (state S.Store conn.old).now → desk.now ≡ (changed t (NewInterest parcel party) day).desk → Fits t (NewInterest parcel party) day
+        → (db : Database) × Keeps (changed t (NewInterest parcel party) day) db × (trees ≡ db.trees)) }
+{
+    let pair = pair_values(parcel.get(), party.get());
+    let office = desk_values(desk);
+    turn_two(
+        conn,
+        "INSERT INTO interest (parcel, party) VALUES (?1, ?2)",
+        &pair,
+        SET_DESK,
+        &office,
+    )
+}
+
+/// Adds a file, whose number is the desk's count of files.
+fn add_file<S: Alter>(
+    conn: &mut Connection<S>,
+    desk: &Desk,
+    new: &FileState,
+    valuation: Cents,
+    description: &Text,
+) -> Got<()>
+    requires calm { conn.old.in_transaction ≡ false }
+    ensures made { (t : Tables) (day : ℕ) → HasCleanDisk (state S.Store conn.new) → Shows t (state S.Store conn.old) → desk.now ≡ (changed t (NewFile new.now valuation description.entry) day).desk → Fits t (NewFile new.now valuation description.entry) day
+        → OnOk result (Shows (changed t (NewFile new.now valuation description.entry) day) (state S.Store conn.new)) }
+    ensures kept { (t : Tables) → HasCleanDisk (state S.Store conn.new) → Shows t (state S.Store conn.old) → OnErr result (Shows t (state S.Store conn.new)) }
+    ensures calm { conn.new.in_transaction ≡ false }
+    ensures doubt { doubt (state S.Store conn.old).is_clean ≤ doubt (state S.Store conn.new).is_clean }
+    ensures crash { Survives (state S.Store conn.old) (state S.Store conn.new) (λ trees. (t : Tables) (day : ℕ) → Keeps t (state S.Store conn.old).now → desk.now ≡ (changed t (NewFile new.now valuation description.entry) day).desk → Fits t (NewFile new.now valuation description.entry) day
+        → (db : Database) × Keeps (changed t (NewFile new.now valuation description.entry) day) db × (trees ≡ db.trees)) }
+{
+    let file = file_values(desk, valuation, description, &fields_of(new));
+    let office = desk_values(desk);
+    turn_two(
+        conn,
+        "INSERT INTO file (id, parcel, applicant, contractor, reviewer, inspector, kind, valuation, description, filed, stage, deadline, done, request, requested, ask, stopped, notices, papers, temporary) VALUES (?1, ?2, ?3, ?4, ?5, ?6, ?7, ?8, ?9, ?10, ?11, ?12, ?13, ?14, ?15, ?16, ?17, ?18, ?19, ?20)",
+        &file,
+        SET_DESK,
+        &office,
+    )
+}
+
+/// Sets a file's row.
+fn set_row<S: Alter>(
+    conn: &mut Connection<S>,
+    desk: &Desk,
+    file: FileId,
+    new: &FileState,
+) -> Got<()>
+    requires calm { conn.old.in_transaction ≡ false }
+    ensures made { (t : Tables) (day : ℕ) → HasCleanDisk (state S.Store conn.new) → Shows t (state S.Store conn.old) → desk.now ≡ (changed t (NewRow file new.now effect.None) day).desk → Fits t (NewRow file new.now effect.None) day
+        → OnOk result (Shows (changed t (NewRow file new.now effect.None) day) (state S.Store conn.new)) }
+    ensures kept { (t : Tables) → HasCleanDisk (state S.Store conn.new) → Shows t (state S.Store conn.old) → OnErr result (Shows t (state S.Store conn.new)) }
+    ensures calm { conn.new.in_transaction ≡ false }
+    ensures doubt { doubt (state S.Store conn.old).is_clean ≤ doubt (state S.Store conn.new).is_clean }
+    ensures crash { Survives (state S.Store conn.old) (state S.Store conn.new) (λ trees. (t : Tables) (day : ℕ) → Keeps t (state S.Store conn.old).now → desk.now ≡ (changed t (NewRow file new.now effect.None) day).desk → Fits t (NewRow file new.now effect.None) day
+        → (db : Database) × Keeps (changed t (NewRow file new.now effect.None) day) db × (trees ≡ db.trees)) }
+{
+    let fields = row_values(file, &fields_of(new));
+    let office = desk_values(desk);
+    turn_two(conn, SET_FILE, &fields, SET_DESK, &office)
+}
+
+/// Sets a file's row and adds a paper on the desk's day, whose number is the row's count of papers.
+fn add_paper<S: Alter>(
+    conn: &mut Connection<S>,
+    desk: &Desk,
+    file: FileId,
+    new: &FileState,
+    paper: &NewPaper<'_>,
+) -> Got<()>
+    requires calm { conn.old.in_transaction ≡ false }
+    ensures made { (t : Tables) (day : ℕ) → HasCleanDisk (state S.Store conn.new) → Shows t (state S.Store conn.old) → desk.now ≡ (changed t (NewRow file new.now (effect.Paper paper.now)) day).desk → Fits t (NewRow file new.now (effect.Paper paper.now)) day
+        → OnOk result (Shows (changed t (NewRow file new.now (effect.Paper paper.now)) day) (state S.Store conn.new)) }
+    ensures kept { (t : Tables) → HasCleanDisk (state S.Store conn.new) → Shows t (state S.Store conn.old) → OnErr result (Shows t (state S.Store conn.new)) }
+    ensures calm { conn.new.in_transaction ≡ false }
+    ensures doubt { doubt (state S.Store conn.old).is_clean ≤ doubt (state S.Store conn.new).is_clean }
+    ensures crash { Survives (state S.Store conn.old) (state S.Store conn.new) (λ trees. (t : Tables) (day : ℕ) → Keeps t (state S.Store conn.old).now → desk.now ≡ (changed t (NewRow file new.now (effect.Paper paper.now)) day).desk → Fits t (NewRow file new.now (effect.Paper paper.now)) day
+        → (db : Database) × Keeps (changed t (NewRow file new.now (effect.Paper paper.now)) day) db × (trees ≡ db.trees)) }
+{
+    let now = fields_of(new);
+    let fields = row_values(file, &now);
+    let added = paper_values(file, &now, desk, paper);
+    let office = desk_values(desk);
+    turn_three(
+        conn,
+        SET_FILE,
+        &fields,
+        "INSERT INTO paper (file, number, day, author, sort, days, text, terms, open) VALUES (?1, ?2, ?3, ?4, ?5, ?6, ?7, ?8, ?9)",
+        &added,
+        SET_DESK,
+        &office,
+    )
+}
+
+/// Sets a file's row and closes a notice of the file.
+fn close_notice<S: Alter>(
+    conn: &mut Connection<S>,
+    desk: &Desk,
+    file: FileId,
+    new: &FileState,
+    number: PaperNumber,
+) -> Got<()>
+    requires calm { conn.old.in_transaction ≡ false }
+    ensures made { (t : Tables) (day : ℕ) → HasCleanDisk (state S.Store conn.new) → Shows t (state S.Store conn.old) → desk.now ≡ (changed t (NewRow file new.now (effect.NoticeClosed number)) day).desk → Fits t (NewRow file new.now (effect.NoticeClosed number)) day
+        → OnOk result (Shows (changed t (NewRow file new.now (effect.NoticeClosed number)) day) (state S.Store conn.new)) }
+    ensures kept { (t : Tables) → HasCleanDisk (state S.Store conn.new) → Shows t (state S.Store conn.old) → OnErr result (Shows t (state S.Store conn.new)) }
+    ensures calm { conn.new.in_transaction ≡ false }
+    ensures doubt { doubt (state S.Store conn.old).is_clean ≤ doubt (state S.Store conn.new).is_clean }
+    ensures crash { Survives (state S.Store conn.old) (state S.Store conn.new) (λ trees. (t : Tables) (day : ℕ) → Keeps t (state S.Store conn.old).now → desk.now ≡ (changed t (NewRow file new.now (effect.NoticeClosed number)) day).desk → Fits t (NewRow file new.now (effect.NoticeClosed number)) day
+        → (db : Database) × Keeps (changed t (NewRow file new.now (effect.NoticeClosed number)) day) db × (trees ≡ db.trees)) }
+{
+    let fields = row_values(file, &fields_of(new));
+    let pair = pair_values(file.get(), number.get());
+    let office = desk_values(desk);
+    turn_three(
+        conn,
+        SET_FILE,
+        &fields,
+        "UPDATE paper SET open = 0 WHERE file = ?1 AND number = ?2",
+        &pair,
+        SET_DESK,
+        &office,
+    )
+}
+
+/// Makes a file's new row, with its effect.
+fn make_row<S: Alter>(
+    conn: &mut Connection<S>,
+    desk: &Desk,
+    file: FileId,
+    new: &FileState,
+    effect: &RowEffect<'_>,
+) -> Got<()>
+    requires calm { conn.old.in_transaction ≡ false }
+    ensures made { (t : Tables) (day : ℕ) → HasCleanDisk (state S.Store conn.new) → Shows t (state S.Store conn.old) → desk.now ≡ (changed t (NewRow file new.now effect.now) day).desk → Fits t (NewRow file new.now effect.now) day
+        → OnOk result (Shows (changed t (NewRow file new.now effect.now) day) (state S.Store conn.new)) }
+    ensures kept { (t : Tables) → HasCleanDisk (state S.Store conn.new) → Shows t (state S.Store conn.old) → OnErr result (Shows t (state S.Store conn.new)) }
+    ensures calm { conn.new.in_transaction ≡ false }
+    ensures doubt { doubt (state S.Store conn.old).is_clean ≤ doubt (state S.Store conn.new).is_clean }
+    ensures crash { Survives (state S.Store conn.old) (state S.Store conn.new) (λ trees. (t : Tables) (day : ℕ) → Keeps t (state S.Store conn.old).now → desk.now ≡ (changed t (NewRow file new.now effect.now) day).desk → Fits t (NewRow file new.now effect.now) day
+        → (db : Database) × Keeps (changed t (NewRow file new.now effect.now) day) db × (trees ≡ db.trees)) }
+{
+    match effect {
+        RowEffect::None => set_row(conn, desk, file, new),
+        RowEffect::Paper(paper) => add_paper(conn, desk, file, new, paper),
+        RowEffect::NoticeClosed(number) => close_notice(conn, desk, file, new, *number),
+    }
+}
+
+/// Makes a change.
+fn make<S: Alter>(conn: &mut Connection<S>, desk: &Desk, change: &Change<'_>) -> Got<()>
+    requires calm { conn.old.in_transaction ≡ false }
+    ensures made { (t : Tables) (day : ℕ) → HasCleanDisk (state S.Store conn.new) → Shows t (state S.Store conn.old) → desk.now ≡ (changed t (change.now) day).desk → Fits t (change.now) day
+        → OnOk result (Shows (changed t (change.now) day) (state S.Store conn.new)) }
+    ensures kept { (t : Tables) → HasCleanDisk (state S.Store conn.new) → Shows t (state S.Store conn.old) → OnErr result (Shows t (state S.Store conn.new)) }
+    ensures calm { conn.new.in_transaction ≡ false }
+    ensures doubt { doubt (state S.Store conn.old).is_clean ≤ doubt (state S.Store conn.new).is_clean }
+    ensures crash { Survives (state S.Store conn.old) (state S.Store conn.new) (λ trees. (t : Tables) (day : ℕ) → Keeps t (state S.Store conn.old).now → desk.now ≡ (changed t (change.now) day).desk → Fits t (change.now) day
+        → (db : Database) × Keeps (changed t (change.now) day) db × (trees ≡ db.trees)) }
+{
+    match change {
+        Change::NewParty { name, role, digest } => add_party(conn, desk, name, *role, digest),
+        Change::NewParcel {
+            lot,
+            address,
+            owner,
+        } => add_parcel(conn, desk, lot, address, *owner),
+        Change::NewOwner { parcel, owner } => set_owner(conn, desk, *parcel, *owner),
+        Change::NewInterest { parcel, party } => add_interest(conn, desk, *parcel, *party),
+        Change::NewFile {
+            state,
+            valuation,
+            description,
+        } => add_file(conn, desk, state, *valuation, description),
+        Change::NewRow {
+            file,
+            state,
+            effect,
+        } => make_row(conn, desk, *file, state, effect),
+    }
+}
+
+/// A count more.
+fn next(count: u32) -> Got<u32>
+    ensures { IfOk result (λ n. n ≡ count + 1) }
+{
+    match count.checked_add(1) {
+        Some(next) => Ok(next),
+        None => Err(StoreError),
+    }
+}
+
+/// The desk after a change on a day.
+fn desk_after(desk: &Desk, change: &Change<'_>, day: Day) -> Got<Desk>
+    ensures { (t : Tables) → desk.now ≡ t.desk → IfOk result (λ d. d ≡ (changed t change.now day).desk) }
+{
+    let desk = Desk { last: day, ..*desk };
+    match change {
+        Change::NewParty { .. } => Ok(Desk {
+            parties: next(desk.parties)?,
+            ..desk
+        }),
+        Change::NewParcel { .. } => Ok(Desk {
+            parcels: next(desk.parcels)?,
+            ..desk
+        }),
+        Change::NewOwner { .. } => Ok(desk),
+        Change::NewInterest { .. } => Ok(desk),
+        Change::NewFile { .. } => Ok(Desk {
+            files: next(desk.files)?,
+            ..desk
+        }),
+        Change::NewRow { .. } => Ok(desk),
+    }
+}
+
+/// Makes a change that fits on a day, or changes nothing, also over a crash.
+pub fn commit_in<S: Alter>(conn: &mut Connection<S>, change: &Change<'_>, day: Day) -> Got<()>
+    requires calm { conn.old.in_transaction ≡ false }
+    ensures made { (t : Tables) → HasCleanDisk (state S.Store conn.new) → Shows t (state S.Store conn.old) → Fits t change.now day → OnOk result (Shows (changed t change.now day) (state S.Store conn.new)) }
+    ensures kept { (t : Tables) → HasCleanDisk (state S.Store conn.new) → Shows t (state S.Store conn.old) → OnErr result (Shows t (state S.Store conn.new)) }
+    ensures calm { conn.new.in_transaction ≡ false }
+    ensures doubt { doubt (state S.Store conn.old).is_clean ≤ doubt (state S.Store conn.new).is_clean }
+    ensures crash { (t : Tables) → Keeps t (state S.Store conn.old).now → Fits t change.now day
+        → Survives (state S.Store conn.old) (state S.Store conn.new) (λ trees. (db : Database) × Keeps (changed t change.now day) db × (trees ≡ db.trees)) }
+{
+    let desk = read_desk(conn)?;
+    let after = desk_after(&desk, change, day)?;
+    make(conn, &after, change)
+}

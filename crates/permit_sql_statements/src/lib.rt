@@ -1,0 +1,13 @@
+//! The statements of the office's database: the reads of its tables, each change of them in one transaction, and
+//! what makes them in an empty database.
+//!
+//! A connection that a failure shut shows nothing, so each statement is of an open one, and each is of a disk that
+//! has so far given back what was written (`HasCleanDisk` of the connection after the call).
+#![tactic(auto)]
+
+pub mod commit;
+pub mod create;
+pub mod query;
+pub mod read;
+mod steps;
+mod turns;

@@ -1,0 +1,343 @@
+//! What is read of the tables, over a connection.
+
+ghost use Rattle.std.specs.Prelude.{◌≡◌, ◌≤◌, IsTrue, ◌==◌, ◌&&◌, false, not, List, [], ◌∷◌, ◌++◌, map, filter, find, length, option_map, slice_get, bytes_eq, Option, IfOk, OnOk, IfSome};
+ghost use Rattle.std.specs.List.{list_any};
+ghost use Rattle.sqlite_trees.specs.View.{doubt};
+ghost use Rattle.sqlite.specs.State.{HasCleanDisk, Survives};
+ghost use Rattle.sqlite.specs.Held.{state};
+ghost use Rattle.permit_model.specs.Caller.{Party as TheParty};
+ghost use Rattle.permit_model.specs.Parcels.{Parcel as TheParcel};
+ghost use Rattle.permit_model.specs.Tables.{Tables, Desk as TheDesk, FileRow as TheRow, Paper as ThePaper};
+ghost use Rattle.permit_sql_rows.specs.Rows.{shown_desk, shown_party, shown_parcel, shown_file, shown_paper};
+ghost use Rattle.permit_sql_rows.specs.Kept.{Keeps, Shows, IsNamed};
+
+use crate::query::rows_of;
+use permit_base::values::{Digest, FileId, Lot, ParcelId, PartyId};
+use permit_sql_rows::decode::{desk_in, file_in, paper_in, parcel_in, party_in};
+use permit_store::rows::{Desk, FileRow, Paper, Parcel, Party};
+use permit_store::store::{Got, StoreError};
+use sqlite::{Alter, Connection, Row, params};
+use std::alloc::Global;
+
+/// The row of the desk.
+fn desk_rows<S: Alter>(conn: &mut Connection<S>) -> Got<Vec<Row>>
+    requires calm { conn.old.in_transaction ≡ false }
+    ensures found { (t : Tables) → HasCleanDisk (state S.Store conn.new) → Shows t (state S.Store conn.old) → IfOk result (λ rows. rows.items ≡ shown_desk t.desk ∷ []) }
+    ensures kept { (t : Tables) → HasCleanDisk (state S.Store conn.new) → Shows t (state S.Store conn.old) → Shows t (state S.Store conn.new) }
+    ensures open { HasCleanDisk (state S.Store conn.new) → OnOk result (IsTrue (state S.Store conn.new).is_open) }
+    ensures doubt { doubt (state S.Store conn.old).is_clean ≤ doubt (state S.Store conn.new).is_clean }
+    ensures crash { (t : Tables) → Keeps t (state S.Store conn.old).now → Survives (state S.Store conn.old) (state S.Store conn.new) (λ _. ⊥) }
+    ensures calm { conn.new.in_transaction ≡ false }
+{
+    rows_of(
+        conn,
+        "SELECT id, version, last, parties, parcels, files FROM desk",
+        &[],
+    )
+}
+
+/// The row of the party with the number, if there is one.
+fn party_rows<S: Alter>(conn: &mut Connection<S>, party: PartyId) -> Got<Vec<Row>>
+    requires calm { conn.old.in_transaction ≡ false }
+    ensures found { (t : Tables) → HasCleanDisk (state S.Store conn.new) → Shows t (state S.Store conn.old) → IfOk result (λ rows. slice_get rows.items 0 ≡ option_map shown_party (find (λ p. p.id == party) t.parties)) }
+    ensures kept { (t : Tables) → HasCleanDisk (state S.Store conn.new) → Shows t (state S.Store conn.old) → Shows t (state S.Store conn.new) }
+    ensures doubt { doubt (state S.Store conn.old).is_clean ≤ doubt (state S.Store conn.new).is_clean }
+    ensures crash { (t : Tables) → Keeps t (state S.Store conn.old).now → Survives (state S.Store conn.old) (state S.Store conn.new) (λ _. ⊥) }
+    ensures calm { conn.new.in_transaction ≡ false }
+{
+    rows_of(
+        conn,
+        "SELECT id, name, role, digest FROM party WHERE id = ?1",
+        params![party.get()],
+    )
+}
+
+/// The row of the party that keeps the digest, if there is one.
+fn digest_rows<S: Alter>(conn: &mut Connection<S>, digest: &Digest) -> Got<Vec<Row>>
+    requires calm { conn.old.in_transaction ≡ false }
+    ensures found { (t : Tables) → HasCleanDisk (state S.Store conn.new) → Shows t (state S.Store conn.old) → IfOk result (λ rows. slice_get rows.items 0 ≡ option_map shown_party (find (λ p. bytes_eq p.digest digest.now) t.parties)) }
+    ensures kept { (t : Tables) → HasCleanDisk (state S.Store conn.new) → Shows t (state S.Store conn.old) → Shows t (state S.Store conn.new) }
+    ensures doubt { doubt (state S.Store conn.old).is_clean ≤ doubt (state S.Store conn.new).is_clean }
+    ensures crash { (t : Tables) → Keeps t (state S.Store conn.old).now → Survives (state S.Store conn.old) (state S.Store conn.new) (λ _. ⊥) }
+    ensures calm { conn.new.in_transaction ≡ false }
+{
+    rows_of(
+        conn,
+        "SELECT id, name, role, digest FROM party WHERE digest = ?1",
+        params![digest.as_str()],
+    )
+}
+
+/// The row of the parcel with the number, if there is one.
+fn parcel_rows<S: Alter>(conn: &mut Connection<S>, parcel: ParcelId) -> Got<Vec<Row>>
+    requires calm { conn.old.in_transaction ≡ false }
+    ensures found { (t : Tables) → HasCleanDisk (state S.Store conn.new) → Shows t (state S.Store conn.old) → IfOk result (λ rows. slice_get rows.items 0 ≡ option_map shown_parcel (find (λ p. p.id == parcel) t.parcels)) }
+    ensures kept { (t : Tables) → HasCleanDisk (state S.Store conn.new) → Shows t (state S.Store conn.old) → Shows t (state S.Store conn.new) }
+    ensures doubt { doubt (state S.Store conn.old).is_clean ≤ doubt (state S.Store conn.new).is_clean }
+    ensures crash { (t : Tables) → Keeps t (state S.Store conn.old).now → Survives (state S.Store conn.old) (state S.Store conn.new) (λ _. ⊥) }
+    ensures calm { conn.new.in_transaction ≡ false }
+{
+    rows_of(
+        conn,
+        "SELECT id, lot, address, owner FROM parcel WHERE id = ?1",
+        params![parcel.get()],
+    )
+}
+
+/// The row of the parcel of the lot, if there is one.
+fn lot_rows<S: Alter>(conn: &mut Connection<S>, lot: &Lot) -> Got<Vec<Row>>
+    requires calm { conn.old.in_transaction ≡ false }
+    ensures found { (t : Tables) → HasCleanDisk (state S.Store conn.new) → Shows t (state S.Store conn.old) → IfOk result (λ rows. slice_get rows.items 0 ≡ option_map shown_parcel (find (λ p. bytes_eq p.lot lot.now) t.parcels)) }
+    ensures kept { (t : Tables) → HasCleanDisk (state S.Store conn.new) → Shows t (state S.Store conn.old) → Shows t (state S.Store conn.new) }
+    ensures doubt { doubt (state S.Store conn.old).is_clean ≤ doubt (state S.Store conn.new).is_clean }
+    ensures crash { (t : Tables) → Keeps t (state S.Store conn.old).now → Survives (state S.Store conn.old) (state S.Store conn.new) (λ _. ⊥) }
+    ensures calm { conn.new.in_transaction ≡ false }
+{
+    rows_of(
+        conn,
+        "SELECT id, lot, address, owner FROM parcel WHERE lot = ?1",
+        params![lot.as_str()],
+    )
+}
+
+/// A row for each interest of the party in the parcel.
+fn interest_rows<S: Alter>(
+    conn: &mut Connection<S>,
+    parcel: ParcelId,
+    party: PartyId,
+) -> Got<Vec<Row>>
+    requires calm { conn.old.in_transaction ≡ false }
+    ensures found { (t : Tables) → HasCleanDisk (state S.Store conn.new) → Shows t (state S.Store conn.old) → IfOk result (λ rows. not (length rows.items == 0) ≡ list_any (λ i. (i.parcel == parcel) && (i.party == party)) t.interests) }
+    ensures kept { (t : Tables) → HasCleanDisk (state S.Store conn.new) → Shows t (state S.Store conn.old) → Shows t (state S.Store conn.new) }
+    ensures doubt { doubt (state S.Store conn.old).is_clean ≤ doubt (state S.Store conn.new).is_clean }
+    ensures crash { (t : Tables) → Keeps t (state S.Store conn.old).now → Survives (state S.Store conn.old) (state S.Store conn.new) (λ _. ⊥) }
+    ensures calm { conn.new.in_transaction ≡ false }
+{
+    rows_of(
+        conn,
+        "SELECT 1 FROM interest WHERE parcel = ?1 AND party = ?2",
+        params![parcel.get(), party.get()],
+    )
+}
+
+/// The row of the file with the number, if there is one.
+fn file_rows<S: Alter>(conn: &mut Connection<S>, file: FileId) -> Got<Vec<Row>>
+    requires calm { conn.old.in_transaction ≡ false }
+    ensures found { (t : Tables) → HasCleanDisk (state S.Store conn.new) → Shows t (state S.Store conn.old) → IfOk result (λ rows. slice_get rows.items 0 ≡ option_map shown_file (find (λ f. f.id == file) t.files)) }
+    ensures named { (t : Tables) → HasCleanDisk (state S.Store conn.new) → Shows t (state S.Store conn.old) → IfOk result (λ rows. IfSome (find (λ f. f.id == file) t.files) (λ f. IsNamed f.state)) }
+    ensures kept { (t : Tables) → HasCleanDisk (state S.Store conn.new) → Shows t (state S.Store conn.old) → Shows t (state S.Store conn.new) }
+    ensures doubt { doubt (state S.Store conn.old).is_clean ≤ doubt (state S.Store conn.new).is_clean }
+    ensures crash { (t : Tables) → Keeps t (state S.Store conn.old).now → Survives (state S.Store conn.old) (state S.Store conn.new) (λ _. ⊥) }
+    ensures calm { conn.new.in_transaction ≡ false }
+{
+    rows_of(
+        conn,
+        "SELECT id, parcel, applicant, contractor, reviewer, inspector, kind, valuation, description, filed, stage, deadline, done, request, requested, ask, stopped, notices, papers, temporary FROM file WHERE id = ?1",
+        params![file.get()],
+    )
+}
+
+/// The rows of the papers of the file, in rising number.
+fn paper_rows<S: Alter>(conn: &mut Connection<S>, file: FileId) -> Got<Vec<Row>>
+    requires calm { conn.old.in_transaction ≡ false }
+    ensures found { (t : Tables) → HasCleanDisk (state S.Store conn.new) → Shows t (state S.Store conn.old) → IfOk result (λ rows. rows.items ≡ map shown_paper (filter (λ p. p.file == file) t.papers)) }
+    ensures kept { (t : Tables) → HasCleanDisk (state S.Store conn.new) → Shows t (state S.Store conn.old) → Shows t (state S.Store conn.new) }
+    ensures doubt { doubt (state S.Store conn.old).is_clean ≤ doubt (state S.Store conn.new).is_clean }
+    ensures crash { (t : Tables) → Keeps t (state S.Store conn.old).now → Survives (state S.Store conn.old) (state S.Store conn.new) (λ _. ⊥) }
+    ensures calm { conn.new.in_transaction ≡ false }
+{
+    rows_of(
+        conn,
+        "SELECT file, number, day, author, sort, days, text, terms, open FROM paper WHERE file = ?1 ORDER BY number",
+        params![file.get()],
+    )
+}
+
+/// The first row as a typed value, if there is a row.
+fn first_party(rows: &[Row]) -> Got<Option<Party>>
+    ensures { (found : Option TheParty) → slice_get rows.now 0 ≡ option_map shown_party found → IfOk result (λ x. x ≡ found) }
+{
+    match rows.get(0) {
+        None => Ok(None),
+        Some(row) => match party_in(row) {
+            Some(value) => Ok(Some(value)),
+            None => Err(StoreError),
+        },
+    }
+}
+
+/// The first row as a typed value, if there is a row.
+fn first_parcel(rows: &[Row]) -> Got<Option<Parcel>>
+    ensures { (found : Option TheParcel) → slice_get rows.now 0 ≡ option_map shown_parcel found → IfOk result (λ x. x ≡ found) }
+{
+    match rows.get(0) {
+        None => Ok(None),
+        Some(row) => match parcel_in(row) {
+            Some(value) => Ok(Some(value)),
+            None => Err(StoreError),
+        },
+    }
+}
+
+/// The first row as a typed value, if there is a row.
+fn first_file(rows: &[Row]) -> Got<Option<FileRow>>
+    ensures { (found : Option TheRow) → IfSome found (λ f. IsNamed f.state) → slice_get rows.now 0 ≡ option_map shown_file found → IfOk result (λ x. x ≡ found) }
+{
+    match rows.get(0) {
+        None => Ok(None),
+        Some(row) => match file_in(row) {
+            Some(value) => Ok(Some(value)),
+            None => Err(StoreError),
+        },
+    }
+}
+
+/// The desk.
+fn first_desk(rows: &[Row]) -> Got<Desk>
+    ensures { (is : TheDesk) → rows.now ≡ shown_desk is ∷ [] → IfOk result (λ d. d ≡ is) }
+{
+    match rows.get(0) {
+        None => Err(StoreError),
+        Some(row) => match desk_in(row) {
+            Some(desk) => Ok(desk),
+            None => Err(StoreError),
+        },
+    }
+}
+
+/// The desk.
+pub fn read_desk<S: Alter>(conn: &mut Connection<S>) -> Got<Desk>
+    requires calm { conn.old.in_transaction ≡ false }
+    ensures found { (t : Tables) → HasCleanDisk (state S.Store conn.new) → Shows t (state S.Store conn.old) → IfOk result (λ d. d ≡ t.desk) }
+    ensures kept { (t : Tables) → HasCleanDisk (state S.Store conn.new) → Shows t (state S.Store conn.old) → Shows t (state S.Store conn.new) }
+    ensures open { HasCleanDisk (state S.Store conn.new) → OnOk result (IsTrue (state S.Store conn.new).is_open) }
+    ensures doubt { doubt (state S.Store conn.old).is_clean ≤ doubt (state S.Store conn.new).is_clean }
+    ensures crash { (t : Tables) → Keeps t (state S.Store conn.old).now → Survives (state S.Store conn.old) (state S.Store conn.new) (λ _. ⊥) }
+    ensures calm { conn.new.in_transaction ≡ false }
+{
+    let rows = desk_rows(conn)?;
+    first_desk(&rows)
+}
+
+/// The party with the number.
+pub fn read_party<S: Alter>(conn: &mut Connection<S>, party: PartyId) -> Got<Option<Party>>
+    requires calm { conn.old.in_transaction ≡ false }
+    ensures found { (t : Tables) → HasCleanDisk (state S.Store conn.new) → Shows t (state S.Store conn.old) → IfOk result (λ p. p ≡ find (λ p. p.id == party) t.parties) }
+    ensures kept { (t : Tables) → HasCleanDisk (state S.Store conn.new) → Shows t (state S.Store conn.old) → Shows t (state S.Store conn.new) }
+    ensures doubt { doubt (state S.Store conn.old).is_clean ≤ doubt (state S.Store conn.new).is_clean }
+    ensures crash { (t : Tables) → Keeps t (state S.Store conn.old).now → Survives (state S.Store conn.old) (state S.Store conn.new) (λ _. ⊥) }
+    ensures calm { conn.new.in_transaction ≡ false }
+{
+    let rows = party_rows(conn, party)?;
+    first_party(&rows)
+}
+
+/// The party that keeps the digest.
+pub fn find_party<S: Alter>(conn: &mut Connection<S>, digest: &Digest) -> Got<Option<Party>>
+    requires calm { conn.old.in_transaction ≡ false }
+    ensures found { (t : Tables) → HasCleanDisk (state S.Store conn.new) → Shows t (state S.Store conn.old) → IfOk result (λ p. p ≡ find (λ p. bytes_eq p.digest digest.now) t.parties) }
+    ensures kept { (t : Tables) → HasCleanDisk (state S.Store conn.new) → Shows t (state S.Store conn.old) → Shows t (state S.Store conn.new) }
+    ensures doubt { doubt (state S.Store conn.old).is_clean ≤ doubt (state S.Store conn.new).is_clean }
+    ensures crash { (t : Tables) → Keeps t (state S.Store conn.old).now → Survives (state S.Store conn.old) (state S.Store conn.new) (λ _. ⊥) }
+    ensures calm { conn.new.in_transaction ≡ false }
+{
+    let rows = digest_rows(conn, digest)?;
+    first_party(&rows)
+}
+
+/// The parcel with the number.
+pub fn read_parcel<S: Alter>(conn: &mut Connection<S>, parcel: ParcelId) -> Got<Option<Parcel>>
+    requires calm { conn.old.in_transaction ≡ false }
+    ensures found { (t : Tables) → HasCleanDisk (state S.Store conn.new) → Shows t (state S.Store conn.old) → IfOk result (λ p. p ≡ find (λ p. p.id == parcel) t.parcels) }
+    ensures kept { (t : Tables) → HasCleanDisk (state S.Store conn.new) → Shows t (state S.Store conn.old) → Shows t (state S.Store conn.new) }
+    ensures doubt { doubt (state S.Store conn.old).is_clean ≤ doubt (state S.Store conn.new).is_clean }
+    ensures crash { (t : Tables) → Keeps t (state S.Store conn.old).now → Survives (state S.Store conn.old) (state S.Store conn.new) (λ _. ⊥) }
+    ensures calm { conn.new.in_transaction ≡ false }
+{
+    let rows = parcel_rows(conn, parcel)?;
+    first_parcel(&rows)
+}
+
+/// The parcel of the lot.
+pub fn find_parcel<S: Alter>(conn: &mut Connection<S>, lot: &Lot) -> Got<Option<Parcel>>
+    requires calm { conn.old.in_transaction ≡ false }
+    ensures found { (t : Tables) → HasCleanDisk (state S.Store conn.new) → Shows t (state S.Store conn.old) → IfOk result (λ p. p ≡ find (λ p. bytes_eq p.lot lot.now) t.parcels) }
+    ensures kept { (t : Tables) → HasCleanDisk (state S.Store conn.new) → Shows t (state S.Store conn.old) → Shows t (state S.Store conn.new) }
+    ensures doubt { doubt (state S.Store conn.old).is_clean ≤ doubt (state S.Store conn.new).is_clean }
+    ensures crash { (t : Tables) → Keeps t (state S.Store conn.old).now → Survives (state S.Store conn.old) (state S.Store conn.new) (λ _. ⊥) }
+    ensures calm { conn.new.in_transaction ≡ false }
+{
+    let rows = lot_rows(conn, lot)?;
+    first_parcel(&rows)
+}
+
+/// Whether the party has declared an interest in the parcel.
+pub fn has_interest<S: Alter>(
+    conn: &mut Connection<S>,
+    parcel: ParcelId,
+    party: PartyId,
+) -> Got<bool>
+    requires calm { conn.old.in_transaction ≡ false }
+    ensures found { (t : Tables) → HasCleanDisk (state S.Store conn.new) → Shows t (state S.Store conn.old) → IfOk result (λ b. b ≡ list_any (λ i. (i.parcel == parcel) && (i.party == party)) t.interests) }
+    ensures kept { (t : Tables) → HasCleanDisk (state S.Store conn.new) → Shows t (state S.Store conn.old) → Shows t (state S.Store conn.new) }
+    ensures doubt { doubt (state S.Store conn.old).is_clean ≤ doubt (state S.Store conn.new).is_clean }
+    ensures crash { (t : Tables) → Keeps t (state S.Store conn.old).now → Survives (state S.Store conn.old) (state S.Store conn.new) (λ _. ⊥) }
+    ensures calm { conn.new.in_transaction ≡ false }
+{
+    let rows = interest_rows(conn, parcel, party)?;
+    Ok(rows.len() != 0)
+}
+
+/// The row of the file with the number.
+pub fn read_file<S: Alter>(conn: &mut Connection<S>, file: FileId) -> Got<Option<FileRow>>
+    requires calm { conn.old.in_transaction ≡ false }
+    ensures found { (t : Tables) → HasCleanDisk (state S.Store conn.new) → Shows t (state S.Store conn.old) → IfOk result (λ f. f ≡ find (λ f. f.id == file) t.files) }
+    ensures kept { (t : Tables) → HasCleanDisk (state S.Store conn.new) → Shows t (state S.Store conn.old) → Shows t (state S.Store conn.new) }
+    ensures doubt { doubt (state S.Store conn.old).is_clean ≤ doubt (state S.Store conn.new).is_clean }
+    ensures crash { (t : Tables) → Keeps t (state S.Store conn.old).now → Survives (state S.Store conn.old) (state S.Store conn.new) (λ _. ⊥) }
+    ensures calm { conn.new.in_transaction ≡ false }
+{
+    let rows = file_rows(conn, file)?;
+    first_file(&rows)
+}
+
+/// A paper more.
+fn push_paper(papers: &mut Vec<Paper>, paper: Paper) -> Got<()>
+    ensures { OnOk result (papers.new.items ≡ papers.old.items ++ paper ∷ []) }
+{
+    match papers.push(paper) {
+        Ok(()) => Ok(()),
+        Err(_) => Err(StoreError),
+    }
+}
+
+/// The rows as papers.
+fn all_papers(alloc: Global, rows: &[Row]) -> Got<Vec<Paper>>
+    ensures { (papers : List ThePaper) → rows.now ≡ map shown_paper papers → IfOk result (λ v. v.items ≡ papers) }
+{
+    let mut papers = Vec::new(alloc);
+    'rows: for row in rows {
+        let Some(paper) = paper_in(row) else {
+            return Err(StoreError);
+        };
+        push_paper(&mut papers, paper)?;
+    }
+    Ok(papers)
+}
+
+/// The papers of the file, in rising number.
+pub fn read_papers<S: Alter>(
+    conn: &mut Connection<S>,
+    file: FileId,
+    alloc: Global,
+) -> Got<Vec<Paper>>
+    requires calm { conn.old.in_transaction ≡ false }
+    ensures found { (t : Tables) → HasCleanDisk (state S.Store conn.new) → Shows t (state S.Store conn.old) → IfOk result (λ v. v.items ≡ filter (λ p. p.file == file) t.papers) }
+    ensures kept { (t : Tables) → HasCleanDisk (state S.Store conn.new) → Shows t (state S.Store conn.old) → Shows t (state S.Store conn.new) }
+    ensures doubt { doubt (state S.Store conn.old).is_clean ≤ doubt (state S.Store conn.new).is_clean }
+    ensures crash { (t : Tables) → Keeps t (state S.Store conn.old).now → Survives (state S.Store conn.old) (state S.Store conn.new) (λ _. ⊥) }
+    ensures calm { conn.new.in_transaction ≡ false }
+{
+    let rows = paper_rows(conn, file)?;
+    all_papers(alloc, &rows)
+}
