@@ -54,11 +54,6 @@ CommittedBy reply old new = new ≡ commits_after reply old
 abbrev pub failed_by : Given → ℕ → ℕ
 failed_by reply n = if is_store_refusal reply then next_count n else n
 
--- the same after replies, in order
-abbrev pub failed_over : List Given → ℕ → ℕ
-failed_over [] n = n
-failed_over (reply ∷ replies) n = failed_over replies (failed_by reply n)
-
 -- ---- file rows handed out
 
 -- a request on a file looks its row up

@@ -1,6 +1,6 @@
 //! The commands on a file that is there.
 
-ghost use Rattle.std.specs.Prelude.{◌≡◌, ◌≤◌, ◌==◌, ◌&&◌, ℕ, List, Option, Some, None, IsTrue, IfOk, find, is_some, nat_lt};
+ghost use Rattle.std.specs.Prelude.{◌≡◌, ◌≤◌, ◌==◌, ◌&&◌, ℕ, List, Option, Some, None, IsTrue, IfOk, find, is_some, nat_lt, true, false};
 ghost use Rattle.std.specs.List.{list_any};
 ghost use Rattle.permit_base.specs.declared.request.Request.TheVariants as request;
 ghost use Rattle.permit_model.specs.Caller;
@@ -14,9 +14,9 @@ ghost use Rattle.permit_model.specs.Machine.{IsHistory, admitted, entry_of, serv
 ghost use Rattle.permit_core.specs.Naming;
 ghost use Rattle.permit_core.specs.RowAfter;
 ghost use Rattle.permit_store.specs.Changes.{papers_after, suits_effect};
-ghost use Rattle.permit_store.specs.Counts.{failed_after};
-ghost use Rattle.permit_office.specs.Answers.{Attempts, Committed, Handed, IsDecided, IsOwn};
+ghost use Rattle.permit_office.specs.Answers.{Attempts, IsDecided, IsOwn};
 ghost use Rattle.permit_office.specs.Effects.{papers_entered};
+ghost use Rattle.permit_office.specs.Frames.{OnlyReads, IsAttempt};
 
 use crate::commit::carry_out;
 use crate::facts::{facts_on_file, owner_of};
@@ -33,12 +33,9 @@ use permit_store::store::{Got, Store};
 
 /// The party that a command names, where it is there, with its interest in the parcel.
 fn named<S: Store>(store: &mut S, parcel: ParcelId, command: &Command) -> Got<Option<NamedParty>>
-    ensures named { S.doubt store.new ≡ 0 → (h : History) → S.holds store.old (tables h) → IfOk result (λ p. p ≡ Naming.party_known h parcel (Naming.named_party command.now)) }
-    ensures kept { (t : Tables) → S.holds store.old t → S.holds store.new t }
-    ensures doubt { S.doubt store.old ≤ S.doubt store.new }
-    ensures failed { S.failed store.new ≡ failed_after result (S.failed store.old) }
-    ensures commits { S.commits store.new ≡ S.commits store.old }
-    ensures handed { S.handed store.new ≡ S.handed store.old }
+    ensures named { (S.view store.new).doubt ≡ 0 → (h : History) → (S.view store.old).holds (tables h)
+        → IfOk result (λ p. p ≡ Naming.party_known h parcel (Naming.named_party command.now)) }
+    ensures read { OnlyReads (S.view store.old) (S.view store.new) result }
 {
     let Some(party) = named_party(command) else {
         return Ok(None);
@@ -65,13 +62,10 @@ fn has_open_notice(papers: &[Paper], number: PaperNumber) -> bool
 
 /// Whether the paper that a command names is an open notice of the file.
 fn is_open_notice<S: Store>(store: &mut S, file: FileId, command: &Command) -> Got<bool>
-    ensures open { S.doubt store.new ≡ 0 → (h : History) (one : CaseFile) → IsHistory h → S.holds store.old (tables h) → case_numbered h file ≡ Some one
+    ensures open { (S.view store.new).doubt ≡ 0 → (h : History) (one : CaseFile) → IsHistory h → (S.view store.old).holds (tables h)
+        → case_numbered h file ≡ Some one
         → IfOk result (λ b. b ≡ Naming.is_notice_open one (Naming.named_paper command.now)) }
-    ensures kept { (t : Tables) → S.holds store.old t → S.holds store.new t }
-    ensures doubt { S.doubt store.old ≤ S.doubt store.new }
-    ensures failed { S.failed store.new ≡ failed_after result (S.failed store.old) }
-    ensures commits { S.commits store.new ≡ S.commits store.old }
-    ensures handed { S.handed store.new ≡ S.handed store.old }
+    ensures read { OnlyReads (S.view store.old) (S.view store.new) result }
 {
     let Some(number) = named_paper(command) else {
         return Ok(false);
@@ -82,13 +76,10 @@ fn is_open_notice<S: Store>(store: &mut S, file: FileId, command: &Command) -> G
 
 /// The people about a command on a file.
 fn people_about<S: Store>(store: &mut S, row: &FileRow, command: &Command) -> Got<People>
-    ensures people { S.doubt store.new ≡ 0 → (h : History) (one : CaseFile) → IsHistory h → S.holds store.old (tables h) → case_numbered h row.now.id ≡ Some one → row.now ≡ file_row one
+    ensures people { (S.view store.new).doubt ≡ 0 → (h : History) (one : CaseFile) → IsHistory h → (S.view store.old).holds (tables h)
+        → case_numbered h row.now.id ≡ Some one → row.now ≡ file_row one
         → IfOk result (λ p. p ≡ Naming.people_of h one command.now) }
-    ensures kept { (t : Tables) → S.holds store.old t → S.holds store.new t }
-    ensures doubt { S.doubt store.old ≤ S.doubt store.new }
-    ensures failed { S.failed store.new ≡ failed_after result (S.failed store.old) }
-    ensures commits { S.commits store.new ≡ S.commits store.old }
-    ensures handed { S.handed store.new ≡ S.handed store.old }
+    ensures read { OnlyReads (S.view store.old) (S.view store.new) result }
 {
     let parcel = row.state.parcel();
     let named = named(store, parcel, command)?;
@@ -106,7 +97,8 @@ fn effect_of<'a>(state: &FileState, author: PartyId, command: &'a Command) -> Ro
     ensures papers { (file number day : ℕ) (one : CaseFile) (papers : List ThePaper) → state.now ≡ state_of one
         → papers_after file number day result papers
         ≡ papers_entered file number day author command.now one.acts (Work.paper_sort command.now) (Naming.named_paper command.now) papers }
-    ensures suits { (t : Tables) (after : State) → after.papers ≡ RowAfter.papers_after command.now state.now.papers → IsTrue (is_some (find (λ p. p.id == author) t.parties))
+    ensures suits { (t : Tables) (after : State) → after.papers ≡ RowAfter.papers_after command.now state.now.papers
+        → IsTrue (is_some (find (λ p. p.id == author) t.parties))
         → (IsTrue (Work.makes_paper command.now) → IsTrue (nat_lt state.now.papers most_papers)) → IsTrue (suits_effect t state.now after result) }
 {
     if let Some(sort) = paper_sort(command) {
@@ -132,14 +124,12 @@ fn perform<S: Store>(
     command: &Command,
     day: Day,
 ) -> Got<Reply>
-    ensures model { S.doubt store.new ≡ 0 → (h : History) (one : CaseFile) → IsHistory h → S.holds store.old (tables h) → case_numbered h row.now.id ≡ Some one → row.now ≡ file_row one
+    ensures model { (S.view store.new).doubt ≡ 0 → (h : History) (one : CaseFile) → IsHistory h → (S.view store.old).holds (tables h)
+        → case_numbered h row.now.id ≡ Some one → row.now ≡ file_row one
         → last_day h ≤ day → IsTrue (Caller.is_party h caller)
-        → Attempts (S.holds store.new) result
+        → Attempts (S.view store.new).holds result
         (admitted h (entry_of h day caller (request.OnFile row.now.id command.now)) (reason_against h day caller (request.OnFile row.now.id command.now))) h }
-    ensures doubt { S.doubt store.old ≤ S.doubt store.new }
-    ensures failed { S.failed store.new ≡ failed_after result (S.failed store.old) }
-    ensures commits { Committed result (S.commits store.old) (S.commits store.new) }
-    ensures handed { S.handed store.new ≡ S.handed store.old }
+    ensures attempt { IsAttempt false (S.view store.old) (S.view store.new) result }
     ensures decided { IfOk result IsDecided }
     ensures own { IfOk result IsOwn }
 {
@@ -173,12 +163,10 @@ pub(crate) fn on_file<S: Store>(
     command: &Command,
     day: Day,
 ) -> Got<Reply>
-    ensures model { S.doubt store.new ≡ 0 → (h : History) → IsHistory h → S.holds store.old (tables h) → last_day h ≤ day → IsTrue (Caller.is_party h caller.now.id)
-        → Attempts (S.holds store.new) result (served policy.now h day caller.now (request.OnFile file command.now)) h }
-    ensures doubt { S.doubt store.old ≤ S.doubt store.new }
-    ensures failed { S.failed store.new ≡ failed_after result (S.failed store.old) }
-    ensures commits { Committed result (S.commits store.old) (S.commits store.new) }
-    ensures handed { Handed result (S.handed store.old) (S.handed store.new) }
+    ensures model { (S.view store.new).doubt ≡ 0 → (h : History) → IsHistory h → (S.view store.old).holds (tables h) → last_day h ≤ day
+        → IsTrue (Caller.is_party h caller.now.id)
+        → Attempts (S.view store.new).holds result (served policy.now h day caller.now (request.OnFile file command.now)) h }
+    ensures attempt { IsAttempt true (S.view store.old) (S.view store.new) result }
     ensures own { IfOk result IsOwn }
 {
     let Some(row) = store.file(file)? else {

@@ -1,12 +1,12 @@
 //! The one place that commits.
 
-ghost use Rattle.std.specs.Prelude.{◌≡◌, ◌≤◌, ◌∷◌, Option, Some, None, IfOk};
+ghost use Rattle.std.specs.Prelude.{◌≡◌, ◌∷◌, Option, Some, None, IfOk, false};
 ghost use Rattle.permit_model.specs.History.{History, Entry};
 ghost use Rattle.permit_model.specs.Tables.{tables};
 ghost use Rattle.permit_model.specs.Machine.{admitted};
-ghost use Rattle.permit_store.specs.Counts.{failed_after};
 ghost use Rattle.permit_store.specs.Changes.{Fits, changed};
-ghost use Rattle.permit_office.specs.Answers.{Attempts, Committed, IsDecided, IsOwn};
+ghost use Rattle.permit_office.specs.Answers.{Attempts, IsDecided, IsOwn};
+ghost use Rattle.permit_office.specs.Frames.{IsAttempt};
 
 use crate::reply::Reply;
 use permit_base::outcome::{Reason, Refusal};
@@ -22,13 +22,10 @@ pub(crate) fn carry_out<S: Store>(
     change: &Change<'_>,
     day: Day,
 ) -> Got<Reply>
-    ensures model { (h : History) (entry : Entry) → S.holds store.old (tables h)
+    ensures model { (h : History) (entry : Entry) → (S.view store.old).holds (tables h)
         → (reason ≡ None → (number ≡ entry.number) × Fits (tables h) change.now day × (changed (tables h) change.now day ≡ tables (entry ∷ h)))
-        → Attempts (S.holds store.new) result (admitted h entry reason) h }
-    ensures doubt { S.doubt store.old ≤ S.doubt store.new }
-    ensures failed { S.failed store.new ≡ failed_after result (S.failed store.old) }
-    ensures commits { Committed result (S.commits store.old) (S.commits store.new) }
-    ensures handed { S.handed store.new ≡ S.handed store.old }
+        → Attempts (S.view store.new).holds result (admitted h entry reason) h }
+    ensures attempt { IsAttempt false (S.view store.old) (S.view store.new) result }
     ensures decided { IfOk result IsDecided }
     ensures own { IfOk result IsOwn }
 {

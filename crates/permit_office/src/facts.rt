@@ -1,12 +1,12 @@
 //! The facts by which the policy decides, from the rows of a parcel or a file.
 
-ghost use Rattle.std.specs.Prelude.{◌≡◌, ◌≤◌, Option, Some, None, IfOk};
+ghost use Rattle.std.specs.Prelude.{◌≡◌, Option, Some, None, IfOk};
 ghost use Rattle.permit_model.specs.History.{History};
 ghost use Rattle.permit_model.specs.Parcels.{parcel_numbered, owner};
 ghost use Rattle.permit_model.specs.Files.{CaseFile};
 ghost use Rattle.permit_model.specs.Facts.{file_facts, parcel_facts};
 ghost use Rattle.permit_model.specs.Tables.{Tables, tables, file_row};
-ghost use Rattle.permit_store.specs.Counts.{failed_after};
+ghost use Rattle.permit_office.specs.Frames.{OnlyReads};
 
 use permit_base::values::{Day, ParcelId, PartyId};
 use permit_base::words::{Action, Relations, Stage, Timing};
@@ -22,13 +22,9 @@ pub(crate) fn facts_on_parcel<S: Store>(
     word: Stage,
     action: Action,
 ) -> Got<Facts>
-    ensures facts { S.doubt store.new ≡ 0 → (h : History) → S.holds store.old (tables h) → parcel_numbered h land.now.id ≡ Some land.now
+    ensures facts { (S.view store.new).doubt ≡ 0 → (h : History) → (S.view store.old).holds (tables h) → parcel_numbered h land.now.id ≡ Some land.now
         → IfOk result (λ f. f ≡ parcel_facts h caller.now land.now.id word action) }
-    ensures kept { (t : Tables) → S.holds store.old t → S.holds store.new t }
-    ensures doubt { S.doubt store.old ≤ S.doubt store.new }
-    ensures failed { S.failed store.new ≡ failed_after result (S.failed store.old) }
-    ensures commits { S.commits store.new ≡ S.commits store.old }
-    ensures handed { S.handed store.new ≡ S.handed store.old }
+    ensures read { OnlyReads (S.view store.old) (S.view store.new) result }
 {
     let conflict = store.interest(land.id, caller.id)?;
     Ok(Facts {
@@ -50,12 +46,8 @@ pub(crate) fn facts_on_parcel<S: Store>(
 
 /// The owner of a parcel, if it is there.
 pub(crate) fn owner_of<S: Store>(store: &mut S, parcel: ParcelId) -> Got<Option<PartyId>>
-    ensures owner { S.doubt store.new ≡ 0 → (h : History) → S.holds store.old (tables h) → IfOk result (λ o. o ≡ owner h parcel) }
-    ensures kept { (t : Tables) → S.holds store.old t → S.holds store.new t }
-    ensures doubt { S.doubt store.old ≤ S.doubt store.new }
-    ensures failed { S.failed store.new ≡ failed_after result (S.failed store.old) }
-    ensures commits { S.commits store.new ≡ S.commits store.old }
-    ensures handed { S.handed store.new ≡ S.handed store.old }
+    ensures owner { (S.view store.new).doubt ≡ 0 → (h : History) → (S.view store.old).holds (tables h) → IfOk result (λ o. o ≡ owner h parcel) }
+    ensures read { OnlyReads (S.view store.old) (S.view store.new) result }
 {
     match store.parcel(parcel)? {
         Some(land) => Ok(Some(land.owner)),
@@ -71,13 +63,9 @@ pub(crate) fn facts_on_file<S: Store>(
     action: Action,
     day: Day,
 ) -> Got<Facts>
-    ensures facts { S.doubt store.new ≡ 0 → (h : History) (file : CaseFile) → S.holds store.old (tables h) → row.now ≡ file_row file
+    ensures facts { (S.view store.new).doubt ≡ 0 → (h : History) (file : CaseFile) → (S.view store.old).holds (tables h) → row.now ≡ file_row file
         → IfOk result (λ f. f ≡ file_facts h day caller.now file action) }
-    ensures kept { (t : Tables) → S.holds store.old t → S.holds store.new t }
-    ensures doubt { S.doubt store.old ≤ S.doubt store.new }
-    ensures failed { S.failed store.new ≡ failed_after result (S.failed store.old) }
-    ensures commits { S.commits store.new ≡ S.commits store.old }
-    ensures handed { S.handed store.new ≡ S.handed store.old }
+    ensures read { OnlyReads (S.view store.old) (S.view store.new) result }
 {
     let parcel = row.state.parcel();
     let owner = owner_of(store, parcel)?;

@@ -1,14 +1,14 @@
 //! New files.
 
-ghost use Rattle.std.specs.Prelude.{◌≡◌, ◌≤◌, ℕ, Option, Some, None, List, IsTrue, IfOk};
+ghost use Rattle.std.specs.Prelude.{◌≡◌, ◌≤◌, ℕ, Option, Some, None, List, IsTrue, IfOk, false};
 ghost use Rattle.permit_base.specs.declared.request.Request.TheVariants as request;
 ghost use Rattle.permit_model.specs.Caller;
 ghost use Rattle.permit_model.specs.History.{History, last_day};
 ghost use Rattle.permit_model.specs.Admission.{reason_against};
 ghost use Rattle.permit_model.specs.Tables.{tables, desk_of};
 ghost use Rattle.permit_model.specs.Machine.{IsHistory, served};
-ghost use Rattle.permit_store.specs.Counts.{failed_after};
-ghost use Rattle.permit_office.specs.Answers.{Attempts, Committed, IsOwn};
+ghost use Rattle.permit_office.specs.Answers.{Attempts, IsOwn};
+ghost use Rattle.permit_office.specs.Frames.{IsAttempt};
 
 use crate::commit::carry_out;
 use crate::facts::facts_on_parcel;
@@ -44,12 +44,10 @@ pub(crate) fn file<S: Store>(
     description: &Text,
     day: Day,
 ) -> Got<Reply>
-    ensures model { S.doubt store.new ≡ 0 → (h : History) → IsHistory h → S.holds store.old (tables h) → desk.now ≡ desk_of h → last_day h ≤ day → IsTrue (Caller.is_party h caller.now.id)
-        → Attempts (S.holds store.new) result (served policy.now h day caller.now (request.File parcel kind valuation description.now)) h }
-    ensures doubt { S.doubt store.old ≤ S.doubt store.new }
-    ensures failed { S.failed store.new ≡ failed_after result (S.failed store.old) }
-    ensures commits { Committed result (S.commits store.old) (S.commits store.new) }
-    ensures handed { S.handed store.new ≡ S.handed store.old }
+    ensures model { (S.view store.new).doubt ≡ 0 → (h : History) → IsHistory h → (S.view store.old).holds (tables h) → desk.now ≡ desk_of h
+        → last_day h ≤ day → IsTrue (Caller.is_party h caller.now.id)
+        → Attempts (S.view store.new).holds result (served policy.now h day caller.now (request.File parcel kind valuation description.now)) h }
+    ensures attempt { IsAttempt false (S.view store.old) (S.view store.new) result }
     ensures own { IfOk result IsOwn }
 {
     let Some(land) = store.parcel(parcel)? else {

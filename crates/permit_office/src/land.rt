@@ -1,6 +1,6 @@
 //! Parcels: new ones, their owners, and the interests declared in them.
 
-ghost use Rattle.std.specs.Prelude.{◌≡◌, ◌≤◌, ℕ, Option, Some, None, List, IsTrue, IfOk, bytes_eq};
+ghost use Rattle.std.specs.Prelude.{◌≡◌, ◌≤◌, ℕ, Option, Some, None, List, IsTrue, IfOk, bytes_eq, false};
 ghost use Rattle.std.specs.List.{list_any};
 ghost use Rattle.permit_base.specs.declared.request.Request.TheVariants as request;
 ghost use Rattle.permit_model.specs.Caller;
@@ -9,8 +9,8 @@ ghost use Rattle.permit_model.specs.Parcels.{parcel_numbered, parcels};
 ghost use Rattle.permit_model.specs.Admission.{reason_against};
 ghost use Rattle.permit_model.specs.Tables.{Tables, tables, desk_of};
 ghost use Rattle.permit_model.specs.Machine.{IsHistory, served};
-ghost use Rattle.permit_store.specs.Counts.{failed_after};
-ghost use Rattle.permit_office.specs.Answers.{Attempts, Committed, IsOwn};
+ghost use Rattle.permit_office.specs.Answers.{Attempts, IsOwn};
+ghost use Rattle.permit_office.specs.Frames.{OnlyReads, IsAttempt};
 
 use crate::commit::carry_out;
 use crate::facts::facts_on_parcel;
@@ -26,12 +26,9 @@ use permit_store::store::{Got, Store};
 /// Whether there is a parcel of that lot.
 #[tactic(auto, using(crate::proofs::Lists::any_found))]
 fn is_lot<S: Store>(store: &mut S, lot: &Lot) -> Got<bool>
-    ensures there { S.doubt store.new ≡ 0 → (h : History) → S.holds store.old (tables h) → IfOk result (λ b. b ≡ list_any (λ p. bytes_eq p.lot lot.now) (parcels h)) }
-    ensures kept { (t : Tables) → S.holds store.old t → S.holds store.new t }
-    ensures doubt { S.doubt store.old ≤ S.doubt store.new }
-    ensures failed { S.failed store.new ≡ failed_after result (S.failed store.old) }
-    ensures commits { S.commits store.new ≡ S.commits store.old }
-    ensures handed { S.handed store.new ≡ S.handed store.old }
+    ensures there { (S.view store.new).doubt ≡ 0 → (h : History) → (S.view store.old).holds (tables h)
+        → IfOk result (λ b. b ≡ list_any (λ p. bytes_eq p.lot lot.now) (parcels h)) }
+    ensures read { OnlyReads (S.view store.old) (S.view store.new) result }
 {
     let found = store.parcel_by_lot(lot)?;
     Ok(found.is_some())
@@ -44,13 +41,10 @@ fn against_parcel<S: Store>(
     lot: &Lot,
     owner: PartyId,
 ) -> Got<Option<Reason>>
-    ensures reason { S.doubt store.new ≡ 0 → (h : History) (day caller : ℕ) (address : List ℕ) → S.holds store.old (tables h) → desk.now ≡ desk_of h
+    ensures reason { (S.view store.new).doubt ≡ 0 → (h : History) (day caller : ℕ) (address : List ℕ) → (S.view store.old).holds (tables h)
+        → desk.now ≡ desk_of h
         → IfOk result (λ r. r ≡ reason_against h day caller (request.AddParcel lot.now address owner)) }
-    ensures kept { (t : Tables) → S.holds store.old t → S.holds store.new t }
-    ensures doubt { S.doubt store.old ≤ S.doubt store.new }
-    ensures failed { S.failed store.new ≡ failed_after result (S.failed store.old) }
-    ensures commits { S.commits store.new ≡ S.commits store.old }
-    ensures handed { S.handed store.new ≡ S.handed store.old }
+    ensures read { OnlyReads (S.view store.old) (S.view store.new) result }
 {
     if !is_party(store, owner)? {
         return Ok(Some(Reason::Person));
@@ -75,12 +69,9 @@ pub(crate) fn add_parcel<S: Store>(
     owner: PartyId,
     day: Day,
 ) -> Got<Reply>
-    ensures model { S.doubt store.new ≡ 0 → (h : History) → IsHistory h → S.holds store.old (tables h) → desk.now ≡ desk_of h → last_day h ≤ day
-        → Attempts (S.holds store.new) result (served policy.now h day caller.now (request.AddParcel lot.now address.now owner)) h }
-    ensures doubt { S.doubt store.old ≤ S.doubt store.new }
-    ensures failed { S.failed store.new ≡ failed_after result (S.failed store.old) }
-    ensures commits { Committed result (S.commits store.old) (S.commits store.new) }
-    ensures handed { S.handed store.new ≡ S.handed store.old }
+    ensures model { (S.view store.new).doubt ≡ 0 → (h : History) → IsHistory h → (S.view store.old).holds (tables h) → desk.now ≡ desk_of h → last_day h ≤ day
+        → Attempts (S.view store.new).holds result (served policy.now h day caller.now (request.AddParcel lot.now address.now owner)) h }
+    ensures attempt { IsAttempt false (S.view store.old) (S.view store.new) result }
     ensures own { IfOk result IsOwn }
 {
     if let Some(name) = policy.denial(&Facts::office(caller.role, Action::AddParcel)) {
@@ -107,13 +98,9 @@ fn against_declaration<S: Store>(
     parcel: ParcelId,
     caller: PartyId,
 ) -> Got<Option<Reason>>
-    ensures reason { S.doubt store.new ≡ 0 → (h : History) (day : ℕ) → S.holds store.old (tables h)
+    ensures reason { (S.view store.new).doubt ≡ 0 → (h : History) (day : ℕ) → (S.view store.old).holds (tables h)
         → IfOk result (λ r. r ≡ reason_against h day caller (request.Declare parcel)) }
-    ensures kept { (t : Tables) → S.holds store.old t → S.holds store.new t }
-    ensures doubt { S.doubt store.old ≤ S.doubt store.new }
-    ensures failed { S.failed store.new ≡ failed_after result (S.failed store.old) }
-    ensures commits { S.commits store.new ≡ S.commits store.old }
-    ensures handed { S.handed store.new ≡ S.handed store.old }
+    ensures read { OnlyReads (S.view store.old) (S.view store.new) result }
 {
     if store.interest(parcel, caller)? {
         return Ok(Some(Reason::Taken));
@@ -129,12 +116,10 @@ pub(crate) fn declare<S: Store>(
     parcel: ParcelId,
     day: Day,
 ) -> Got<Reply>
-    ensures model { S.doubt store.new ≡ 0 → (h : History) → S.holds store.old (tables h) → last_day h ≤ day → IsTrue (Caller.is_party h caller.now.id)
-        → Attempts (S.holds store.new) result (served policy.now h day caller.now (request.Declare parcel)) h }
-    ensures doubt { S.doubt store.old ≤ S.doubt store.new }
-    ensures failed { S.failed store.new ≡ failed_after result (S.failed store.old) }
-    ensures commits { Committed result (S.commits store.old) (S.commits store.new) }
-    ensures handed { S.handed store.new ≡ S.handed store.old }
+    ensures model { (S.view store.new).doubt ≡ 0 → (h : History) → (S.view store.old).holds (tables h) → last_day h ≤ day
+        → IsTrue (Caller.is_party h caller.now.id)
+        → Attempts (S.view store.new).holds result (served policy.now h day caller.now (request.Declare parcel)) h }
+    ensures attempt { IsAttempt false (S.view store.old) (S.view store.new) result }
     ensures own { IfOk result IsOwn }
 {
     let Some(land) = store.parcel(parcel)? else {
@@ -157,13 +142,10 @@ pub(crate) fn declare<S: Store>(
 
 /// What stands against a transfer.
 fn against_transfer<S: Store>(store: &mut S, land: &Parcel, to: PartyId) -> Got<Option<Reason>>
-    ensures reason { S.doubt store.new ≡ 0 → (h : History) (day caller : ℕ) → S.holds store.old (tables h) → parcel_numbered h land.now.id ≡ Some land.now
+    ensures reason { (S.view store.new).doubt ≡ 0 → (h : History) (day caller : ℕ) → (S.view store.old).holds (tables h)
+        → parcel_numbered h land.now.id ≡ Some land.now
         → IfOk result (λ r. r ≡ reason_against h day caller (request.Transfer land.now.id to)) }
-    ensures kept { (t : Tables) → S.holds store.old t → S.holds store.new t }
-    ensures doubt { S.doubt store.old ≤ S.doubt store.new }
-    ensures failed { S.failed store.new ≡ failed_after result (S.failed store.old) }
-    ensures commits { S.commits store.new ≡ S.commits store.old }
-    ensures handed { S.handed store.new ≡ S.handed store.old }
+    ensures read { OnlyReads (S.view store.old) (S.view store.new) result }
 {
     if !is_party(store, to)? {
         return Ok(Some(Reason::Person));
@@ -183,12 +165,9 @@ pub(crate) fn transfer<S: Store>(
     to: PartyId,
     day: Day,
 ) -> Got<Reply>
-    ensures model { S.doubt store.new ≡ 0 → (h : History) → S.holds store.old (tables h) → last_day h ≤ day
-        → Attempts (S.holds store.new) result (served policy.now h day caller.now (request.Transfer parcel to)) h }
-    ensures doubt { S.doubt store.old ≤ S.doubt store.new }
-    ensures failed { S.failed store.new ≡ failed_after result (S.failed store.old) }
-    ensures commits { Committed result (S.commits store.old) (S.commits store.new) }
-    ensures handed { S.handed store.new ≡ S.handed store.old }
+    ensures model { (S.view store.new).doubt ≡ 0 → (h : History) → (S.view store.old).holds (tables h) → last_day h ≤ day
+        → Attempts (S.view store.new).holds result (served policy.now h day caller.now (request.Transfer parcel to)) h }
+    ensures attempt { IsAttempt false (S.view store.old) (S.view store.new) result }
     ensures own { IfOk result IsOwn }
 {
     let Some(land) = store.parcel(parcel)? else {

@@ -1,13 +1,13 @@
 //! The office and its steps.
 
-ghost use Rattle.std.specs.Prelude.{◌≡◌, ◌≢◌, ◌≤◌, IsTrue, IfOk, IfErr, MatchResult, OnErr, ◌↔◌};
-ghost use Rattle.std.specs.List.{list_all};
+ghost use Rattle.std.specs.Prelude.{◌≡◌, ◌≤◌, IfOk, IfErr, OnErr};
 ghost use Rattle.permit_model.specs.History.{History};
-ghost use Rattle.permit_model.specs.Tables.{Tables, tables};
+ghost use Rattle.permit_model.specs.Tables.{tables};
 ghost use Rattle.permit_model.specs.Machine.{IsHistory, step_as, step};
-ghost use Rattle.permit_store.specs.Counts.{next_count};
+ghost use Rattle.permit_store.specs.Frames.{IsRead};
 ghost use Rattle.permit_store.specs.declared.store.OpenError.TheVariants as open_error;
-ghost use Rattle.permit_office.specs.Answers.{Answers, CommittedBy, HandedBy, failed_by, failed_over, is_built, is_on_file, is_store_refusal};
+ghost use Rattle.permit_office.specs.Answers.{Answers};
+ghost use Rattle.permit_office.specs.Frames.{IsStep, Steps};
 ghost use Rattle.permit_office.specs.Runs.{Ran};
 
 use crate::reply::Reply;
@@ -39,18 +39,15 @@ impl<S: Store> Model for Office<S> {
     ghost view = { λ o. record { store = o.store; policy = o.policy } };
 }
 
-#[tactic(auto, using(crate::proofs::Stepping::next_differs, crate::proofs::Stepping::committed_by, crate::proofs::Stepping::handed_ok, crate::proofs::Stepping::handed_err, crate::proofs::Stepping::own_counts))]
+#[tactic(auto, using(crate::proofs::Stepping::stepped_ok, crate::proofs::Stepping::stepped_err))]
 impl<S: Store + Drop> Office<S> {
     /// The office over a store, with a policy. It reads the desk; where that fails, the store comes back with its
     /// content as it was, and `OpenError::Store`.
     pub fn open(mut store: S, policy: Policy) -> Result<Office<S>, (S, OpenError)>
-        ensures held { (t : Tables) → S.holds store t → IfOk result (λ office. S.holds office.store t) }
+        ensures opened { IfOk result (λ office. IsRead (S.view store) (S.view office.store) result) }
         ensures policy { IfOk result (λ office. office.policy ≡ policy) }
-        ensures back { (t : Tables) → S.holds store t → IfErr result (λ back. S.holds back.0 t) }
+        ensures back { IfErr result (λ back. IsRead (S.view store) (S.view back.0) result) }
         ensures refusal { IfErr result (λ back. back.1 ≡ open_error.Store) }
-        ensures doubt { MatchResult result (λ office. S.doubt store ≤ S.doubt office.store) (λ back. S.doubt store ≤ S.doubt back.0) }
-        ensures opened { IfOk result (λ office. S.failed office.store ≡ S.failed store) }
-        ensures failed { IfErr result (λ back. S.failed back.0 ≡ next_count (S.failed store)) }
     {
         match store.desk() {
             Ok(_) => Ok(Office { store, policy }),
@@ -76,14 +73,9 @@ impl<S: Store + Drop> Office<S> {
     /// moves the last day. The refusal for the store comes exactly where a call of the store failed; then, too,
     /// nothing has changed.
     pub fn step_as(&mut self, digest: &Digest, asked: &Request, day: Day) -> Reply
-        ensures model { S.doubt self.new.store ≡ 0 → (h : History) → IsHistory h → S.holds self.old.store (tables h)
-            → Answers (S.holds self.new.store) result (step_as self.old.policy h digest.now asked.now day) h }
-        ensures policy { self.new.policy ≡ self.old.policy }
-        ensures doubt { S.doubt self.old.store ≤ S.doubt self.new.store }
-        ensures failed { IsTrue (is_built asked.now) → (IsTrue (is_store_refusal result) ↔ (S.failed self.new.store ≢ S.failed self.old.store)) }
-        ensures failures { IsTrue (is_built asked.now) → S.failed self.new.store ≡ failed_by result (S.failed self.old.store) }
-        ensures commits { CommittedBy result (S.commits self.old.store) (S.commits self.new.store) }
-        ensures handed { HandedBy (is_on_file asked.now) result (S.handed self.old.store) (S.handed self.new.store) }
+        ensures model { (S.view self.new.store).doubt ≡ 0 → (h : History) → IsHistory h → (S.view self.old.store).holds (tables h)
+            → Answers (S.view self.new.store).holds result (step_as self.old.policy h digest.now asked.now day) h }
+        ensures step { IsStep S.view asked.now self.old self.new result }
     {
         match attempt(&mut self.store, &self.policy, digest, asked, day) {
             Ok(reply) => reply,
@@ -93,14 +85,9 @@ impl<S: Store + Drop> Office<S> {
 
     /// One step for a request with its caller's token, on the day: `step_as` on the token's digest.
     pub fn step(&mut self, asked: &Asked, day: Day) -> Reply
-        ensures model { S.doubt self.new.store ≡ 0 → (h : History) → IsHistory h → S.holds self.old.store (tables h)
-            → Answers (S.holds self.new.store) result (step self.old.policy h asked.now day) h }
-        ensures policy { self.new.policy ≡ self.old.policy }
-        ensures doubt { S.doubt self.old.store ≤ S.doubt self.new.store }
-        ensures failed { IsTrue (is_built asked.now.request) → (IsTrue (is_store_refusal result) ↔ (S.failed self.new.store ≢ S.failed self.old.store)) }
-        ensures failures { IsTrue (is_built asked.now.request) → S.failed self.new.store ≡ failed_by result (S.failed self.old.store) }
-        ensures commits { CommittedBy result (S.commits self.old.store) (S.commits self.new.store) }
-        ensures handed { HandedBy (is_on_file asked.now.request) result (S.handed self.old.store) (S.handed self.new.store) }
+        ensures model { (S.view self.new.store).doubt ≡ 0 → (h : History) → IsHistory h → (S.view self.old.store).holds (tables h)
+            → Answers (S.view self.new.store).holds result (step self.old.policy h asked.now day) h }
+        ensures step { IsStep S.view asked.now.request self.old self.new result }
     {
         match digest(&asked.token) {
             Ok(digest) => self.step_as(&digest, &asked.request, day),
@@ -115,12 +102,11 @@ impl<S: Store + Drop> Office<S> {
         alloc: Global,
         requests: &[(Asked, Day)],
     ) -> Result<Vec<Reply>, AllocError>
-        ensures model { S.doubt self.new.store ≡ 0 → (h : History) → IsHistory h → S.holds self.old.store (tables h)
-            → IfOk result (λ replies. Ran (S.holds self.new.store) self.old.policy requests.now replies.items h) }
+        ensures model { (S.view self.new.store).doubt ≡ 0 → (h : History) → IsHistory h → (S.view self.old.store).holds (tables h)
+            → IfOk result (λ replies. Ran (S.view self.new.store).holds self.old.policy requests.now replies.items h) }
         ensures policy { self.new.policy ≡ self.old.policy }
-        ensures doubt { S.doubt self.old.store ≤ S.doubt self.new.store }
-        ensures failures { IsTrue (list_all (λ a. is_built a.0.request) requests.now)
-            → IfOk result (λ replies. S.failed self.new.store ≡ failed_over replies.items (S.failed self.old.store)) }
+        ensures doubt { (S.view self.old.store).doubt ≤ (S.view self.new.store).doubt }
+        ensures steps { IfOk result (λ replies. Steps S.view requests.now replies.items self.old self.new) }
         ensures err { OnErr result (self.new ≡ self.old) }
     {
         let mut replies = Vec::with_capacity(alloc, requests.len())?;

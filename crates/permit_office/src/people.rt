@@ -1,6 +1,6 @@
 //! New parties.
 
-ghost use Rattle.std.specs.Prelude.{◌≡◌, ◌≤◌, ℕ, Option, Some, None, List, IfOk};
+ghost use Rattle.std.specs.Prelude.{◌≡◌, ◌≤◌, ℕ, Option, Some, None, List, IfOk, false};
 ghost use Rattle.permit_base.specs.Actions.{adding_action};
 ghost use Rattle.permit_base.specs.Digests.{digest_of};
 ghost use Rattle.permit_base.specs.declared.request.Request.TheVariants as request;
@@ -9,8 +9,8 @@ ghost use Rattle.permit_model.specs.History.{History, last_day};
 ghost use Rattle.permit_model.specs.Admission.{reason_against};
 ghost use Rattle.permit_model.specs.Tables.{Tables, tables, desk_of};
 ghost use Rattle.permit_model.specs.Machine.{IsHistory, served};
-ghost use Rattle.permit_store.specs.Counts.{failed_after};
-ghost use Rattle.permit_office.specs.Answers.{Attempts, Committed, IsOwn};
+ghost use Rattle.permit_office.specs.Answers.{Attempts, IsOwn};
+ghost use Rattle.permit_office.specs.Frames.{OnlyReads, IsAttempt};
 
 use crate::commit::carry_out;
 use crate::reply::Reply;
@@ -34,12 +34,8 @@ fn adding(role: Role) -> Action
 
 /// Whether there is such a party.
 pub(crate) fn is_party<S: Store>(store: &mut S, party: PartyId) -> Got<bool>
-    ensures there { S.doubt store.new ≡ 0 → (h : History) → S.holds store.old (tables h) → IfOk result (λ b. b ≡ Caller.is_party h party) }
-    ensures kept { (t : Tables) → S.holds store.old t → S.holds store.new t }
-    ensures doubt { S.doubt store.old ≤ S.doubt store.new }
-    ensures failed { S.failed store.new ≡ failed_after result (S.failed store.old) }
-    ensures commits { S.commits store.new ≡ S.commits store.old }
-    ensures handed { S.handed store.new ≡ S.handed store.old }
+    ensures there { (S.view store.new).doubt ≡ 0 → (h : History) → (S.view store.old).holds (tables h) → IfOk result (λ b. b ≡ Caller.is_party h party) }
+    ensures read { OnlyReads (S.view store.old) (S.view store.new) result }
 {
     let found = store.party(party)?;
     Ok(found.is_some())
@@ -47,14 +43,11 @@ pub(crate) fn is_party<S: Store>(store: &mut S, party: PartyId) -> Got<bool>
 
 /// What stands against a new party.
 fn against_party<S: Store>(store: &mut S, desk: &Desk, digest: &Digest) -> Got<Option<Reason>>
-    ensures reason { S.doubt store.new ≡ 0 → (h : History) (day caller : ℕ) (name : List ℕ) (role : Role) (token : List ℕ) → S.holds store.old (tables h) → desk.now ≡ desk_of h
+    ensures reason { (S.view store.new).doubt ≡ 0 → (h : History) (day caller : ℕ) (name : List ℕ) (role : Role) (token : List ℕ)
+        → (S.view store.old).holds (tables h) → desk.now ≡ desk_of h
         → digest.now ≡ digest_of token
         → IfOk result (λ r. r ≡ reason_against h day caller (request.AddParty name role token)) }
-    ensures kept { (t : Tables) → S.holds store.old t → S.holds store.new t }
-    ensures doubt { S.doubt store.old ≤ S.doubt store.new }
-    ensures failed { S.failed store.new ≡ failed_after result (S.failed store.old) }
-    ensures commits { S.commits store.new ≡ S.commits store.old }
-    ensures handed { S.handed store.new ≡ S.handed store.old }
+    ensures read { OnlyReads (S.view store.old) (S.view store.new) result }
 {
     if store.party_by_token(digest)?.is_some() {
         return Ok(Some(Reason::Taken));
@@ -76,12 +69,9 @@ pub(crate) fn add_party<S: Store>(
     token: &Token,
     day: Day,
 ) -> Got<Reply>
-    ensures model { S.doubt store.new ≡ 0 → (h : History) → IsHistory h → S.holds store.old (tables h) → desk.now ≡ desk_of h → last_day h ≤ day
-        → Attempts (S.holds store.new) result (served policy.now h day caller.now (request.AddParty name.now role token.now)) h }
-    ensures doubt { S.doubt store.old ≤ S.doubt store.new }
-    ensures failed { S.failed store.new ≡ failed_after result (S.failed store.old) }
-    ensures commits { Committed result (S.commits store.old) (S.commits store.new) }
-    ensures handed { S.handed store.new ≡ S.handed store.old }
+    ensures model { (S.view store.new).doubt ≡ 0 → (h : History) → IsHistory h → (S.view store.old).holds (tables h) → desk.now ≡ desk_of h → last_day h ≤ day
+        → Attempts (S.view store.new).holds result (served policy.now h day caller.now (request.AddParty name.now role token.now)) h }
+    ensures attempt { IsAttempt false (S.view store.old) (S.view store.new) result }
     ensures own { IfOk result IsOwn }
 {
     if let Some(rule) = policy.denial(&Facts::office(caller.role, adding(role))) {

@@ -1,12 +1,12 @@
 //! Reads of one record.
 
-ghost use Rattle.std.specs.Prelude.{◌≡◌, ◌≤◌, IfOk};
+ghost use Rattle.std.specs.Prelude.{◌≡◌, IfOk, true, false};
 ghost use Rattle.permit_base.specs.declared.request.Request.TheVariants as request;
 ghost use Rattle.permit_model.specs.History.{History};
 ghost use Rattle.permit_model.specs.Tables.{tables};
 ghost use Rattle.permit_model.specs.Machine.{served};
-ghost use Rattle.permit_store.specs.Counts.{failed_after};
-ghost use Rattle.permit_office.specs.Answers.{Attempts, Committed, Handed, IsOwn};
+ghost use Rattle.permit_office.specs.Answers.{Attempts, IsOwn};
+ghost use Rattle.permit_office.specs.Frames.{IsAttempt};
 
 use crate::facts::{facts_on_file, facts_on_parcel};
 use crate::reply::Reply;
@@ -25,12 +25,9 @@ pub(crate) fn read_file<S: Store>(
     file: FileId,
     day: Day,
 ) -> Got<Reply>
-    ensures model { S.doubt store.new ≡ 0 → (h : History) → S.holds store.old (tables h)
-        → Attempts (S.holds store.new) result (served policy.now h day caller.now (request.ReadFile file)) h }
-    ensures doubt { S.doubt store.old ≤ S.doubt store.new }
-    ensures failed { S.failed store.new ≡ failed_after result (S.failed store.old) }
-    ensures commits { Committed result (S.commits store.old) (S.commits store.new) }
-    ensures handed { Handed result (S.handed store.old) (S.handed store.new) }
+    ensures model { (S.view store.new).doubt ≡ 0 → (h : History) → (S.view store.old).holds (tables h)
+        → Attempts (S.view store.new).holds result (served policy.now h day caller.now (request.ReadFile file)) h }
+    ensures attempt { IsAttempt true (S.view store.old) (S.view store.new) result }
     ensures own { IfOk result IsOwn }
 {
     let Some(row) = store.file(file)? else {
@@ -54,12 +51,9 @@ pub(crate) fn read_parcel<S: Store>(
     parcel: ParcelId,
     day: Day,
 ) -> Got<Reply>
-    ensures model { S.doubt store.new ≡ 0 → (h : History) → S.holds store.old (tables h)
-        → Attempts (S.holds store.new) result (served policy.now h day caller.now (request.ReadParcel parcel)) h }
-    ensures doubt { S.doubt store.old ≤ S.doubt store.new }
-    ensures failed { S.failed store.new ≡ failed_after result (S.failed store.old) }
-    ensures commits { Committed result (S.commits store.old) (S.commits store.new) }
-    ensures handed { S.handed store.new ≡ S.handed store.old }
+    ensures model { (S.view store.new).doubt ≡ 0 → (h : History) → (S.view store.old).holds (tables h)
+        → Attempts (S.view store.new).holds result (served policy.now h day caller.now (request.ReadParcel parcel)) h }
+    ensures attempt { IsAttempt false (S.view store.old) (S.view store.new) result }
     ensures own { IfOk result IsOwn }
 {
     let Some(land) = store.parcel(parcel)? else {

@@ -1,12 +1,13 @@
 //! From a caller's digest to the request: who asks, whether the clock goes on, and what is asked.
 
-ghost use Rattle.std.specs.Prelude.{◌≡◌, ◌≤◌, IsTrue, IfOk};
+ghost use Rattle.std.specs.Prelude.{◌≡◌, ◌≤◌, IsTrue, IfOk, OnOk};
 ghost use Rattle.permit_model.specs.Caller;
 ghost use Rattle.permit_model.specs.History.{History, last_day};
 ghost use Rattle.permit_model.specs.Tables.{tables, desk_of};
 ghost use Rattle.permit_model.specs.Machine.{IsHistory, served, step_as};
-ghost use Rattle.permit_store.specs.Counts.{failed_after};
-ghost use Rattle.permit_office.specs.Answers.{Attempts, Committed, HandedIn, is_built, is_on_file, IsOwn};
+ghost use Rattle.permit_store.specs.Frames.{HasOneDesk};
+ghost use Rattle.permit_office.specs.Answers.{Attempts, is_built, is_on_file, IsOwn};
+ghost use Rattle.permit_office.specs.Frames.{IsAttempt};
 
 use crate::commands::on_file;
 use crate::filing::file;
@@ -30,12 +31,10 @@ fn serve_known<S: Store>(
     asked: &Request,
     day: Day,
 ) -> Got<Reply>
-    ensures model { S.doubt store.new ≡ 0 → (h : History) → IsHistory h → S.holds store.old (tables h) → desk.now ≡ desk_of h → last_day h ≤ day → IsTrue (Caller.is_party h caller.now.id)
-        → Attempts (S.holds store.new) result (served policy.now h day caller.now asked.now) h }
-    ensures doubt { S.doubt store.old ≤ S.doubt store.new }
-    ensures failed { S.failed store.new ≡ failed_after result (S.failed store.old) }
-    ensures commits { Committed result (S.commits store.old) (S.commits store.new) }
-    ensures handed { HandedIn (is_on_file asked.now) result (S.handed store.old) (S.handed store.new) }
+    ensures model { (S.view store.new).doubt ≡ 0 → (h : History) → IsHistory h → (S.view store.old).holds (tables h) → desk.now ≡ desk_of h
+        → last_day h ≤ day → IsTrue (Caller.is_party h caller.now.id)
+        → Attempts (S.view store.new).holds result (served policy.now h day caller.now asked.now) h }
+    ensures attempt { IsAttempt (is_on_file asked.now) (S.view store.old) (S.view store.new) result }
     ensures own { IsTrue (is_built asked.now) → IfOk result IsOwn }
 {
     match asked {
@@ -80,12 +79,10 @@ pub(crate) fn attempt<S: Store>(
     asked: &Request,
     day: Day,
 ) -> Got<Reply>
-    ensures model { S.doubt store.new ≡ 0 → (h : History) → IsHistory h → S.holds store.old (tables h)
-        → Attempts (S.holds store.new) result (step_as policy.now h digest.now asked.now day) h }
-    ensures doubt { S.doubt store.old ≤ S.doubt store.new }
-    ensures failed { S.failed store.new ≡ failed_after result (S.failed store.old) }
-    ensures commits { Committed result (S.commits store.old) (S.commits store.new) }
-    ensures handed { HandedIn (is_on_file asked.now) result (S.handed store.old) (S.handed store.new) }
+    ensures model { (S.view store.new).doubt ≡ 0 → (h : History) → IsHistory h → (S.view store.old).holds (tables h)
+        → Attempts (S.view store.new).holds result (step_as policy.now h digest.now asked.now day) h }
+    ensures attempt { IsAttempt (is_on_file asked.now) (S.view store.old) (S.view store.new) result }
+    ensures one { (S.view store.new).doubt ≡ 0 → OnOk result (HasOneDesk (S.view store.new)) }
     ensures own { IsTrue (is_built asked.now) → IfOk result IsOwn }
 {
     let Some(caller) = store.party_by_token(digest)? else {

@@ -50,7 +50,8 @@ fn put_row(
     day: Day,
 ) -> bool
     ensures rows { IsTrue result → map (λ k. k.row) files.new ≡ map (with_state file state) (map (λ k. k.row) files.old) }
-    ensures papers { IsTrue result → (f : ℕ) → papers_at f files.new ≡ (if file == f then papers_after file state.papers day effect.now (papers_at file files.old) else papers_at f files.old) }
+    ensures papers { IsTrue result → (f : ℕ)
+        → papers_at f files.new ≡ (if file == f then papers_after file state.papers day effect.now (papers_at file files.old) else papers_at f files.old) }
     ensures count { length files.new ≡ length files.old }
     ensures kept { result ≡ false → files.new ≡ files.old }
 {
@@ -77,11 +78,12 @@ impl PlainStore {
     /// The tables after a founding: one party, number 1, an official, on the founding day. It refuses only as
     /// `Store`, where memory is refused.
     pub fn create(alloc: Global, founder: &Founder) -> Result<PlainStore, OpenError>
-        ensures founded { IfOk result (λ s. ⟦<PlainStore as Store>⟧.holds s (tables (founding founder.now.name founder.now.digest founder.now.day))) }
+        ensures founded { IfOk result (λ s. (⟦<PlainStore as Store>⟧.view s).holds (tables (founding founder.now.name founder.now.digest founder.now.day))) }
         ensures history { IsHistory (founding founder.now.name founder.now.digest founder.now.day) }
-        ensures handed { IfOk result (λ s. ⟦<PlainStore as Store>⟧.handed s ≡ 0) }
-        ensures failed { IfOk result (λ s. ⟦<PlainStore as Store>⟧.failed s ≡ 0) }
-        ensures commits { IfOk result (λ s. ⟦<PlainStore as Store>⟧.commits s ≡ 0) }
+        ensures doubt { IfOk result (λ s. (⟦<PlainStore as Store>⟧.view s).doubt ≡ 0) }
+        ensures handed { IfOk result (λ s. (⟦<PlainStore as Store>⟧.view s).handed ≡ 0) }
+        ensures failed { IfOk result (λ s. (⟦<PlainStore as Store>⟧.view s).failed ≡ 0) }
+        ensures commits { IfOk result (λ s. (⟦<PlainStore as Store>⟧.view s).commits ≡ 0) }
         ensures refusal { IfErr result (λ e. e ≡ open_error.Store) }
     {
         let mut parties = Vec::new(alloc);
@@ -103,17 +105,18 @@ impl PlainStore {
 }
 
 impl Store for PlainStore {
+    ghost use Rattle.std.specs.Prelude.{⊤};
     ghost use Rattle.permit_store.specs.Plain.{Keeps};
 
-    ghost holds = { λ s t. Keeps s.last s.parties.items s.parcels.items s.interests.items s.files.items t };
+    ghost view = { λ s. record {
+      holds = Keeps s.last s.parties.items s.parcels.items s.interests.items s.files.items;
+      doubt = 0;
+      handed = s.handed;
+      failed = s.failed;
+      commits = s.commits;
+    } };
 
-    ghost doubt = { λ _. 0 };
-
-    ghost handed = { λ s. s.handed };
-
-    ghost failed = { λ s. s.failed };
-
-    ghost commits = { λ s. s.commits };
+    ghost crash = { λ _ _ _ _. ⊤ };
 
     fn desk(&mut self) -> Got<Desk> {
         Ok(Desk {

@@ -23,7 +23,8 @@ fn number_after(count: usize) -> Option<u32>
 }
 
 pub(crate) fn push_party(parties: &mut Vec<Party>, name: &Text, role: Role, digest: &Digest) -> bool
-    ensures made { IsTrue result → parties.new.items ≡ parties.old.items ++ (record { id = length parties.old.items + 1; name = name.now; role = role; digest = digest.now }) ∷ [] }
+    ensures made { IsTrue result
+        → parties.new.items ≡ parties.old.items ++ (record { id = length parties.old.items + 1; name = name.now; role = role; digest = digest.now }) ∷ [] }
     ensures few { length parties.old.items ≤ 99999 → length parties.new.items ≤ 99999 }
     ensures kept { result ≡ false → parties.new.items ≡ parties.old.items }
 {
@@ -52,7 +53,8 @@ pub(crate) fn push_parcel(
     address: &Text,
     owner: PartyId,
 ) -> bool
-    ensures made { IsTrue result → parcels.new.items ≡ parcels.old.items ++ (record { id = length parcels.old.items + 1; lot = lot.now; address = address.now; owner = owner }) ∷ [] }
+    ensures made { IsTrue result
+        → parcels.new.items ≡ parcels.old.items ++ (record { id = length parcels.old.items + 1; lot = lot.now; address = address.now; owner = owner }) ∷ [] }
     ensures few { length parcels.old.items ≤ 99999 → length parcels.new.items ≤ 99999 }
     ensures kept { result ≡ false → parcels.new.items ≡ parcels.old.items }
 {
@@ -86,7 +88,8 @@ pub(crate) fn push_file(
     valuation: Cents,
     description: &Text,
 ) -> bool
-    ensures made { IsTrue result → files.new.items ≡ files.old.items ++ (record { row = record { id = length files.old.items + 1; state = state; valuation = valuation; description = description.now }; papers = [] }) ∷ [] }
+    ensures made { IsTrue result
+        → files.new.items ≡ files.old.items ++ (record { row = record { id = length files.old.items + 1; state = state; valuation = valuation; description = description.now }; papers = [] }) ∷ [] }
     ensures few { length files.old.items ≤ 99999 → length files.new.items ≤ 99999 }
     ensures kept { result ≡ false → files.new.items ≡ files.old.items }
 {

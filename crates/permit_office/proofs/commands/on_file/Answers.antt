@@ -14,34 +14,34 @@ pub returns-in_default-clause-model : goal.returns-in_default-clause-model
 returns-in_default-clause-model g c = λ doubt h is held time party.
     let a = c.args in
     let none = sym c.in_default.is ∙ c.in_ok-row.ensures.found doubt (tables h) held in
-    rw (command_missing a.policy.now h a.day a.caller.now a.file a.command.now none) (inl (refl, c.file.ensures.kept (tables h) held))
+    rw (command_missing a.policy.now h a.day a.caller.now a.file a.command.now none) (inl (refl, c.file.ensures.read.kept (tables h) held))
 
 pub returns-in-Some-denial-clause-model : goal.returns-in-Some-denial-clause-model
 returns-in-Some-denial-clause-model g c = λ doubt h is held time party.
-    let late : g.S.Store.doubt c.file.new.self ≡ 0 = omega arith in
+    let late : (g.S.Store.view c.file.new.self).doubt ≡ 0 = omega arith in
     let a = c.args in
     let f : IsFound h a.file c.in-Some.row = file_found h a.file c.in-Some.row (sym c.in-Some.is ∙ c.in_ok-row.ensures.found late (tables h) held) in
     let file : CaseFile = case_file h f.filing in
-    let kept = c.file.ensures.kept (tables h) held in
+    let kept = c.file.ensures.read.kept (tables h) held in
     let facts = rw c.action.ensures at (c.in_ok-facts.ensures.facts doubt h file kept f.row_is) in
     let denied = rw facts at (sym c.in-Some-denial.is ∙ c.denial.ensures) in
     rw (command_judged a.policy.now h a.day a.caller.now a.file a.command.now file f.found
     ∙ denied_outcome a.policy.now h a.day a.caller.now (OnFile a.file a.command.now) (decision a.policy.now (file_facts h a.day a.caller.now file (command_action a.command.now))) c.in-Some-denial.name denied)
-    (inl (refl, c.facts_on_file.ensures.kept (tables h) kept))
+    (inl (refl, c.facts_on_file.ensures.read.kept (tables h) kept))
 
 pub returns-clause-model : goal.returns-clause-model
 returns-clause-model g c = λ doubt h is held time party.
-    let late : g.S.Store.doubt c.file.new.self ≡ 0 = omega arith in
-    let later : g.S.Store.doubt c.facts_on_file.new.store ≡ 0 = omega arith in
+    let late : (g.S.Store.view c.file.new.self).doubt ≡ 0 = omega arith in
+    let later : (g.S.Store.view c.facts_on_file.new.store).doubt ≡ 0 = omega arith in
     let a = c.args in
     let f : IsFound h a.file c.in-Some.row = file_found h a.file c.in-Some.row (sym c.in-Some.is ∙ c.in_ok-row.ensures.found late (tables h) held) in
     let file : CaseFile = case_file h f.filing in
-    let kept = c.file.ensures.kept (tables h) held in
+    let kept = c.file.ensures.read.kept (tables h) held in
     let facts = rw c.action.ensures at (c.in_ok-facts.ensures.facts later h file kept f.row_is) in
     let allowed = rw facts at (sym c.in_default-denial.is ∙ c.denial.ensures) in
     let id : c.in-Some.row.id ≡ a.file = ap (λ (r : FileRow). r.id) f.row_is ∙ f.named in
     let caller : c.caller.inside.id ≡ a.caller.now.id = ap (λ (p : Party). p.id) c.caller.view_is in
-    let done = c.perform.ensures.model doubt h file is (c.facts_on_file.ensures.kept (tables h) kept) (ap (case_numbered h) id ∙ f.found) f.row_is time (rw caller party) in
+    let done = c.perform.ensures.model doubt h file is (c.facts_on_file.ensures.read.kept (tables h) kept) (ap (case_numbered h) id ∙ f.found) f.row_is time (rw caller party) in
     rw (command_judged a.policy.now h a.day a.caller.now a.file a.command.now file f.found
     ∙ allowed_outcome a.policy.now h a.day a.caller.now (OnFile a.file a.command.now) (decision a.policy.now (file_facts h a.day a.caller.now file (command_action a.command.now))) allowed)
     (rw (id, caller) at done)

@@ -14,11 +14,11 @@ returns-in-Err-clause-model g c = λ doubt h one is held there row time party.
     let a = c.args in
     let people = c.in_ok-people.ensures.people doubt h one is held there row in
     let state = ap (λ (r : FileRow). r.state) (c.row.view_is ∙ row) in
-    rw (c.in-Err.ensures.model h a.row.now.id a.caller one is there state people) (inl (refl, c.people_about.ensures.kept (tables h) held))
+    rw (c.in-Err.ensures.model h a.row.now.id a.caller one is there state people) (inl (refl, c.people_about.ensures.read.kept (tables h) held))
 
 pub returns-clause-model : goal.returns-clause-model
 returns-clause-model g c = λ doubt h one is held there row time party.
-    let late : g.S.Store.doubt c.people_about.new.store ≡ 0 = omega arith in
+    let late : (g.S.Store.view c.people_about.new.store).doubt ≡ 0 = omega arith in
     let a = c.args in
     let people = c.in_ok-people.ensures.people late h one is held there row in
     let state = ap (λ (r : FileRow). r.state) (c.row.view_is ∙ row) in
@@ -32,6 +32,6 @@ returns-clause-model g c = λ doubt h one is held there row time party.
     let counted = ap (λ (s : State). s.papers) after ∙ papers_counted _ one.acts in
     let effect = c.effect_of-effect.ensures.suits (tables h) c.apply.new.self (rw state counted) party (λ makes. rw state (papers_room h a.day a.caller a.row.now.id a.command.now one there none makes)) in
     let suits = row_suits h c.row.inside.id one c.apply.new.self c.effect_of-effect.result here (ap (λ (s : State). s.parcel) after) (ap (λ (s : State). s.applicant) after) (rw state at effect) in
-    let done = c.carry_out.ensures.model h (entry_of h a.day a.caller (OnFile c.row.inside.id a.command.now)) (c.people_about.ensures.kept (tables h) held)
+    let done = c.carry_out.ensures.model h (entry_of h a.day a.caller (OnFile c.row.inside.id a.command.now)) (c.people_about.ensures.read.kept (tables h) held)
     (λ none. (number ∙ ap (paper_number a.command.now) (sym here), record { suits = suits; in_time = time }, more)) in
     rw none (rw id at done)

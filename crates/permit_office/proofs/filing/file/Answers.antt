@@ -18,26 +18,26 @@ use Rattle.permit_office.proofs.filing.file.Goals as goal
 
 pub returns-in-Some-denial-clause-model : goal.returns-in-Some-denial-clause-model
 returns-in-Some-denial-clause-model g c = λ doubt h is held e t party.
-    let late : g.S.Store.doubt c.parcel.new.self ≡ 0 = omega arith in
+    let late : (g.S.Store.view c.parcel.new.self).doubt ≡ 0 = omega arith in
     let a = c.args in
     let found = sym c.in-Some.is ∙ c.in_ok-land.ensures.found late (tables h) held in
     let named = found_number (λ (p : Parcel). p.id) a.parcel (parcels h) c.in-Some.land (sym found) in
-    let kept = c.parcel.ensures.kept (tables h) held in
+    let kept = c.parcel.ensures.read.kept (tables h) held in
     let there : parcel_numbered h c.in-Some.land.id ≡ Some c.in-Some.land = ap (parcel_numbered h) named ∙ sym found in
     let facts = rw named at (c.in_ok-facts.ensures.facts doubt h kept there) in
     let denied = rw facts at (sym c.in-Some-denial.is ∙ c.denial.ensures) in
     rw (file_judged a.policy.now h a.day a.caller.now a.parcel a.kind a.valuation a.description.now c.in-Some.land (sym found)
     ∙ denied_outcome a.policy.now h a.day a.caller.now (File a.parcel a.kind a.valuation a.description.now) (decision a.policy.now (parcel_facts h a.caller.now a.parcel New action.File)) c.in-Some-denial.name denied)
-    (inl (refl, c.facts_on_parcel.ensures.kept (tables h) kept))
+    (inl (refl, c.facts_on_parcel.ensures.read.kept (tables h) kept))
 
 pub returns-clause-model : goal.returns-clause-model
 returns-clause-model g c = λ doubt h is held e t party.
-    let late : g.S.Store.doubt c.parcel.new.self ≡ 0 = omega arith in
-    let later : g.S.Store.doubt c.facts_on_parcel.new.store ≡ 0 = omega arith in
+    let late : (g.S.Store.view c.parcel.new.self).doubt ≡ 0 = omega arith in
+    let later : (g.S.Store.view c.facts_on_parcel.new.store).doubt ≡ 0 = omega arith in
     let a = c.args in
     let found = sym c.in-Some.is ∙ c.in_ok-land.ensures.found late (tables h) held in
     let named = found_number (λ (p : Parcel). p.id) a.parcel (parcels h) c.in-Some.land (sym found) in
-    let kept = c.parcel.ensures.kept (tables h) held in
+    let kept = c.parcel.ensures.read.kept (tables h) held in
     let there : parcel_numbered h c.in-Some.land.id ≡ Some c.in-Some.land = ap (parcel_numbered h) named ∙ sym found in
     let facts = rw named at (c.in_ok-facts.ensures.facts later h kept there) in
     let allowed = rw facts at (sym c.in_default-denial.is ∙ c.denial.ensures) in
@@ -45,7 +45,7 @@ returns-clause-model g c = λ doubt h is held e t party.
     let desk = ap (λ (d : Desk). d.files) (c.desk.view_is ∙ e) in
     let caller = ap (λ (p : Party). p.id) c.caller.view_is in
     let state = rw caller at (c.file-state.ensures.row (length (filings h) + 1) a.valuation a.description.now) in
-    let done = c.carry_out.ensures.model h (entry_of h a.day a.caller.now.id (File a.parcel a.kind a.valuation a.description.now)) (c.facts_on_parcel.ensures.kept (tables h) kept)
+    let done = c.carry_out.ensures.model h (entry_of h a.day a.caller.now.id (File a.parcel a.kind a.valuation a.description.now)) (c.facts_on_parcel.ensures.read.kept (tables h) kept)
     (λ none. let s = file_suits h a.day a.caller.now.id a.parcel a.kind a.valuation a.description.now c.in-Some.land (sym found) party (sym reason ∙ none) in
     let n : length (case_files h) ≡ length (filings h) = length-map (filings h) (case_file h) in
     (rw (← n) (wrapped c.desk.inside.files _ desk s.1), record { suits = rw state s.0; in_time = t }, rw state (file_more h a.day a.caller.now.id a.parcel a.kind a.valuation a.description.now is))) in

@@ -20,13 +20,13 @@ returns-in-Some-clause-model g c = λ doubt h is held e t.
 
 pub returns-clause-model : goal.returns-clause-model
 returns-clause-model g c = λ doubt h is held e t.
-    let late : g.S.Store.doubt c.against_parcel.new.store ≡ 0 = omega arith in
+    let late : (g.S.Store.view c.against_parcel.new.store).doubt ≡ 0 = omega arith in
     let role = ap (λ (p : Party). p.role) c.caller.view_is in
     let a = c.args in
     let allowed = rw (c.office.ensures, role) at (sym c.in_default.is ∙ c.denial.ensures) in
     let reason = c.in_ok-reason.ensures.reason late h a.day a.caller.now.id a.address.now held e in
     let desk = ap (λ (d : Desk). d.parcels) (c.desk.view_is ∙ e) in
-    let done = c.carry_out.ensures.model h (entry_of h a.day a.caller.now.id (AddParcel a.lot.now a.address.now a.owner)) (c.against_parcel.ensures.kept (tables h) held)
+    let done = c.carry_out.ensures.model h (entry_of h a.day a.caller.now.id (AddParcel a.lot.now a.address.now a.owner)) (c.against_parcel.ensures.read.kept (tables h) held)
     (λ none. let s = parcel_suits h a.day a.caller.now.id a.lot.now a.address.now a.owner (sym reason ∙ none) in
     (wrapped c.desk.inside.parcels _ desk s.1, record { suits = s.0; in_time = t }, parcel_more h a.day a.caller.now.id a.lot.now a.address.now a.owner is)) in
     rw (allowed_outcome a.policy.now h a.day a.caller.now (AddParcel a.lot.now a.address.now a.owner) (decision a.policy.now (office_facts a.caller.now.role action.AddParcel)) allowed)

@@ -18,34 +18,34 @@ use Rattle.permit_office.proofs.land.declare.Goals as goal
 
 pub returns-in-Some-denial-clause-model : goal.returns-in-Some-denial-clause-model
 returns-in-Some-denial-clause-model g c = λ doubt h held t party.
-    let late : g.S.Store.doubt c.parcel.new.self ≡ 0 = omega arith in
+    let late : (g.S.Store.view c.parcel.new.self).doubt ≡ 0 = omega arith in
     let a = c.args in
     let found = sym c.in-Some.is ∙ c.in_ok-land.ensures.found late (tables h) held in
     let named = found_number (λ (p : Parcel). p.id) a.parcel (parcels h) c.in-Some.land (sym found) in
-    let kept = c.parcel.ensures.kept (tables h) held in
+    let kept = c.parcel.ensures.read.kept (tables h) held in
     let there : parcel_numbered h c.in-Some.land.id ≡ Some c.in-Some.land = ap (parcel_numbered h) named ∙ sym found in
     let facts = rw named at (c.in_ok-facts.ensures.facts doubt h kept there) in
     let denied = rw facts at (sym c.in-Some-denial.is ∙ c.denial.ensures) in
     rw (declare_judged a.policy.now h a.day a.caller.now a.parcel c.in-Some.land (sym found)
     ∙ denied_outcome a.policy.now h a.day a.caller.now (Declare a.parcel) (decision a.policy.now (parcel_facts h a.caller.now a.parcel Office action.Declare)) c.in-Some-denial.name denied)
-    (inl (refl, c.facts_on_parcel.ensures.kept (tables h) kept))
+    (inl (refl, c.facts_on_parcel.ensures.read.kept (tables h) kept))
 
 pub returns-clause-model : goal.returns-clause-model
 returns-clause-model g c = λ doubt h held t party.
-    let late : g.S.Store.doubt c.parcel.new.self ≡ 0 = omega arith in
-    let later : g.S.Store.doubt c.facts_on_parcel.new.store ≡ 0 = omega arith in
-    let latest : g.S.Store.doubt c.against_declaration.new.store ≡ 0 = omega arith in
+    let late : (g.S.Store.view c.parcel.new.self).doubt ≡ 0 = omega arith in
+    let later : (g.S.Store.view c.facts_on_parcel.new.store).doubt ≡ 0 = omega arith in
+    let latest : (g.S.Store.view c.against_declaration.new.store).doubt ≡ 0 = omega arith in
     let a = c.args in
     let found = sym c.in-Some.is ∙ c.in_ok-land.ensures.found late (tables h) held in
     let named = found_number (λ (p : Parcel). p.id) a.parcel (parcels h) c.in-Some.land (sym found) in
-    let kept = c.parcel.ensures.kept (tables h) held in
+    let kept = c.parcel.ensures.read.kept (tables h) held in
     let there : parcel_numbered h c.in-Some.land.id ≡ Some c.in-Some.land = ap (parcel_numbered h) named ∙ sym found in
     let facts = rw named at (c.in_ok-facts.ensures.facts later h kept there) in
     let allowed = rw facts at (sym c.in_default-denial.is ∙ c.denial.ensures) in
-    let kept_2 = c.facts_on_parcel.ensures.kept (tables h) kept in
+    let kept_2 = c.facts_on_parcel.ensures.read.kept (tables h) kept in
     let caller = ap (λ (p : Party). p.id) c.caller.view_is in
     let reason = c.in_ok-reason.ensures.reason latest h a.day kept_2 in
-    let done = c.carry_out.ensures.model h (entry_of h a.day a.caller.now.id (Declare a.parcel)) (c.against_declaration.ensures.kept (tables h) kept_2)
+    let done = c.carry_out.ensures.model h (entry_of h a.day a.caller.now.id (Declare a.parcel)) (c.against_declaration.ensures.read.kept (tables h) kept_2)
     (λ none. let s = interest_suits h a.day a.caller.now.id a.parcel c.in-Some.land (sym found) party (rw caller at (sym reason ∙ none)) in
     (refl, record { suits = rw caller s; in_time = t }, rw caller (interest_more h a.day a.caller.now.id a.parcel))) in
     rw (declare_judged a.policy.now h a.day a.caller.now a.parcel c.in-Some.land (sym found)

@@ -18,33 +18,33 @@ use Rattle.permit_office.proofs.land.transfer.Goals as goal
 
 pub returns-in-Some-denial-clause-model : goal.returns-in-Some-denial-clause-model
 returns-in-Some-denial-clause-model g c = λ doubt h held t.
-    let late : g.S.Store.doubt c.parcel.new.self ≡ 0 = omega arith in
+    let late : (g.S.Store.view c.parcel.new.self).doubt ≡ 0 = omega arith in
     let a = c.args in
     let found = sym c.in-Some.is ∙ c.in_ok-land.ensures.found late (tables h) held in
     let named = found_number (λ (p : Parcel). p.id) a.parcel (parcels h) c.in-Some.land (sym found) in
-    let kept = c.parcel.ensures.kept (tables h) held in
+    let kept = c.parcel.ensures.read.kept (tables h) held in
     let there : parcel_numbered h c.in-Some.land.id ≡ Some c.in-Some.land = ap (parcel_numbered h) named ∙ sym found in
     let facts = rw named at (c.in_ok-facts.ensures.facts doubt h kept there) in
     let denied = rw facts at (sym c.in-Some-denial.is ∙ c.denial.ensures) in
     rw (transfer_judged a.policy.now h a.day a.caller.now a.parcel a.to c.in-Some.land (sym found)
     ∙ denied_outcome a.policy.now h a.day a.caller.now (Transfer a.parcel a.to) (decision a.policy.now (parcel_facts h a.caller.now a.parcel Office action.Transfer)) c.in-Some-denial.name denied)
-    (inl (refl, c.facts_on_parcel.ensures.kept (tables h) kept))
+    (inl (refl, c.facts_on_parcel.ensures.read.kept (tables h) kept))
 
 pub returns-clause-model : goal.returns-clause-model
 returns-clause-model g c = λ doubt h held t.
-    let late : g.S.Store.doubt c.parcel.new.self ≡ 0 = omega arith in
-    let later : g.S.Store.doubt c.facts_on_parcel.new.store ≡ 0 = omega arith in
-    let latest : g.S.Store.doubt c.against_transfer.new.store ≡ 0 = omega arith in
+    let late : (g.S.Store.view c.parcel.new.self).doubt ≡ 0 = omega arith in
+    let later : (g.S.Store.view c.facts_on_parcel.new.store).doubt ≡ 0 = omega arith in
+    let latest : (g.S.Store.view c.against_transfer.new.store).doubt ≡ 0 = omega arith in
     let a = c.args in
     let found = sym c.in-Some.is ∙ c.in_ok-land.ensures.found late (tables h) held in
     let named = found_number (λ (p : Parcel). p.id) a.parcel (parcels h) c.in-Some.land (sym found) in
-    let kept = c.parcel.ensures.kept (tables h) held in
+    let kept = c.parcel.ensures.read.kept (tables h) held in
     let there : parcel_numbered h c.in-Some.land.id ≡ Some c.in-Some.land = ap (parcel_numbered h) named ∙ sym found in
     let facts = rw named at (c.in_ok-facts.ensures.facts later h kept there) in
     let allowed = rw facts at (sym c.in_default-denial.is ∙ c.denial.ensures) in
-    let kept_2 = c.facts_on_parcel.ensures.kept (tables h) kept in
+    let kept_2 = c.facts_on_parcel.ensures.read.kept (tables h) kept in
     let reason = rw named at (c.in_ok-reason.ensures.reason latest h a.day a.caller.now.id kept_2 there) in
-    let done = c.carry_out.ensures.model h (entry_of h a.day a.caller.now.id (Transfer a.parcel a.to)) (c.against_transfer.ensures.kept (tables h) kept_2)
+    let done = c.carry_out.ensures.model h (entry_of h a.day a.caller.now.id (Transfer a.parcel a.to)) (c.against_transfer.ensures.read.kept (tables h) kept_2)
     (λ none. let s = transfer_suits h a.day a.caller.now.id a.parcel a.to c.in-Some.land (sym found) (sym reason ∙ none) in
     (refl, record { suits = s; in_time = t }, transfer_more h a.day a.caller.now.id a.parcel a.to)) in
     rw (transfer_judged a.policy.now h a.day a.caller.now a.parcel a.to c.in-Some.land (sym found)

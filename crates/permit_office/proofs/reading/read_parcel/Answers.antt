@@ -18,26 +18,26 @@ use Rattle.permit_office.proofs.reading.read_parcel.Goals as goal
 
 pub returns-in-Some-denial-clause-model : goal.returns-in-Some-denial-clause-model
 returns-in-Some-denial-clause-model g c = λ doubt h held.
-    let late : g.S.Store.doubt c.parcel.new.self ≡ 0 = omega arith in
+    let late : (g.S.Store.view c.parcel.new.self).doubt ≡ 0 = omega arith in
     let a = c.args in
     let found = sym c.in-Some.is ∙ c.in_ok-land.ensures.found late (tables h) held in
     let named = found_number (λ (p : Parcel). p.id) a.parcel (parcels h) c.in-Some.land (sym found) in
-    let kept = c.parcel.ensures.kept (tables h) held in
+    let kept = c.parcel.ensures.read.kept (tables h) held in
     let there : parcel_numbered h c.in-Some.land.id ≡ Some c.in-Some.land = ap (parcel_numbered h) named ∙ sym found in
     let facts = rw named at (c.in_ok-facts.ensures.facts doubt h kept there) in
     let denied = rw facts at (sym c.in-Some-denial.is ∙ c.denial.ensures) in
     rw (parcel_judged a.policy.now h a.day a.caller.now a.parcel c.in-Some.land (sym found)
     ∙ denied_outcome a.policy.now h a.day a.caller.now (ReadParcel a.parcel) (decision a.policy.now (parcel_facts h a.caller.now a.parcel Office action.ReadParcel)) c.in-Some-denial.name denied)
-    (inl (refl, c.facts_on_parcel.ensures.kept (tables h) kept))
+    (inl (refl, c.facts_on_parcel.ensures.read.kept (tables h) kept))
 
 pub returns-clause-model : goal.returns-clause-model
 returns-clause-model g c = λ doubt h held.
-    let late : g.S.Store.doubt c.parcel.new.self ≡ 0 = omega arith in
+    let late : (g.S.Store.view c.parcel.new.self).doubt ≡ 0 = omega arith in
     let a = c.args in
     let found = sym c.in-Some.is ∙ c.in_ok-land.ensures.found late (tables h) held in
     let named = found_number (λ (p : Parcel). p.id) a.parcel (parcels h) c.in-Some.land (sym found) in
-    let kept = c.parcel.ensures.kept (tables h) held in
+    let kept = c.parcel.ensures.read.kept (tables h) held in
     let there : parcel_numbered h c.in-Some.land.id ≡ Some c.in-Some.land = ap (parcel_numbered h) named ∙ sym found in
     let facts = rw named at (c.in_ok-facts.ensures.facts doubt h kept there) in
     let allowed = rw facts at (sym c.in_default-denial.is ∙ c.denial.ensures) in
-    rw (parcel_read a.policy.now h a.day a.caller.now a.parcel c.in-Some.land (sym found) allowed) (inl (refl, c.facts_on_parcel.ensures.kept (tables h) kept))
+    rw (parcel_read a.policy.now h a.day a.caller.now a.parcel c.in-Some.land (sym found) allowed) (inl (refl, c.facts_on_parcel.ensures.read.kept (tables h) kept))

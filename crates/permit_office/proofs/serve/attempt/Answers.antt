@@ -5,12 +5,12 @@ use Rattle.permit_office.proofs.serve.attempt.Goals as goal
 
 pub returns-clause-model : goal.returns-clause-model
 returns-clause-model g c = λ doubt h is held.
-    let late : g.S.Store.doubt c.party_by_token.new.self ≡ 0 = omega arith in
-    let later : g.S.Store.doubt c.desk.new.self ≡ 0 = omega arith in
+    let late : (g.S.Store.view c.party_by_token.new.self).doubt ≡ 0 = omega arith in
+    let later : (g.S.Store.view c.desk.new.self).doubt ≡ 0 = omega arith in
     let a = c.args in
     let found = sym c.in-Some.is ∙ c.in_ok-caller.ensures.found late (tables h) held in
-    let kept = c.party_by_token.ensures.kept (tables h) held in
+    let kept = c.party_by_token.ensures.read.kept (tables h) held in
     let desk = c.in_ok-desk.ensures.found later (tables h) kept in
     let last = ap (λ (d : Desk). d.last) (c.desk-2.view_is ∙ desk) in
     rw (stepped a.policy.now h a.digest.now a.asked.now a.day c.in-Some.caller found (omega arith))
-    (c.serve_known.ensures.model doubt h is (c.desk.ensures.kept (tables h) kept) desk (omega arith) (caller_there h a.digest.now c.in-Some.caller found))
+    (c.serve_known.ensures.model doubt h is (c.desk.ensures.read.kept (tables h) kept) desk (omega arith) (caller_there h a.digest.now c.in-Some.caller found))
