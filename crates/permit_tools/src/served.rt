@@ -1,7 +1,8 @@
 //! Requests per second of `serve_one` over memory.
 
-use crate::office::{TOKENS, day, opened};
+use crate::office::{OFFICIAL, PUBLIC, day, opened, request_text};
 use anyhow::{Result, anyhow};
+use permit_base::values::Day;
 use permit_http::inbox::Inbox;
 use permit_office::office::Office;
 use permit_store::plain::PlainStore;
@@ -13,54 +14,53 @@ use std::time::{Clock, Instant};
 /// How many requests of each kind are served.
 const ROUNDS: u32 = 5000;
 
-/// The bytes of a request.
-fn request(alloc: Global, method: &str, path: &str, token: &str, body: &str) -> Result<String> {
-    let size = body.len();
-    Ok(format!(in alloc;
-        "{method} {path} HTTP/1.1\r\nHost: localhost\r\nAuthorization: Bearer {token}\r\nContent-Length: {size}\r\n\r\n{body}"
-    )?)
+/// Serves the request once, on a connection of its own.
+fn serve_once(
+    alloc: Global,
+    office: &mut Office<PlainStore>,
+    request: &str,
+    written: &mut Vec<u8>,
+    day: Day,
+) -> Result<()> {
+    let mut inbox = Inbox::new();
+    let mut reader = request.as_bytes();
+    written.clear();
+    match serve_one(alloc, office, &mut inbox, &mut reader, written, day) {
+        Served::Kept => Ok(()),
+        _ => Err(anyhow!("a request was not served")),
+    }
 }
 
 /// Serves the request so many times, and gives the requests a second.
-fn serve<R: Clock + AllocGlobal>(
-    rt: &R,
+fn serve(
+    rt: &(impl Clock + AllocGlobal),
     office: &mut Office<PlainStore>,
     request: &str,
 ) -> Result<u128> {
     let alloc = rt.alloc();
     let mut written = Vec::with_capacity(alloc, 4096)?;
+    let day = day()?;
     let start = Instant::now(rt)?;
     for _ in 0..ROUNDS {
-        let mut inbox = Inbox::new();
-        written.clear();
-        let served = serve_one(
-            alloc,
-            office,
-            &mut inbox,
-            &mut request.as_bytes(),
-            &mut written,
-            day()?,
-        );
-        if served != Served::Kept {
-            return Err(anyhow!("a request was not served"));
-        }
+        serve_once(alloc, office, request, &mut written, day)?;
     }
     let micros = start.elapsed(rt)?.as_micros().max(1);
     Ok(u128::from(ROUNDS) * 1_000_000 / micros)
 }
 
+/// Measures how many filings and reads are served.
 pub fn measure(rt: &(impl Files + Clock + Print + AllocGlobal), policy: &str) -> Result<()> {
     let alloc = rt.alloc();
     let mut office = opened(rt, policy)?;
-    let filing = request(
+    let filing = request_text(
         alloc,
         "POST",
         "/files",
-        TOKENS[3],
+        PUBLIC,
         "{\"parcel\":1,\"kind\":\"construct\",\"valuation\":25000000,\"description\":\"House\"}",
     )?;
     let filings = serve(rt, &mut office, filing.as_str())?;
-    let read = request(alloc, "GET", "/files/1", TOKENS[0], "")?;
+    let read = request_text(alloc, "GET", "/files/1", OFFICIAL, "")?;
     let reads = serve(rt, &mut office, read.as_str())?;
     println!(rt; "serve_one over memory: {filings} filings and {reads} reads a second")?;
     Ok(())

@@ -1,28 +1,15 @@
-//! Shows the office at work, in memory: it is founded, parties and a parcel are added, an application is filed and read
-//! back, and the file goes through review, issuance and inspections to its certificate. What goes in and what comes out
-//! are the bytes of HTTP.
-#![tactic(auto)]
+//! The requests of the demonstration.
 
-mod office;
-
-use anyhow::{Result, anyhow};
-use permit_base::values::Day;
-use permit_http::inbox::Inbox;
-use permit_office::office::Office;
-use permit_store::plain::PlainStore;
-use permit_wire::serve::serve_one;
-use std::fs;
+use crate::office::OFFICIAL;
 
 /// A request of the demonstration: the day, whose token, and the request.
-struct Turn {
-    day: u32,
-    token: &'static str,
-    method: &'static str,
-    path: &'static str,
-    body: &'static str,
+pub struct Turn {
+    pub day: u32,
+    pub token: &'static str,
+    pub method: &'static str,
+    pub path: &'static str,
+    pub body: &'static str,
 }
-
-const OFFICIAL: &str = "abcdefghijklmnopqrstuvwxyz";
 
 const CLERK: &str = "clerk2clerk2clerk2";
 
@@ -33,7 +20,7 @@ const INSPECTOR: &str = "inspector4inspector4";
 const PUBLIC: &str = "public5public5public5";
 
 /// One file from its filing to its certificate.
-const TURNS: [Turn; 25] = [
+pub const TURNS: [Turn; 25] = [
     Turn {
         day: 19700,
         token: OFFICIAL,
@@ -210,49 +197,3 @@ const TURNS: [Turn; 25] = [
         body: "",
     },
 ];
-
-/// Serves one request of the demonstration, and prints it and its answer.
-fn show(
-    rt: &(impl Print + AllocGlobal),
-    office: &mut Office<PlainStore>,
-    turn: &Turn,
-) -> Result<()> {
-    let alloc = rt.alloc();
-    let Turn {
-        day,
-        token,
-        method,
-        path,
-        body,
-    } = turn;
-    let size = body.len();
-    let asked = format!(in alloc;
-        "{method} {path} HTTP/1.1\r\nHost: localhost\r\nAuthorization: Bearer {token}\r\nContent-Length: {size}\r\n\r\n{body}"
-    )?;
-    let day = Day::new(*day).ok_or(anyhow!("no such day"))?;
-    let mut inbox = Inbox::new();
-    let mut written = Vec::new(alloc);
-    let _ = serve_one(
-        alloc,
-        office,
-        &mut inbox,
-        &mut asked.as_str().as_bytes(),
-        &mut written,
-        day,
-    );
-    let answer = String::from_utf8(written)
-        .ok()
-        .ok_or(anyhow!("an answer is text"))?;
-    let number = day.get();
-    println!(rt; "--- day {number}\n{asked}\n\n{answer}\n")?;
-    Ok(())
-}
-
-fn main(rt: HostRuntime) -> Result<()> {
-    let policy = fs::read_to_string(&rt, "standard.toml")?;
-    let mut office = office::found(rt.alloc(), policy.as_str(), OFFICIAL)?;
-    for turn in &TURNS {
-        show(&rt, &mut office, turn)?;
-    }
-    Ok(())
-}

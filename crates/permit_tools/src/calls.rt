@@ -1,10 +1,12 @@
 //! The time of a store's calls: look-ups by key, and commits.
 
 use crate::clock::micros_since;
+use crate::office::text;
+use crate::orders::Order;
 use anyhow::{Result, anyhow};
 use permit_base::digests::digest;
 use permit_base::request::Command;
-use permit_base::values::{Day, Days, Digest, FileId, Lot, ParcelId, PartyId, Text, Token};
+use permit_base::values::{Day, Digest, FileId, Lot, ParcelId, PartyId, Text, Token};
 use permit_base::words::{PaperSort, Role};
 use permit_core::people::People;
 use permit_core::state::FileState;
@@ -234,6 +236,18 @@ fn keep_paper<S: Store>(
     )
 }
 
+fn keep_papers<S: Store>(
+    store: &mut S,
+    states: &[(FileId, FileState)],
+    day: Day,
+    words: &Text,
+) -> Result<()> {
+    for asked in states {
+        keep_paper(store, *asked, day, words)?;
+    }
+    Ok(())
+}
+
 /// Times commits of a file's new row with a paper.
 fn time_papers<S: Store>(
     rt: &(impl Clock + Print + AllocGlobal),
@@ -241,16 +255,20 @@ fn time_papers<S: Store>(
     desk: Desk,
     words: &Text,
 ) -> Result<()> {
-    let ask = Command::AskExtension {
-        days: Days::new(30).ok_or(anyhow!("no days"))?,
-        text: words.copy()?,
-    };
-    let states = asked_states(rt.alloc(), store, desk, &ask)?;
+    let alloc = rt.alloc();
+    let ask = Order::AskExtension.command(alloc, None)?;
+    let states = asked_states(alloc, store, desk, &ask)?;
     let start = Instant::now(rt)?;
-    for asked in &states {
-        keep_paper(store, *asked, desk.last, words)?;
-    }
+    keep_papers(store, &states, desk.last, words)?;
     say(rt, "commit-paper", micros_since(rt, start)?, COMMITS)
+}
+
+fn keep_parties<S: Store>(store: &mut S, digests: &[Digest], day: Day, name: &Text) -> Result<()> {
+    for digest in digests {
+        let role = Role::Public;
+        keep(store, &Change::NewParty { name, role, digest }, day)?;
+    }
+    Ok(())
 }
 
 /// Times commits of a new party.
@@ -262,23 +280,23 @@ fn time_parties<S: Store>(
 ) -> Result<()> {
     let digests = digests(rt.alloc(), "newpartynewparty", COMMITS)?;
     let start = Instant::now(rt)?;
-    for digest in &digests {
-        let role = Role::Public;
-        keep(store, &Change::NewParty { name, role, digest }, desk.last)?;
-    }
+    keep_parties(store, &digests, desk.last, name)?;
     say(rt, "commit-party", micros_since(rt, start)?, COMMITS)
 }
 
-/// Times the calls of a store whose tokens and lots are numbered, and prints a line for each kind, in nanoseconds.
-pub fn measure<S: Store>(
-    rt: &(impl Clock + Print + AllocGlobal),
-    store: &mut S,
-    words: &Text,
-) -> Result<()> {
-    let keys = keys_of(rt.alloc(), store)?;
+/// Times the look-ups.
+fn time_look_ups<S: Store>(rt: &(impl Clock + Print), store: &mut S, keys: &Keys) -> Result<()> {
     for look_up in &LOOK_UPS {
-        time_look_up(rt, store, &keys, *look_up)?;
+        time_look_up(rt, store, keys, *look_up)?;
     }
-    time_papers(rt, store, keys.desk, words)?;
-    time_parties(rt, store, keys.desk, words)
+    Ok(())
+}
+
+/// Times the calls of a store whose tokens and lots are numbered, and prints a line for each kind, in nanoseconds.
+pub fn measure<S: Store>(rt: &(impl Clock + Print + AllocGlobal), store: &mut S) -> Result<()> {
+    let keys = keys_of(rt.alloc(), store)?;
+    let words = text(rt.alloc(), "Late delivery")?;
+    time_look_ups(rt, store, &keys)?;
+    time_papers(rt, store, keys.desk, &words)?;
+    time_parties(rt, store, keys.desk, &words)
 }

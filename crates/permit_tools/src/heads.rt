@@ -36,6 +36,7 @@ fn long_head(alloc: Global) -> Result<Vec<u8>> {
     Ok(text)
 }
 
+/// Measures the reading of a long head.
 pub fn measure(rt: &(impl Clock + Print + AllocGlobal)) -> Result<()> {
     let text = long_head(rt.alloc())?;
     let start = Instant::now(rt)?;
