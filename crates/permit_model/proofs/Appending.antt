@@ -5,7 +5,7 @@ use Rattle.std.specs.List.{cons_option}
 use Rattle.permit_model.specs.Search.{has_number}
 use Rattle.permit_base.specs.declared.words.Stage.TheVariants as stage
 use Rattle.permit_base.specs.declared.request.Command.{Command}
-use Rattle.permit_base.specs.declared.request.Command.TheVariants.{GrantExtension, BeginWork, Notice, ClearNotice}
+use Rattle.permit_base.specs.declared.request.Command.TheVariants.{GrantExtension, BeginWork, Notice}
 use Rattle.std.specs.Option.{option_or}
 use Rattle.permit_model.specs.Search.{latest}
 use Rattle.permit_model.specs.Days.{term, greatest}

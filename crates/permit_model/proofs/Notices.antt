@@ -1,12 +1,12 @@
 -- The open notices of a file after one more act.
-use Rattle.std.proofs.Common.{◌≡◌, ◌≢◌, ◌≤◌, ◌<◌, ◌-◌, ℕ, Bool, true, false, not, cond, ◌==◌, List, [], ◌∷◌, ◌++◌, refl, sym, ap, arith}
+use Rattle.std.proofs.Common.{◌≡◌, ◌≢◌, ◌≤◌, ◌<◌, ◌-◌, ℕ, Bool, true, false, not, cond, ◌==◌, List, [], ◌∷◌, refl, ap, arith}
 use Rattle.std.specs.Prelude.{Option, None, Some, filter, ◌||◌, ◌+◌}
 use Rattle.std.proofs.lemmas.Bool.{eqb-true, ne_eqb}
 use Rattle.permit_base.specs.declared.request.Command.{Command}
 use Rattle.permit_base.specs.declared.request.Command.TheVariants.{Notice, ClearNotice}
-use Rattle.permit_model.specs.Search.{has_number, when}
+use Rattle.permit_model.specs.Search.{has_number}
 use Rattle.permit_model.specs.Files.{Filing, Act}
-use Rattle.permit_model.specs.Work.{notices_given, is_cleared, open_notices, makes_paper, paper_count}
+use Rattle.permit_model.specs.Work.{notices_given, is_cleared, open_notices, paper_count}
 use Rattle.permit_model.proofs.Appending.{FallFrom, open_fall}
 use Rattle.permit_model.proofs.Projection.{WasAdmitted, WereAdmitted}
 use Rattle.permit_model.proofs.Fronts.{are_numbered}

@@ -1,11 +1,11 @@
 -- A script leads from a history to a history, and the examples begin with one.
 use Rattle.std.proofs.Common.{◌≡◌, ◌≤◌, ℕ, Bool, true, false, cond, ◌==◌, List, [], ◌∷◌, refl, ap, arith}
-use Rattle.std.specs.Prelude.{Option, None, Some, is_some, IsTrue, find, unwrap_or}
+use Rattle.std.specs.Prelude.{Option, Some, is_some, IsTrue, find, unwrap_or}
 use Rattle.std.proofs.lemmas.Bool.{eq-eqb}
 use Rattle.hex.specs.Hex.{encode_with}
 use Rattle.sha2.specs.Sha256.{first_words, schedule, rounds, compress, hash_after, digest_bytes, sha256}
 use Rattle.permit_model.specs.History.{History}
-use Rattle.permit_model.specs.Caller.{Party, parties, party_numbered, is_party}
+use Rattle.permit_model.specs.Caller.{Party, parties, party_numbered}
 use Rattle.permit_model.specs.Machine.{IsHistory}
 use Rattle.permit_model.specs.StandardPolicy.{standard_policy}
 use Rattle.permit_model.specs.Examples.{opening, Turn, turn, after}

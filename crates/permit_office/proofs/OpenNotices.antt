@@ -6,7 +6,7 @@ use Rattle.std.proofs.lemmas.List.Folds.{list_any-append}
 use Rattle.std.proofs.lemmas.Bool.{eqb-true}
 use Rattle.permit_base.specs.declared.words.PaperSort.{PaperSort}
 use Rattle.permit_base.specs.declared.request.Command.{Command}
-use Rattle.permit_base.specs.declared.request.Command.TheVariants.{Notice, ClearNotice}
+use Rattle.permit_base.specs.declared.request.Command.TheVariants.{Notice}
 use Rattle.permit_model.specs.Search.{add_last, has_number, when}
 use Rattle.permit_model.specs.History.{History}
 use Rattle.permit_model.specs.Files.{Act, CaseFile, case_file, case_numbered}
