@@ -1,9 +1,6 @@
 //! One request through the office, and what is printed of its answer.
 
 ghost use Rattle.std.specs.Prelude.{◌≡◌, ◌≤◌, ◌++◌, List, ℕ, IfOk, IfSome, codes};
-ghost use Rattle.permit_model.specs.History.{History};
-ghost use Rattle.permit_model.specs.Machine.{IsHistory};
-ghost use Rattle.permit_model.specs.Tables.{tables};
 ghost use Rattle.permit_wire.specs.Serving.{Moves};
 ghost use Rattle.permit_cli.specs.Asking.{Asks};
 
@@ -20,19 +17,17 @@ use std::io::Write;
 /// Has the office serve the request of these bytes on the day, on a connection of its own, and gives the answer's
 /// bytes.
 ///
-/// Room for the answer to a command is made before the office is asked, so that one which was accepted is answered. What
-/// is said of the office's tables is said of a store that is without doubt after the call.
+/// Room for the answer to a command is made before the office is asked, so that one which was accepted is answered.
 pub fn ask<S: Store + Drop>(
     alloc: Global,
     office: &mut Office<S>,
     request: &str,
     day: Day,
 ) -> Result<Vec<u8>, AllocError>
-    ensures serves { S.doubt office.new.store ≡ 0 → (h : History) → IsHistory h → S.holds office.old.store (tables h)
-        → IfOk result (λ answer. Asks (S.holds office.new.store) h day office.old office.new request.now answer.items) }
-    ensures moves { S.doubt office.new.store ≡ 0 → (h : History) → IsHistory h → S.holds office.old.store (tables h) → Moves (S.holds office.new.store) h day office.old office.new }
+    ensures serves { IfOk result (λ answer. Asks S.view day office.old office.new request.now answer.items) }
+    ensures moves { Moves S.view day office.old office.new }
     ensures policy { office.new.policy ≡ office.old.policy }
-    ensures doubt { S.doubt office.old.store ≤ S.doubt office.new.store }
+    ensures doubt { (S.view office.old.store).doubt ≤ (S.view office.new.store).doubt }
 {
     let mut answer = Vec::with_capacity(alloc, 512)?;
     let mut inbox = Inbox::new();

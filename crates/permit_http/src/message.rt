@@ -2,7 +2,7 @@
 
 ghost use Rattle.std.specs.Prelude.{◌≡◌, ◌+◌, ◌||◌, drop, min, nat_le, true, false, ⊤, Ok, None, OnErr, OnOk, IfOk, IfErr, IfSome};
 ghost use Rattle.std.specs.Io.KnownBytes.{Keeps};
-ghost use Rattle.permit_http.specs.Stream.{Filled};
+ghost use Rattle.permit_http.specs.Stream.{Filled, stream};
 ghost use Rattle.permit_http.specs.Spans.{GivesHead, GivesMessage, Holds, ReadsMessage, StopsAt, message_at, view_of, IsFound};
 ghost use Rattle.httparse.specs.Grammar.{RequestHead};
 
@@ -123,6 +123,7 @@ impl Inbox {
     ) -> Result<Option<MessageSpans>, MessageFault>
         ensures shut { self.old.closed ≡ true → (result ≡ Ok None) × Keeps (R.remaining reader.old) (R.remaining reader.new) }
         ensures gives { self.old.closed ≡ false → ReadsMessage self.old self.new (R.remaining reader.old) (R.remaining reader.new) result }
+        ensures stream { Keeps (stream self.old (R.remaining reader.old)) (stream self.new (R.remaining reader.new)) }
         ensures unfinished { IfErr result (StopsAt self.new.bytes) }
         ensures held { IfOk result (λ o. IfSome o (λ s. Holds self.new s)) }
         ensures ended { result ≡ Ok None → self.new ≡ self.old }

@@ -12,3 +12,4 @@ pub mod Neighbours
 pub mod Answered
 pub mod PapersAnswered
 pub mod Refused
+pub mod Calls

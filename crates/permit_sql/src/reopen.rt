@@ -19,7 +19,7 @@ pub fn reopen<D: Disk + Drop>(
     store: SqlStore<FileStore<D>>,
     options: Options,
 ) -> Option<Connection<FileStore<D>>>
-    ensures { (t : Tables) → ⟦<SqlStore<FileStore<D>> as Store>⟧.holds store t → IfSome result (λ again. HasCleanDisk (file_state again) → Keeps t (file_state again).now) }
+    ensures { (t : Tables) → (⟦<SqlStore<FileStore<D>> as Store>⟧.view store).holds t → IfSome result (λ again. HasCleanDisk (file_state again) → Keeps t (file_state again).now) }
 {
     let conn = store.into_connection();
     let _settled = conn.is_autocommit();

@@ -1,14 +1,12 @@
 //! The store over SQL.
 
-ghost use Rattle.std.specs.Prelude.{◌≡◌, ◌==◌, ◌&&◌, find, filter, bytes_eq, ◌≢◌, ◌≤◌, ◌⊎◌, false, not, IsTrue, IfOk, IfErr, IsErr, OnOk, OnErr};
+ghost use Rattle.std.specs.Prelude.{◌≡◌, ◌==◌, ◌≢◌, ◌⊎◌, false, IsTrue, IfOk, IfErr, IsErr};
+ghost use Rattle.sqlite_trees.specs.View.{doubt};
 ghost use Rattle.sqlite.specs.State.{HasCleanDisk, Survives};
 ghost use Rattle.sqlite.specs.Held.{state};
-ghost use Rattle.std.specs.List.{list_any};
-ghost use Rattle.sqlite.specs.Effect.{Database};
 ghost use Rattle.permit_model.specs.Tables.{Tables, tables};
 ghost use Rattle.permit_store.specs.Founding.{founding};
-ghost use Rattle.permit_store.specs.Changes.{Fits, changed};
-ghost use Rattle.permit_store.specs.Counts.{failed_after, handed_after, next_count};
+ghost use Rattle.permit_store.specs.Counts.{next_count};
 ghost use Rattle.permit_store.specs.declared.store.OpenError.TheVariants as open_error;
 ghost use Rattle.permit_sql_rows.specs.Schema.{empty_schema};
 ghost use Rattle.permit_sql_rows.specs.Kept.{Keeps, Shows, IsFine};
@@ -76,11 +74,12 @@ impl<S: Alter> SqlStore<S> {
         conn: Connection<S>,
         founder: &Founder,
     ) -> Result<SqlStore<S>, (Connection<S>, OpenError)>
-        ensures founded { IfOk result (λ s. ⟦<SqlStore<S> as Store>⟧.holds s (tables (founding founder.now.name founder.now.digest founder.now.day))) }
+        ensures founded { IfOk result (λ s. (⟦<SqlStore<S> as Store>⟧.view s).holds (tables (founding founder.now.name founder.now.digest founder.now.day))) }
         ensures keeps { IfOk result (λ s. HasCleanDisk (state S.Store s.conn) → Keeps (tables (founding founder.now.name founder.now.digest founder.now.day)) (state S.Store s.conn).now) }
-        ensures handed { IfOk result (λ s. ⟦<SqlStore<S> as Store>⟧.handed s ≡ 0) }
-        ensures failed { IfOk result (λ s. ⟦<SqlStore<S> as Store>⟧.failed s ≡ 0) }
-        ensures commits { IfOk result (λ s. ⟦<SqlStore<S> as Store>⟧.commits s ≡ 0) }
+        ensures doubt { IfOk result (λ s. (⟦<SqlStore<S> as Store>⟧.view s).doubt ≡ doubt (state S.Store s.conn).is_clean) }
+        ensures handed { IfOk result (λ s. (⟦<SqlStore<S> as Store>⟧.view s).handed ≡ 0) }
+        ensures failed { IfOk result (λ s. (⟦<SqlStore<S> as Store>⟧.view s).failed ≡ 0) }
+        ensures commits { IfOk result (λ s. (⟦<SqlStore<S> as Store>⟧.view s).commits ≡ 0) }
         ensures crash { IfOk result (λ s. Survives (state S.Store conn) (state S.Store s.conn) (λ trees. (db : _) × Keeps (tables (founding founder.now.name founder.now.digest founder.now.day)) db × (trees ≡ db.trees))) }
         ensures same { IfErr result (λ e. IsFine (state S.Store e.0) → (state S.Store e.0).now ≡ (state S.Store conn).now) }
         ensures exists { IfErr result (λ e. e.1 ≡ OpenError.Exists → (state S.Store conn).now.schema ≢ empty_schema) }
@@ -116,6 +115,7 @@ impl<S: Alter> SqlStore<S> {
     ) -> Result<SqlStore<S>, (Connection<S>, OpenError)>
         ensures held { IfOk result (λ s. (t : Tables) → HasCleanDisk (state S.Store s.conn) → Shows t (state S.Store conn) → Shows t (state S.Store s.conn)) }
         ensures typed { IfOk result (λ s. HasCleanDisk (state S.Store s.conn) → IsTrue (state S.Store s.conn).is_open → KeepsTyped (state S.Store s.conn).now) }
+        ensures doubt { IfOk result (λ s. (⟦<SqlStore<S> as Store>⟧.view s).doubt ≡ doubt (state S.Store s.conn).is_clean) }
         ensures counts { IfOk result (λ s. (s.handed ≡ 0) × (s.failed ≡ 0) × (s.commits ≡ 0)) }
         ensures crash { IfOk result (λ s. Survives (state S.Store conn) (state S.Store s.conn) (λ _. ⊥)) }
         ensures same { IfErr result (λ e. IsFine (state S.Store e.0) → (state S.Store e.0).now ≡ (state S.Store conn).now) }
@@ -154,122 +154,57 @@ impl<S: Alter> SqlStore<S> {
     }
 }
 
-/// Each read says what the trait says, and that a crash inside it leaves the tables.
 impl<S: Alter> Store for SqlStore<S> {
-    ghost use Rattle.sqlite_trees.specs.View.{doubt as disk_doubt};
-    ghost use Rattle.sqlite.specs.State.{HasCleanDisk};
     ghost use Rattle.sqlite.specs.Held.{state};
-    ghost use Rattle.permit_sql_rows.specs.Kept.{Shows};
+    ghost use Rattle.permit_sql.specs.Seen.{seen, Outlasts};
 
-    ghost holds = { λ s t. HasCleanDisk (state S.Store s.conn) → Shows t (state S.Store s.conn) };
+    ghost view = { λ s. seen (state S.Store s.conn) s.handed s.failed s.commits };
 
-    ghost doubt = { λ s. disk_doubt (state S.Store s.conn).is_clean };
+    ghost crash = { λ old new t made. Outlasts (state S.Store old.conn) (state S.Store new.conn) t made };
 
-    ghost handed = { λ s. s.handed };
-
-    ghost failed = { λ s. s.failed };
-
-    ghost commits = { λ s. s.commits };
-
-    fn desk(&mut self) -> Got<Desk>
-        ensures found { ⟦<SqlStore<S> as Store>⟧.doubt self.new ≡ 0 → (t : Tables) → ⟦<SqlStore<S> as Store>⟧.holds self.old t → IfOk result (λ d. d ≡ t.desk) }
-        ensures kept { (t : Tables) → ⟦<SqlStore<S> as Store>⟧.holds self.old t → ⟦<SqlStore<S> as Store>⟧.holds self.new t }
-        ensures doubt { ⟦<SqlStore<S> as Store>⟧.doubt self.old ≤ ⟦<SqlStore<S> as Store>⟧.doubt self.new }
-        ensures failed { ⟦<SqlStore<S> as Store>⟧.failed self.new ≡ failed_after result (⟦<SqlStore<S> as Store>⟧.failed self.old) }
-        ensures commits { ⟦<SqlStore<S> as Store>⟧.commits self.new ≡ ⟦<SqlStore<S> as Store>⟧.commits self.old }
-        ensures handed { ⟦<SqlStore<S> as Store>⟧.handed self.new ≡ ⟦<SqlStore<S> as Store>⟧.handed self.old }
-        ensures crash { (t : Tables) → Keeps t (state S.Store self.old.conn).now → Survives (state S.Store self.old.conn) (state S.Store self.new.conn) (λ _. ⊥) }
-    {
+    fn desk(&mut self) -> Got<Desk> {
         match read_desk(&mut self.conn) {
             Ok(desk) => Ok(desk),
             Err(_) => self.fail(),
         }
     }
 
-    fn party_by_token(&mut self, digest: &Digest) -> Got<Option<Party>>
-        ensures found { ⟦<SqlStore<S> as Store>⟧.doubt self.new ≡ 0 → (t : Tables) → ⟦<SqlStore<S> as Store>⟧.holds self.old t → IfOk result (λ p. p ≡ find (λ p. bytes_eq p.digest digest.now) t.parties) }
-        ensures kept { (t : Tables) → ⟦<SqlStore<S> as Store>⟧.holds self.old t → ⟦<SqlStore<S> as Store>⟧.holds self.new t }
-        ensures doubt { ⟦<SqlStore<S> as Store>⟧.doubt self.old ≤ ⟦<SqlStore<S> as Store>⟧.doubt self.new }
-        ensures failed { ⟦<SqlStore<S> as Store>⟧.failed self.new ≡ failed_after result (⟦<SqlStore<S> as Store>⟧.failed self.old) }
-        ensures commits { ⟦<SqlStore<S> as Store>⟧.commits self.new ≡ ⟦<SqlStore<S> as Store>⟧.commits self.old }
-        ensures handed { ⟦<SqlStore<S> as Store>⟧.handed self.new ≡ ⟦<SqlStore<S> as Store>⟧.handed self.old }
-        ensures crash { (t : Tables) → Keeps t (state S.Store self.old.conn).now → Survives (state S.Store self.old.conn) (state S.Store self.new.conn) (λ _. ⊥) }
-    {
+    fn party_by_token(&mut self, digest: &Digest) -> Got<Option<Party>> {
         match find_party(&mut self.conn, digest) {
             Ok(party) => Ok(party),
             Err(_) => self.fail(),
         }
     }
 
-    fn party(&mut self, party: PartyId) -> Got<Option<Party>>
-        ensures found { ⟦<SqlStore<S> as Store>⟧.doubt self.new ≡ 0 → (t : Tables) → ⟦<SqlStore<S> as Store>⟧.holds self.old t → IfOk result (λ p. p ≡ find (λ p. p.id == party) t.parties) }
-        ensures kept { (t : Tables) → ⟦<SqlStore<S> as Store>⟧.holds self.old t → ⟦<SqlStore<S> as Store>⟧.holds self.new t }
-        ensures doubt { ⟦<SqlStore<S> as Store>⟧.doubt self.old ≤ ⟦<SqlStore<S> as Store>⟧.doubt self.new }
-        ensures failed { ⟦<SqlStore<S> as Store>⟧.failed self.new ≡ failed_after result (⟦<SqlStore<S> as Store>⟧.failed self.old) }
-        ensures commits { ⟦<SqlStore<S> as Store>⟧.commits self.new ≡ ⟦<SqlStore<S> as Store>⟧.commits self.old }
-        ensures handed { ⟦<SqlStore<S> as Store>⟧.handed self.new ≡ ⟦<SqlStore<S> as Store>⟧.handed self.old }
-        ensures crash { (t : Tables) → Keeps t (state S.Store self.old.conn).now → Survives (state S.Store self.old.conn) (state S.Store self.new.conn) (λ _. ⊥) }
-    {
+    fn party(&mut self, party: PartyId) -> Got<Option<Party>> {
         match read_party(&mut self.conn, party) {
             Ok(party) => Ok(party),
             Err(_) => self.fail(),
         }
     }
 
-    fn parcel(&mut self, parcel: ParcelId) -> Got<Option<Parcel>>
-        ensures found { ⟦<SqlStore<S> as Store>⟧.doubt self.new ≡ 0 → (t : Tables) → ⟦<SqlStore<S> as Store>⟧.holds self.old t → IfOk result (λ p. p ≡ find (λ p. p.id == parcel) t.parcels) }
-        ensures kept { (t : Tables) → ⟦<SqlStore<S> as Store>⟧.holds self.old t → ⟦<SqlStore<S> as Store>⟧.holds self.new t }
-        ensures doubt { ⟦<SqlStore<S> as Store>⟧.doubt self.old ≤ ⟦<SqlStore<S> as Store>⟧.doubt self.new }
-        ensures failed { ⟦<SqlStore<S> as Store>⟧.failed self.new ≡ failed_after result (⟦<SqlStore<S> as Store>⟧.failed self.old) }
-        ensures commits { ⟦<SqlStore<S> as Store>⟧.commits self.new ≡ ⟦<SqlStore<S> as Store>⟧.commits self.old }
-        ensures handed { ⟦<SqlStore<S> as Store>⟧.handed self.new ≡ ⟦<SqlStore<S> as Store>⟧.handed self.old }
-        ensures crash { (t : Tables) → Keeps t (state S.Store self.old.conn).now → Survives (state S.Store self.old.conn) (state S.Store self.new.conn) (λ _. ⊥) }
-    {
+    fn parcel(&mut self, parcel: ParcelId) -> Got<Option<Parcel>> {
         match read_parcel(&mut self.conn, parcel) {
             Ok(parcel) => Ok(parcel),
             Err(_) => self.fail(),
         }
     }
 
-    fn parcel_by_lot(&mut self, lot: &Lot) -> Got<Option<Parcel>>
-        ensures found { ⟦<SqlStore<S> as Store>⟧.doubt self.new ≡ 0 → (t : Tables) → ⟦<SqlStore<S> as Store>⟧.holds self.old t → IfOk result (λ p. p ≡ find (λ p. bytes_eq p.lot lot.now) t.parcels) }
-        ensures kept { (t : Tables) → ⟦<SqlStore<S> as Store>⟧.holds self.old t → ⟦<SqlStore<S> as Store>⟧.holds self.new t }
-        ensures doubt { ⟦<SqlStore<S> as Store>⟧.doubt self.old ≤ ⟦<SqlStore<S> as Store>⟧.doubt self.new }
-        ensures failed { ⟦<SqlStore<S> as Store>⟧.failed self.new ≡ failed_after result (⟦<SqlStore<S> as Store>⟧.failed self.old) }
-        ensures commits { ⟦<SqlStore<S> as Store>⟧.commits self.new ≡ ⟦<SqlStore<S> as Store>⟧.commits self.old }
-        ensures handed { ⟦<SqlStore<S> as Store>⟧.handed self.new ≡ ⟦<SqlStore<S> as Store>⟧.handed self.old }
-        ensures crash { (t : Tables) → Keeps t (state S.Store self.old.conn).now → Survives (state S.Store self.old.conn) (state S.Store self.new.conn) (λ _. ⊥) }
-    {
+    fn parcel_by_lot(&mut self, lot: &Lot) -> Got<Option<Parcel>> {
         match find_parcel(&mut self.conn, lot) {
             Ok(parcel) => Ok(parcel),
             Err(_) => self.fail(),
         }
     }
 
-    fn interest(&mut self, parcel: ParcelId, party: PartyId) -> Got<bool>
-        ensures found { ⟦<SqlStore<S> as Store>⟧.doubt self.new ≡ 0 → (t : Tables) → ⟦<SqlStore<S> as Store>⟧.holds self.old t → IfOk result (λ b. b ≡ list_any (λ i. (i.parcel == parcel) && (i.party == party)) t.interests) }
-        ensures kept { (t : Tables) → ⟦<SqlStore<S> as Store>⟧.holds self.old t → ⟦<SqlStore<S> as Store>⟧.holds self.new t }
-        ensures doubt { ⟦<SqlStore<S> as Store>⟧.doubt self.old ≤ ⟦<SqlStore<S> as Store>⟧.doubt self.new }
-        ensures failed { ⟦<SqlStore<S> as Store>⟧.failed self.new ≡ failed_after result (⟦<SqlStore<S> as Store>⟧.failed self.old) }
-        ensures commits { ⟦<SqlStore<S> as Store>⟧.commits self.new ≡ ⟦<SqlStore<S> as Store>⟧.commits self.old }
-        ensures handed { ⟦<SqlStore<S> as Store>⟧.handed self.new ≡ ⟦<SqlStore<S> as Store>⟧.handed self.old }
-        ensures crash { (t : Tables) → Keeps t (state S.Store self.old.conn).now → Survives (state S.Store self.old.conn) (state S.Store self.new.conn) (λ _. ⊥) }
-    {
+    fn interest(&mut self, parcel: ParcelId, party: PartyId) -> Got<bool> {
         match has_interest(&mut self.conn, parcel, party) {
             Ok(interest) => Ok(interest),
             Err(_) => self.fail(),
         }
     }
 
-    fn file(&mut self, file: FileId) -> Got<Option<FileRow>>
-        ensures found { ⟦<SqlStore<S> as Store>⟧.doubt self.new ≡ 0 → (t : Tables) → ⟦<SqlStore<S> as Store>⟧.holds self.old t → IfOk result (λ f. f ≡ find (λ f. f.id == file) t.files) }
-        ensures kept { (t : Tables) → ⟦<SqlStore<S> as Store>⟧.holds self.old t → ⟦<SqlStore<S> as Store>⟧.holds self.new t }
-        ensures doubt { ⟦<SqlStore<S> as Store>⟧.doubt self.old ≤ ⟦<SqlStore<S> as Store>⟧.doubt self.new }
-        ensures failed { ⟦<SqlStore<S> as Store>⟧.failed self.new ≡ failed_after result (⟦<SqlStore<S> as Store>⟧.failed self.old) }
-        ensures commits { ⟦<SqlStore<S> as Store>⟧.commits self.new ≡ ⟦<SqlStore<S> as Store>⟧.commits self.old }
-        ensures handed { ⟦<SqlStore<S> as Store>⟧.handed self.new ≡ handed_after result (⟦<SqlStore<S> as Store>⟧.handed self.old) }
-        ensures crash { (t : Tables) → Keeps t (state S.Store self.old.conn).now → Survives (state S.Store self.old.conn) (state S.Store self.new.conn) (λ _. ⊥) }
-    {
+    fn file(&mut self, file: FileId) -> Got<Option<FileRow>> {
         match read_file(&mut self.conn, file) {
             Ok(Some(row)) => {
                 self.handed = self.handed.wrapping_add(1);
@@ -280,32 +215,14 @@ impl<S: Alter> Store for SqlStore<S> {
         }
     }
 
-    fn papers(&mut self, file: FileId) -> Got<Vec<Paper>>
-        ensures found { ⟦<SqlStore<S> as Store>⟧.doubt self.new ≡ 0 → (t : Tables) → ⟦<SqlStore<S> as Store>⟧.holds self.old t → IfOk result (λ v. v.items ≡ filter (λ p. p.file == file) t.papers) }
-        ensures kept { (t : Tables) → ⟦<SqlStore<S> as Store>⟧.holds self.old t → ⟦<SqlStore<S> as Store>⟧.holds self.new t }
-        ensures doubt { ⟦<SqlStore<S> as Store>⟧.doubt self.old ≤ ⟦<SqlStore<S> as Store>⟧.doubt self.new }
-        ensures failed { ⟦<SqlStore<S> as Store>⟧.failed self.new ≡ failed_after result (⟦<SqlStore<S> as Store>⟧.failed self.old) }
-        ensures commits { ⟦<SqlStore<S> as Store>⟧.commits self.new ≡ ⟦<SqlStore<S> as Store>⟧.commits self.old }
-        ensures handed { ⟦<SqlStore<S> as Store>⟧.handed self.new ≡ ⟦<SqlStore<S> as Store>⟧.handed self.old }
-        ensures crash { (t : Tables) → Keeps t (state S.Store self.old.conn).now → Survives (state S.Store self.old.conn) (state S.Store self.new.conn) (λ _. ⊥) }
-    {
+    fn papers(&mut self, file: FileId) -> Got<Vec<Paper>> {
         match read_papers(&mut self.conn, file, self.alloc) {
             Ok(papers) => Ok(papers),
             Err(_) => self.fail(),
         }
     }
 
-    /// As the trait says, and a crash inside leaves the tables as before, or with the change whole.
-    fn commit(&mut self, change: &Change<'_>, day: Day) -> Got<()>
-        ensures made { (t : Tables) → ⟦<SqlStore<S> as Store>⟧.holds self.old t → Fits t change.now day → OnOk result (⟦<SqlStore<S> as Store>⟧.holds self.new (changed t change.now day)) }
-        ensures kept { (t : Tables) → ⟦<SqlStore<S> as Store>⟧.holds self.old t → OnErr result (⟦<SqlStore<S> as Store>⟧.holds self.new t) }
-        ensures doubt { ⟦<SqlStore<S> as Store>⟧.doubt self.old ≤ ⟦<SqlStore<S> as Store>⟧.doubt self.new }
-        ensures failed { ⟦<SqlStore<S> as Store>⟧.failed self.new ≡ failed_after result (⟦<SqlStore<S> as Store>⟧.failed self.old) }
-        ensures commits { ⟦<SqlStore<S> as Store>⟧.commits self.new ≡ next_count (⟦<SqlStore<S> as Store>⟧.commits self.old) }
-        ensures handed { ⟦<SqlStore<S> as Store>⟧.handed self.new ≡ ⟦<SqlStore<S> as Store>⟧.handed self.old }
-        ensures crash { (t : Tables) → Keeps t (state S.Store self.old.conn).now → Fits t change.now day
-            → Survives (state S.Store self.old.conn) (state S.Store self.new.conn) (λ trees. (db : Database) × Keeps (changed t change.now day) db × (trees ≡ db.trees)) }
-    {
+    fn commit(&mut self, change: &Change<'_>, day: Day) -> Got<()> {
         self.commits = self.commits.wrapping_add(1);
         match commit_in(&mut self.conn, change, day) {
             Ok(()) => Ok(()),

@@ -1,6 +1,6 @@
 //! The changes of the tables, each in one transaction. The desk that a change is given is the one after it.
 
-ghost use Rattle.std.specs.Prelude.{◌≡◌, ◌≢◌, ◌≤◌, ◌+◌, ℕ, false, Some, OnOk, OnErr, IfOk};
+ghost use Rattle.std.specs.Prelude.{◌≡◌, ◌≢◌, ◌≤◌, ◌+◌, ℕ, false, Some, OnOk, OnErr, IfOk, IsTrue};
 ghost use Rattle.sqlite_trees.specs.View.{doubt};
 ghost use Rattle.sqlite.specs.Effect.{Database};
 ghost use Rattle.sqlite.specs.State.{HasCleanDisk, Survives};
@@ -78,6 +78,7 @@ fn add_party<S: Alter>(
         → OnOk result (Shows (changed t (NewParty name.entry role digest.entry) day) (state S.Store conn.new)) }
     ensures kept { (t : Tables) → HasCleanDisk (state S.Store conn.new) → Shows t (state S.Store conn.old) → OnErr result (Shows t (state S.Store conn.new)) }
     ensures calm { conn.new.in_transaction ≡ false }
+    ensures open { HasCleanDisk (state S.Store conn.new) → OnOk result (IsTrue (state S.Store conn.new).is_open) }
     ensures doubt { doubt (state S.Store conn.old).is_clean ≤ doubt (state S.Store conn.new).is_clean }
     ensures crash { Survives (state S.Store conn.old) (state S.Store conn.new) (λ trees. (t : Tables) (day : ℕ) → Keeps t (state S.Store conn.old).now → desk.now ≡ (changed t (NewParty name.entry role digest.entry) day).desk → Fits t (NewParty name.entry role digest.entry) day
         → (db : Database) × Keeps (changed t (NewParty name.entry role digest.entry) day) db × (trees ≡ db.trees)) }
@@ -106,6 +107,7 @@ fn add_parcel<S: Alter>(
         → OnOk result (Shows (changed t (NewParcel lot.entry address.entry owner) day) (state S.Store conn.new)) }
     ensures kept { (t : Tables) → HasCleanDisk (state S.Store conn.new) → Shows t (state S.Store conn.old) → OnErr result (Shows t (state S.Store conn.new)) }
     ensures calm { conn.new.in_transaction ≡ false }
+    ensures open { HasCleanDisk (state S.Store conn.new) → OnOk result (IsTrue (state S.Store conn.new).is_open) }
     ensures doubt { doubt (state S.Store conn.old).is_clean ≤ doubt (state S.Store conn.new).is_clean }
     ensures crash { Survives (state S.Store conn.old) (state S.Store conn.new) (λ trees. (t : Tables) (day : ℕ) → Keeps t (state S.Store conn.old).now → desk.now ≡ (changed t (NewParcel lot.entry address.entry owner) day).desk → Fits t (NewParcel lot.entry address.entry owner) day
         → (db : Database) × Keeps (changed t (NewParcel lot.entry address.entry owner) day) db × (trees ≡ db.trees)) }
@@ -133,6 +135,7 @@ fn set_owner<S: Alter>(
         → OnOk result (Shows (changed t (NewOwner parcel owner) day) (state S.Store conn.new)) }
     ensures kept { (t : Tables) → HasCleanDisk (state S.Store conn.new) → Shows t (state S.Store conn.old) → OnErr result (Shows t (state S.Store conn.new)) }
     ensures calm { conn.new.in_transaction ≡ false }
+    ensures open { HasCleanDisk (state S.Store conn.new) → OnOk result (IsTrue (state S.Store conn.new).is_open) }
     ensures doubt { doubt (state S.Store conn.old).is_clean ≤ doubt (state S.Store conn.new).is_clean }
     ensures crash { Survives (state S.Store conn.old) (state S.Store conn.new) (λ trees. (t : Tables) (day : ℕ) → Keeps t (state S.Store conn.old).now → desk.now ≡ (changed t (NewOwner parcel owner) day).desk → Fits t (NewOwner parcel owner) day
         → (db : Database) × Keeps (changed t (NewOwner parcel owner) day) db × (trees ≡ db.trees)) }
@@ -160,6 +163,7 @@ fn add_interest<S: Alter>(
         → OnOk result (Shows (changed t (NewInterest parcel party) day) (state S.Store conn.new)) }
     ensures kept { (t : Tables) → HasCleanDisk (state S.Store conn.new) → Shows t (state S.Store conn.old) → OnErr result (Shows t (state S.Store conn.new)) }
     ensures calm { conn.new.in_transaction ≡ false }
+    ensures open { HasCleanDisk (state S.Store conn.new) → OnOk result (IsTrue (state S.Store conn.new).is_open) }
     ensures doubt { doubt (state S.Store conn.old).is_clean ≤ doubt (state S.Store conn.new).is_clean }
     ensures crash { Survives (state S.Store conn.old) (state S.Store conn.new) (λ trees. (t : Tables) (day : ℕ) → Keeps t (state S.Store conn.old).now → desk.now ≡ (changed t (NewInterest parcel party) day).desk → Fits t (NewInterest parcel party) day
         → (db : Database) × Keeps (changed t (NewInterest parcel party) day) db × (trees ≡ db.trees)) }
@@ -188,6 +192,7 @@ fn add_file<S: Alter>(
         → OnOk result (Shows (changed t (NewFile new.now valuation description.entry) day) (state S.Store conn.new)) }
     ensures kept { (t : Tables) → HasCleanDisk (state S.Store conn.new) → Shows t (state S.Store conn.old) → OnErr result (Shows t (state S.Store conn.new)) }
     ensures calm { conn.new.in_transaction ≡ false }
+    ensures open { HasCleanDisk (state S.Store conn.new) → OnOk result (IsTrue (state S.Store conn.new).is_open) }
     ensures doubt { doubt (state S.Store conn.old).is_clean ≤ doubt (state S.Store conn.new).is_clean }
     ensures crash { Survives (state S.Store conn.old) (state S.Store conn.new) (λ trees. (t : Tables) (day : ℕ) → Keeps t (state S.Store conn.old).now → desk.now ≡ (changed t (NewFile new.now valuation description.entry) day).desk → Fits t (NewFile new.now valuation description.entry) day
         → (db : Database) × Keeps (changed t (NewFile new.now valuation description.entry) day) db × (trees ≡ db.trees)) }
@@ -215,6 +220,7 @@ fn set_row<S: Alter>(
         → OnOk result (Shows (changed t (NewRow file new.now effect.None) day) (state S.Store conn.new)) }
     ensures kept { (t : Tables) → HasCleanDisk (state S.Store conn.new) → Shows t (state S.Store conn.old) → OnErr result (Shows t (state S.Store conn.new)) }
     ensures calm { conn.new.in_transaction ≡ false }
+    ensures open { HasCleanDisk (state S.Store conn.new) → OnOk result (IsTrue (state S.Store conn.new).is_open) }
     ensures doubt { doubt (state S.Store conn.old).is_clean ≤ doubt (state S.Store conn.new).is_clean }
     ensures crash { Survives (state S.Store conn.old) (state S.Store conn.new) (λ trees. (t : Tables) (day : ℕ) → Keeps t (state S.Store conn.old).now → desk.now ≡ (changed t (NewRow file new.now effect.None) day).desk → Fits t (NewRow file new.now effect.None) day
         → (db : Database) × Keeps (changed t (NewRow file new.now effect.None) day) db × (trees ≡ db.trees)) }
@@ -237,6 +243,7 @@ fn add_paper<S: Alter>(
         → OnOk result (Shows (changed t (NewRow file new.now (effect.Paper paper.now)) day) (state S.Store conn.new)) }
     ensures kept { (t : Tables) → HasCleanDisk (state S.Store conn.new) → Shows t (state S.Store conn.old) → OnErr result (Shows t (state S.Store conn.new)) }
     ensures calm { conn.new.in_transaction ≡ false }
+    ensures open { HasCleanDisk (state S.Store conn.new) → OnOk result (IsTrue (state S.Store conn.new).is_open) }
     ensures doubt { doubt (state S.Store conn.old).is_clean ≤ doubt (state S.Store conn.new).is_clean }
     ensures crash { Survives (state S.Store conn.old) (state S.Store conn.new) (λ trees. (t : Tables) (day : ℕ) → Keeps t (state S.Store conn.old).now → desk.now ≡ (changed t (NewRow file new.now (effect.Paper paper.now)) day).desk → Fits t (NewRow file new.now (effect.Paper paper.now)) day
         → (db : Database) × Keeps (changed t (NewRow file new.now (effect.Paper paper.now)) day) db × (trees ≡ db.trees)) }
@@ -269,6 +276,7 @@ fn close_notice<S: Alter>(
         → OnOk result (Shows (changed t (NewRow file new.now (effect.NoticeClosed number)) day) (state S.Store conn.new)) }
     ensures kept { (t : Tables) → HasCleanDisk (state S.Store conn.new) → Shows t (state S.Store conn.old) → OnErr result (Shows t (state S.Store conn.new)) }
     ensures calm { conn.new.in_transaction ≡ false }
+    ensures open { HasCleanDisk (state S.Store conn.new) → OnOk result (IsTrue (state S.Store conn.new).is_open) }
     ensures doubt { doubt (state S.Store conn.old).is_clean ≤ doubt (state S.Store conn.new).is_clean }
     ensures crash { Survives (state S.Store conn.old) (state S.Store conn.new) (λ trees. (t : Tables) (day : ℕ) → Keeps t (state S.Store conn.old).now → desk.now ≡ (changed t (NewRow file new.now (effect.NoticeClosed number)) day).desk → Fits t (NewRow file new.now (effect.NoticeClosed number)) day
         → (db : Database) × Keeps (changed t (NewRow file new.now (effect.NoticeClosed number)) day) db × (trees ≡ db.trees)) }
@@ -300,6 +308,7 @@ fn make_row<S: Alter>(
         → OnOk result (Shows (changed t (NewRow file new.now effect.now) day) (state S.Store conn.new)) }
     ensures kept { (t : Tables) → HasCleanDisk (state S.Store conn.new) → Shows t (state S.Store conn.old) → OnErr result (Shows t (state S.Store conn.new)) }
     ensures calm { conn.new.in_transaction ≡ false }
+    ensures open { HasCleanDisk (state S.Store conn.new) → OnOk result (IsTrue (state S.Store conn.new).is_open) }
     ensures doubt { doubt (state S.Store conn.old).is_clean ≤ doubt (state S.Store conn.new).is_clean }
     ensures crash { Survives (state S.Store conn.old) (state S.Store conn.new) (λ trees. (t : Tables) (day : ℕ) → Keeps t (state S.Store conn.old).now → desk.now ≡ (changed t (NewRow file new.now effect.now) day).desk → Fits t (NewRow file new.now effect.now) day
         → (db : Database) × Keeps (changed t (NewRow file new.now effect.now) day) db × (trees ≡ db.trees)) }
@@ -318,6 +327,7 @@ fn make<S: Alter>(conn: &mut Connection<S>, desk: &Desk, change: &Change<'_>) ->
         → OnOk result (Shows (changed t (change.now) day) (state S.Store conn.new)) }
     ensures kept { (t : Tables) → HasCleanDisk (state S.Store conn.new) → Shows t (state S.Store conn.old) → OnErr result (Shows t (state S.Store conn.new)) }
     ensures calm { conn.new.in_transaction ≡ false }
+    ensures open { HasCleanDisk (state S.Store conn.new) → OnOk result (IsTrue (state S.Store conn.new).is_open) }
     ensures doubt { doubt (state S.Store conn.old).is_clean ≤ doubt (state S.Store conn.new).is_clean }
     ensures crash { Survives (state S.Store conn.old) (state S.Store conn.new) (λ trees. (t : Tables) (day : ℕ) → Keeps t (state S.Store conn.old).now → desk.now ≡ (changed t (change.now) day).desk → Fits t (change.now) day
         → (db : Database) × Keeps (changed t (change.now) day) db × (trees ≡ db.trees)) }
@@ -384,6 +394,7 @@ pub fn commit_in<S: Alter>(conn: &mut Connection<S>, change: &Change<'_>, day: D
     ensures made { (t : Tables) → HasCleanDisk (state S.Store conn.new) → Shows t (state S.Store conn.old) → Fits t change.now day → OnOk result (Shows (changed t change.now day) (state S.Store conn.new)) }
     ensures kept { (t : Tables) → HasCleanDisk (state S.Store conn.new) → Shows t (state S.Store conn.old) → OnErr result (Shows t (state S.Store conn.new)) }
     ensures calm { conn.new.in_transaction ≡ false }
+    ensures open { HasCleanDisk (state S.Store conn.new) → OnOk result (IsTrue (state S.Store conn.new).is_open) }
     ensures doubt { doubt (state S.Store conn.old).is_clean ≤ doubt (state S.Store conn.new).is_clean }
     ensures crash { (t : Tables) → Keeps t (state S.Store conn.old).now → Fits t change.now day
         → Survives (state S.Store conn.old) (state S.Store conn.new) (λ trees. (db : Database) × Keeps (changed t change.now day) db × (trees ≡ db.trees)) }

@@ -41,6 +41,7 @@ fn party_rows<S: Alter>(conn: &mut Connection<S>, party: PartyId) -> Got<Vec<Row
     requires calm { conn.old.in_transaction ≡ false }
     ensures found { (t : Tables) → HasCleanDisk (state S.Store conn.new) → Shows t (state S.Store conn.old) → IfOk result (λ rows. slice_get rows.items 0 ≡ option_map shown_party (find (λ p. p.id == party) t.parties)) }
     ensures kept { (t : Tables) → HasCleanDisk (state S.Store conn.new) → Shows t (state S.Store conn.old) → Shows t (state S.Store conn.new) }
+    ensures open { HasCleanDisk (state S.Store conn.new) → OnOk result (IsTrue (state S.Store conn.new).is_open) }
     ensures doubt { doubt (state S.Store conn.old).is_clean ≤ doubt (state S.Store conn.new).is_clean }
     ensures crash { (t : Tables) → Keeps t (state S.Store conn.old).now → Survives (state S.Store conn.old) (state S.Store conn.new) (λ _. ⊥) }
     ensures calm { conn.new.in_transaction ≡ false }
@@ -57,6 +58,7 @@ fn digest_rows<S: Alter>(conn: &mut Connection<S>, digest: &Digest) -> Got<Vec<R
     requires calm { conn.old.in_transaction ≡ false }
     ensures found { (t : Tables) → HasCleanDisk (state S.Store conn.new) → Shows t (state S.Store conn.old) → IfOk result (λ rows. slice_get rows.items 0 ≡ option_map shown_party (find (λ p. bytes_eq p.digest digest.now) t.parties)) }
     ensures kept { (t : Tables) → HasCleanDisk (state S.Store conn.new) → Shows t (state S.Store conn.old) → Shows t (state S.Store conn.new) }
+    ensures open { HasCleanDisk (state S.Store conn.new) → OnOk result (IsTrue (state S.Store conn.new).is_open) }
     ensures doubt { doubt (state S.Store conn.old).is_clean ≤ doubt (state S.Store conn.new).is_clean }
     ensures crash { (t : Tables) → Keeps t (state S.Store conn.old).now → Survives (state S.Store conn.old) (state S.Store conn.new) (λ _. ⊥) }
     ensures calm { conn.new.in_transaction ≡ false }
@@ -73,6 +75,7 @@ fn parcel_rows<S: Alter>(conn: &mut Connection<S>, parcel: ParcelId) -> Got<Vec<
     requires calm { conn.old.in_transaction ≡ false }
     ensures found { (t : Tables) → HasCleanDisk (state S.Store conn.new) → Shows t (state S.Store conn.old) → IfOk result (λ rows. slice_get rows.items 0 ≡ option_map shown_parcel (find (λ p. p.id == parcel) t.parcels)) }
     ensures kept { (t : Tables) → HasCleanDisk (state S.Store conn.new) → Shows t (state S.Store conn.old) → Shows t (state S.Store conn.new) }
+    ensures open { HasCleanDisk (state S.Store conn.new) → OnOk result (IsTrue (state S.Store conn.new).is_open) }
     ensures doubt { doubt (state S.Store conn.old).is_clean ≤ doubt (state S.Store conn.new).is_clean }
     ensures crash { (t : Tables) → Keeps t (state S.Store conn.old).now → Survives (state S.Store conn.old) (state S.Store conn.new) (λ _. ⊥) }
     ensures calm { conn.new.in_transaction ≡ false }
@@ -89,6 +92,7 @@ fn lot_rows<S: Alter>(conn: &mut Connection<S>, lot: &Lot) -> Got<Vec<Row>>
     requires calm { conn.old.in_transaction ≡ false }
     ensures found { (t : Tables) → HasCleanDisk (state S.Store conn.new) → Shows t (state S.Store conn.old) → IfOk result (λ rows. slice_get rows.items 0 ≡ option_map shown_parcel (find (λ p. bytes_eq p.lot lot.now) t.parcels)) }
     ensures kept { (t : Tables) → HasCleanDisk (state S.Store conn.new) → Shows t (state S.Store conn.old) → Shows t (state S.Store conn.new) }
+    ensures open { HasCleanDisk (state S.Store conn.new) → OnOk result (IsTrue (state S.Store conn.new).is_open) }
     ensures doubt { doubt (state S.Store conn.old).is_clean ≤ doubt (state S.Store conn.new).is_clean }
     ensures crash { (t : Tables) → Keeps t (state S.Store conn.old).now → Survives (state S.Store conn.old) (state S.Store conn.new) (λ _. ⊥) }
     ensures calm { conn.new.in_transaction ≡ false }
@@ -109,6 +113,7 @@ fn interest_rows<S: Alter>(
     requires calm { conn.old.in_transaction ≡ false }
     ensures found { (t : Tables) → HasCleanDisk (state S.Store conn.new) → Shows t (state S.Store conn.old) → IfOk result (λ rows. not (length rows.items == 0) ≡ list_any (λ i. (i.parcel == parcel) && (i.party == party)) t.interests) }
     ensures kept { (t : Tables) → HasCleanDisk (state S.Store conn.new) → Shows t (state S.Store conn.old) → Shows t (state S.Store conn.new) }
+    ensures open { HasCleanDisk (state S.Store conn.new) → OnOk result (IsTrue (state S.Store conn.new).is_open) }
     ensures doubt { doubt (state S.Store conn.old).is_clean ≤ doubt (state S.Store conn.new).is_clean }
     ensures crash { (t : Tables) → Keeps t (state S.Store conn.old).now → Survives (state S.Store conn.old) (state S.Store conn.new) (λ _. ⊥) }
     ensures calm { conn.new.in_transaction ≡ false }
@@ -126,6 +131,7 @@ fn file_rows<S: Alter>(conn: &mut Connection<S>, file: FileId) -> Got<Vec<Row>>
     ensures found { (t : Tables) → HasCleanDisk (state S.Store conn.new) → Shows t (state S.Store conn.old) → IfOk result (λ rows. slice_get rows.items 0 ≡ option_map shown_file (find (λ f. f.id == file) t.files)) }
     ensures named { (t : Tables) → HasCleanDisk (state S.Store conn.new) → Shows t (state S.Store conn.old) → IfOk result (λ rows. IfSome (find (λ f. f.id == file) t.files) (λ f. IsNamed f.state)) }
     ensures kept { (t : Tables) → HasCleanDisk (state S.Store conn.new) → Shows t (state S.Store conn.old) → Shows t (state S.Store conn.new) }
+    ensures open { HasCleanDisk (state S.Store conn.new) → OnOk result (IsTrue (state S.Store conn.new).is_open) }
     ensures doubt { doubt (state S.Store conn.old).is_clean ≤ doubt (state S.Store conn.new).is_clean }
     ensures crash { (t : Tables) → Keeps t (state S.Store conn.old).now → Survives (state S.Store conn.old) (state S.Store conn.new) (λ _. ⊥) }
     ensures calm { conn.new.in_transaction ≡ false }
@@ -142,6 +148,7 @@ fn paper_rows<S: Alter>(conn: &mut Connection<S>, file: FileId) -> Got<Vec<Row>>
     requires calm { conn.old.in_transaction ≡ false }
     ensures found { (t : Tables) → HasCleanDisk (state S.Store conn.new) → Shows t (state S.Store conn.old) → IfOk result (λ rows. rows.items ≡ map shown_paper (filter (λ p. p.file == file) t.papers)) }
     ensures kept { (t : Tables) → HasCleanDisk (state S.Store conn.new) → Shows t (state S.Store conn.old) → Shows t (state S.Store conn.new) }
+    ensures open { HasCleanDisk (state S.Store conn.new) → OnOk result (IsTrue (state S.Store conn.new).is_open) }
     ensures doubt { doubt (state S.Store conn.old).is_clean ≤ doubt (state S.Store conn.new).is_clean }
     ensures crash { (t : Tables) → Keeps t (state S.Store conn.old).now → Survives (state S.Store conn.old) (state S.Store conn.new) (λ _. ⊥) }
     ensures calm { conn.new.in_transaction ≡ false }
@@ -224,6 +231,7 @@ pub fn read_party<S: Alter>(conn: &mut Connection<S>, party: PartyId) -> Got<Opt
     requires calm { conn.old.in_transaction ≡ false }
     ensures found { (t : Tables) → HasCleanDisk (state S.Store conn.new) → Shows t (state S.Store conn.old) → IfOk result (λ p. p ≡ find (λ p. p.id == party) t.parties) }
     ensures kept { (t : Tables) → HasCleanDisk (state S.Store conn.new) → Shows t (state S.Store conn.old) → Shows t (state S.Store conn.new) }
+    ensures open { HasCleanDisk (state S.Store conn.new) → OnOk result (IsTrue (state S.Store conn.new).is_open) }
     ensures doubt { doubt (state S.Store conn.old).is_clean ≤ doubt (state S.Store conn.new).is_clean }
     ensures crash { (t : Tables) → Keeps t (state S.Store conn.old).now → Survives (state S.Store conn.old) (state S.Store conn.new) (λ _. ⊥) }
     ensures calm { conn.new.in_transaction ≡ false }
@@ -237,6 +245,7 @@ pub fn find_party<S: Alter>(conn: &mut Connection<S>, digest: &Digest) -> Got<Op
     requires calm { conn.old.in_transaction ≡ false }
     ensures found { (t : Tables) → HasCleanDisk (state S.Store conn.new) → Shows t (state S.Store conn.old) → IfOk result (λ p. p ≡ find (λ p. bytes_eq p.digest digest.now) t.parties) }
     ensures kept { (t : Tables) → HasCleanDisk (state S.Store conn.new) → Shows t (state S.Store conn.old) → Shows t (state S.Store conn.new) }
+    ensures open { HasCleanDisk (state S.Store conn.new) → OnOk result (IsTrue (state S.Store conn.new).is_open) }
     ensures doubt { doubt (state S.Store conn.old).is_clean ≤ doubt (state S.Store conn.new).is_clean }
     ensures crash { (t : Tables) → Keeps t (state S.Store conn.old).now → Survives (state S.Store conn.old) (state S.Store conn.new) (λ _. ⊥) }
     ensures calm { conn.new.in_transaction ≡ false }
@@ -250,6 +259,7 @@ pub fn read_parcel<S: Alter>(conn: &mut Connection<S>, parcel: ParcelId) -> Got<
     requires calm { conn.old.in_transaction ≡ false }
     ensures found { (t : Tables) → HasCleanDisk (state S.Store conn.new) → Shows t (state S.Store conn.old) → IfOk result (λ p. p ≡ find (λ p. p.id == parcel) t.parcels) }
     ensures kept { (t : Tables) → HasCleanDisk (state S.Store conn.new) → Shows t (state S.Store conn.old) → Shows t (state S.Store conn.new) }
+    ensures open { HasCleanDisk (state S.Store conn.new) → OnOk result (IsTrue (state S.Store conn.new).is_open) }
     ensures doubt { doubt (state S.Store conn.old).is_clean ≤ doubt (state S.Store conn.new).is_clean }
     ensures crash { (t : Tables) → Keeps t (state S.Store conn.old).now → Survives (state S.Store conn.old) (state S.Store conn.new) (λ _. ⊥) }
     ensures calm { conn.new.in_transaction ≡ false }
@@ -263,6 +273,7 @@ pub fn find_parcel<S: Alter>(conn: &mut Connection<S>, lot: &Lot) -> Got<Option<
     requires calm { conn.old.in_transaction ≡ false }
     ensures found { (t : Tables) → HasCleanDisk (state S.Store conn.new) → Shows t (state S.Store conn.old) → IfOk result (λ p. p ≡ find (λ p. bytes_eq p.lot lot.now) t.parcels) }
     ensures kept { (t : Tables) → HasCleanDisk (state S.Store conn.new) → Shows t (state S.Store conn.old) → Shows t (state S.Store conn.new) }
+    ensures open { HasCleanDisk (state S.Store conn.new) → OnOk result (IsTrue (state S.Store conn.new).is_open) }
     ensures doubt { doubt (state S.Store conn.old).is_clean ≤ doubt (state S.Store conn.new).is_clean }
     ensures crash { (t : Tables) → Keeps t (state S.Store conn.old).now → Survives (state S.Store conn.old) (state S.Store conn.new) (λ _. ⊥) }
     ensures calm { conn.new.in_transaction ≡ false }
@@ -280,6 +291,7 @@ pub fn has_interest<S: Alter>(
     requires calm { conn.old.in_transaction ≡ false }
     ensures found { (t : Tables) → HasCleanDisk (state S.Store conn.new) → Shows t (state S.Store conn.old) → IfOk result (λ b. b ≡ list_any (λ i. (i.parcel == parcel) && (i.party == party)) t.interests) }
     ensures kept { (t : Tables) → HasCleanDisk (state S.Store conn.new) → Shows t (state S.Store conn.old) → Shows t (state S.Store conn.new) }
+    ensures open { HasCleanDisk (state S.Store conn.new) → OnOk result (IsTrue (state S.Store conn.new).is_open) }
     ensures doubt { doubt (state S.Store conn.old).is_clean ≤ doubt (state S.Store conn.new).is_clean }
     ensures crash { (t : Tables) → Keeps t (state S.Store conn.old).now → Survives (state S.Store conn.old) (state S.Store conn.new) (λ _. ⊥) }
     ensures calm { conn.new.in_transaction ≡ false }
@@ -293,6 +305,7 @@ pub fn read_file<S: Alter>(conn: &mut Connection<S>, file: FileId) -> Got<Option
     requires calm { conn.old.in_transaction ≡ false }
     ensures found { (t : Tables) → HasCleanDisk (state S.Store conn.new) → Shows t (state S.Store conn.old) → IfOk result (λ f. f ≡ find (λ f. f.id == file) t.files) }
     ensures kept { (t : Tables) → HasCleanDisk (state S.Store conn.new) → Shows t (state S.Store conn.old) → Shows t (state S.Store conn.new) }
+    ensures open { HasCleanDisk (state S.Store conn.new) → OnOk result (IsTrue (state S.Store conn.new).is_open) }
     ensures doubt { doubt (state S.Store conn.old).is_clean ≤ doubt (state S.Store conn.new).is_clean }
     ensures crash { (t : Tables) → Keeps t (state S.Store conn.old).now → Survives (state S.Store conn.old) (state S.Store conn.new) (λ _. ⊥) }
     ensures calm { conn.new.in_transaction ≡ false }
@@ -334,6 +347,7 @@ pub fn read_papers<S: Alter>(
     requires calm { conn.old.in_transaction ≡ false }
     ensures found { (t : Tables) → HasCleanDisk (state S.Store conn.new) → Shows t (state S.Store conn.old) → IfOk result (λ v. v.items ≡ filter (λ p. p.file == file) t.papers) }
     ensures kept { (t : Tables) → HasCleanDisk (state S.Store conn.new) → Shows t (state S.Store conn.old) → Shows t (state S.Store conn.new) }
+    ensures open { HasCleanDisk (state S.Store conn.new) → OnOk result (IsTrue (state S.Store conn.new).is_open) }
     ensures doubt { doubt (state S.Store conn.old).is_clean ≤ doubt (state S.Store conn.new).is_clean }
     ensures crash { (t : Tables) → Keeps t (state S.Store conn.old).now → Survives (state S.Store conn.old) (state S.Store conn.new) (λ _. ⊥) }
     ensures calm { conn.new.in_transaction ≡ false }

@@ -1,6 +1,6 @@
 //! Statements that turn what a connection shows from some tables to others, in one transaction.
 
-ghost use Rattle.std.specs.Prelude.{◌≡◌, ◌≤◌, map, false, [], ◌∷◌, OnOk, OnErr};
+ghost use Rattle.std.specs.Prelude.{◌≡◌, ◌≤◌, map, false, [], ◌∷◌, OnOk, OnErr, IsTrue};
 ghost use Rattle.sqlite.specs.Effect.{Database};
 ghost use Rattle.sqlite_trees.specs.View.{doubt};
 ghost use Rattle.sqlite.specs.State.{HasCleanDisk, Survives};
@@ -23,6 +23,7 @@ fn turn<S: Alter>(conn: &mut Connection<S>, steps: &[Step<'_>]) -> Got<()>
         → (Keeps t (state S.Store conn.old).now → (db : Database) → RanAll S.Store (map step_of steps.now) conn.old db → Keeps u db) → OnOk result (Shows u (state S.Store conn.new)) }
     ensures kept { (t : Tables) → HasCleanDisk (state S.Store conn.new) → Shows t (state S.Store conn.old) → OnErr result (Shows t (state S.Store conn.new)) }
     ensures calm { conn.new.in_transaction ≡ false }
+    ensures open { HasCleanDisk (state S.Store conn.new) → OnOk result (IsTrue (state S.Store conn.new).is_open) }
     ensures doubt { doubt (state S.Store conn.old).is_clean ≤ doubt (state S.Store conn.new).is_clean }
     ensures crash { Survives (state S.Store conn.old) (state S.Store conn.new) (λ trees. (db : Database) × RanAll S.Store (map step_of steps.now) conn.old db × (trees ≡ db.trees)) }
 {
@@ -46,6 +47,7 @@ pub(crate) fn turn_two<'a, S: Alter>(
         → OnOk result (Shows u (state S.Store conn.new)) }
     ensures kept { (t : Tables) → HasCleanDisk (state S.Store conn.new) → Shows t (state S.Store conn.old) → OnErr result (Shows t (state S.Store conn.new)) }
     ensures calm { conn.new.in_transaction ≡ false }
+    ensures open { HasCleanDisk (state S.Store conn.new) → OnOk result (IsTrue (state S.Store conn.new).is_open) }
     ensures doubt { doubt (state S.Store conn.old).is_clean ≤ doubt (state S.Store conn.new).is_clean }
     ensures crash { Survives (state S.Store conn.old) (state S.Store conn.new) (λ trees. (db : Database) × RanAll S.Store ((first.now, bound one.now) ∷ (last.now, bound two.now) ∷ []) conn.old db × (trees ≡ db.trees)) }
 {
@@ -80,6 +82,7 @@ pub(crate) fn turn_three<'a, S: Alter>(
         → OnOk result (Shows u (state S.Store conn.new)) }
     ensures kept { (t : Tables) → HasCleanDisk (state S.Store conn.new) → Shows t (state S.Store conn.old) → OnErr result (Shows t (state S.Store conn.new)) }
     ensures calm { conn.new.in_transaction ≡ false }
+    ensures open { HasCleanDisk (state S.Store conn.new) → OnOk result (IsTrue (state S.Store conn.new).is_open) }
     ensures doubt { doubt (state S.Store conn.old).is_clean ≤ doubt (state S.Store conn.new).is_clean }
     ensures crash { Survives (state S.Store conn.old) (state S.Store conn.new) (λ trees. (db : Database) × RanAll S.Store ((first.now, bound one.now) ∷ (second.now, bound two.now) ∷ (last.now, bound three.now) ∷ []) conn.old db × (trees ≡ db.trees)) }
 {

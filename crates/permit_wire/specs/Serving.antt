@@ -3,10 +3,11 @@ use Rattle.std.specs.Prelude.{◌≡◌, ◌⊎◌, ℕ, Bool, true, false, List
 use Rattle.permit_base.specs.Actions.{action_of}
 use Rattle.permit_base.specs.declared.request.Asked.{Asked}
 use Rattle.permit_model.specs.History.{History}
-use Rattle.permit_model.specs.Policy.{Policy}
-use Rattle.permit_model.specs.Tables.{Tables}
-use Rattle.permit_model.specs.Machine.{step}
+use Rattle.permit_model.specs.Tables.{tables}
+use Rattle.permit_model.specs.Machine.{IsHistory, step as machine_step}
+use Rattle.permit_store.specs.Frames.{StoreView}
 use Rattle.permit_office.specs.Answers.{Answers, reply_of}
+use Rattle.permit_office.specs.Frames.{IsStep}
 use Rattle.permit_office.specs.Office.{OfficeView}
 use Rattle.permit_office.specs.declared.reply.Reply.{Reply}
 use Rattle.permit_http.specs.Stream.{InboxData}
@@ -46,14 +47,20 @@ abbrev pub is_shut : Served → Bool
 is_shut Kept = false
 is_shut _ = true
 
--- a request was read, the office made one step of the machine for it, and the reply's text went out
-pub record ServesRequest (holds : Tables → Type 0) (policy : Policy) (h : History) (day : ℕ) (bytes : List ℕ) (old new : InboxData)
+-- the office made one step for the request, and the reply is the machine's, or the store's refusal where a call failed
+pub record Steps {S : Type 0} (view : S → StoreView) (day : ℕ) (asked : Asked) (reply : Reply) (office office' : OfficeView S) : Type 0 where
+  pub step : IsStep view asked.request office office' reply
+  pub model : (view office'.store).doubt ≡ 0 → (h : History) → IsHistory h → (view office.store).holds (tables h)
+      → Answers (view office'.store).holds reply (machine_step office.policy h asked day) h
+
+-- a request was read, the office made one step for it, and the reply's text went out
+pub record ServesRequest {S : Type 0} (view : S → StoreView) (day : ℕ) (office office' : OfficeView S) (bytes : List ℕ) (old new : InboxData)
     (left before after : Option (List ℕ)) (served : Served) : Type 0 where
   pub asked : Asked
   pub reply : Reply
   pub between : InboxData
   pub comes_in : RequestRead bytes old between left (Ok (Some asked))
-  pub answered : Answers holds reply (step policy h asked day) h
+  pub steps : Steps view day asked reply office office'
   pub goes_out : GoesOutAs (Replied (reply_of reply) (action_of asked.request) day) between.closed before after served
   pub shut : new ≡ record between { closed = is_shut served }
 
@@ -69,24 +76,23 @@ pub record ServesFault (bytes : List ℕ) (old new : InboxData) (left before aft
   pub shut : new ≡ record between { closed = is_shut served }
 
 -- a request was served, or a fault, which leaves the office
-abbrev pub ServesEither : {S : Type 0} → (Tables → Type 0) → History → ℕ → OfficeView S → OfficeView S → List ℕ → InboxData → InboxData
+abbrev pub ServesEither : {S : Type 0} → (S → StoreView) → ℕ → OfficeView S → OfficeView S → List ℕ → InboxData → InboxData
     → Option (List ℕ) → Option (List ℕ) → Option (List ℕ) → Served → Type 0
-ServesEither holds h day office office' bytes old new left before after served =
-    ServesRequest holds office.policy h day bytes old new left before after served
+ServesEither view day office office' bytes old new left before after served =
+    ServesRequest view day office office' bytes old new left before after served
     ⊎ (ServesFault bytes old new left before after served × (office' ≡ office))
 
 -- what was served of a stream of these bytes
-abbrev pub Serves : {S : Type 0} → (Tables → Type 0) → History → ℕ → OfficeView S → OfficeView S → List ℕ → InboxData → InboxData
+abbrev pub Serves : {S : Type 0} → (S → StoreView) → ℕ → OfficeView S → OfficeView S → List ℕ → InboxData → InboxData
     → Option (List ℕ) → Option (List ℕ) → Option (List ℕ) → Served → Type 0
-Serves holds h day office office' bytes old new left before after Ended = AskedFrom old.closed bytes Nothing
-Serves holds h day office office' bytes old new left before after ReadFailed = Unit {0}
-Serves holds h day office office' bytes old new left before after served =
-    ServesEither holds h day office office' bytes old new left before after served
+Serves view day office office' bytes old new left before after Ended = AskedFrom old.closed bytes Nothing
+Serves view day office office' bytes old new left before after ReadFailed = Unit {0}
+Serves view day office office' bytes old new left before after served =
+    ServesEither view day office office' bytes old new left before after served
 
--- whatever the reader told, the office is as it was, or one step of the machine was made
-abbrev pub Moves : {S : Type 0} → (Tables → Type 0) → History → ℕ → OfficeView S → OfficeView S → Type 0
-Moves holds h day office office' =
-    (office' ≡ office) ⊎ ((asked : Asked) × (reply : Reply) × Answers holds reply (step office.policy h asked day) h)
+-- whatever the reader told, the office is as it was, or made one step
+abbrev pub Moves : {S : Type 0} → (S → StoreView) → ℕ → OfficeView S → OfficeView S → Type 0
+Moves view day office office' = (office' ≡ office) ⊎ ((asked : Asked) × (reply : Reply) × Steps view day asked reply office office')
 
 -- nothing was answered
 abbrev pub is_silent : Served → Bool

@@ -2,9 +2,11 @@
 
 ghost use Rattle.std.specs.Prelude.{◌≡◌, true, false, Ok, None, IfErr, IsTrue};
 ghost use Rattle.std.specs.Io.KnownBytes.{Keeps};
+ghost use Rattle.permit_http.specs.Stream.{stream};
 ghost use Rattle.permit_http.specs.Spans.{Holds, message_at, view_of};
 ghost use Rattle.permit_wire.specs.Asked.{asked_in};
 ghost use Rattle.permit_wire.specs.Reading.{MeansAsked, ReadsOut, ReadsRequest, StopsAt, is_kept};
+ghost use Rattle.permit_wire.specs.Serving.{fault_of};
 
 use crate::error::WireError;
 use permit_base::request::Asked;
@@ -60,6 +62,8 @@ pub fn read_request<R: Read>(
     reader: &mut R,
 ) -> Result<Option<Asked>, WireError>
     ensures reads { ReadsRequest inbox.old inbox.new (R.remaining reader.old) (R.remaining reader.new) result }
+    ensures unread { IfErr result (λ fault. fault_of fault ≡ None
+        → Keeps (stream inbox.old (R.remaining reader.old)) (stream inbox.new (R.remaining reader.new))) }
     ensures unfinished { IfErr result (StopsAt inbox.new.bytes) }
     ensures shut { inbox.old.closed ≡ true → (result ≡ Ok None) × Keeps (R.remaining reader.old) (R.remaining reader.new) }
     ensures nothing { result ≡ Ok None → inbox.new ≡ inbox.old }

@@ -1,9 +1,8 @@
 //! Serving one request of a connection.
 
 ghost use Rattle.std.specs.Prelude.{◌≡◌, ◌≢◌, ◌≤◌, ℕ, List, Some, true};
-ghost use Rattle.permit_model.specs.History.{History};
-ghost use Rattle.permit_model.specs.Machine.{IsHistory};
-ghost use Rattle.permit_model.specs.Tables.{tables};
+ghost use Rattle.std.specs.Io.KnownBytes.{Keeps};
+ghost use Rattle.permit_http.specs.Message.{IsUnfinished};
 ghost use Rattle.permit_http.specs.Stream.{stream};
 ghost use Rattle.permit_answer.specs.AnswerText.{answer_data};
 ghost use Rattle.permit_wire.specs.Serving.{GoesOutAs, Moves, Serves, fault_of, is_shut, is_silent};
@@ -80,9 +79,9 @@ pub fn answer_with<W: Write>(
 
 /// Reads one request of a connection, serves it on the day, and writes the answer, or that to the fault that was read.
 ///
-/// The bytes behind the request stay in the inbox. A fault leaves the office as it was. After `Closed`, `ReadFailed`
-/// and `WriteFailed` the connection is closed: a further call reads nothing and answers `Ended`. What is said of the
-/// office's tables is said of a store that is without doubt after the call.
+/// The bytes behind the request stay in the inbox. A fault leaves the office as it was; a request is answered by the one
+/// step that the office made for it. After `Closed`, `ReadFailed` and `WriteFailed` the connection is closed: a further
+/// call reads nothing and answers `Ended`.
 pub fn serve_one<S: Store + Drop, R: Read, W: Write>(
     alloc: Global,
     office: &mut Office<S>,
@@ -91,12 +90,14 @@ pub fn serve_one<S: Store + Drop, R: Read, W: Write>(
     writer: &mut W,
     day: Day,
 ) -> Served
-    ensures serves { S.doubt office.new.store ≡ 0 → (h : History) (bytes : List ℕ) → IsHistory h → S.holds office.old.store (tables h) → stream inbox.old (R.remaining reader.old) ≡ Some bytes
-        → Serves (S.holds office.new.store) h day office.old office.new bytes inbox.old inbox.new (R.remaining reader.new) (W.contents writer.old) (W.contents writer.new) result }
-    ensures moves { S.doubt office.new.store ≡ 0 → (h : History) → IsHistory h → S.holds office.old.store (tables h) → Moves (S.holds office.new.store) h day office.old office.new }
+    ensures serves { (bytes : List ℕ) → stream inbox.old (R.remaining reader.old) ≡ Some bytes
+        → Serves S.view day office.old office.new bytes inbox.old inbox.new (R.remaining reader.new) (W.contents writer.old) (W.contents writer.new) result }
+    ensures moves { Moves S.view day office.old office.new }
     ensures policy { office.new.policy ≡ office.old.policy }
-    ensures doubt { S.doubt office.old.store ≤ S.doubt office.new.store }
+    ensures doubt { (S.view office.old.store).doubt ≤ (S.view office.new.store).doubt }
     ensures silent { is_silent result ≡ true → (office.new ≡ office.old) × (W.contents writer.new ≡ W.contents writer.old) }
+    ensures unread { result ≡ Served.ReadFailed
+        → IsUnfinished inbox.new.bytes × Keeps (stream inbox.old (R.remaining reader.old)) (stream inbox.new (R.remaining reader.new)) }
     ensures ended { result ≡ Served.Ended → inbox.new ≡ inbox.old }
     ensures shut { result ≢ Served.Ended → inbox.new.closed ≡ is_shut result }
 {

@@ -1,13 +1,14 @@
-use Rattle.std.proofs.Common.{Result, Ok, Err, OnErr, sym, subst, arith}
-use Rattle.sqlite.specs.State.{HasCleanDisk}
-use Rattle.sqlite.specs.Held.{state}
-use Rattle.permit_sql_rows.specs.Kept.{Shows}
+use Rattle.permit_sql.proofs.Calls.{commit_ok, commit_err}
 use Rattle.permit_sql.proofs.store.SqlStoreStore.commit.Goals as goal
 
-on_err_any : {T E P : Type 0} (r : Result T E) → P → OnErr r P
-on_err_any (Ok x) p = tt
-on_err_any (Err e) p = p
+pub returns-in-Ok-clause-commit : goal.returns-in-Ok-clause-commit
+returns-in-Ok-clause-commit g c =
+    let s = c.args.self.now in
+    commit_ok g.S.Store s.conn c.commit_in.new.conn s.handed s.failed s.commits _ c.commit_in.ensures.doubt c.in-Ok.ensures.open
 
-pub returns-in-Err-clause-kept : goal.returns-in-Err-clause-kept
-returns-in-Err-clause-kept g c t held =
-    on_err_any _ (subst (λ conn. HasCleanDisk (state g.S.Store conn) → Shows t (state g.S.Store conn)) (sym c.fail.ensures.conn) (λ clean. c.in-Err.ensures.kept t clean (held (omega (arith, c.commit_in.ensures.doubt, clean)))))
+pub returns-in-Err-clause-commit : goal.returns-in-Err-clause-commit
+returns-in-Err-clause-commit g c =
+    let s = c.args.self.now in
+    let n = c.fail.new.self in
+    commit_err g.S.Store s.conn c.commit_in.new.conn s.handed s.failed s.commits n.conn n.handed n.failed n.commits _ c.fail.ensures.error c.fail.ensures.conn c.fail.ensures.counted c.fail.ensures.others
+    c.in-Err.ensures.kept c.commit_in.ensures.doubt
