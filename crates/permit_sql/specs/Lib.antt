@@ -4,3 +4,4 @@ pub mod Opening
 pub mod Taken
 pub mod Found
 pub mod WholeTexts
+pub mod Reopening
