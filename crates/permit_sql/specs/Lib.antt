@@ -5,3 +5,4 @@ pub mod Taken
 pub mod Found
 pub mod WholeTexts
 pub mod Seen
+pub mod Reopening

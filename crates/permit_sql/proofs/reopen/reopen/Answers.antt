@@ -1,20 +1,13 @@
-use Rattle.std.proofs.Common.{not, sym, subst, ap, ◌∙◌}
+use Rattle.std.proofs.lemmas.Option.{IfSome_then}
 use Rattle.sqlite.specs.Files.{file_state}
 use Rattle.sqlite.specs.State.{HasCleanDisk}
-use Rattle.sqlite.proofs.Callers.{finds_again}
-use Rattle.permit_sql_rows.specs.Kept.{Shows}
-use Rattle.permit_sql.proofs.Reopening.{keeps_by_trees}
+use Rattle.permit_sql_rows.specs.Kept.{Keeps}
+use Rattle.permit_sql.specs.Reopening.{FindsAgain}
+use Rattle.permit_sql.proofs.Reopening.{found_again}
 use Rattle.permit_sql.proofs.reopen.reopen.Goals as goal
 
-pub returns-in-Ok-open_files : goal.returns-in-Ok-open_files
-returns-in-Ok-open_files g c t held clean =
-    let conn = c.into_connection-conn.result in
-    let again = c.in-Ok-open_files.again in
-    let found = c.in-Ok-open_files.ensures.found clean in
-    let opened = c.in-Ok-open_files.ensures.opened clean in
-    let copied = c.in-Ok.ensures.copied found.honest in
-    let kept : HasCleanDisk (file_state conn) → Shows t (file_state conn) = subst (λ h. HasCleanDisk (file_state h) → Shows t (file_state h)) (sym c.into_connection-conn.ensures) held in
-    let settled = c.is_autocommit-settled.ensures.settled (c.is_autocommit-settled.ensures.value ∙ ap not (ap (λ h. h.in_transaction) c.into_connection-conn.ensures ∙ c.args.store.calm)) copied.was_open in
-    let trees = finds_again conn again c.in-Ok.files c.in-Ok.ensures.copied found in
-    let same = ap (λ db. db.trees) opened.0.clean ∙ trees ∙ ap (λ db. db.trees) (sym settled) in
-    keeps_by_trees (file_state conn).now (file_state again).now t (kept copied.was_clean copied.was_open) (c.schema-schema.ensures.live copied.was_open).0 (opened.1 opened.0.is_open).0 same
+pub returns : goal.returns
+returns g c t held =
+    let was = file_state c.settled.result in
+    IfSome_then c.opened_again.result {P = λ again. HasCleanDisk (file_state again) → FindsAgain was (file_state again)} {Q = λ again. HasCleanDisk (file_state again) → Keeps t (file_state again).now} c.opened_again.ensures
+    (λ again found clean. found_again t was (file_state again) (c.settled.ensures t held) (found clean))
