@@ -12,18 +12,18 @@ use permit_base::words::{Step, Word};
 use permit_core::row::FileView;
 use permit_core::steps::required_steps;
 use permit_store::rows::{Paper, Parcel};
-use serde_json::{Value, json, push};
+use serde_json::{Value, push};
 use std::alloc::{AllocError, Global};
 
 fn parcel_value(alloc: Global, parcel: &Parcel) -> Result<Value, AllocError>
     ensures { IfOk result (λ v. view v ≡ parcel_data parcel.now) }
 {
-    json!(in alloc; {
-        "address": parcel.address.as_str(),
-        "id": parcel.id.get(),
-        "lot": parcel.lot.as_str(),
-        "owner": parcel.owner.get()
-    })
+    let mut object = Object::new(alloc);
+    object.put_count("owner", u64::from(parcel.owner.get()))?;
+    object.put_text("lot", parcel.lot.as_str())?;
+    object.put_count("id", u64::from(parcel.id.get()))?;
+    object.put_text("address", parcel.address.as_str())?;
+    Ok(object.into_value())
 }
 
 /// The text of a parcel.
@@ -47,16 +47,16 @@ fn steps_value(alloc: Global, steps: &[Step]) -> Result<Value, AllocError>
 fn paper_value(alloc: Global, paper: &Paper) -> Result<Value, AllocError>
     ensures { IfOk result (λ v. view v ≡ paper_data paper.now) }
 {
-    json!(in alloc; {
-        "author": paper.author.get(),
-        "day": paper.day.get(),
-        "days": paper.days,
-        "number": paper.number.get(),
-        "open": paper.is_open,
-        "sort": paper.sort.word(),
-        "terms": paper.terms.as_str(),
-        "text": paper.text.as_str()
-    })
+    let mut object = Object::new(alloc);
+    object.put_text("text", paper.text.as_str())?;
+    object.put_text("terms", paper.terms.as_str())?;
+    object.put_text("sort", paper.sort.word())?;
+    object.put("open", Value::from(paper.is_open))?;
+    object.put_count("number", u64::from(paper.number.get()))?;
+    object.put_count("days", u64::from(paper.days))?;
+    object.put_count("day", u64::from(paper.day.get()))?;
+    object.put_count("author", u64::from(paper.author.get()))?;
+    Ok(object.into_value())
 }
 
 fn papers_value(alloc: Global, papers: &[Paper]) -> Result<Value, AllocError>

@@ -104,12 +104,13 @@ pub fn serve_one<S: Store + Drop, R: Read, W: Write>(
     match read_request(alloc, inbox, reader) {
         Ok(Some(asked)) => {
             let reply = office.step(&asked, day);
-            let answer = Answer::Replied {
-                reply,
-                action: action(&asked.request),
-                day,
-            };
-            answer_with(alloc, inbox, &answer, writer)
+            let action = action(&asked.request);
+            // Both values are let go by a call, so that the proof does not go through what each variant owns.
+            drop(asked);
+            let answer = Answer::Replied { reply, action, day };
+            let served = answer_with(alloc, inbox, &answer, writer);
+            drop(answer);
+            served
         }
         Ok(None) => Served::Ended,
         Err(error) => match error.fault() {
