@@ -5,7 +5,7 @@ use permit_base::words::Action;
 use permit_office::reply::Reply;
 
 /// The faults of a request of bytes that are answered, in the order in which they are tested.
-#[derive(Clone, Copy, Debug, PartialEq, Eq)]
+#[derive(Clone, Copy, PartialEq, Eq)]
 pub enum Fault {
     /// No head, or one above its limits: 400, syntax.
     Head,

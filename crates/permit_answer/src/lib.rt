@@ -11,8 +11,6 @@ mod line;
 mod object;
 mod rows;
 mod status;
-#[cfg(test)]
-mod tests;
 mod write;
 
 pub use write::{WriteFault, write_reply};

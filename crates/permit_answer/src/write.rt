@@ -17,7 +17,7 @@ use std::alloc::{AllocError, Global};
 use std::io::Write;
 
 /// A write that failed, or that took no byte.
-#[derive(Debug, Clone, Copy, PartialEq, Drop)]
+#[derive(Clone, Copy, PartialEq, Drop)]
 pub struct WriteFault;
 
 /// Writes all the bytes.

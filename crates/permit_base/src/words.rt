@@ -46,7 +46,7 @@ fn first_spelled<W: Word>(text: &str) -> Option<W>
 }
 
 /// What a party is to the department; each party has one role for good.
-#[derive(Clone, Copy, Debug, PartialEq, Eq)]
+#[derive(Clone, Copy, PartialEq, Eq)]
 pub enum Role {
     /// An applicant, contractor or owner: anyone who is not staff.
     Public,
@@ -94,7 +94,7 @@ impl Word for Role {
 /// The kind of work that an application is for, after IBC 2018 section 105.1.
 ///
 /// The kind decides which inspections are required, and whether there is a certificate.
-#[derive(Clone, Copy, Debug, PartialEq, Eq)]
+#[derive(Clone, Copy, PartialEq, Eq)]
 pub enum Kind {
     Construct,
     Enlarge,
@@ -142,7 +142,7 @@ impl Word for Kind {
 }
 
 /// An inspection, in the order in which they are passed, after IBC 2018 section 110.3.
-#[derive(Clone, Copy, Debug, PartialEq, Eq)]
+#[derive(Clone, Copy, PartialEq, Eq)]
 pub enum Step {
     /// Footing and foundation, 110.3.1.
     Footing,
@@ -191,7 +191,7 @@ impl Word for Step {
 ///
 /// The first ten are stored. Abandoned and lapsed follow from the day, and the last two are the
 /// stage words of objects that are no files.
-#[derive(Clone, Copy, Debug, PartialEq, Eq)]
+#[derive(Clone, Copy, PartialEq, Eq)]
 pub enum Stage {
     /// An application that was filed, IBC 2018 section 105.3.
     Filed,
@@ -273,7 +273,7 @@ impl Word for Stage {
 }
 
 /// How far away a deadline is on a day.
-#[derive(Clone, Copy, Debug, PartialEq, Eq)]
+#[derive(Clone, Copy, PartialEq, Eq)]
 pub enum Timing {
     /// No deadline stands.
     Untimed,
@@ -310,7 +310,7 @@ impl Word for Timing {
 }
 
 /// What a caller is to a file, or to a parcel (owner and conflict alone).
-#[derive(Clone, Copy, Debug, PartialEq, Eq)]
+#[derive(Clone, Copy, PartialEq, Eq)]
 pub enum Relation {
     /// Filed it.
     Applicant,
@@ -360,7 +360,7 @@ impl Word for Relation {
 }
 
 /// The set of a caller's relations to a file, a parcel or the office; to the office it is empty.
-#[derive(Clone, Copy, Debug, PartialEq, Eq)]
+#[derive(Clone, Copy, PartialEq, Eq)]
 pub struct Relations {
     pub applicant: bool,
     pub contractor: bool,
@@ -371,7 +371,7 @@ pub struct Relations {
 }
 
 /// The sort of a paper that the office keeps with a file.
-#[derive(Clone, Copy, Debug, PartialEq, Eq)]
+#[derive(Clone, Copy, PartialEq, Eq)]
 pub enum PaperSort {
     /// The permit, IBC 2018 section 105.3.1.
     Permit,
@@ -449,7 +449,7 @@ impl Word for PaperSort {
 }
 
 /// What a request does, as the policy names it: on the office, on a parcel, or on a file.
-#[derive(Clone, Copy, Debug, PartialEq, Eq)]
+#[derive(Clone, Copy, PartialEq, Eq)]
 pub enum Action {
     /// A new party of the role public.
     AddParty,
@@ -585,7 +585,7 @@ impl Word for Action {
 }
 
 /// What a rule of a policy does where it is the first that matches.
-#[derive(Clone, Copy, Debug, PartialEq, Eq)]
+#[derive(Clone, Copy, PartialEq, Eq)]
 pub enum Effect {
     Allow,
     Deny,
@@ -614,7 +614,7 @@ impl Word for Effect {
 }
 
 /// A register that the office writes.
-#[derive(Clone, Copy, Debug, PartialEq, Eq)]
+#[derive(Clone, Copy, PartialEq, Eq)]
 pub enum RegisterKind {
     /// Each file with its kind, stage, deadline and valuation.
     Files,

@@ -12,7 +12,7 @@ use std::fmt;
 use std::io::{self, ErrorKind};
 
 /// Why the program does not do what its words ask. Printed, it is one line without its end.
-#[derive(Debug, Drop)]
+#[derive(Drop)]
 pub enum Fault {
     /// A request or a founding is refused, or memory is wanting.
     Refused(Refused),

@@ -15,6 +15,4 @@ pub mod plan;
 pub mod program;
 pub mod refused;
 pub mod request;
-#[cfg(test)]
-mod tests;
 pub mod words;

@@ -5,7 +5,7 @@ ghost use Rattle.std.specs.Prelude.{◌≡◌};
 use std::alloc::AllocError;
 
 /// What the program is to do. Each text is a word of the command line, not yet read.
-#[derive(Clone, Copy, Debug, PartialEq, Drop)]
+#[derive(Clone, Copy, PartialEq, Drop)]
 pub enum Plan<'a> {
     /// No words: the program prints its name.
     Name,
@@ -18,7 +18,7 @@ pub enum Plan<'a> {
 }
 
 /// Which day it is.
-#[derive(Clone, Copy, Debug, PartialEq, Drop)]
+#[derive(Clone, Copy, PartialEq, Drop)]
 pub struct DayWords<'a> {
     /// A date, which goes before the clock.
     pub day: Option<&'a str>,
@@ -27,7 +27,7 @@ pub struct DayWords<'a> {
 }
 
 /// Who founds an office, where and when.
-#[derive(Clone, Copy, Debug, PartialEq, Drop)]
+#[derive(Clone, Copy, PartialEq, Drop)]
 pub struct InitWords<'a> {
     /// The database's path.
     pub db: &'a str,
@@ -40,7 +40,7 @@ pub struct InitWords<'a> {
 }
 
 /// One request, whose it is, and the office that serves it.
-#[derive(Clone, Copy, Debug, PartialEq, Drop)]
+#[derive(Clone, Copy, PartialEq, Drop)]
 pub struct ActWords<'a> {
     /// The database's path.
     pub db: &'a str,
@@ -59,7 +59,7 @@ pub struct ActWords<'a> {
 }
 
 /// Why words give no plan.
-#[derive(Debug, Drop)]
+#[derive(Drop)]
 pub enum PlanFault {
     /// The words ask for help, which is this text.
     Help(String),

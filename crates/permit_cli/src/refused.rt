@@ -9,7 +9,7 @@ use permit_base::words::Word;
 use std::fmt;
 
 /// The refusals that have nothing but their word.
-#[derive(Clone, Copy, Debug, PartialEq, Eq)]
+#[derive(Clone, Copy, PartialEq, Eq)]
 pub enum RefusalWord {
     /// The request is not in its form or its limits.
     Syntax,
@@ -63,7 +63,7 @@ impl Word for RefusalWord {
 }
 
 /// Why a request was refused, as its answer tells it.
-#[derive(Clone, Copy, Debug, PartialEq, Eq)]
+#[derive(Clone, Copy, PartialEq, Eq)]
 pub enum Refused {
     /// The word says all.
     Plain(RefusalWord),

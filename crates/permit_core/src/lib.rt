@@ -12,5 +12,3 @@ pub mod restore;
 pub mod row;
 pub mod state;
 pub mod steps;
-#[cfg(test)]
-mod tests;

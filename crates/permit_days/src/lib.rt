@@ -3,5 +3,3 @@
 
 pub mod dates;
 pub mod instants;
-#[cfg(test)]
-mod tests;

@@ -1,7 +1,7 @@
 //! Why no message was read.
 
 /// What stood against reading a message, in the order in which it is tested.
-#[derive(Clone, Copy, Debug, PartialEq, Eq)]
+#[derive(Clone, Copy, PartialEq, Eq)]
 pub enum MessageFault {
     /// The reader failed.
     ReadFailed,

@@ -14,5 +14,3 @@ mod head;
 pub mod inbox;
 pub mod laws;
 pub mod message;
-#[cfg(test)]
-mod tests;

@@ -13,7 +13,7 @@ use httparse::spans::{EMPTY_HEADER_SPAN, HeaderSpan, RequestSpans, Span};
 use std::io::Read;
 
 /// Where the parts of a message stand among the bytes of an inbox.
-#[derive(Clone, Copy, Debug)]
+#[derive(Clone, Copy)]
 pub struct MessageSpans {
     pub method: Span,
     pub path: Span,
@@ -25,7 +25,7 @@ pub struct MessageSpans {
 }
 
 /// The parts of a message.
-#[derive(Clone, Copy, Debug)]
+#[derive(Clone, Copy)]
 pub struct Message<'a> {
     pub method: &'a [u8],
     pub path: &'a [u8],

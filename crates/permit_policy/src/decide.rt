@@ -11,7 +11,7 @@ use permit_base::words::Effect;
 use std::marker::Model;
 
 /// The rules in the order written.
-#[derive(Debug, Drop)]
+#[derive(Drop)]
 pub struct Policy {
     rules: Vec<Rule>,
 }
@@ -54,7 +54,7 @@ impl Policy {
 }
 
 /// What a policy decides, and by which rule.
-#[derive(Clone, Copy, Debug)]
+#[derive(Clone, Copy)]
 pub struct Decision {
     /// Whether the request is allowed.
     pub effect: Effect,

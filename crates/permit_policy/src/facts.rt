@@ -7,7 +7,7 @@ use permit_base::words::{Action, Relations, Role, Stage, Timing};
 use std::marker::Model;
 
 /// The facts of one request on one object, by which a policy decides.
-#[derive(Clone, Copy, Debug)]
+#[derive(Clone, Copy)]
 pub struct Facts {
     /// The caller's role.
     pub role: Role,

@@ -11,7 +11,7 @@ use permit_base::words::{Action, Effect, Relation, Relations, Role, Stage, Timin
 use std::marker::Model;
 
 /// A rule: its effect where each of its conditions holds. A condition that isn't there holds always.
-#[derive(Debug, Drop)]
+#[derive(Drop)]
 pub struct Rule {
     /// The rule's name, by which a denial is explained.
     pub name: RuleName,

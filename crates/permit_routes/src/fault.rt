@@ -3,7 +3,7 @@
 use std::alloc::AllocError;
 
 /// Why no request was made of a body.
-#[derive(Clone, Copy, Debug, PartialEq, Eq)]
+#[derive(Clone, Copy, PartialEq, Eq)]
 pub enum BodyFault {
     /// The body doesn't mean a request of its target.
     Refused,

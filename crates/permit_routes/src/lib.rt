@@ -9,5 +9,3 @@ pub mod laws;
 mod parts;
 pub mod requests;
 pub mod routing;
-#[cfg(test)]
-mod tests;

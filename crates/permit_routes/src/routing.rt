@@ -14,7 +14,7 @@ use permit_base::words::Action;
 use std::alloc::{AllocError, Global};
 
 /// What a pattern of the routes stands for.
-#[derive(Clone, Copy, Debug, PartialEq, Eq)]
+#[derive(Clone, Copy, PartialEq, Eq)]
 enum Endpoint {
     Parties,
     Parcels,
@@ -26,7 +26,7 @@ enum Endpoint {
 }
 
 /// What a method and a path ask for, before the body is read.
-#[derive(Clone, Copy, Debug, PartialEq, Eq)]
+#[derive(Clone, Copy, PartialEq, Eq)]
 pub enum Target {
     /// A new party.
     Parties,

@@ -1,33 +1,17 @@
-//! The worked rows, as tests through the public calls of the crates.
+//! The worked rows in offices over vectors and over a database alike, and the store over SQLite through its public calls.
 #![tactic(auto)]
 
 #[cfg(test)]
-mod applications;
+mod by_digest;
 #[cfg(test)]
-mod ask;
+mod clock;
 #[cfg(test)]
-mod exchange;
-#[cfg(test)]
-mod filing;
-#[cfg(test)]
-mod limits;
-#[cfg(test)]
-mod offices;
+mod database;
 #[cfg(test)]
 mod opening;
 #[cfg(test)]
 mod oversized_and_cut;
 #[cfg(test)]
-mod policies;
-#[cfg(test)]
-mod program;
+mod reopening;
 #[cfg(test)]
 mod rows;
-#[cfg(test)]
-mod script;
-#[cfg(test)]
-mod standard;
-#[cfg(test)]
-mod unknown_and_missing;
-#[cfg(test)]
-mod work;

@@ -1,22 +1,73 @@
-//! The opening of the rows: seven parties and two parcels under the standard policy.
+//! Opening over memory.
 
-/// What party 1 does on the day of the founding: it adds a clerk, a reviewer, an inspector, two of the public and
-/// another inspector, and two parcels of the public's.
-pub const OPENING: &str = r#"
-> 1 19700 POST /parties {"name":"Cal","role":"clerk","token":"clerk2clerk2clerk2"}
-< 200 OK {"day":19700,"done":"add-staff","number":2}
-> 1 19700 POST /parties {"name":"Rae","role":"reviewer","token":"reviewer3reviewer3"}
-< 200 OK {"day":19700,"done":"add-staff","number":3}
-> 1 19700 POST /parties {"name":"Ian","role":"inspector","token":"inspector4inspector4"}
-< 200 OK {"day":19700,"done":"add-staff","number":4}
-> 1 19700 POST /parties {"name":"Sam","role":"public","token":"public5public5public5"}
-< 200 OK {"day":19700,"done":"add-party","number":5}
-> 1 19700 POST /parties {"name":"Pat","role":"public","token":"public6public6public6"}
-< 200 OK {"day":19700,"done":"add-party","number":6}
-> 1 19700 POST /parties {"name":"Ivy","role":"inspector","token":"inspector7inspector7"}
-< 200 OK {"day":19700,"done":"add-staff","number":7}
-> 1 19700 POST /parcels {"lot":"A-1","address":"1 Main St","owner":5}
-< 200 OK {"day":19700,"done":"add-parcel","number":1}
-> 1 19700 POST /parcels {"lot":"A-2","address":"2 Main St","owner":6}
-< 200 OK {"day":19700,"done":"add-parcel","number":2}
-"#;
+use crate::database::founded;
+use permit_sql::store::SqlStore;
+use permit_store::store::OpenError;
+use sqlite::Connection;
+use std::alloc::Global;
+use std::test::Fail;
+
+/// Why a founded database isn't opened once a statement has run; none where it is.
+fn refusal(alloc: Global, statement: &str) -> Result<Option<OpenError>, Fail> {
+    let mut conn = founded(alloc)?.into_connection();
+    conn.execute(statement, &[])?;
+    match SqlStore::open(alloc, conn) {
+        Ok(_) => Ok(None),
+        Err((_, why)) => Ok(Some(why)),
+    }
+}
+
+#[test]
+fn a_founded_database_is_opened(rt: HostRuntime) -> Result<(), Fail> {
+    let conn = founded(rt.alloc())?.into_connection();
+    let store = match SqlStore::open(rt.alloc(), conn) {
+        Ok(store) => store,
+        Err((_, _)) => {
+            assert!(rt; false);
+            return Ok(());
+        }
+    };
+    let mut conn = store.into_connection();
+    let row = conn.query_row("SELECT name FROM party WHERE id = 1 AND role = 4", &[])?;
+    let name: String = row.get(0)?;
+    assert_eq!(rt; name.as_str(), "Chief");
+    Ok(())
+}
+
+#[test]
+fn another_version_is_told_first(rt: HostRuntime) -> Result<(), Fail> {
+    let why = refusal(rt.alloc(), "UPDATE desk SET version = 2, parties = 7")?;
+    assert_eq!(rt; why, Some(OpenError::Version));
+    Ok(())
+}
+
+#[test]
+fn another_schema_is_refused(rt: HostRuntime) -> Result<(), Fail> {
+    let more = refusal(
+        rt.alloc(),
+        "CREATE TABLE more (id INTEGER PRIMARY KEY) STRICT",
+    )?;
+    assert_eq!(rt; more, Some(OpenError::Store));
+    let fewer = refusal(rt.alloc(), "DROP INDEX interest_party")?;
+    assert_eq!(rt; fewer, Some(OpenError::Store));
+    match SqlStore::open(rt.alloc(), Connection::open_in_memory(rt.alloc())?) {
+        Ok(_) => assert!(rt; false),
+        Err((_, why)) => assert_eq!(rt; why, OpenError::Store),
+    }
+    Ok(())
+}
+
+#[test]
+fn damaged_rows_are_refused(rt: HostRuntime) -> Result<(), Fail> {
+    let role = refusal(rt.alloc(), "UPDATE party SET role = 9")?;
+    assert_eq!(rt; role, Some(OpenError::Damaged));
+    let digest = refusal(rt.alloc(), "UPDATE party SET digest = 'x'")?;
+    assert_eq!(rt; digest, Some(OpenError::Damaged));
+    let count = refusal(rt.alloc(), "UPDATE desk SET parties = 2")?;
+    assert_eq!(rt; count, Some(OpenError::Damaged));
+    let none = refusal(rt.alloc(), "DELETE FROM desk")?;
+    assert_eq!(rt; none, Some(OpenError::Damaged));
+    let renamed = refusal(rt.alloc(), "UPDATE party SET name = 'Another'")?;
+    assert_eq!(rt; renamed, None);
+    Ok(())
+}

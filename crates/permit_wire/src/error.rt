@@ -5,7 +5,7 @@ use permit_routes::fault::BodyFault;
 use std::alloc::AllocError;
 
 /// What stood against reading a request, in the order in which it is tested.
-#[derive(Clone, Copy, Debug, PartialEq, Eq)]
+#[derive(Clone, Copy, PartialEq, Eq)]
 pub enum WireError {
     /// The reader failed. Nothing is answered.
     ReadFailed,

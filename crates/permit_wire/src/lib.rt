@@ -10,8 +10,6 @@ pub mod error;
 pub mod laws;
 pub mod read;
 pub mod serve;
-#[cfg(test)]
-mod tests;
 
 pub use error::WireError;
 pub use permit_answer::answer::{Answer, Fault};

@@ -20,7 +20,7 @@ use std::alloc::Global;
 use std::io::{Read, Write};
 
 /// How serving one request ended.
-#[derive(Clone, Copy, Debug, PartialEq, Eq)]
+#[derive(Clone, Copy, PartialEq, Eq)]
 pub enum Served {
     /// An answer went out whole, and the connection stays open.
     Kept,

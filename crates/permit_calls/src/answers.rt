@@ -1,0 +1,229 @@
+//! The worked answers' bytes, and writers that fail.
+
+use crate::streams::Narrow;
+use permit_answer::answer::{Answer, Fault};
+use permit_answer::write_reply;
+use permit_base::outcome::{Reason, Refusal};
+use permit_base::values::{Cents, PaperNumber, RuleName};
+use permit_base::words::{Action, Kind, PaperSort, Stage, Timing};
+use permit_core::row::{FileRow, FileView};
+use permit_core::state::FileState;
+use permit_office::reply::Reply;
+use permit_samples::makers::{day, file, lot, parcel, party, text};
+use permit_store::rows::{Paper, Parcel};
+use std::alloc::Global;
+use std::process::Abort;
+use std::test::Fail;
+
+/// What goes out where a read finds no memory.
+const STORE_REFUSAL: &str =
+    "HTTP/1.1 500 Internal Server Error\r\nContent-Type: application/json\r\nContent-Length: 19\r\nConnection: close\r\n\r\n{\"refused\":\"store\"}";
+
+/// The answer to the first filing.
+const FILED: &str =
+    "HTTP/1.1 200 OK\r\nContent-Type: application/json\r\nContent-Length: 38\r\n\r\n{\"day\":19723,\"done\":\"file\",\"number\":1}";
+
+/// The answer to reading that file on its deadline day.
+const HOUSE: &str =
+    "HTTP/1.1 200 OK\r\nContent-Type: application/json\r\nContent-Length: 336\r\n\r\n{\"applicant\":5,\"ask\":null,\"contractor\":null,\"deadline\":19903,\"description\":\"House\",\"done\":[],\"filed\":19723,\"id\":1,\"inspector\":null,\"kind\":\"construct\",\"next\":\"footing\",\"notices\":0,\"papers\":[],\"parcel\":1,\"request\":null,\"requested\":null,\"reviewer\":null,\"stage\":\"filed\",\"stopped\":false,\"temporary\":null,\"timing\":\"near\",\"valuation\":25000000}";
+
+fn replied(reply: Reply, action: Action, on: u32) -> Result<Answer, Fail> {
+    Ok(Answer::Replied {
+        reply,
+        action,
+        day: day(on)?,
+    })
+}
+
+fn refused(why: Refusal) -> Result<Answer, Fail> {
+    replied(Reply::Refused(why), Action::Read, 19903)
+}
+
+fn filed() -> Result<Answer, Fail> {
+    replied(Reply::Done { number: Some(1) }, Action::File, 19723)
+}
+
+fn denied_by(name: &str) -> Result<Answer, Fail> {
+    refused(Refusal::Denied(RuleName::new(name).ok_or("name")?))
+}
+
+fn house(alloc: Global, papers: Vec<Paper>) -> Result<Answer, Fail> {
+    let parcel = parcel(1)?;
+    let applicant = party(5)?;
+    let row = FileRow {
+        id: file(1)?,
+        state: FileState::file(applicant, parcel, Kind::Construct, day(19723)?),
+        valuation: Cents::new(25000000).ok_or("cents")?,
+        description: text(alloc, "House")?,
+    };
+    let file = FileView {
+        row,
+        stage: Stage::Filed,
+        timing: Timing::Near,
+    };
+    replied(Reply::File(file, papers), Action::Read, 19903)
+}
+
+fn land(alloc: Global) -> Result<Answer, Fail> {
+    let parcel = Parcel {
+        id: parcel(1)?,
+        lot: lot(alloc, "A-1")?,
+        address: text(alloc, "1 \"Main\" St")?,
+        owner: party(5)?,
+    };
+    replied(Reply::Parcel(parcel), Action::ReadParcel, 19903)
+}
+
+/// What goes out for an answer, and whether the connection closes.
+fn written(alloc: Global, answer: &Answer, close: bool) -> Result<(String, bool), Fail> {
+    let mut bytes = Vec::new(alloc);
+    let closes = write_reply(alloc, answer, close, &mut bytes).map_err(|_| "write")?;
+    Ok((String::from_utf8(bytes).map_err(|_| "text")?, closes))
+}
+
+/// Each answer, with whether the connection closes, has its text.
+fn go_out(
+    rt: &impl Abort,
+    alloc: Global,
+    answers: &[(Answer, bool, &'static str)],
+) -> Result<(), Fail> {
+    for (answer, close, wanted) in answers {
+        let (text, closes) = written(alloc, answer, *close)?;
+        assert!(rt; text.as_str() == *wanted && closes == *close, "{wanted}");
+    }
+    Ok(())
+}
+
+#[test]
+fn refusals_go_out(rt: HostRuntime) -> Result<(), Fail> {
+    let answers = [
+        (
+            refused(Refusal::Caller)?,
+            false,
+            "HTTP/1.1 401 Unauthorized\r\nContent-Type: application/json\r\nContent-Length: 20\r\nWWW-Authenticate: Bearer\r\n\r\n{\"refused\":\"caller\"}",
+        ),
+        (
+            refused(Refusal::Record)?,
+            false,
+            "HTTP/1.1 404 Not Found\r\nContent-Type: application/json\r\nContent-Length: 20\r\n\r\n{\"refused\":\"record\"}",
+        ),
+        (
+            denied_by("closed-to-public")?,
+            false,
+            "HTTP/1.1 403 Forbidden\r\nContent-Type: application/json\r\nContent-Length: 46\r\n\r\n{\"refused\":\"denied\",\"rule\":\"closed-to-public\"}",
+        ),
+        (
+            refused(Refusal::NotAdmitted(Reason::Days))?,
+            false,
+            "HTTP/1.1 409 Conflict\r\nContent-Type: application/json\r\nContent-Length: 42\r\n\r\n{\"reason\":\"days\",\"refused\":\"not-admitted\"}",
+        ),
+        (
+            refused(Refusal::Clock)?,
+            false,
+            "HTTP/1.1 503 Service Unavailable\r\nContent-Type: application/json\r\nContent-Length: 19\r\n\r\n{\"refused\":\"clock\"}",
+        ),
+    ];
+    go_out(&rt, rt.alloc(), answers.as_slice())
+}
+
+#[test]
+fn faults_go_out(rt: HostRuntime) -> Result<(), Fail> {
+    let answers = [
+        (
+            Answer::Fault(Fault::Large),
+            true,
+            "HTTP/1.1 413 Content Too Large\r\nContent-Type: application/json\r\nContent-Length: 19\r\nConnection: close\r\n\r\n{\"refused\":\"large\"}",
+        ),
+        (
+            Answer::Fault(Fault::Caller),
+            true,
+            "HTTP/1.1 401 Unauthorized\r\nContent-Type: application/json\r\nContent-Length: 20\r\nWWW-Authenticate: Bearer\r\nConnection: close\r\n\r\n{\"refused\":\"caller\"}",
+        ),
+        (Answer::Fault(Fault::Memory), true, STORE_REFUSAL),
+    ];
+    go_out(&rt, rt.alloc(), answers.as_slice())
+}
+
+#[test]
+fn replies_go_out(rt: HostRuntime) -> Result<(), Fail> {
+    let answers = [
+        (filed()?, false, FILED),
+        (
+            replied(Reply::Done { number: None }, Action::Transfer, 19723)?,
+            true,
+            "HTTP/1.1 200 OK\r\nContent-Type: application/json\r\nContent-Length: 45\r\nConnection: close\r\n\r\n{\"day\":19723,\"done\":\"transfer\",\"number\":null}",
+        ),
+        (house(rt.alloc(), Vec::new(rt.alloc()))?, false, HOUSE),
+        (
+            land(rt.alloc())?,
+            false,
+            "HTTP/1.1 200 OK\r\nContent-Type: application/json\r\nContent-Length: 56\r\n\r\n{\"address\":\"1 \\\"Main\\\" St\",\"id\":1,\"lot\":\"A-1\",\"owner\":5}",
+        ),
+    ];
+    go_out(&rt, rt.alloc(), answers.as_slice())
+}
+
+#[test]
+fn a_paper_goes_out_with_its_file(rt: HostRuntime) -> Result<(), Fail> {
+    let alloc = rt.alloc();
+    let mut papers = Vec::new(alloc);
+    papers.push(Paper {
+        file: file(1)?,
+        number: PaperNumber::new(1).ok_or("paper")?,
+        day: day(19903)?,
+        author: party(5)?,
+        sort: PaperSort::Asked,
+        days: 90,
+        text: String::from_str(alloc, "Ill")?,
+        terms: String::new(alloc),
+        is_open: false,
+    })?;
+    let (shown, closes) = written(alloc, &house(alloc, papers)?, false)?;
+    assert!(rt;
+        shown.as_str().contains(
+            ",\"papers\":[{\"author\":5,\"day\":19903,\"days\":90,\"number\":1,\"open\":false,\"sort\":\"asked\",\"terms\":\"\",\"text\":\"Ill\"}],"
+        )
+    );
+    assert!(rt; !closes);
+    Ok(())
+}
+
+#[test]
+fn a_writer_takes_one_byte_at_a_time(rt: HostRuntime) -> Result<(), Fail> {
+    let mut writer = Narrow::new(1, 1000);
+    let closes = write_reply(rt.alloc(), &filed()?, false, &mut writer).map_err(|_| "write")?;
+    assert!(rt; !closes);
+    assert_eq!(rt; writer.taken(), FILED.as_bytes());
+    Ok(())
+}
+
+#[test]
+fn a_write_that_fails_is_a_fault(rt: HostRuntime) -> Result<(), Fail> {
+    let answer = filed()?;
+    for taken in [0, 1, 50, FILED.len() - 1] {
+        let mut writer = Narrow::new(40, taken);
+        assert!(rt; write_reply(rt.alloc(), &answer, false, &mut writer).is_err());
+        assert!(rt; FILED.as_bytes().starts_with(writer.taken()));
+        assert_eq!(rt; writer.taken().len(), taken);
+    }
+    Ok(())
+}
+
+#[test]
+fn a_write_that_takes_no_byte_is_a_fault(rt: HostRuntime) -> Result<(), Fail> {
+    let mut writer = Narrow::new(0, 1000);
+    assert!(rt; write_reply(rt.alloc(), &filed()?, true, &mut writer).is_err());
+    assert!(rt; writer.taken().is_empty());
+    Ok(())
+}
+
+/// With `--fail-alloc` each allocation of the answer is refused in turn.
+#[test]
+fn a_read_without_memory_is_the_stores_refusal(rt: HostRuntime) -> Result<(), Fail> {
+    let answer = house(rt.alloc(), Vec::new(rt.alloc()))?;
+    let mut writer = Narrow::new(1000, 1000);
+    let closes = write_reply(rt.alloc(), &answer, false, &mut writer).map_err(|_| "write")?;
+    let wanted = if closes { STORE_REFUSAL } else { HOUSE };
+    assert_eq!(rt; writer.taken(), wanted.as_bytes());
+    Ok(())
+}

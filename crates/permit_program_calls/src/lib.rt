@@ -1,0 +1,14 @@
+//! The program through its public calls: the worked rows by `act` on a file, what it prints for its words, and what it
+//! answers in an office over vectors.
+#![tactic(auto)]
+
+#[cfg(test)]
+mod asking;
+#[cfg(test)]
+mod program;
+#[cfg(test)]
+mod rows;
+#[cfg(test)]
+mod run;
+#[cfg(test)]
+mod words;

@@ -1,0 +1,16 @@
+//! What the crates of tests share: values, the offices of the worked rows, and the rows themselves, each a script of
+//! requests with what is wanted of their answers, which is played in an office over any store.
+#![tactic(auto)]
+
+pub mod ask;
+pub mod exchange;
+pub mod filing;
+pub mod makers;
+pub mod offices;
+pub mod opening;
+mod plans;
+pub mod rows;
+pub mod script;
+pub mod standard;
+mod unknown_and_missing;
+mod work;

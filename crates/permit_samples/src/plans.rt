@@ -1,0 +1,110 @@
+//! Applications, their review, extensions and issuance.
+
+/// An extension that is asked for on the day of the deadline.
+pub(crate) const EXTENSION: &[&str] = &[
+    r#"
+> 5 19723 POST /files {"parcel":1,"kind":"construct","valuation":25000000,"description":"House"}
+< 200 OK {"day":19723,"done":"file","number":1}
+> 5 19903 POST /files/1/ask-extension {"days":91,"text":"Rain"}
+< 409 Conflict {"reason":"days","refused":"not-admitted"}
+> 5 19903 POST /files/1/ask-extension {"days":90,"text":"Rain"}
+< 200 OK {"day":19903,"done":"ask-extension","number":1}
+> 1 19903 POST /files/1/grant-extension
+< 200 OK {"day":19903,"done":"grant-extension","number":2}
+> 1 19903 GET /files/1
+~ "deadline":19993,
+~ "ask":null,
+"#,
+];
+
+/// The deadline from the permit on.
+pub(crate) const ARITHMETIC: &[&str] = &[
+    r#"
+> 5 19790 POST /files {"parcel":1,"kind":"construct","valuation":25000000,"description":"House"}
+< 200 OK {"day":19790,"done":"file","number":1}
+> 2 19790 POST /files/1/assign-reviewer {"party":3}
+< 200 OK {"day":19790,"done":"assign-reviewer","number":null}
+> 5 19790 POST /files/1/name-contractor {"party":6}
+< 200 OK {"day":19790,"done":"name-contractor","number":null}
+> 3 19790 POST /files/1/start-review
+< 200 OK {"day":19790,"done":"start-review","number":null}
+> 3 19800 POST /files/1/approve-plans
+< 200 OK {"day":19800,"done":"approve-plans","number":null}
+> 1 19800 POST /files/1/issue
+< 200 OK {"day":19800,"done":"issue","number":1}
+> 1 19800 GET /files/1
+~ "deadline":19980,
+> 5 19800 POST /files/1/ask-extension {"days":100,"text":"Rain"}
+< 200 OK {"day":19800,"done":"ask-extension","number":2}
+> 1 19800 POST /files/1/grant-extension
+< 200 OK {"day":19800,"done":"grant-extension","number":3}
+> 1 19800 GET /files/1
+~ "deadline":20080,
+> 6 19810 POST /files/1/begin-work
+< 200 OK {"day":19810,"done":"begin-work","number":null}
+> 1 19810 GET /files/1
+~ "deadline":20080,
+> 6 20000 POST /files/1/request-inspection {"step":"footing"}
+< 200 OK {"day":20000,"done":"request-inspection","number":null}
+> 1 20000 GET /files/1
+~ "deadline":20180,
+~ "request":"footing","requested":20000,
+"#,
+];
+
+/// A command that neither the policy allows nor the stage admits.
+pub(crate) const POLICY_FIRST: &[&str] = &[
+    r#"
+> 5 19723 POST /files {"parcel":1,"kind":"construct","valuation":25000000,"description":"House"}
+< 200 OK {"day":19723,"done":"file","number":1}
+> 3 19723 POST /files/1/approve-plans
+< 403 Forbidden {"refused":"denied","rule":"default"}
+"#,
+];
+
+/// A reviewer who comes to own the parcel.
+pub(crate) const OWN_WORK: &[&str] = &[
+    r#"
+> 5 19723 POST /files {"parcel":1,"kind":"construct","valuation":25000000,"description":"House"}
+< 200 OK {"day":19723,"done":"file","number":1}
+> 2 19723 POST /files/1/assign-reviewer {"party":3}
+< 200 OK {"day":19723,"done":"assign-reviewer","number":null}
+> 3 19723 POST /files/1/start-review
+< 200 OK {"day":19723,"done":"start-review","number":null}
+> 2 19723 POST /parcels/1/transfer {"to":3}
+< 200 OK {"day":19723,"done":"transfer","number":null}
+> 3 19723 POST /files/1/approve-plans
+< 403 Forbidden {"refused":"denied","rule":"own-work"}
+"#,
+];
+
+/// Asks for extensions, and a permit that ends the one that is pending.
+pub(crate) const ASKS: &[&str] = &[
+    r#"
+> 5 19723 POST /files {"parcel":1,"kind":"construct","valuation":25000000,"description":"House"}
+< 200 OK {"day":19723,"done":"file","number":1}
+> 1 19723 GET /files/1
+~ "deadline":19903,
+> 5 19730 POST /files/1/ask-extension {"days":30,"text":"Rain"}
+< 200 OK {"day":19730,"done":"ask-extension","number":1}
+> 1 19730 POST /files/1/refuse-extension {"text":"No cause"}
+< 200 OK {"day":19730,"done":"refuse-extension","number":2}
+> 5 19730 POST /files/1/ask-extension {"days":60,"text":"Rain"}
+< 200 OK {"day":19730,"done":"ask-extension","number":3}
+> 5 19730 POST /files/1/ask-extension {"days":10,"text":"Rain"}
+< 409 Conflict {"reason":"pending","refused":"not-admitted"}
+> 2 19740 POST /files/1/assign-reviewer {"party":3}
+< 200 OK {"day":19740,"done":"assign-reviewer","number":null}
+> 3 19740 POST /files/1/start-review
+< 200 OK {"day":19740,"done":"start-review","number":null}
+> 3 19740 POST /files/1/approve-plans
+< 200 OK {"day":19740,"done":"approve-plans","number":null}
+> 1 19740 POST /files/1/issue
+< 200 OK {"day":19740,"done":"issue","number":4}
+> 1 19740 GET /files/1
+~ "deadline":19920,
+~ "ask":null,
+> 1 19740 POST /files/1/grant-extension
+< 409 Conflict {"reason":"nothing-pending","refused":"not-admitted"}
+"#,
+];

@@ -1,0 +1,88 @@
+//! The worked rows.
+
+use crate::{filing, plans, unknown_and_missing, work};
+use std::alloc::Global;
+use std::test::Fail;
+
+/// A row: its scripts, one behind the other. It is played in an office of its own, behind the opening.
+pub type Row = &'static [&'static str];
+
+const FILINGS: &[Row] = &[
+    unknown_and_missing::UNKNOWN,
+    unknown_and_missing::MISSING,
+    filing::FILING,
+];
+
+const APPLICATIONS: &[Row] = &[
+    plans::EXTENSION,
+    plans::ARITHMETIC,
+    plans::POLICY_FIRST,
+    plans::OWN_WORK,
+    plans::ASKS,
+];
+
+const INSPECTIONS: &[Row] = &[
+    work::CONFLICT,
+    work::STEPS_OF_CONSTRUCTION,
+    work::STEPS_OF_ALTERATION,
+    work::NOTICE,
+];
+
+const ORDERS: &[Row] = &[work::STOP, work::LAST_DAY, work::DAY_BEHIND, work::REVOKED];
+
+const CERTIFICATES: &[Row] = &[work::CERTIFICATE, work::NO_CERTIFICATE, work::TEMPORARY];
+
+const ZERO_RULES: &str = r#"
+> 1 19723 GET /files/1
+< 403 Forbidden {"refused":"denied","rule":"default"}
+"#;
+
+/// Filing and abandonment, a caller whom nobody knows, and a record that there is not.
+pub fn filings() -> &'static [Row] {
+    FILINGS
+}
+
+/// Applications, their review, extensions and issuance.
+pub fn applications() -> &'static [Row] {
+    APPLICATIONS
+}
+
+/// Inspections in their order, a notice, and an inspector with an interest.
+pub fn inspections() -> &'static [Row] {
+    INSPECTIONS
+}
+
+/// A stop work order, the last day to begin work, and a permit that is revoked.
+pub fn orders() -> &'static [Row] {
+    ORDERS
+}
+
+/// Certificates of occupancy, temporary ones among them.
+pub fn certificates() -> &'static [Row] {
+    CERTIFICATES
+}
+
+/// The script of the row under no rules, behind the opening and the filing.
+pub fn zero_rules() -> &'static str {
+    ZERO_RULES
+}
+
+/// A filing whose description has so many bytes, as a script has it.
+fn filing_of(alloc: Global, size: usize) -> Result<String, Fail> {
+    let mut description = String::new(alloc);
+    for _ in 0..size {
+        description.push_str("a")?;
+    }
+    Ok(format!(in alloc;
+        "> 5 19723 POST /files {{\"parcel\":1,\"kind\":\"construct\",\"valuation\":1,\"description\":\"{description}\"}}"
+    )?)
+}
+
+/// The script of one row more: a filing with a description past its limit, and one with the longest.
+pub fn limits_of_text(alloc: Global) -> Result<String, Fail> {
+    let long = filing_of(alloc, 2001)?;
+    let full = filing_of(alloc, 2000)?;
+    Ok(format!(in alloc;
+        "{long}\n< 400 Bad Request {{\"refused\":\"syntax\"}}\n{full}\n< 200 OK {{\"day\":19723,\"done\":\"file\",\"number\":1}}\n"
+    )?)
+}
