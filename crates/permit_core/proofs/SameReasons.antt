@@ -10,7 +10,7 @@ use Rattle.permit_base.specs.declared.request.Command.TheVariants.{AssignReviewe
 use Rattle.permit_base.specs.declared.request.Request.TheVariants.{OnFile}
 use Rattle.permit_core.specs.declared.people.NamedParty.{NamedParty}
 use Rattle.permit_core.specs.declared.people.People.{People}
-use Rattle.permit_model.specs.Search.{is_number, has_number}
+use Rattle.permit_model.specs.Search.{is_the_party, has_number}
 use Rattle.permit_model.specs.History.{History}
 use Rattle.permit_model.specs.Caller.{Party, party_numbered, has_role}
 use Rattle.permit_model.specs.Parcels.{owner, has_interest}
@@ -61,10 +61,10 @@ pub same_reason : (h : History) (day : ℕ) (file : CaseFile) (command : Command
     first_failing (file_tests h day file command) ≡ first_failing (row_tests day (state_of file) (people_of h file command) command)
 same_reason h day file (AssignReviewer party) next =
     assigned_same Reviewer (party_numbered h party) (not_in day file reviewing_stages).0
-    ((file.filing.applicant == party) || is_number (contractor file.acts) party || is_number (owner h file.filing.parcel) party) (has_interest h file.filing.parcel party)
+    ((file.filing.applicant == party) || is_the_party (contractor file.acts) party || is_the_party (owner h file.filing.parcel) party) (has_interest h file.filing.parcel party)
 same_reason h day file (AssignInspector party) next =
     assigned_same Inspector (party_numbered h party) (not_in day file inspecting_stages).0
-    ((file.filing.applicant == party) || is_number (contractor file.acts) party || is_number (owner h file.filing.parcel) party) (has_interest h file.filing.parcel party)
+    ((file.filing.applicant == party) || is_the_party (contractor file.acts) party || is_the_party (owner h file.filing.parcel) party) (has_interest h file.filing.parcel party)
 same_reason h day file (NameContractor party) next = rw (some_known (has_interest h file.filing.parcel party) (party_numbered h party)) refl
 same_reason h day file (RequestInspection step) next = rw next refl
 same_reason h day file (ClearNotice paper) next = rw (← among_some (open_notices file.acts) paper) refl

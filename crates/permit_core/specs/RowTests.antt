@@ -11,13 +11,13 @@ use Rattle.permit_base.specs.declared.request.Command.{Command}
 use Rattle.permit_base.specs.declared.request.Command.TheVariants.{AssignReviewer, AssignInspector, NameContractor, StartReview, Return, Resubmit, ApprovePlans, Reject, Issue, AskExtension, GrantExtension, RefuseExtension, BeginWork, RequestInspection, ApproveStep, Notice, ClearNotice, Stop, Lift, Revoke, Temporary, Certify}
 use Rattle.permit_core.specs.declared.people.NamedParty.{NamedParty}
 use Rattle.permit_core.specs.declared.people.People.{People}
-use Rattle.permit_model.specs.Search.{is_number}
+use Rattle.permit_model.specs.Search.{is_the_party}
 use Rattle.permit_model.specs.Codes.{is_role, is_stage_among}
 use Rattle.permit_model.specs.Days.{last_deadline}
 use Rattle.permit_model.specs.Steps.{has_certificates}
 use Rattle.permit_model.specs.Admission.{Test, first_failing, reviewing_stages, inspecting_stages, stoppable_stages, revocable_stages, ask_limit, is_the_step, days_above}
 use Rattle.permit_base.specs.Limits.{most_papers}
-use Rattle.permit_model.specs.BaseStage.{open_stages}
+use Rattle.permit_model.specs.BaseStage.{timed_stages}
 use Rattle.permit_model.specs.Tables.{State, next_in_row}
 use Rattle.permit_core.specs.Views.{row_stage}
 
@@ -53,7 +53,7 @@ is_with_interest (Some p) = p.has_interest
 
 -- the file's applicant or contractor, the parcel's owner, or one with an interest in the parcel
 abbrev pub interested : State → ℕ → People → Test
-interested s party people = ((s.applicant == party) || is_number s.contractor party || is_number people.owner party || is_with_interest people.named, reason.Interested)
+interested s party people = ((s.applicant == party) || is_the_party s.contractor party || is_the_party people.owner party || is_with_interest people.named, reason.Interested)
 
 -- an ask for an extension is pending
 abbrev pub ask_pending : State → Test
@@ -103,16 +103,16 @@ too_far s = (nat_lt last_deadline (unwrap_or s.deadline 0 + unwrap_or s.ask 0), 
 abbrev pub row_tests : ℕ → State → People → Command → List Test
 row_tests day s people (AssignReviewer party) = not_in day s reviewing_stages ∷ no_party_of_role Reviewer people ∷ interested s party people ∷ []
 row_tests day s people (AssignInspector party) = not_in day s inspecting_stages ∷ no_party_of_role Inspector people ∷ interested s party people ∷ []
-row_tests day s people (NameContractor party) = not_in day s open_stages ∷ no_party people ∷ []
+row_tests day s people (NameContractor party) = not_in day s timed_stages ∷ no_party people ∷ []
 row_tests day s people StartReview = not_in day s (stage.Filed ∷ []) ∷ []
 row_tests day s people (Return text) = not_in day s (stage.Review ∷ []) ∷ papers_full s ∷ []
 row_tests day s people (Resubmit text) = not_in day s (stage.Returned ∷ []) ∷ papers_full s ∷ []
 row_tests day s people ApprovePlans = not_in day s (stage.Review ∷ []) ∷ []
 row_tests day s people (Reject text) = not_in day s (stage.Review ∷ []) ∷ papers_full s ∷ []
 row_tests day s people Issue = not_in day s (stage.Approved ∷ []) ∷ papers_full s ∷ []
-row_tests day s people (AskExtension days text) = not_in day s open_stages ∷ days_above (ask_limit (row_stage day s)) days ∷ ask_pending s ∷ papers_full s ∷ []
-row_tests day s people GrantExtension = not_in day s open_stages ∷ no_ask_pending s ∷ papers_full s ∷ too_far s ∷ []
-row_tests day s people (RefuseExtension text) = not_in day s open_stages ∷ no_ask_pending s ∷ papers_full s ∷ []
+row_tests day s people (AskExtension days text) = not_in day s timed_stages ∷ days_above (ask_limit (row_stage day s)) days ∷ ask_pending s ∷ papers_full s ∷ []
+row_tests day s people GrantExtension = not_in day s timed_stages ∷ no_ask_pending s ∷ papers_full s ∷ too_far s ∷ []
+row_tests day s people (RefuseExtension text) = not_in day s timed_stages ∷ no_ask_pending s ∷ papers_full s ∷ []
 row_tests day s people BeginWork = not_in day s (stage.Issued ∷ []) ∷ stopped s ∷ []
 row_tests day s people (RequestInspection step) = not_in day s (stage.Working ∷ []) ∷ stopped s ∷ request_pending s ∷ not_the_next s step ∷ []
 row_tests day s people (ApproveStep step) = not_in day s (stage.Working ∷ []) ∷ stopped s ∷ no_request_pending s ∷ not_the_requested s step ∷ notice_open s ∷ []

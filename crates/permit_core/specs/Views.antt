@@ -4,7 +4,7 @@ use Rattle.permit_base.specs.declared.words.Kind.{Kind}
 use Rattle.permit_base.specs.declared.words.Stage.{Stage}
 use Rattle.permit_base.specs.declared.words.Timing.{Timing}
 use Rattle.permit_base.specs.declared.words.Relations.{Relations}
-use Rattle.permit_model.specs.Search.{is_number}
+use Rattle.permit_model.specs.Search.{is_the_party}
 use Rattle.permit_model.specs.Days.{timing_on, is_past}
 use Rattle.permit_model.specs.Files.{CaseFile}
 use Rattle.permit_model.specs.Facts.{past_stage}
@@ -29,9 +29,9 @@ row_timing day s = timing_on day s.deadline
 abbrev pub row_relations : State → ℕ → Option ℕ → Bool → Relations
 row_relations s caller owner conflict = record {
   applicant = s.applicant == caller;
-  contractor = is_number s.contractor caller;
-  owner = is_number owner caller;
-  assigned_reviewer = is_number s.reviewer caller;
-  assigned_inspector = is_number s.inspector caller;
+  contractor = is_the_party s.contractor caller;
+  owner = is_the_party owner caller;
+  assigned_reviewer = is_the_party s.reviewer caller;
+  assigned_inspector = is_the_party s.inspector caller;
   conflict = conflict;
 }

@@ -1,7 +1,7 @@
 //! The people about a command, which a file's row does not say.
 
 ghost use Rattle.std.specs.Prelude.{◌≡◌};
-ghost use Rattle.permit_model.specs.Search.{is_number};
+ghost use Rattle.permit_model.specs.Search.{is_the_party};
 ghost use Rattle.permit_core.specs.Naming;
 
 use permit_base::request::Command;
@@ -53,7 +53,7 @@ pub fn named_paper(command: &Command) -> Option<PaperNumber>
 
 /// Whether there is a party and it is this one.
 pub(crate) fn is_party(named: Option<PartyId>, party: PartyId) -> bool
-    ensures { result ≡ is_number named party }
+    ensures { result ≡ is_the_party named party }
 {
     match named {
         Some(other) => other.get() == party.get(),

@@ -13,7 +13,7 @@ use Rattle.permit_base.specs.declared.words.Action.{Action}
 use Rattle.permit_model.specs.Facts.{Facts, parcel_facts, file_facts}
 use Rattle.permit_model.specs.Policy.{Policy, is_allow, decision}
 use Rattle.permit_model.specs.Admission.{reason_against}
-use Rattle.permit_model.specs.Machine.{Object, TheOffice, OneParcel, OneFile, object_of, is_there, facts_on, facts_of, entry_of, admitted, performed, judged, served, known, step_as, is_command, IsHistory, refused, step, history_after}
+use Rattle.permit_model.specs.Machine.{Object, TheOffice, OneParcel, OneFile, object_of, is_there, facts_on, facts_of, entry_of, outcome_by_reason, outcome_if_allowed, outcome_by_facts, outcome_by_request, outcome_by_caller, step_as, is_command, IsHistory, refused, step, history_after}
 use Rattle.permit_base.specs.declared.request.Asked.{Asked}
 use Rattle.permit_base.specs.Digests.{digest_of}
 use Rattle.permit_base.specs.declared.outcome.Refusal.TheVariants as refusal
@@ -44,55 +44,55 @@ there_if_facts h day caller action (OneFile id) facts e = mapped_there (λ file.
 
 -- an admitted command goes on with a history
 kept : (h : History) (day caller : ℕ) (request : Request) → IsHistory h → IsTrue (is_party h caller) → last_day h ≤ day → IsTrue (is_command request) → IsTrue (is_there h (object_of request)) →
-    (o : Option Reason) → reason_against h day caller request ≡ o → IsHistory (admitted h (entry_of h day caller request) o).history
+    (o : Option Reason) → reason_against h day caller request ≡ o → IsHistory (outcome_by_reason h (entry_of h day caller request) o).history
 kept [] day caller request is party in_time command there o e = absurd is
 kept (entry ∷ before) day caller request is party in_time command there None e = (record { command = command; caller_there = party; in_time = in_time; record_there = there; admitted = e; numbered = refl }, is)
 kept (entry ∷ before) day caller request is party in_time command there (Some why) e = is
 
 -- what is performed goes on with a history
-performed_keeps : (policy : Policy) (h : History) (day : ℕ) (caller : Party) (request : Request) → IsHistory h → IsTrue (is_party h caller.id) → last_day h ≤ day → IsTrue (is_there h (object_of request)) →
-    IsHistory (performed policy h day caller request).history
-performed_keeps policy h day caller (ReadParcel id) is party in_time there = is
-performed_keeps policy h day caller (ReadFile id) is party in_time there = is
-performed_keeps policy h day caller (ListFiles wanted) is party in_time there = is
-performed_keeps policy h day caller (Register kind) is party in_time there = is
-performed_keeps policy h day caller (AddParty name role token) is party in_time there = kept h day caller.id (AddParty name role token) is party in_time refl there (reason_against h day caller.id (AddParty name role token)) refl
-performed_keeps policy h day caller (AddParcel lot address owner) is party in_time there = kept h day caller.id (AddParcel lot address owner) is party in_time refl there (reason_against h day caller.id (AddParcel lot address owner)) refl
-performed_keeps policy h day caller (Transfer parcel to) is party in_time there = kept h day caller.id (Transfer parcel to) is party in_time refl there (reason_against h day caller.id (Transfer parcel to)) refl
-performed_keeps policy h day caller (Declare parcel) is party in_time there = kept h day caller.id (Declare parcel) is party in_time refl there (reason_against h day caller.id (Declare parcel)) refl
-performed_keeps policy h day caller (File parcel kind valuation description) is party in_time there = kept h day caller.id (File parcel kind valuation description) is party in_time refl there (reason_against h day caller.id (File parcel kind valuation description)) refl
-performed_keeps policy h day caller (OnFile file command) is party in_time there = kept h day caller.id (OnFile file command) is party in_time refl there (reason_against h day caller.id (OnFile file command)) refl
+if_allowed_keeps : (policy : Policy) (h : History) (day : ℕ) (caller : Party) (request : Request) → IsHistory h → IsTrue (is_party h caller.id) → last_day h ≤ day → IsTrue (is_there h (object_of request)) →
+    IsHistory (outcome_if_allowed policy h day caller request).history
+if_allowed_keeps policy h day caller (ReadParcel id) is party in_time there = is
+if_allowed_keeps policy h day caller (ReadFile id) is party in_time there = is
+if_allowed_keeps policy h day caller (ListFiles wanted) is party in_time there = is
+if_allowed_keeps policy h day caller (Register kind) is party in_time there = is
+if_allowed_keeps policy h day caller (AddParty name role token) is party in_time there = kept h day caller.id (AddParty name role token) is party in_time refl there (reason_against h day caller.id (AddParty name role token)) refl
+if_allowed_keeps policy h day caller (AddParcel lot address owner) is party in_time there = kept h day caller.id (AddParcel lot address owner) is party in_time refl there (reason_against h day caller.id (AddParcel lot address owner)) refl
+if_allowed_keeps policy h day caller (Transfer parcel to) is party in_time there = kept h day caller.id (Transfer parcel to) is party in_time refl there (reason_against h day caller.id (Transfer parcel to)) refl
+if_allowed_keeps policy h day caller (Declare parcel) is party in_time there = kept h day caller.id (Declare parcel) is party in_time refl there (reason_against h day caller.id (Declare parcel)) refl
+if_allowed_keeps policy h day caller (File parcel kind valuation description) is party in_time there = kept h day caller.id (File parcel kind valuation description) is party in_time refl there (reason_against h day caller.id (File parcel kind valuation description)) refl
+if_allowed_keeps policy h day caller (OnFile file command) is party in_time there = kept h day caller.id (OnFile file command) is party in_time refl there (reason_against h day caller.id (OnFile file command)) refl
 
-decided_keeps : (policy : Policy) (h : History) (day : ℕ) (caller : Party) (request : Request) → IsHistory h → IsTrue (is_party h caller.id) → last_day h ≤ day → IsTrue (is_there h (object_of request)) →
-    (rule : List ℕ) (allowed : Bool) → IsHistory (if allowed then performed policy h day caller request else refused h (refusal.Denied rule)).history
-decided_keeps policy h day caller request is party in_time there rule true = performed_keeps policy h day caller request is party in_time there
-decided_keeps policy h day caller request is party in_time there rule false = is
+by_decision_keeps : (policy : Policy) (h : History) (day : ℕ) (caller : Party) (request : Request) → IsHistory h → IsTrue (is_party h caller.id) → last_day h ≤ day → IsTrue (is_there h (object_of request)) →
+    (rule : List ℕ) (allowed : Bool) → IsHistory (if allowed then outcome_if_allowed policy h day caller request else refused h (refusal.Denied rule)).history
+by_decision_keeps policy h day caller request is party in_time there rule true = if_allowed_keeps policy h day caller request is party in_time there
+by_decision_keeps policy h day caller request is party in_time there rule false = is
 
-judged_keeps : (policy : Policy) (h : History) (day : ℕ) (caller : Party) (request : Request) → IsHistory h → IsTrue (is_party h caller.id) → last_day h ≤ day →
-    (facts : Option Facts) → facts_of h day caller request ≡ facts → IsHistory (judged policy h day caller request facts).history
-judged_keeps policy h day caller request is party in_time None e = is
-judged_keeps policy h day caller request is party in_time (Some facts) e =
-    decided_keeps policy h day caller request is party in_time (there_if_facts h day caller (action_of request) (object_of request) facts e) (decision policy facts).rule (is_allow (decision policy facts).effect)
+by_facts_keeps : (policy : Policy) (h : History) (day : ℕ) (caller : Party) (request : Request) → IsHistory h → IsTrue (is_party h caller.id) → last_day h ≤ day →
+    (facts : Option Facts) → facts_of h day caller request ≡ facts → IsHistory (outcome_by_facts policy h day caller request facts).history
+by_facts_keeps policy h day caller request is party in_time None e = is
+by_facts_keeps policy h day caller request is party in_time (Some facts) e =
+    by_decision_keeps policy h day caller request is party in_time (there_if_facts h day caller (action_of request) (object_of request) facts e) (decision policy facts).rule (is_allow (decision policy facts).effect)
 
-served_keeps : (policy : Policy) (h : History) (day : ℕ) (caller : Party) (request : Request) → IsHistory h → IsTrue (is_party h caller.id) → last_day h ≤ day → IsHistory (served policy h day caller request).history
-served_keeps policy h day caller (ListFiles wanted) is party in_time = is
-served_keeps policy h day caller (Register kind) is party in_time = is
-served_keeps policy h day caller request is party in_time = judged_keeps policy h day caller request is party in_time (facts_of h day caller request) refl
+by_request_keeps : (policy : Policy) (h : History) (day : ℕ) (caller : Party) (request : Request) → IsHistory h → IsTrue (is_party h caller.id) → last_day h ≤ day → IsHistory (outcome_by_request policy h day caller request).history
+by_request_keeps policy h day caller (ListFiles wanted) is party in_time = is
+by_request_keeps policy h day caller (Register kind) is party in_time = is
+by_request_keeps policy h day caller request is party in_time = by_facts_keeps policy h day caller request is party in_time (facts_of h day caller request) refl
 
 timed_keeps : (policy : Policy) (h : History) (day : ℕ) (caller : Party) (request : Request) → IsHistory h → IsTrue (is_party h caller.id) →
-    (below : Bool) → nat_lt day (last_day h) ≡ below → IsHistory (if below then refused h refusal.Clock else served policy h day caller request).history
+    (below : Bool) → nat_lt day (last_day h) ≡ below → IsHistory (if below then refused h refusal.Clock else outcome_by_request policy h day caller request).history
 timed_keeps policy h day caller request is party true e = is
-timed_keeps policy h day caller request is party false e = served_keeps policy h day caller request is party (not_below day (last_day h) e)
+timed_keeps policy h day caller request is party false e = by_request_keeps policy h day caller request is party (not_below day (last_day h) e)
 
 -- a step of a party that is there goes from a history to a history
-pub known_keeps : (policy : Policy) (h : History) (day : ℕ) (request : Request) → IsHistory h → (caller : Option Party) → ((p : Party) → caller ≡ Some p → IsTrue (is_party h p.id)) →
-    IsHistory (known policy h day request caller).history
-known_keeps policy h day request is None there = is
-known_keeps policy h day request is (Some caller) there = timed_keeps policy h day caller request is (there caller refl) (nat_lt day (last_day h)) refl
+pub by_caller_keeps : (policy : Policy) (h : History) (day : ℕ) (request : Request) → IsHistory h → (caller : Option Party) → ((p : Party) → caller ≡ Some p → IsTrue (is_party h p.id)) →
+    IsHistory (outcome_by_caller policy h day request caller).history
+by_caller_keeps policy h day request is None there = is
+by_caller_keeps policy h day request is (Some caller) there = timed_keeps policy h day caller request is (there caller refl) (nat_lt day (last_day h)) refl
 
 -- a step goes from a history to a history
 pub step_keeps : (policy : Policy) (h : History) (digest : List ℕ) (request : Request) (day : ℕ) → IsHistory h → IsHistory (step_as policy h digest request day).history
-step_keeps policy h digest request day is = known_keeps policy h day request is (who h digest) (found_by_number (parties h) digest)
+step_keeps policy h digest request day is = by_caller_keeps policy h day request is (who h digest) (found_by_number (parties h) digest)
 
 -- a run goes from a history to a history
 pub run_keeps : (policy : Policy) (requests : List (Asked × ℕ)) (h : History) → IsHistory h → IsHistory (history_after policy requests h)

@@ -14,7 +14,7 @@ use Rattle.permit_base.specs.declared.request.Request.{Request}
 use Rattle.permit_base.specs.declared.request.Request.TheVariants.{AddParty, AddParcel, Transfer, Declare, ReadParcel, File, ReadFile, ListFiles, Register, OnFile}
 use Rattle.permit_base.specs.Limits.{most_records, most_papers}
 use Rattle.permit_base.specs.Digests.{digest_of}
-use Rattle.permit_model.specs.Search.{is_number, has_number}
+use Rattle.permit_model.specs.Search.{is_the_party, has_number}
 use Rattle.permit_model.specs.Codes.{is_step, is_stage_among}
 use Rattle.permit_model.specs.Days.{last_deadline}
 use Rattle.permit_model.specs.Steps.{has_certificates}
@@ -24,7 +24,7 @@ use Rattle.permit_model.specs.Parcels.{parcels, owner, has_interest}
 use Rattle.permit_model.specs.Files.{CaseFile, filings, case_numbered}
 use Rattle.permit_model.specs.People.{contractor}
 use Rattle.permit_model.specs.Work.{next_of, pending_step, pending_ask, open_notices, is_stopped, paper_count}
-use Rattle.permit_model.specs.BaseStage.{permit_stages, open_stages}
+use Rattle.permit_model.specs.BaseStage.{permit_stages, timed_stages}
 use Rattle.permit_model.specs.Deadline.{deadline}
 use Rattle.permit_model.specs.Facts.{stage_on}
 
@@ -76,8 +76,8 @@ no_party_of_role h role party = (not (has_role role (party_numbered h party)), r
 -- the file's applicant or contractor, the parcel's owner, or one with an interest in the parcel
 abbrev pub is_interested : History → CaseFile → ℕ → Bool
 is_interested h file party =
-    (file.filing.applicant == party) || is_number (contractor file.acts) party
-    || is_number (owner h file.filing.parcel) party || has_interest h file.filing.parcel party
+    (file.filing.applicant == party) || is_the_party (contractor file.acts) party
+    || is_the_party (owner h file.filing.parcel) party || has_interest h file.filing.parcel party
 
 -- the party named has a part in the file or its parcel
 abbrev pub interested : History → CaseFile → ℕ → Test
@@ -150,16 +150,16 @@ too_far file = (nat_lt last_deadline (unwrap_or (deadline file) 0 + unwrap_or (p
 abbrev pub file_tests : History → ℕ → CaseFile → Command → List Test
 file_tests h day file (AssignReviewer party) = not_in day file reviewing_stages ∷ no_party_of_role h Reviewer party ∷ interested h file party ∷ []
 file_tests h day file (AssignInspector party) = not_in day file inspecting_stages ∷ no_party_of_role h Inspector party ∷ interested h file party ∷ []
-file_tests h day file (NameContractor party) = not_in day file open_stages ∷ no_party h party ∷ []
+file_tests h day file (NameContractor party) = not_in day file timed_stages ∷ no_party h party ∷ []
 file_tests h day file StartReview = not_in day file (stage.Filed ∷ []) ∷ []
 file_tests h day file (Return text) = not_in day file (stage.Review ∷ []) ∷ papers_full file ∷ []
 file_tests h day file (Resubmit text) = not_in day file (stage.Returned ∷ []) ∷ papers_full file ∷ []
 file_tests h day file ApprovePlans = not_in day file (stage.Review ∷ []) ∷ []
 file_tests h day file (Reject text) = not_in day file (stage.Review ∷ []) ∷ papers_full file ∷ []
 file_tests h day file Issue = not_in day file (stage.Approved ∷ []) ∷ papers_full file ∷ []
-file_tests h day file (AskExtension days text) = not_in day file open_stages ∷ days_above (ask_limit (stage_on day file)) days ∷ ask_pending file ∷ papers_full file ∷ []
-file_tests h day file GrantExtension = not_in day file open_stages ∷ no_ask_pending file ∷ papers_full file ∷ too_far file ∷ []
-file_tests h day file (RefuseExtension text) = not_in day file open_stages ∷ no_ask_pending file ∷ papers_full file ∷ []
+file_tests h day file (AskExtension days text) = not_in day file timed_stages ∷ days_above (ask_limit (stage_on day file)) days ∷ ask_pending file ∷ papers_full file ∷ []
+file_tests h day file GrantExtension = not_in day file timed_stages ∷ no_ask_pending file ∷ papers_full file ∷ too_far file ∷ []
+file_tests h day file (RefuseExtension text) = not_in day file timed_stages ∷ no_ask_pending file ∷ papers_full file ∷ []
 file_tests h day file BeginWork = not_in day file (stage.Issued ∷ []) ∷ stopped file ∷ []
 file_tests h day file (RequestInspection step) = not_in day file (stage.Working ∷ []) ∷ stopped file ∷ inspection_pending file ∷ not_the_next file step ∷ []
 file_tests h day file (ApproveStep step) = not_in day file (stage.Working ∷ []) ∷ stopped file ∷ no_inspection_pending file ∷ not_the_requested file step ∷ notice_open file ∷ []
@@ -180,7 +180,7 @@ tests_on h day (Some file) command = file_tests h day file command
 abbrev pub tests : History → ℕ → ℕ → Request → List Test
 tests h day caller (AddParty name role token) = (is_some (who h (digest_of token)), reason.Taken) ∷ (nat_le most_records (length (parties h)), reason.Full) ∷ []
 tests h day caller (AddParcel lot address owner) = no_party h owner ∷ (list_any (λ p. bytes_eq p.lot lot) (parcels h), reason.Taken) ∷ (nat_le most_records (length (parcels h)), reason.Full) ∷ []
-tests h day caller (Transfer parcel to) = no_party h to ∷ (is_number (owner h parcel) to, reason.Taken) ∷ []
+tests h day caller (Transfer parcel to) = no_party h to ∷ (is_the_party (owner h parcel) to, reason.Taken) ∷ []
 tests h day caller (Declare parcel) = (has_interest h parcel caller, reason.Taken) ∷ []
 tests h day caller (File parcel kind valuation description) = (nat_le most_records (length (filings h)), reason.Full) ∷ []
 tests h day caller (OnFile file command) = tests_on h day (case_numbered h file) command

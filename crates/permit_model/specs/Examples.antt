@@ -12,7 +12,7 @@ use Rattle.permit_base.specs.declared.request.Request.{Request}
 use Rattle.permit_base.specs.declared.request.Request.TheVariants.{AddParty, AddParcel, Transfer, Declare, ReadParcel, File, ReadFile, ListFiles, Register, OnFile}
 use Rattle.permit_model.specs.History.{Founding, Accepted, Entry, History}
 use Rattle.permit_model.specs.Caller.{party_numbered}
-use Rattle.permit_model.specs.Machine.{Reply, Done, FileShown, Listed, RegisterShown, Refused, Outcome, known}
+use Rattle.permit_model.specs.Machine.{Reply, Done, FileShown, Listed, RegisterShown, Refused, Outcome, outcome_by_caller}
 use Rattle.permit_model.specs.StandardPolicy.{standard_policy}
 use Rattle.permit_base.specs.declared.words.Step.{Step}
 use Rattle.permit_base.specs.declared.words.Stage.{Stage}
@@ -65,7 +65,7 @@ pub record Turn : Type 0 where
 
 -- a turn is a step under the standard policy
 abbrev pub turn : History → Turn → Outcome
-turn h t = known standard_policy h t.day t.request (party_numbered h t.party)
+turn h t = outcome_by_caller standard_policy h t.day t.request (party_numbered h t.party)
 
 -- the replies to turns, in order
 abbrev pub replies : List Turn → History → List Reply
@@ -129,7 +129,7 @@ state_after ts day = state_shown (read_by_official ts day)
 
 -- the reply to a party's request under a policy
 abbrev pub reply_under : Policy → History → ℕ → ℕ → Request → Reply
-reply_under policy h party day request = (known policy h day request (party_numbered h party)).reply
+reply_under policy h party day request = (outcome_by_caller policy h day request (party_numbered h party)).reply
 
 -- the numbers of the files of a listing
 abbrev pub numbers : Reply → List ℕ

@@ -9,7 +9,7 @@ use Rattle.permit_base.specs.declared.words.Relation.{Relation}
 use Rattle.permit_base.specs.declared.words.Relation.TheVariants as relation
 use Rattle.permit_base.specs.declared.words.Relations.{Relations}
 use Rattle.permit_base.specs.declared.words.Action.{Action}
-use Rattle.permit_model.specs.Search.{is_number}
+use Rattle.permit_model.specs.Search.{is_the_party}
 use Rattle.permit_model.specs.Codes.{is_stage_among}
 use Rattle.permit_model.specs.Days.{timing_on, is_past}
 use Rattle.permit_model.specs.History.{History}
@@ -51,7 +51,7 @@ abbrev pub relations_to_parcel : History → ℕ → ℕ → Relations
 relations_to_parcel h caller parcel = record {
   applicant = false;
   contractor = false;
-  owner = is_number (owner h parcel) caller;
+  owner = is_the_party (owner h parcel) caller;
   assigned_reviewer = false;
   assigned_inspector = false;
   conflict = has_interest h parcel caller;
@@ -61,10 +61,10 @@ relations_to_parcel h caller parcel = record {
 abbrev pub relations_to_file : History → ℕ → CaseFile → Relations
 relations_to_file h caller file = record {
   applicant = file.filing.applicant == caller;
-  contractor = is_number (contractor file.acts) caller;
-  owner = is_number (owner h file.filing.parcel) caller;
-  assigned_reviewer = is_number (reviewer file.acts) caller;
-  assigned_inspector = is_number (inspector file.acts) caller;
+  contractor = is_the_party (contractor file.acts) caller;
+  owner = is_the_party (owner h file.filing.parcel) caller;
+  assigned_reviewer = is_the_party (reviewer file.acts) caller;
+  assigned_inspector = is_the_party (inspector file.acts) caller;
   conflict = has_interest h file.filing.parcel caller;
 }
 

@@ -121,61 +121,61 @@ shown_file h day None = Refused refusal.Record
 shown_file h day (Some file) = FileShown (file_view day file) (papers_of h file.filing.id)
 
 -- a command that nothing stands against adds its entry and gives its number
-abbrev pub admitted : History → Entry → Option Reason → Outcome
-admitted h entry None = record { reply = Done entry.number; history = entry ∷ h }
-admitted h entry (Some reason) = refused h (refusal.NotAdmitted reason)
+abbrev pub outcome_by_reason : History → Entry → Option Reason → Outcome
+outcome_by_reason h entry None = record { reply = Done entry.number; history = entry ∷ h }
+outcome_by_reason h entry (Some reason) = refused h (refusal.NotAdmitted reason)
 
 -- what a command gives once the caller may make it
-abbrev pub commanded : History → ℕ → ℕ → Request → Outcome
-commanded h day caller request = admitted h (entry_of h day caller request) (reason_against h day caller request)
+abbrev pub outcome_of_command : History → ℕ → ℕ → Request → Outcome
+outcome_of_command h day caller request = outcome_by_reason h (entry_of h day caller request) (reason_against h day caller request)
 
 -- what a request gives once the caller may make it
-abbrev pub performed : Policy → History → ℕ → Party → Request → Outcome
-performed policy h day caller (ReadParcel id) = unchanged h (shown_parcel (parcel_numbered h id))
-performed policy h day caller (ReadFile id) = unchanged h (shown_file h day (case_numbered h id))
-performed policy h day caller (ListFiles wanted) = unchanged h (Listed (listing policy h day caller wanted))
-performed policy h day caller (Register kind) = unchanged h (RegisterShown kind (listing policy h day caller (register_filter kind)))
-performed policy h day caller (AddParty name role token) = commanded h day caller.id (AddParty name role token)
-performed policy h day caller (AddParcel lot address owner) = commanded h day caller.id (AddParcel lot address owner)
-performed policy h day caller (Transfer parcel to) = commanded h day caller.id (Transfer parcel to)
-performed policy h day caller (Declare parcel) = commanded h day caller.id (Declare parcel)
-performed policy h day caller (File parcel kind valuation description) = commanded h day caller.id (File parcel kind valuation description)
-performed policy h day caller (OnFile file command) = commanded h day caller.id (OnFile file command)
+abbrev pub outcome_if_allowed : Policy → History → ℕ → Party → Request → Outcome
+outcome_if_allowed policy h day caller (ReadParcel id) = unchanged h (shown_parcel (parcel_numbered h id))
+outcome_if_allowed policy h day caller (ReadFile id) = unchanged h (shown_file h day (case_numbered h id))
+outcome_if_allowed policy h day caller (ListFiles wanted) = unchanged h (Listed (listing policy h day caller wanted))
+outcome_if_allowed policy h day caller (Register kind) = unchanged h (RegisterShown kind (listing policy h day caller (register_filter kind)))
+outcome_if_allowed policy h day caller (AddParty name role token) = outcome_of_command h day caller.id (AddParty name role token)
+outcome_if_allowed policy h day caller (AddParcel lot address owner) = outcome_of_command h day caller.id (AddParcel lot address owner)
+outcome_if_allowed policy h day caller (Transfer parcel to) = outcome_of_command h day caller.id (Transfer parcel to)
+outcome_if_allowed policy h day caller (Declare parcel) = outcome_of_command h day caller.id (Declare parcel)
+outcome_if_allowed policy h day caller (File parcel kind valuation description) = outcome_of_command h day caller.id (File parcel kind valuation description)
+outcome_if_allowed policy h day caller (OnFile file command) = outcome_of_command h day caller.id (OnFile file command)
 
 -- the first matching rule decides
-abbrev pub decided : Policy → History → ℕ → Party → Request → Decision → Outcome
-decided policy h day caller request d = if is_allow d.effect then performed policy h day caller request else refused h (refusal.Denied d.rule)
+abbrev pub outcome_by_decision : Policy → History → ℕ → Party → Request → Decision → Outcome
+outcome_by_decision policy h day caller request d = if is_allow d.effect then outcome_if_allowed policy h day caller request else refused h (refusal.Denied d.rule)
 
 -- the record asked for has to be there
-abbrev pub judged : Policy → History → ℕ → Party → Request → Option Facts → Outcome
-judged policy h day caller request None = refused h refusal.Record
-judged policy h day caller request (Some facts) = decided policy h day caller request (decision policy facts)
+abbrev pub outcome_by_facts : Policy → History → ℕ → Party → Request → Option Facts → Outcome
+outcome_by_facts policy h day caller request None = refused h refusal.Record
+outcome_by_facts policy h day caller request (Some facts) = outcome_by_decision policy h day caller request (decision policy facts)
 
 -- a request that the policy decides as a whole
-abbrev pub judged_whole : Policy → History → ℕ → Party → Request → Outcome
-judged_whole policy h day caller request = judged policy h day caller request (facts_of h day caller request)
+abbrev pub outcome_by_object : Policy → History → ℕ → Party → Request → Outcome
+outcome_by_object policy h day caller request = outcome_by_facts policy h day caller request (facts_of h day caller request)
 
 -- a request of a known caller on a day that isn't below the last; a listing asks for no record, and of no rule as a whole
-abbrev pub served : Policy → History → ℕ → Party → Request → Outcome
-served policy h day caller (ListFiles wanted) = performed policy h day caller (ListFiles wanted)
-served policy h day caller (Register kind) = performed policy h day caller (Register kind)
-served policy h day caller (AddParty name role token) = judged_whole policy h day caller (AddParty name role token)
-served policy h day caller (AddParcel lot address owner) = judged_whole policy h day caller (AddParcel lot address owner)
-served policy h day caller (Transfer parcel to) = judged_whole policy h day caller (Transfer parcel to)
-served policy h day caller (Declare parcel) = judged_whole policy h day caller (Declare parcel)
-served policy h day caller (ReadParcel parcel) = judged_whole policy h day caller (ReadParcel parcel)
-served policy h day caller (File parcel kind valuation description) = judged_whole policy h day caller (File parcel kind valuation description)
-served policy h day caller (ReadFile file) = judged_whole policy h day caller (ReadFile file)
-served policy h day caller (OnFile file command) = judged_whole policy h day caller (OnFile file command)
+abbrev pub outcome_by_request : Policy → History → ℕ → Party → Request → Outcome
+outcome_by_request policy h day caller (ListFiles wanted) = outcome_if_allowed policy h day caller (ListFiles wanted)
+outcome_by_request policy h day caller (Register kind) = outcome_if_allowed policy h day caller (Register kind)
+outcome_by_request policy h day caller (AddParty name role token) = outcome_by_object policy h day caller (AddParty name role token)
+outcome_by_request policy h day caller (AddParcel lot address owner) = outcome_by_object policy h day caller (AddParcel lot address owner)
+outcome_by_request policy h day caller (Transfer parcel to) = outcome_by_object policy h day caller (Transfer parcel to)
+outcome_by_request policy h day caller (Declare parcel) = outcome_by_object policy h day caller (Declare parcel)
+outcome_by_request policy h day caller (ReadParcel parcel) = outcome_by_object policy h day caller (ReadParcel parcel)
+outcome_by_request policy h day caller (File parcel kind valuation description) = outcome_by_object policy h day caller (File parcel kind valuation description)
+outcome_by_request policy h day caller (ReadFile file) = outcome_by_object policy h day caller (ReadFile file)
+outcome_by_request policy h day caller (OnFile file command) = outcome_by_object policy h day caller (OnFile file command)
 
 -- the caller has to be known, and the day not below the last
-abbrev pub known : Policy → History → ℕ → Request → Option Party → Outcome
-known policy h day request None = refused h refusal.Caller
-known policy h day request (Some caller) = if nat_lt day (last_day h) then refused h refusal.Clock else served policy h day caller request
+abbrev pub outcome_by_caller : Policy → History → ℕ → Request → Option Party → Outcome
+outcome_by_caller policy h day request None = refused h refusal.Caller
+outcome_by_caller policy h day request (Some caller) = if nat_lt day (last_day h) then refused h refusal.Clock else outcome_by_request policy h day caller request
 
 -- one step for the request of the party that keeps the digest
 abbrev pub step_as : Policy → History → List ℕ → Request → ℕ → Outcome
-step_as policy h digest request day = known policy h day request (who h digest)
+step_as policy h digest request day = outcome_by_caller policy h day request (who h digest)
 
 -- one step for a request with its caller's token
 abbrev pub step : Policy → History → Asked → ℕ → Outcome

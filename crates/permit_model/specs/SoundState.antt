@@ -5,7 +5,7 @@ use Rattle.permit_base.specs.declared.words.Stage.{Stage}
 use Rattle.permit_base.specs.declared.words.Stage.TheVariants as stage
 use Rattle.permit_model.specs.Codes.{is_step, is_stage_among}
 use Rattle.permit_model.specs.Steps.{required_steps}
-use Rattle.permit_model.specs.BaseStage.{open_stages}
+use Rattle.permit_model.specs.BaseStage.{timed_stages}
 use Rattle.permit_model.specs.Tables.{State, next_in_row}
 
 -- abandoned, lapsed, new and office are never stored
@@ -27,7 +27,7 @@ is_stored stage.Certified = true
 
 -- the six stages in which a deadline stands
 abbrev pub is_timed : Stage → Bool
-is_timed s = is_stage_among open_stages s
+is_timed s = is_stage_among timed_stages s
 
 -- the work is over, with every step approved
 abbrev pub is_completed : Stage → Bool

@@ -17,7 +17,7 @@ use Rattle.permit_base.specs.declared.words.Kind.{Kind}
 use Rattle.std.proofs.lemmas.List.{length-map}
 use Rattle.permit_model.specs.Policy.{Policy, Decision, is_allow}
 use Rattle.permit_model.specs.Admission.{first_failing, reason_against}
-use Rattle.permit_model.specs.Machine.{Outcome, decided, performed, refused}
+use Rattle.permit_model.specs.Machine.{Outcome, outcome_by_decision, outcome_if_allowed, refused}
 use Rattle.permit_policy.specs.Denial.{denied}
 use Rattle.permit_office.proofs.Lists.{any_found}
 
@@ -26,16 +26,16 @@ denied_by allowed h name rule true e = cc
 denied_by allowed h name rule false e = let same : rule ≡ name = cc in ap (λ r. refused h (refusal.Denied r)) same
 
 -- a denial is the outcome
-pub denied_outcome : (policy : Policy) (h : History) (day : ℕ) (caller : Party) (request : Request) (d : Decision) (name : List ℕ) → Some name ≡ denied d → decided policy h day caller request d ≡ refused h (refusal.Denied name)
-denied_outcome policy h day caller request d name e = denied_by (performed policy h day caller request) h name d.rule (is_allow d.effect) e
+pub denied_outcome : (policy : Policy) (h : History) (day : ℕ) (caller : Party) (request : Request) (d : Decision) (name : List ℕ) → Some name ≡ denied d → outcome_by_decision policy h day caller request d ≡ refused h (refusal.Denied name)
+denied_outcome policy h day caller request d name e = denied_by (outcome_if_allowed policy h day caller request) h name d.rule (is_allow d.effect) e
 
 allowed_by : (allowed : Outcome) (other : Outcome) (rule : List ℕ) (b : Bool) → None ≡ (if b then None else Some rule) → (if b then allowed else other) ≡ allowed
 allowed_by allowed other rule true e = refl
 allowed_by allowed other rule false e = cc
 
 -- what isn't denied is performed
-pub allowed_outcome : (policy : Policy) (h : History) (day : ℕ) (caller : Party) (request : Request) (d : Decision) → None ≡ denied d → decided policy h day caller request d ≡ performed policy h day caller request
-allowed_outcome policy h day caller request d e = allowed_by (performed policy h day caller request) (refused h (refusal.Denied d.rule)) d.rule (is_allow d.effect) e
+pub allowed_outcome : (policy : Policy) (h : History) (day : ℕ) (caller : Party) (request : Request) (d : Decision) → None ≡ denied d → outcome_by_decision policy h day caller request d ≡ outcome_if_allowed policy h day caller request
+allowed_outcome policy h day caller request d e = allowed_by (outcome_if_allowed policy h day caller request) (refused h (refusal.Denied d.rule)) d.rule (is_allow d.effect) e
 
 room : (n : ℕ) → nat_le 99999 n ≡ false → nat_lt n 99999 ≡ true
 room n e = grind (arith, nat_tests)

@@ -19,7 +19,7 @@ use Rattle.permit_model.specs.Files.{Filing, CaseFile, filings, case_file, case_
 use Rattle.permit_model.specs.Facts.{Facts, parcel_facts, file_facts}
 use Rattle.permit_model.specs.Policy.{Policy, decision}
 use Rattle.permit_model.specs.Tables.{Paper, FileRow, file_row, file_view, papers_of, tables}
-use Rattle.permit_model.specs.Machine.{Outcome, FileShown, ParcelShown, shown_parcel, decided, judged, served, refused, unchanged, shown_file}
+use Rattle.permit_model.specs.Machine.{Outcome, FileShown, ParcelShown, shown_parcel, outcome_by_decision, outcome_by_facts, outcome_by_request, refused, unchanged, shown_file}
 use Rattle.permit_policy.specs.Denial.{denied}
 use Rattle.permit_office.proofs.Lists.{find_mapped}
 use Rattle.permit_office.proofs.Deciding.{allowed_outcome}
@@ -35,9 +35,9 @@ found_number id k (x ∷ xs) y found = found_number_by id k x y (find (λ z. id 
 
 -- the filing's parcel is there
 pub file_judged : (policy : Policy) (h : History) (day : ℕ) (caller : Party) (parcel : ℕ) (kind : Kind) (valuation : ℕ) (description : List ℕ) (land : Parcel) → parcel_numbered h parcel ≡ Some land →
-    served policy h day caller (File parcel kind valuation description) ≡ decided policy h day caller (File parcel kind valuation description) (decision policy (parcel_facts h caller parcel New action.File))
+    outcome_by_request policy h day caller (File parcel kind valuation description) ≡ outcome_by_decision policy h day caller (File parcel kind valuation description) (decision policy (parcel_facts h caller parcel New action.File))
 file_judged policy h day caller parcel kind valuation description land found =
-    ap (λ (o : Option Parcel). judged policy h day caller (File parcel kind valuation description) (option_map (λ (p : Parcel). parcel_facts h caller parcel New action.File) o)) found
+    ap (λ (o : Option Parcel). outcome_by_facts policy h day caller (File parcel kind valuation description) (option_map (λ (p : Parcel). parcel_facts h caller parcel New action.File) o)) found
 
 -- ---- files
 
@@ -71,17 +71,17 @@ missing_by : (o : Option CaseFile) → None ≡ option_map file_row o → o ≡ 
 missing_by None e = refl
 missing_by (Some f) e = cc
 
-pub read_missing : (policy : Policy) (h : History) (day : ℕ) (caller : Party) (id : ℕ) → None ≡ find (λ (r : FileRow). r.id == id) (tables h).files → served policy h day caller (ReadFile id) ≡ refused h refusal.Record
+pub read_missing : (policy : Policy) (h : History) (day : ℕ) (caller : Party) (id : ℕ) → None ≡ find (λ (r : FileRow). r.id == id) (tables h).files → outcome_by_request policy h day caller (ReadFile id) ≡ refused h refusal.Record
 read_missing policy h day caller id none =
-    ap (λ (o : Option CaseFile). judged policy h day caller (ReadFile id) (option_map (λ file. file_facts h day caller file action.Read) o)) (missing_by (case_numbered h id) (none ∙ rows_found h id))
+    ap (λ (o : Option CaseFile). outcome_by_facts policy h day caller (ReadFile id) (option_map (λ file. file_facts h day caller file action.Read) o)) (missing_by (case_numbered h id) (none ∙ rows_found h id))
 
 pub read_judged : (policy : Policy) (h : History) (day : ℕ) (caller : Party) (id : ℕ) (file : CaseFile) → case_numbered h id ≡ Some file →
-    served policy h day caller (ReadFile id) ≡ decided policy h day caller (ReadFile id) (decision policy (file_facts h day caller file action.Read))
+    outcome_by_request policy h day caller (ReadFile id) ≡ outcome_by_decision policy h day caller (ReadFile id) (decision policy (file_facts h day caller file action.Read))
 read_judged policy h day caller id file found =
-    ap (λ (o : Option CaseFile). judged policy h day caller (ReadFile id) (option_map (λ f. file_facts h day caller f action.Read) o)) found
+    ap (λ (o : Option CaseFile). outcome_by_facts policy h day caller (ReadFile id) (option_map (λ f. file_facts h day caller f action.Read) o)) found
 
 pub read_shown : (policy : Policy) (h : History) (day : ℕ) (caller : Party) (id : ℕ) (file : CaseFile) → case_numbered h id ≡ Some file → None ≡ denied (decision policy (file_facts h day caller file action.Read)) →
-    served policy h day caller (ReadFile id) ≡ unchanged h (FileShown (file_view day file) (papers_of h file.filing.id))
+    outcome_by_request policy h day caller (ReadFile id) ≡ unchanged h (FileShown (file_view day file) (papers_of h file.filing.id))
 read_shown policy h day caller id file found allowed =
     read_judged policy h day caller id file found
     ∙ allowed_outcome policy h day caller (ReadFile id) (decision policy (file_facts h day caller file action.Read)) allowed
@@ -99,37 +99,37 @@ shown_as h day id filing row s t ps e named es et ep =
 
 -- a declaration's parcel is there, and one that is read
 pub declare_judged : (policy : Policy) (h : History) (day : ℕ) (caller : Party) (parcel : ℕ) (land : Parcel) → parcel_numbered h parcel ≡ Some land →
-    served policy h day caller (Declare parcel) ≡ decided policy h day caller (Declare parcel) (decision policy (parcel_facts h caller parcel Office action.Declare))
+    outcome_by_request policy h day caller (Declare parcel) ≡ outcome_by_decision policy h day caller (Declare parcel) (decision policy (parcel_facts h caller parcel Office action.Declare))
 declare_judged policy h day caller parcel land found =
-    ap (λ (o : Option Parcel). judged policy h day caller (Declare parcel) (option_map (λ (p : Parcel). parcel_facts h caller parcel Office action.Declare) o)) found
+    ap (λ (o : Option Parcel). outcome_by_facts policy h day caller (Declare parcel) (option_map (λ (p : Parcel). parcel_facts h caller parcel Office action.Declare) o)) found
 
 pub parcel_judged : (policy : Policy) (h : History) (day : ℕ) (caller : Party) (parcel : ℕ) (land : Parcel) → parcel_numbered h parcel ≡ Some land →
-    served policy h day caller (ReadParcel parcel) ≡ decided policy h day caller (ReadParcel parcel) (decision policy (parcel_facts h caller parcel Office action.ReadParcel))
+    outcome_by_request policy h day caller (ReadParcel parcel) ≡ outcome_by_decision policy h day caller (ReadParcel parcel) (decision policy (parcel_facts h caller parcel Office action.ReadParcel))
 parcel_judged policy h day caller parcel land found =
-    ap (λ (o : Option Parcel). judged policy h day caller (ReadParcel parcel) (option_map (λ (p : Parcel). parcel_facts h caller parcel Office action.ReadParcel) o)) found
+    ap (λ (o : Option Parcel). outcome_by_facts policy h day caller (ReadParcel parcel) (option_map (λ (p : Parcel). parcel_facts h caller parcel Office action.ReadParcel) o)) found
 
 pub parcel_read : (policy : Policy) (h : History) (day : ℕ) (caller : Party) (parcel : ℕ) (land : Parcel) → parcel_numbered h parcel ≡ Some land → None ≡ denied (decision policy (parcel_facts h caller parcel Office action.ReadParcel)) →
-    served policy h day caller (ReadParcel parcel) ≡ unchanged h (ParcelShown land)
+    outcome_by_request policy h day caller (ReadParcel parcel) ≡ unchanged h (ParcelShown land)
 parcel_read policy h day caller parcel land found allowed =
     parcel_judged policy h day caller parcel land found
     ∙ allowed_outcome policy h day caller (ReadParcel parcel) (decision policy (parcel_facts h caller parcel Office action.ReadParcel)) allowed
     ∙ ap (λ (o : Option Parcel). unchanged h (shown_parcel o)) found
 
 pub transfer_judged : (policy : Policy) (h : History) (day : ℕ) (caller : Party) (parcel to : ℕ) (land : Parcel) → parcel_numbered h parcel ≡ Some land →
-    served policy h day caller (Transfer parcel to) ≡ decided policy h day caller (Transfer parcel to) (decision policy (parcel_facts h caller parcel Office action.Transfer))
+    outcome_by_request policy h day caller (Transfer parcel to) ≡ outcome_by_decision policy h day caller (Transfer parcel to) (decision policy (parcel_facts h caller parcel Office action.Transfer))
 transfer_judged policy h day caller parcel to land found =
-    ap (λ (o : Option Parcel). judged policy h day caller (Transfer parcel to) (option_map (λ (p : Parcel). parcel_facts h caller parcel Office action.Transfer) o)) found
+    ap (λ (o : Option Parcel). outcome_by_facts policy h day caller (Transfer parcel to) (option_map (λ (p : Parcel). parcel_facts h caller parcel Office action.Transfer) o)) found
 
 -- ---- a command on a file
 
-pub command_missing : (policy : Policy) (h : History) (day : ℕ) (caller : Party) (id : ℕ) (command : Command) → None ≡ find (λ (r : FileRow). r.id == id) (tables h).files → served policy h day caller (OnFile id command) ≡ refused h refusal.Record
+pub command_missing : (policy : Policy) (h : History) (day : ℕ) (caller : Party) (id : ℕ) (command : Command) → None ≡ find (λ (r : FileRow). r.id == id) (tables h).files → outcome_by_request policy h day caller (OnFile id command) ≡ refused h refusal.Record
 command_missing policy h day caller id command none =
-    ap (λ (o : Option CaseFile). judged policy h day caller (OnFile id command) (option_map (λ file. file_facts h day caller file (command_action command)) o)) (missing_by (case_numbered h id) (none ∙ rows_found h id))
+    ap (λ (o : Option CaseFile). outcome_by_facts policy h day caller (OnFile id command) (option_map (λ file. file_facts h day caller file (command_action command)) o)) (missing_by (case_numbered h id) (none ∙ rows_found h id))
 
 pub command_judged : (policy : Policy) (h : History) (day : ℕ) (caller : Party) (id : ℕ) (command : Command) (file : CaseFile) → case_numbered h id ≡ Some file →
-    served policy h day caller (OnFile id command) ≡ decided policy h day caller (OnFile id command) (decision policy (file_facts h day caller file (command_action command)))
+    outcome_by_request policy h day caller (OnFile id command) ≡ outcome_by_decision policy h day caller (OnFile id command) (decision policy (file_facts h day caller file (command_action command)))
 command_judged policy h day caller id command file found =
-    ap (λ (o : Option CaseFile). judged policy h day caller (OnFile id command) (option_map (λ f. file_facts h day caller f (command_action command)) o)) found
+    ap (λ (o : Option CaseFile). outcome_by_facts policy h day caller (OnFile id command) (option_map (λ f. file_facts h day caller f (command_action command)) o)) found
 
 -- a file that is there, with its filing
 pub record IsCase (h : History) (id : ℕ) (file : CaseFile) : Type 0 where

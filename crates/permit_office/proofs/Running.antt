@@ -18,7 +18,7 @@ use Rattle.permit_model.specs.Admission.{reason_against}
 use Rattle.permit_model.proofs.Histories.{run_keeps}
 use Rattle.permit_model.specs.Policy.{Policy, decision, is_allow}
 use Rattle.permit_model.specs.Tables.{Tables, tables}
-use Rattle.permit_model.specs.Machine.{Reply, Outcome, Refused, refused, shown_parcel, shown_file, admitted, performed, judged, served, known, entry_of, facts_of, IsHistory, step, replies_to, history_after}
+use Rattle.permit_model.specs.Machine.{Reply, Outcome, Refused, refused, shown_parcel, shown_file, outcome_by_reason, outcome_if_allowed, outcome_by_facts, outcome_by_request, outcome_by_caller, entry_of, facts_of, IsHistory, step, replies_to, history_after}
 use Rattle.permit_office.specs.declared.reply.Reply.{Reply as Given}
 use Rattle.permit_office.specs.declared.reply.Reply.TheVariants as given
 use Rattle.permit_office.specs.Answers.{reply_of, is_store_refusal, Answers}
@@ -107,45 +107,45 @@ file_own : (h : History) (day : ℕ) (o : Option CaseFile) → is_store (shown_f
 file_own h day None = refl
 file_own h day (Some p) = refl
 
-admitted_own : (h : History) (entry : Entry) (o : Option Reason) → is_store (admitted h entry o).reply ≡ false
-admitted_own h entry None = refl
-admitted_own h entry (Some why) = refl
+by_reason_own : (h : History) (entry : Entry) (o : Option Reason) → is_store (outcome_by_reason h entry o).reply ≡ false
+by_reason_own h entry None = refl
+by_reason_own h entry (Some why) = refl
 
-performed_own : (policy : Policy) (h : History) (day : ℕ) (caller : Party) (request : Request) → is_store (performed policy h day caller request).reply ≡ false
-performed_own policy h day caller (ReadParcel id) = parcel_own (parcel_numbered h id)
-performed_own policy h day caller (ReadFile id) = file_own h day (case_numbered h id)
-performed_own policy h day caller (ListFiles wanted) = refl
-performed_own policy h day caller (Register kind) = refl
-performed_own policy h day caller (AddParty name role token) = admitted_own h (entry_of h day caller.id (AddParty name role token)) (reason_against h day caller.id (AddParty name role token))
-performed_own policy h day caller (AddParcel lot address owner) = admitted_own h (entry_of h day caller.id (AddParcel lot address owner)) (reason_against h day caller.id (AddParcel lot address owner))
-performed_own policy h day caller (Transfer parcel to) = admitted_own h (entry_of h day caller.id (Transfer parcel to)) (reason_against h day caller.id (Transfer parcel to))
-performed_own policy h day caller (Declare parcel) = admitted_own h (entry_of h day caller.id (Declare parcel)) (reason_against h day caller.id (Declare parcel))
-performed_own policy h day caller (File parcel kind valuation description) = admitted_own h (entry_of h day caller.id (File parcel kind valuation description)) (reason_against h day caller.id (File parcel kind valuation description))
-performed_own policy h day caller (OnFile file command) = admitted_own h (entry_of h day caller.id (OnFile file command)) (reason_against h day caller.id (OnFile file command))
+if_allowed_own : (policy : Policy) (h : History) (day : ℕ) (caller : Party) (request : Request) → is_store (outcome_if_allowed policy h day caller request).reply ≡ false
+if_allowed_own policy h day caller (ReadParcel id) = parcel_own (parcel_numbered h id)
+if_allowed_own policy h day caller (ReadFile id) = file_own h day (case_numbered h id)
+if_allowed_own policy h day caller (ListFiles wanted) = refl
+if_allowed_own policy h day caller (Register kind) = refl
+if_allowed_own policy h day caller (AddParty name role token) = by_reason_own h (entry_of h day caller.id (AddParty name role token)) (reason_against h day caller.id (AddParty name role token))
+if_allowed_own policy h day caller (AddParcel lot address owner) = by_reason_own h (entry_of h day caller.id (AddParcel lot address owner)) (reason_against h day caller.id (AddParcel lot address owner))
+if_allowed_own policy h day caller (Transfer parcel to) = by_reason_own h (entry_of h day caller.id (Transfer parcel to)) (reason_against h day caller.id (Transfer parcel to))
+if_allowed_own policy h day caller (Declare parcel) = by_reason_own h (entry_of h day caller.id (Declare parcel)) (reason_against h day caller.id (Declare parcel))
+if_allowed_own policy h day caller (File parcel kind valuation description) = by_reason_own h (entry_of h day caller.id (File parcel kind valuation description)) (reason_against h day caller.id (File parcel kind valuation description))
+if_allowed_own policy h day caller (OnFile file command) = by_reason_own h (entry_of h day caller.id (OnFile file command)) (reason_against h day caller.id (OnFile file command))
 
-decided_own : (policy : Policy) (h : History) (day : ℕ) (caller : Party) (request : Request) (rule : List ℕ) (b : Bool) → is_store (if b then performed policy h day caller request else refused h (refusal.Denied rule)).reply ≡ false
-decided_own policy h day caller request rule true = performed_own policy h day caller request
-decided_own policy h day caller request rule false = refl
+by_decision_own : (policy : Policy) (h : History) (day : ℕ) (caller : Party) (request : Request) (rule : List ℕ) (b : Bool) → is_store (if b then outcome_if_allowed policy h day caller request else refused h (refusal.Denied rule)).reply ≡ false
+by_decision_own policy h day caller request rule true = if_allowed_own policy h day caller request
+by_decision_own policy h day caller request rule false = refl
 
-judged_own : (policy : Policy) (h : History) (day : ℕ) (caller : Party) (request : Request) (o : Option Facts) → is_store (judged policy h day caller request o).reply ≡ false
-judged_own policy h day caller request None = refl
-judged_own policy h day caller request (Some facts) = decided_own policy h day caller request (decision policy facts).rule (is_allow (decision policy facts).effect)
+by_facts_own : (policy : Policy) (h : History) (day : ℕ) (caller : Party) (request : Request) (o : Option Facts) → is_store (outcome_by_facts policy h day caller request o).reply ≡ false
+by_facts_own policy h day caller request None = refl
+by_facts_own policy h day caller request (Some facts) = by_decision_own policy h day caller request (decision policy facts).rule (is_allow (decision policy facts).effect)
 
-served_own : (policy : Policy) (h : History) (day : ℕ) (caller : Party) (request : Request) → is_store (served policy h day caller request).reply ≡ false
-served_own policy h day caller (ListFiles wanted) = refl
-served_own policy h day caller (Register kind) = refl
-served_own policy h day caller request = judged_own policy h day caller request (facts_of h day caller request)
+by_request_own : (policy : Policy) (h : History) (day : ℕ) (caller : Party) (request : Request) → is_store (outcome_by_request policy h day caller request).reply ≡ false
+by_request_own policy h day caller (ListFiles wanted) = refl
+by_request_own policy h day caller (Register kind) = refl
+by_request_own policy h day caller request = by_facts_own policy h day caller request (facts_of h day caller request)
 
-timed_own : (policy : Policy) (h : History) (day : ℕ) (caller : Party) (request : Request) (b : Bool) → is_store (if b then refused h refusal.Clock else served policy h day caller request).reply ≡ false
+timed_own : (policy : Policy) (h : History) (day : ℕ) (caller : Party) (request : Request) (b : Bool) → is_store (if b then refused h refusal.Clock else outcome_by_request policy h day caller request).reply ≡ false
 timed_own policy h day caller request true = refl
-timed_own policy h day caller request false = served_own policy h day caller request
+timed_own policy h day caller request false = by_request_own policy h day caller request
 
-known_own : (policy : Policy) (h : History) (day : ℕ) (request : Request) (o : Option Party) → is_store (known policy h day request o).reply ≡ false
-known_own policy h day request None = refl
-known_own policy h day request (Some caller) = timed_own policy h day caller request (nat_lt day (last_day h))
+by_caller_own : (policy : Policy) (h : History) (day : ℕ) (request : Request) (o : Option Party) → is_store (outcome_by_caller policy h day request o).reply ≡ false
+by_caller_own policy h day request None = refl
+by_caller_own policy h day request (Some caller) = timed_own policy h day caller request (nat_lt day (last_day h))
 
 never_store : (policy : Policy) (h : History) (request : Asked × ℕ) → is_store (step policy h request.0 request.1).reply ≡ false
-never_store policy h request = known_own policy h request.1 request.0.request (who h (digest_of request.0.token))
+never_store policy h request = by_caller_own policy h request.1 request.0.request (who h (digest_of request.0.token))
 
 same_refusal : (reply : Given) → is_store_refusal reply ≡ is_store (reply_of reply)
 same_refusal (given.Refused refusal.Store) = refl

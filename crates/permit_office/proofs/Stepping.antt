@@ -9,7 +9,7 @@ use Rattle.permit_base.specs.declared.request.Request.{Request}
 use Rattle.permit_model.specs.History.{History, last_day}
 use Rattle.permit_model.specs.Caller.{Party, parties, who, is_party}
 use Rattle.permit_model.specs.Policy.{Policy}
-use Rattle.permit_model.specs.Machine.{Outcome, known, served, refused, step_as}
+use Rattle.permit_model.specs.Machine.{Outcome, outcome_by_caller, outcome_by_request, refused, step_as}
 use Rattle.permit_store.specs.Counts.{next_count}
 use Rattle.permit_store.specs.Frames.{StoreView, HasOneDesk}
 use Rattle.permit_office.specs.declared.reply.Reply.{Reply as Given}
@@ -22,10 +22,10 @@ use Rattle.permit_model.proofs.Histories.{found_by_number}
 in_time : (last day : ℕ) → last ≤ day → nat_lt day last ≡ false
 in_time last day h = grind (arith, nat_tests)
 
-pub stepped : (policy : Policy) (h : History) (digest : List ℕ) (request : Request) (day : ℕ) (caller : Party) → Some caller ≡ who h digest → last_day h ≤ day → step_as policy h digest request day ≡ served policy h day caller request
+pub stepped : (policy : Policy) (h : History) (digest : List ℕ) (request : Request) (day : ℕ) (caller : Party) → Some caller ≡ who h digest → last_day h ≤ day → step_as policy h digest request day ≡ outcome_by_request policy h day caller request
 stepped policy h digest request day caller found time =
-    ap (known policy h day request) (sym found)
-    ∙ ap (λ (b : Bool). if b then refused h refusal.Clock else served policy h day caller request) (in_time (last_day h) day time)
+    ap (outcome_by_caller policy h day request) (sym found)
+    ∙ ap (λ (b : Bool). if b then refused h refusal.Clock else outcome_by_request policy h day caller request) (in_time (last_day h) day time)
 
 pub caller_there : (h : History) (digest : List ℕ) (caller : Party) → Some caller ≡ who h digest → IsTrue (is_party h caller.id)
 caller_there h digest caller found = found_by_number (parties h) digest caller (sym found)

@@ -10,7 +10,7 @@ ghost use Rattle.permit_model.specs.Work;
 ghost use Rattle.permit_model.specs.Admission.{reason_against};
 ghost use Rattle.permit_base.specs.Limits.{most_papers};
 ghost use Rattle.permit_model.specs.Tables.{Paper as ThePaper, State, Tables, tables, file_row, state_of};
-ghost use Rattle.permit_model.specs.Machine.{IsHistory, admitted, entry_of, served};
+ghost use Rattle.permit_model.specs.Machine.{IsHistory, outcome_by_reason, entry_of, outcome_by_request};
 ghost use Rattle.permit_core.specs.Naming;
 ghost use Rattle.permit_core.specs.RowAfter;
 ghost use Rattle.permit_store.specs.Changes.{papers_after, suits_effect};
@@ -128,7 +128,7 @@ fn perform<S: Store>(
         → case_numbered h row.now.id ≡ Some one → row.now ≡ file_row one
         → last_day h ≤ day → IsTrue (Caller.is_party h caller)
         → Attempts (S.view store.new).holds result
-        (admitted h (entry_of h day caller (request.OnFile row.now.id command.now)) (reason_against h day caller (request.OnFile row.now.id command.now))) h }
+        (outcome_by_reason h (entry_of h day caller (request.OnFile row.now.id command.now)) (reason_against h day caller (request.OnFile row.now.id command.now))) h }
     ensures attempt { IsAttempt false (S.view store.old) (S.view store.new) result }
     ensures decided { IfOk result IsDecided }
     ensures own { IfOk result IsOwn }
@@ -165,7 +165,7 @@ pub(crate) fn on_file<S: Store>(
 ) -> Got<Reply>
     ensures model { (S.view store.new).doubt ≡ 0 → (h : History) → IsHistory h → (S.view store.old).holds (tables h) → last_day h ≤ day
         → IsTrue (Caller.is_party h caller.now.id)
-        → Attempts (S.view store.new).holds result (served policy.now h day caller.now (request.OnFile file command.now)) h }
+        → Attempts (S.view store.new).holds result (outcome_by_request policy.now h day caller.now (request.OnFile file command.now)) h }
     ensures attempt { IsAttempt true (S.view store.old) (S.view store.new) result }
     ensures own { IfOk result IsOwn }
 {

@@ -8,7 +8,7 @@ ghost use Rattle.permit_model.specs.History.{History, last_day};
 ghost use Rattle.permit_model.specs.Parcels.{parcel_numbered, parcels};
 ghost use Rattle.permit_model.specs.Admission.{reason_against};
 ghost use Rattle.permit_model.specs.Tables.{Tables, tables, desk_of};
-ghost use Rattle.permit_model.specs.Machine.{IsHistory, served};
+ghost use Rattle.permit_model.specs.Machine.{IsHistory, outcome_by_request};
 ghost use Rattle.permit_office.specs.Answers.{Attempts, IsOwn};
 ghost use Rattle.permit_office.specs.Frames.{OnlyReads, IsAttempt};
 
@@ -70,7 +70,7 @@ pub(crate) fn add_parcel<S: Store>(
     day: Day,
 ) -> Got<Reply>
     ensures model { (S.view store.new).doubt ≡ 0 → (h : History) → IsHistory h → (S.view store.old).holds (tables h) → desk.now ≡ desk_of h → last_day h ≤ day
-        → Attempts (S.view store.new).holds result (served policy.now h day caller.now (request.AddParcel lot.now address.now owner)) h }
+        → Attempts (S.view store.new).holds result (outcome_by_request policy.now h day caller.now (request.AddParcel lot.now address.now owner)) h }
     ensures attempt { IsAttempt false (S.view store.old) (S.view store.new) result }
     ensures own { IfOk result IsOwn }
 {
@@ -118,7 +118,7 @@ pub(crate) fn declare<S: Store>(
 ) -> Got<Reply>
     ensures model { (S.view store.new).doubt ≡ 0 → (h : History) → (S.view store.old).holds (tables h) → last_day h ≤ day
         → IsTrue (Caller.is_party h caller.now.id)
-        → Attempts (S.view store.new).holds result (served policy.now h day caller.now (request.Declare parcel)) h }
+        → Attempts (S.view store.new).holds result (outcome_by_request policy.now h day caller.now (request.Declare parcel)) h }
     ensures attempt { IsAttempt false (S.view store.old) (S.view store.new) result }
     ensures own { IfOk result IsOwn }
 {
@@ -166,7 +166,7 @@ pub(crate) fn transfer<S: Store>(
     day: Day,
 ) -> Got<Reply>
     ensures model { (S.view store.new).doubt ≡ 0 → (h : History) → (S.view store.old).holds (tables h) → last_day h ≤ day
-        → Attempts (S.view store.new).holds result (served policy.now h day caller.now (request.Transfer parcel to)) h }
+        → Attempts (S.view store.new).holds result (outcome_by_request policy.now h day caller.now (request.Transfer parcel to)) h }
     ensures attempt { IsAttempt false (S.view store.old) (S.view store.new) result }
     ensures own { IfOk result IsOwn }
 {

@@ -4,7 +4,7 @@ ghost use Rattle.std.specs.Prelude.{◌≡◌, IfOk, true, false};
 ghost use Rattle.permit_base.specs.declared.request.Request.TheVariants as request;
 ghost use Rattle.permit_model.specs.History.{History};
 ghost use Rattle.permit_model.specs.Tables.{tables};
-ghost use Rattle.permit_model.specs.Machine.{served};
+ghost use Rattle.permit_model.specs.Machine.{outcome_by_request};
 ghost use Rattle.permit_office.specs.Answers.{Attempts, IsOwn};
 ghost use Rattle.permit_office.specs.Frames.{IsAttempt};
 
@@ -26,7 +26,7 @@ pub(crate) fn read_file<S: Store>(
     day: Day,
 ) -> Got<Reply>
     ensures model { (S.view store.new).doubt ≡ 0 → (h : History) → (S.view store.old).holds (tables h)
-        → Attempts (S.view store.new).holds result (served policy.now h day caller.now (request.ReadFile file)) h }
+        → Attempts (S.view store.new).holds result (outcome_by_request policy.now h day caller.now (request.ReadFile file)) h }
     ensures attempt { IsAttempt true (S.view store.old) (S.view store.new) result }
     ensures own { IfOk result IsOwn }
 {
@@ -52,7 +52,7 @@ pub(crate) fn read_parcel<S: Store>(
     day: Day,
 ) -> Got<Reply>
     ensures model { (S.view store.new).doubt ≡ 0 → (h : History) → (S.view store.old).holds (tables h)
-        → Attempts (S.view store.new).holds result (served policy.now h day caller.now (request.ReadParcel parcel)) h }
+        → Attempts (S.view store.new).holds result (outcome_by_request policy.now h day caller.now (request.ReadParcel parcel)) h }
     ensures attempt { IsAttempt false (S.view store.old) (S.view store.new) result }
     ensures own { IfOk result IsOwn }
 {

@@ -4,7 +4,7 @@ ghost use Rattle.std.specs.Prelude.{◌≡◌, ◌≤◌, IsTrue, IfOk, OnOk};
 ghost use Rattle.permit_model.specs.Caller;
 ghost use Rattle.permit_model.specs.History.{History, last_day};
 ghost use Rattle.permit_model.specs.Tables.{tables, desk_of};
-ghost use Rattle.permit_model.specs.Machine.{IsHistory, served, step_as};
+ghost use Rattle.permit_model.specs.Machine.{IsHistory, outcome_by_request, step_as};
 ghost use Rattle.permit_store.specs.Frames.{HasOneDesk};
 ghost use Rattle.permit_office.specs.Answers.{Attempts, is_built, is_on_file, IsOwn};
 ghost use Rattle.permit_office.specs.Frames.{IsAttempt};
@@ -33,7 +33,7 @@ fn serve_known<S: Store>(
 ) -> Got<Reply>
     ensures model { (S.view store.new).doubt ≡ 0 → (h : History) → IsHistory h → (S.view store.old).holds (tables h) → desk.now ≡ desk_of h
         → last_day h ≤ day → IsTrue (Caller.is_party h caller.now.id)
-        → Attempts (S.view store.new).holds result (served policy.now h day caller.now asked.now) h }
+        → Attempts (S.view store.new).holds result (outcome_by_request policy.now h day caller.now asked.now) h }
     ensures attempt { IsAttempt (is_on_file asked.now) (S.view store.old) (S.view store.new) result }
     ensures own { IsTrue (is_built asked.now) → IfOk result IsOwn }
 {
