@@ -23,7 +23,10 @@ const USAGE: &str =
 
 /// The word at a place, empty where there is none.
 fn word(words: &[String], at: usize) -> &str {
-    words.get(at).map_or("", |word| word.as_str())
+    match words.get(at) {
+        Some(word) => word.as_str(),
+        None => "",
+    }
 }
 
 /// The word at a place as a number, at most a million; 0 where it is none.

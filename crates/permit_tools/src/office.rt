@@ -15,22 +15,27 @@ use std::alloc::{AllocError, Global};
 use std::fs;
 use std::rt::Files;
 
-/// The tokens of the first parties of an office that is measured, by their numbers from 1.
+/// The founder's token: party 1, an official.
 pub const OFFICIAL: &str = "abcdefghijklmnopqrstuvwxyz";
 
+/// The token of party 2 of an office that is measured.
 pub const REVIEWER: &str = "reviewer2reviewer2";
 
+/// The token of party 3 of an office that is measured.
 pub const INSPECTOR: &str = "inspector3inspector3";
 
+/// The token of party 4 of an office that is measured, one of the public, who owns its parcel.
 pub const PUBLIC: &str = "public4public4public4";
 
-/// The day of the founding, 2023-12-09, and of all that is done in an office that is measured.
+/// The day of the founding, 2023-12-09.
 const FOUNDED: u32 = 19700;
 
+/// The day of all that is done in an office that is measured.
 pub fn day() -> Result<Day> {
     Day::new(FOUNDED).ok_or(anyhow!("no day"))
 }
 
+/// A text of these words.
 pub fn text(alloc: Global, words: &str) -> Result<Text> {
     Text::new(String::from_str(alloc, words)?).ok_or(anyhow!("no text"))
 }
@@ -43,10 +48,12 @@ fn lot(alloc: Global, words: &str) -> Result<Lot> {
     Lot::new(String::from_str(alloc, words)?).ok_or(anyhow!("no lot"))
 }
 
+/// The party of a number.
 pub fn party(number: u32) -> Result<PartyId> {
     PartyId::new(number).ok_or(anyhow!("no party"))
 }
 
+/// The digest of a token.
 pub fn digest_of(alloc: Global, words: &str) -> Result<Digest> {
     Ok(digest(&token(alloc, words)?)?)
 }
