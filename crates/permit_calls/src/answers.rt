@@ -2,7 +2,7 @@
 
 use crate::streams::Narrow;
 use permit_answer::answer::{Answer, Fault};
-use permit_answer::write_reply;
+use permit_answer::{WriteFault, write_reply};
 use permit_base::outcome::{Reason, Refusal};
 use permit_base::values::{Cents, PaperNumber, RuleName};
 use permit_base::words::{Action, Kind, PaperSort, Stage, Timing};
@@ -163,11 +163,9 @@ fn replies_go_out(rt: HostRuntime) -> Result<(), Fail> {
     go_out(&rt, rt.alloc(), answers.as_slice())
 }
 
-#[test]
-fn a_paper_goes_out_with_its_file(rt: HostRuntime) -> Result<(), Fail> {
-    let alloc = rt.alloc();
-    let mut papers = Vec::new(alloc);
-    papers.push(Paper {
+/// An ask of party 5 on file 1.
+fn ask(alloc: Global) -> Result<Paper, Fail> {
+    Ok(Paper {
         file: file(1)?,
         number: PaperNumber::new(1).ok_or("paper")?,
         day: day(19903)?,
@@ -177,21 +175,30 @@ fn a_paper_goes_out_with_its_file(rt: HostRuntime) -> Result<(), Fail> {
         text: String::from_str(alloc, "Ill")?,
         terms: String::new(alloc),
         is_open: false,
-    })?;
-    let (shown, closes) = written(alloc, &house(alloc, papers)?, false)?;
-    assert!(rt;
-        shown.as_str().contains(
-            ",\"papers\":[{\"author\":5,\"day\":19903,\"days\":90,\"number\":1,\"open\":false,\"sort\":\"asked\",\"terms\":\"\",\"text\":\"Ill\"}],"
-        )
-    );
-    assert!(rt; !closes);
+    })
+}
+
+const PAPERS: &str =
+    ",\"papers\":[{\"author\":5,\"day\":19903,\"days\":90,\"number\":1,\"open\":false,\"sort\":\"asked\",\"terms\":\"\",\"text\":\"Ill\"}],";
+
+#[test]
+fn a_paper_goes_out_with_its_file(rt: HostRuntime) -> Result<(), Fail> {
+    let mut papers = Vec::new(rt.alloc());
+    papers.push(ask(rt.alloc())?)?;
+    let (shown, closes) = written(rt.alloc(), &house(rt.alloc(), papers)?, false)?;
+    assert!(rt; shown.as_str().contains(PAPERS) && !closes);
     Ok(())
+}
+
+/// Writes an answer that keeps the connection, and gives whether it closes.
+fn write(alloc: Global, answer: &Answer, writer: &mut Narrow) -> Result<bool, WriteFault> {
+    write_reply(alloc, answer, false, writer)
 }
 
 #[test]
 fn a_writer_takes_one_byte_at_a_time(rt: HostRuntime) -> Result<(), Fail> {
     let mut writer = Narrow::new(1, 1000);
-    let closes = write_reply(rt.alloc(), &filed()?, false, &mut writer).map_err(|_| "write")?;
+    let closes = write(rt.alloc(), &filed()?, &mut writer).map_err(|_| "write")?;
     assert!(rt; !closes);
     assert_eq!(rt; writer.taken(), FILED.as_bytes());
     Ok(())
@@ -202,7 +209,7 @@ fn a_write_that_fails_is_a_fault(rt: HostRuntime) -> Result<(), Fail> {
     let answer = filed()?;
     for taken in [0, 1, 50, FILED.len() - 1] {
         let mut writer = Narrow::new(40, taken);
-        assert!(rt; write_reply(rt.alloc(), &answer, false, &mut writer).is_err());
+        assert!(rt; write(rt.alloc(), &answer, &mut writer).is_err());
         assert!(rt; FILED.as_bytes().starts_with(writer.taken()));
         assert_eq!(rt; writer.taken().len(), taken);
     }
@@ -212,7 +219,7 @@ fn a_write_that_fails_is_a_fault(rt: HostRuntime) -> Result<(), Fail> {
 #[test]
 fn a_write_that_takes_no_byte_is_a_fault(rt: HostRuntime) -> Result<(), Fail> {
     let mut writer = Narrow::new(0, 1000);
-    assert!(rt; write_reply(rt.alloc(), &filed()?, true, &mut writer).is_err());
+    assert!(rt; write(rt.alloc(), &filed()?, &mut writer).is_err());
     assert!(rt; writer.taken().is_empty());
     Ok(())
 }
@@ -222,7 +229,7 @@ fn a_write_that_takes_no_byte_is_a_fault(rt: HostRuntime) -> Result<(), Fail> {
 fn a_read_without_memory_is_the_stores_refusal(rt: HostRuntime) -> Result<(), Fail> {
     let answer = house(rt.alloc(), Vec::new(rt.alloc()))?;
     let mut writer = Narrow::new(1000, 1000);
-    let closes = write_reply(rt.alloc(), &answer, false, &mut writer).map_err(|_| "write")?;
+    let closes = write(rt.alloc(), &answer, &mut writer).map_err(|_| "write")?;
     let wanted = if closes { STORE_REFUSAL } else { HOUSE };
     assert_eq!(rt; writer.taken(), wanted.as_bytes());
     Ok(())

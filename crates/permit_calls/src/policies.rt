@@ -23,8 +23,7 @@ role = [\"reviewer\"]\n\
 relation = [\"assigned-reviewer\"]\n\
 ";
 
-/// Texts with a fault, each with the fault's number and place.
-const FAULTS: [(&str, u8, usize); 22] = [
+const FAULTS: &[(&str, u8, usize)] = &[
     ("rule", 2, 0),
     ("x = ", 2, 0),
     ("rules = []\n", 3, 0),
@@ -105,6 +104,11 @@ const FAULTS: [(&str, u8, usize); 22] = [
     ),
 ];
 
+/// Texts with a fault, each with the fault's number and place.
+fn faults() -> &'static [(&'static str, u8, usize)] {
+    FAULTS
+}
+
 fn fault_of(alloc: Global, text: &str) -> Option<(u8, usize)> {
     match read_policy(alloc, text) {
         Ok(_) => None,
@@ -114,8 +118,12 @@ fn fault_of(alloc: Global, text: &str) -> Option<(u8, usize)> {
 
 #[test]
 fn refuses_each_fault(rt: HostRuntime) {
-    for (text, number, rule) in FAULTS {
-        assert_eq!(rt; fault_of(rt.alloc(), text), Some((number, rule)), "{text}");
+    for (text, number, rule) in faults() {
+        assert_eq!(rt;
+            fault_of(rt.alloc(), text),
+            Some((*number, *rule)),
+            "{text}"
+        );
     }
 }
 

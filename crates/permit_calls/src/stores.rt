@@ -1,5 +1,6 @@
 //! What is read of a store over vectors. The changes are tested through the office.
 
+use permit_base::values::Text;
 use permit_base::words::Role;
 use permit_samples::ask::TOKENS;
 use permit_samples::makers::{day, digest_of, file, lot, parcel, party, text};
@@ -30,14 +31,24 @@ fn day_zero_founds_nothing(rt: HostRuntime) -> Result<(), Fail> {
     Ok(())
 }
 
+/// The name and the role of party 1.
+fn first_party<S: Store>(store: &mut S) -> Result<(Text, Role), Fail> {
+    let found = store.party(party(1)?)?.ok_or("party 1")?;
+    Ok((found.name, found.role))
+}
+
+/// The number of the party with the first token.
+fn party_of_token<S: Store>(store: &mut S, alloc: Global) -> Result<u32, Fail> {
+    let digest = digest_of(alloc, TOKENS[0])?;
+    Ok(store.party_by_token(&digest)?.ok_or("its party")?.id.get())
+}
+
 #[test]
 fn parties_are_found(rt: HostRuntime) -> Result<(), Fail> {
     let mut store = founded(rt.alloc())?;
-    let by_number = store.party(party(1)?)?.ok_or("party 1")?;
-    assert!(rt; by_number.name.as_str() == "Chief" && by_number.role == Role::Official);
-    let digest = digest_of(rt.alloc(), TOKENS[0])?;
-    let by_token = store.party_by_token(&digest)?.ok_or("its party")?;
-    assert_eq!(rt; by_token.id.get(), 1);
+    let (name, role) = first_party(&mut store)?;
+    assert!(rt; name.as_str() == "Chief" && role == Role::Official);
+    assert_eq!(rt; party_of_token(&mut store, rt.alloc())?, 1);
     Ok(())
 }
 
