@@ -154,6 +154,7 @@ pub(crate) fn act<'a>(alloc: Global) -> Result<Command<'a>, AllocError>
 /// The program with all its subcommands, for help and for words that begin with none of them.
 pub(crate) fn program<'a>(alloc: Global) -> Result<Command<'a>, AllocError> {
     Command::new(alloc, "permit")
+        .bin_name("permit")?
         .about("A city's building permits and inspections")
         .no_binary_name(true)
         .subcommand_required(true)
