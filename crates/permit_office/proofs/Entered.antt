@@ -1,6 +1,6 @@
 -- The tables after a command on a file.
-use Rattle.std.proofs.Common.{◌≡◌, ◌<◌, ◌≤◌, ◌+◌, ℕ, ◌==◌, Bool, true, false, cond, not, List, [], ◌∷◌, ◌++◌, length, refl, sym, ◌∙◌, ap, subst, map, arith, add-one}
-use Rattle.std.specs.Prelude.{Option, None, Some, find, filter, option_map, unwrap_or, is_some, if◌then◌else◌, IsTrue, ◌||◌, ◌&&◌, nat_le, nat_lt}
+use Rattle.std.proofs.Common.{◌≡◌, ◌<◌, ◌+◌, ℕ, ◌==◌, Bool, true, false, cond, List, ◌∷◌, length, refl, sym, ◌∙◌, ap, subst, map, arith}
+use Rattle.std.specs.Prelude.{Option, None, Some, find, filter, option_map, unwrap_or, is_some, if◌then◌else◌, IsTrue, nat_le, nat_lt}
 use Rattle.std.proofs.lemmas.Bool.Decides.{nat_tests}
 use Rattle.std.proofs.lemmas.List.{length-map}
 use Rattle.std.proofs.lemmas.Bool.{eq-eqb}
@@ -9,19 +9,18 @@ use Rattle.permit_base.specs.declared.words.PaperSort.TheVariants as sort
 use Rattle.permit_base.specs.declared.request.Command.{Command}
 use Rattle.permit_base.specs.declared.request.Command.TheVariants.{Return, Resubmit, Reject, Issue, AskExtension, GrantExtension, RefuseExtension, Notice, ClearNotice, Stop, Lift, Revoke, Temporary, Certify}
 use Rattle.permit_base.specs.declared.request.Request.TheVariants.{OnFile}
-use Rattle.permit_model.specs.Search.{add_last, has_number, when}
-use Rattle.permit_model.specs.History.{Entry, History}
-use Rattle.permit_model.specs.Parcels.{parcels}
+use Rattle.permit_model.specs.Search.{add_last, when}
+use Rattle.permit_model.specs.History.{History}
 use Rattle.permit_model.specs.Files.{Filing, Act, acts_on, filings, CaseFile, case_file, case_files, case_numbered}
-use Rattle.permit_model.specs.Work.{open_notices, notices_after, paper_sort, makes_paper, paper_count}
-use Rattle.permit_model.specs.Tables.{State, FileRow, Paper, paper_by, papers_made, paper_days, paper_text, paper_terms, is_notice, file_row, state_of, tables}
+use Rattle.permit_model.specs.Work.{notices_after, paper_sort, makes_paper, paper_count}
+use Rattle.permit_model.specs.Tables.{State, FileRow, Paper, paper_by, papers_made, is_notice, file_row, state_of, tables}
 use Rattle.permit_model.specs.Admission.{most_papers, first_failing, file_tests, tests_on, reason_against}
 use Rattle.permit_model.proofs.Fronts.{AllPass, all_pass}
 use Rattle.permit_model.specs.Machine.{IsHistory, entry_of, paper_number}
-use Rattle.permit_model.proofs.Appending.{command_entry, with_act, touched, case_files-command}
+use Rattle.permit_model.proofs.Appending.{command_entry, with_act, case_files-command}
 use Rattle.permit_core.specs.Naming.{named_paper}
 use Rattle.permit_core.specs.RowAfter.{file_after, papers_after}
-use Rattle.permit_store.specs.Changes.{with_state, closed_by, suits_effect, suits_row}
+use Rattle.permit_store.specs.Changes.{with_state, suits_effect, suits_row}
 use Rattle.permit_store.specs.declared.change.RowEffect.{RowEffect}
 use Rattle.permit_office.specs.Effects.{papers_entered}
 use Rattle.permit_office.proofs.Deciding.{all_three}

@@ -1,7 +1,6 @@
 -- A run goes on by one request.
-use Rattle.std.proofs.Common.{◌≡◌, ℕ, ◌+◌, Bool, true, false, cond, not, List, [], ◌∷◌, ◌++◌, length, map, refl, sym, ◌∙◌, ap, subst, inl, inr, ⊎_elim, ◌⊎◌, length-append, arith}
+use Rattle.std.proofs.Common.{◌≡◌, ℕ, ◌+◌, Bool, true, false, cond, not, List, [], ◌∷◌, ◌++◌, length, map, refl, sym, ◌∙◌, ap, subst, ⊎_elim, length-append, arith}
 use Rattle.std.specs.Prelude.{filter, if◌then◌else◌}
-use Rattle.std.proofs.lemmas.List.{map-append}
 use Rattle.permit_base.specs.declared.outcome.Refusal.TheVariants as refusal
 use Rattle.permit_base.specs.declared.request.Asked.{Asked}
 use Rattle.std.specs.Prelude.{Option, Some, None, nat_lt}
@@ -18,7 +17,7 @@ use Rattle.permit_model.specs.Admission.{reason_against}
 use Rattle.permit_model.proofs.Histories.{run_keeps}
 use Rattle.permit_model.specs.Policy.{Policy, decision, is_allow}
 use Rattle.permit_model.specs.Tables.{Tables, tables}
-use Rattle.permit_model.specs.Machine.{Reply, Outcome, Refused, refused, shown_parcel, shown_file, admitted, performed, judged, served, known, entry_of, facts_of, IsHistory, step, replies_to, history_after}
+use Rattle.permit_model.specs.Machine.{Reply, Refused, refused, shown_parcel, shown_file, admitted, performed, judged, served, known, entry_of, facts_of, IsHistory, step, replies_to, history_after}
 use Rattle.permit_office.specs.declared.reply.Reply.{Reply as Given}
 use Rattle.permit_office.specs.declared.reply.Reply.TheVariants as given
 use Rattle.permit_office.specs.Answers.{reply_of, is_store_refusal, Answers}

@@ -1,6 +1,6 @@
 -- A known caller in time is served.
-use Rattle.std.proofs.Common.{◌≡◌, ◌≤◌, ℕ, Bool, true, false, List, refl, ◌≢◌, ◌+◌, ◌%◌, ◌^◌, ◌<◌, sym, ◌∙◌, ap, subst, arith, inl, [], ◌∷◌, ◌++◌, not}
-use Rattle.std.specs.Prelude.{Option, None, Some, nat_lt, if◌then◌else◌, IsTrue, Ok, Err}
+use Rattle.std.proofs.Common.{◌≡◌, ◌≤◌, ℕ, Bool, true, false, List, refl, ◌≢◌, sym, ◌∙◌, ap, subst, arith, inl, [], ◌∷◌, ◌++◌, not}
+use Rattle.std.specs.Prelude.{Some, nat_lt, if◌then◌else◌, IsTrue, Ok, Err}
 use Rattle.permit_store.specs.declared.store.StoreError.{StoreError}
 use Rattle.std.proofs.lemmas.Bool.Decides.{nat_tests}
 use Rattle.permit_base.specs.declared.outcome.Refusal.TheVariants as refusal
@@ -9,7 +9,7 @@ use Rattle.permit_base.specs.declared.request.Request.{Request}
 use Rattle.permit_model.specs.History.{History, last_day}
 use Rattle.permit_model.specs.Caller.{Party, parties, who, is_party}
 use Rattle.permit_model.specs.Policy.{Policy}
-use Rattle.permit_model.specs.Machine.{Outcome, known, served, refused, step_as}
+use Rattle.permit_model.specs.Machine.{known, served, refused, step_as}
 use Rattle.permit_store.specs.Counts.{next_count}
 use Rattle.permit_store.specs.Frames.{StoreView, HasOneDesk}
 use Rattle.permit_office.specs.declared.reply.Reply.{Reply as Given}
