@@ -1,5 +1,5 @@
 -- What a denial makes of the outcome, and what an admitted command has.
-use Rattle.std.proofs.Common.{◌≡◌, ◌<◌, ◌≤◌, ◌+◌, ◌%◌, ℕ, ◌==◌, Bool, true, false, cond, not, List, [], ◌∷◌, length, refl, sym, ◌∙◌, ap, arith}
+use Rattle.std.proofs.Common.{◌≡◌, ◌<◌, ◌+◌, ◌%◌, ℕ, ◌==◌, Bool, true, false, not, List, [], ◌∷◌, length, refl, sym, ◌∙◌, ap, arith}
 use Rattle.std.specs.Prelude.{Option, None, Some, find, is_some, is_none, IsTrue, nat_le, nat_lt, bytes_eq, ◌&&◌, if◌then◌else◌}
 use Rattle.std.specs.List.{list_any}
 use Rattle.std.proofs.lemmas.Bool.Decides.{nat_tests}
@@ -9,7 +9,7 @@ use Rattle.permit_base.specs.declared.outcome.Refusal.TheVariants as refusal
 use Rattle.permit_base.specs.declared.request.Request.{Request}
 use Rattle.permit_base.specs.declared.request.Request.TheVariants.{AddParty, AddParcel, File, Declare, Transfer}
 use Rattle.permit_base.specs.Digests.{digest_of}
-use Rattle.permit_model.specs.History.{History, Entry}
+use Rattle.permit_model.specs.History.{History}
 use Rattle.permit_model.specs.Caller.{Party, parties, is_party}
 use Rattle.permit_model.specs.Parcels.{Parcel, parcels, parcel_numbered, has_interest}
 use Rattle.permit_model.specs.Files.{filings, case_file, case_files}

@@ -1,6 +1,6 @@
 -- The tables after a command on a file.
-use Rattle.std.proofs.Common.{◌≡◌, ◌<◌, ◌≤◌, ◌+◌, ℕ, ◌==◌, Bool, true, false, cond, not, List, [], ◌∷◌, ◌++◌, length, refl, sym, ◌∙◌, ap, subst, map, arith, add-one}
-use Rattle.std.specs.Prelude.{Option, None, Some, find, filter, option_map, unwrap_or, is_some, if◌then◌else◌, IsTrue, ◌||◌, ◌&&◌, nat_le, nat_lt}
+use Rattle.std.proofs.Common.{◌≡◌, ◌<◌, ◌+◌, ℕ, ◌==◌, Bool, true, false, cond, List, ◌∷◌, length, refl, sym, ◌∙◌, ap, subst, map, arith}
+use Rattle.std.specs.Prelude.{Option, None, Some, find, filter, option_map, unwrap_or, is_some, if◌then◌else◌, IsTrue, nat_le, nat_lt}
 use Rattle.std.proofs.lemmas.Bool.Decides.{nat_tests}
 use Rattle.std.proofs.lemmas.List.{length-map}
 use Rattle.std.proofs.lemmas.Bool.{eq-eqb, eqb-true}
@@ -24,7 +24,7 @@ use Rattle.permit_model.proofs.Projection.{WereAdmitted, were_admitted}
 use Rattle.permit_model.proofs.Appending.{command_entry, with_act, touched, case_files-command}
 use Rattle.permit_core.specs.Naming.{named_paper}
 use Rattle.permit_core.specs.RowAfter.{file_after, papers_after}
-use Rattle.permit_store.specs.Changes.{with_state, closed_by, suits_effect, suits_row}
+use Rattle.permit_store.specs.Changes.{with_state, suits_effect, suits_row}
 use Rattle.permit_store.specs.declared.change.RowEffect.{RowEffect}
 use Rattle.permit_office.specs.Effects.{papers_entered}
 use Rattle.permit_office.proofs.Deciding.{all_three}

@@ -1,5 +1,5 @@
 -- What a record that is found, or isn't, makes of the outcome.
-use Rattle.std.proofs.Common.{◌≡◌, ℕ, ◌==◌, Bool, true, false, cond, List, [], ◌∷◌, refl, sym, ◌∙◌, ap, map}
+use Rattle.std.proofs.Common.{◌≡◌, ℕ, ◌==◌, Bool, true, false, cond, List, [], ◌∷◌, refl, sym, ◌∙◌, ap}
 use Rattle.std.specs.Prelude.{Option, None, Some, find, option_map, filter, unwrap_or}
 use Rattle.std.proofs.lemmas.Bool.{eqb-true}
 use Rattle.permit_base.specs.declared.words.Kind.{Kind}
@@ -14,9 +14,9 @@ use Rattle.permit_base.specs.declared.words.Timing.{Timing}
 use Rattle.permit_core.specs.Views.{row_stage, row_timing}
 use Rattle.permit_model.specs.History.{History}
 use Rattle.permit_model.specs.Caller.{Party}
-use Rattle.permit_model.specs.Parcels.{Parcel, parcels, parcel_numbered}
+use Rattle.permit_model.specs.Parcels.{Parcel, parcel_numbered}
 use Rattle.permit_model.specs.Files.{Filing, CaseFile, filings, case_file, case_files, case_numbered}
-use Rattle.permit_model.specs.Facts.{Facts, parcel_facts, file_facts}
+use Rattle.permit_model.specs.Facts.{parcel_facts, file_facts}
 use Rattle.permit_model.specs.Policy.{Policy, decision}
 use Rattle.permit_model.specs.Tables.{Paper, FileRow, file_row, file_view, papers_of, tables}
 use Rattle.permit_model.specs.Machine.{Outcome, FileShown, ParcelShown, shown_parcel, outcome_by_decision, outcome_by_facts, outcome_by_request, refused, unchanged, shown_file}

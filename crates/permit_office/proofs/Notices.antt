@@ -1,20 +1,19 @@
 -- The papers that are there already, after a command on a file: they stay, but for a notice that it clears.
-use Rattle.std.proofs.Common.{◌≡◌, ◌<◌, ◌≤◌, ◌+◌, ℕ, ◌==◌, Bool, true, false, cond, not, List, [], ◌∷◌, ◌++◌, length, refl, sym, ◌∙◌, ap, subst, map, arith}
+use Rattle.std.proofs.Common.{◌≡◌, ◌<◌, ◌+◌, ℕ, ◌==◌, Bool, true, false, cond, not, List, [], ◌∷◌, length, refl, sym, ◌∙◌, ap, subst, map, arith}
 use Rattle.std.specs.Prelude.{Option, None, Some, find, filter, option_map, unwrap_or, is_some, if◌then◌else◌, IsTrue, ◌||◌, ◌&&◌}
-use Rattle.std.specs.List.{list_any, cons_option}
+use Rattle.std.specs.List.{cons_option}
 use Rattle.std.proofs.lemmas.Bool.{eqb-true}
 use Rattle.std.proofs.lemmas.List.{map-append}
 use Rattle.std.proofs.lemmas.Bool.Decides.{nat_tests}
 use Rattle.permit_base.specs.declared.words.PaperSort.{PaperSort}
 use Rattle.permit_base.specs.declared.request.Command.{Command}
-use Rattle.permit_base.specs.declared.request.Command.TheVariants.{Notice, ClearNotice}
 use Rattle.permit_base.specs.declared.request.Request.TheVariants.{OnFile}
 use Rattle.permit_model.specs.Search.{add_last, has_number, when}
 use Rattle.permit_model.specs.History.{Deed, Founding, Accepted, Entry, History}
 use Rattle.permit_model.specs.Files.{Filing, Act, act_of, acts_on, filings, CaseFile, case_file, case_numbered}
 use Rattle.permit_model.specs.Work.{open_notices, paper_sort, makes_paper, paper_count}
 use Rattle.permit_model.specs.Tables.{Paper, paper_by, paper_of_deed, papers_made, paper_days, paper_text, paper_terms, is_notice}
-use Rattle.permit_model.specs.Machine.{IsHistory, IsFounding, MayFollow, IsAccepted, paper_number}
+use Rattle.permit_model.specs.Machine.{IsHistory, IsFounding, MayFollow, paper_number}
 use Rattle.permit_model.proofs.Appending.{command_entry}
 use Rattle.permit_model.proofs.Notices.{notices_after, IsFresh, open_more}
 use Rattle.permit_store.specs.Changes.{closed_by}

@@ -1,12 +1,12 @@
 -- The files' rows after a command on a file: that file has its new row, and each other one stays.
-use Rattle.std.proofs.Common.{◌≡◌, ◌<◌, ◌+◌, ℕ, ◌==◌, Bool, true, false, cond, List, [], ◌∷◌, length, refl, sym, ◌∙◌, ap, map, arith}
-use Rattle.std.specs.Prelude.{Option, None, Some, find, unwrap_or, if◌then◌else◌}
+use Rattle.std.proofs.Common.{◌≡◌, ◌<◌, ◌+◌, ℕ, ◌==◌, Bool, true, false, cond, List, [], ◌∷◌, refl, sym, ◌∙◌, ap, map, arith}
+use Rattle.std.specs.Prelude.{Some, find, unwrap_or, if◌then◌else◌}
 use Rattle.std.proofs.lemmas.Bool.{eqb-true}
 use Rattle.std.proofs.lemmas.Bool.Decides.{nat_tests}
 use Rattle.permit_model.specs.History.{History}
 use Rattle.permit_model.specs.Files.{Filing, Act, CaseFile, filings, case_file, case_files}
 use Rattle.permit_model.specs.Numbering.{IsNumberedFrom}
-use Rattle.permit_model.specs.Tables.{State, FileRow, file_row, state_of}
+use Rattle.permit_model.specs.Tables.{State, file_row, state_of}
 use Rattle.permit_model.specs.Machine.{IsHistory}
 use Rattle.permit_model.proofs.Appending.{with_act, touched}
 use Rattle.permit_model.proofs.Numbers.{filings_numbered}

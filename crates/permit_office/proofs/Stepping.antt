@@ -1,6 +1,6 @@
 -- A known caller in time is served.
-use Rattle.std.proofs.Common.{◌≡◌, ◌≤◌, ℕ, Bool, true, false, List, refl, ◌≢◌, ◌+◌, ◌%◌, ◌^◌, ◌<◌, sym, ◌∙◌, ap, subst, arith, inl, [], ◌∷◌, ◌++◌, not}
-use Rattle.std.specs.Prelude.{Option, None, Some, nat_lt, if◌then◌else◌, IsTrue, Ok, Err}
+use Rattle.std.proofs.Common.{◌≡◌, ◌≤◌, ℕ, Bool, true, false, List, refl, ◌≢◌, sym, ◌∙◌, ap, subst, arith, inl, [], ◌∷◌, ◌++◌, not}
+use Rattle.std.specs.Prelude.{Some, nat_lt, if◌then◌else◌, IsTrue, Ok, Err}
 use Rattle.permit_store.specs.declared.store.StoreError.{StoreError}
 use Rattle.std.proofs.lemmas.Bool.Decides.{nat_tests}
 use Rattle.permit_base.specs.declared.outcome.Refusal.TheVariants as refusal

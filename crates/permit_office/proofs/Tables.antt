@@ -1,6 +1,6 @@
 -- The tables after an entry more are the tables with the change.
-use Rattle.std.proofs.Common.{◌≡◌, ◌<◌, ◌≤◌, ◌+◌, ℕ, ◌==◌, Bool, true, false, cond, List, [], ◌∷◌, ◌++◌, length, refl, sym, ◌∙◌, ap, map, arith, length-append}
-use Rattle.std.specs.Prelude.{Option, None, Some, find, option_map, unwrap_or, if◌then◌else◌}
+use Rattle.std.proofs.Common.{◌≡◌, ◌<◌, ◌+◌, ℕ, ◌==◌, Bool, true, false, List, [], ◌∷◌, ◌++◌, length, refl, sym, ◌∙◌, ap, map, arith, length-append}
+use Rattle.std.specs.Prelude.{Option, None, Some, unwrap_or, if◌then◌else◌}
 use Rattle.std.proofs.lemmas.List.{length-map, map-append}
 use Rattle.permit_base.specs.declared.words.Role.{Role}
 use Rattle.permit_base.specs.declared.words.Kind.{Kind}
@@ -10,12 +10,12 @@ use Rattle.permit_model.specs.Search.{in_order, add_last, latest}
 use Rattle.std.specs.Option.{option_or}
 use Rattle.permit_store.specs.Changes.{given_to}
 use Rattle.std.proofs.lemmas.Bool.Decides.{nat_tests}
-use Rattle.permit_model.specs.History.{Deed, Founding, Accepted, Entry, History}
+use Rattle.permit_model.specs.History.{Deed, Accepted, Entry, History}
 use Rattle.permit_model.specs.Caller.{Party, parties}
 use Rattle.permit_model.specs.Parcels.{Parcel, parcel_added, parcel_now, parcels, receiver_by, interests}
-use Rattle.permit_model.specs.Files.{Filing, Act, act_of, acts_on, filings, CaseFile, case_file, case_files}
+use Rattle.permit_model.specs.Files.{Filing, act_of, acts_on, filings, CaseFile, case_file, case_files}
 use Rattle.permit_model.specs.Work.{open_notices}
-use Rattle.permit_model.specs.Tables.{Desk, Tables, tables, FileRow, file_row, Paper, paper_by, papers_made, state_of}
+use Rattle.permit_model.specs.Tables.{tables, file_row, paper_by, papers_made, state_of}
 use Rattle.permit_model.specs.Machine.{IsHistory, entry_of}
 use Rattle.permit_model.proofs.Numbers.{parcels_below, no_transfers, files_below}
 use Rattle.permit_model.proofs.Projection.{no_acts}

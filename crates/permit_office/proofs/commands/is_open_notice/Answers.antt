@@ -1,4 +1,4 @@
-use Rattle.std.proofs.Common.{◌≡◌, ap, ◌∙◌, sym}
+use Rattle.std.proofs.Common.{ap, ◌∙◌, sym}
 use Rattle.std.specs.List.{list_any}
 use Rattle.permit_model.specs.Tables.{tables}
 use Rattle.permit_office.proofs.OpenNotices.{is_open_of, open_papers}

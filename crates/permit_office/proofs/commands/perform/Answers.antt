@@ -1,11 +1,9 @@
-use Rattle.std.proofs.Common.{◌≡◌, ◌∷◌, ℕ, List, arith, ap, ◌∙◌, sym, refl, inl}
+use Rattle.std.proofs.Common.{◌≡◌, arith, ap, ◌∙◌, sym, refl, inl}
 use Rattle.std.specs.Prelude.{Some}
 use Rattle.permit_base.specs.declared.request.Request.TheVariants.{OnFile}
-use Rattle.permit_model.specs.Files.{CaseFile, case_numbered}
-use Rattle.permit_model.specs.Work.{paper_sort, paper_count}
-use Rattle.permit_model.specs.Tables.{State, FileRow, Paper, papers_made, state_of, tables}
+use Rattle.permit_model.specs.Files.{case_numbered}
+use Rattle.permit_model.specs.Tables.{State, FileRow, papers_made, tables}
 use Rattle.permit_model.specs.Machine.{entry_of, paper_number}
-use Rattle.permit_core.specs.RowAfter.{file_after}
 use Rattle.permit_office.proofs.Entered.{command_more, row_suits, papers_counted, papers_room}
 use Rattle.permit_office.proofs.commands.perform.Goals as goal
 

@@ -1,4 +1,4 @@
-use Rattle.std.proofs.Common.{◌≡◌, ◌+◌, length, ap, ◌∙◌, sym, refl, inl, inr, arith}
+use Rattle.std.proofs.Common.{◌≡◌, ◌+◌, length, ap, ◌∙◌, sym, refl, inl, arith}
 use Rattle.permit_base.specs.declared.request.Request.TheVariants.{File}
 use Rattle.permit_base.specs.declared.words.Stage.TheVariants.{New}
 use Rattle.permit_base.specs.declared.words.Action.TheVariants as action

@@ -1,17 +1,15 @@
-use Rattle.std.proofs.Common.{◌≡◌, ◌+◌, length, ap, ◌∙◌, sym, refl, inl, inr, arith}
+use Rattle.std.proofs.Common.{◌≡◌, ap, ◌∙◌, sym, refl, inl, arith}
 use Rattle.permit_base.specs.declared.request.Request.TheVariants.{Declare}
 use Rattle.permit_base.specs.declared.words.Stage.TheVariants.{Office}
 use Rattle.permit_base.specs.declared.words.Action.TheVariants as action
 use Rattle.permit_model.specs.Caller.{Party}
 use Rattle.permit_model.specs.Parcels.{Parcel, parcels, parcel_numbered}
 use Rattle.std.specs.Prelude.{Some}
-use Rattle.std.proofs.lemmas.List.{length-map}
-use Rattle.permit_model.specs.Files.{filings, case_file, case_files}
-use Rattle.permit_model.specs.Tables.{Desk, tables}
+use Rattle.permit_model.specs.Tables.{tables}
 use Rattle.permit_model.specs.Facts.{parcel_facts}
 use Rattle.permit_model.specs.Policy.{decision}
 use Rattle.permit_model.specs.Machine.{entry_of}
-use Rattle.permit_office.proofs.Deciding.{denied_outcome, allowed_outcome, interest_suits, wrapped}
+use Rattle.permit_office.proofs.Deciding.{denied_outcome, allowed_outcome, interest_suits}
 use Rattle.permit_office.proofs.Finding.{found_number, declare_judged}
 use Rattle.permit_office.proofs.Tables.{interest_more}
 use Rattle.permit_office.proofs.land.declare.Goals as goal

@@ -1,4 +1,4 @@
-use Rattle.std.proofs.Common.{◌≡◌, ap, ◌∙◌, sym, refl, inl, inr, arith}
+use Rattle.std.proofs.Common.{◌≡◌, ap, ◌∙◌, sym, refl, inl, arith}
 use Rattle.permit_base.specs.declared.request.Request.TheVariants.{AddParty}
 use Rattle.std.specs.Prelude.{Result, Ok}
 use Rattle.permit_base.specs.Actions.{adding_action}

@@ -1,9 +1,8 @@
-use Rattle.std.proofs.Common.{◌≡◌, arith, ap, ◌∙◌, sym, refl, inl, inr}
-use Rattle.std.specs.Prelude.{Some}
+use Rattle.std.proofs.Common.{◌≡◌, arith, ap, ◌∙◌, sym, refl, inl}
 use Rattle.permit_base.specs.declared.request.Request.TheVariants.{ReadFile}
 use Rattle.permit_base.specs.declared.words.Action.TheVariants as action
 use Rattle.permit_model.specs.Files.{CaseFile, case_file}
-use Rattle.permit_model.specs.Tables.{State, FileRow, file_row, state_of, tables}
+use Rattle.permit_model.specs.Tables.{FileRow, tables}
 use Rattle.permit_model.specs.Facts.{file_facts}
 use Rattle.permit_model.specs.Policy.{decision}
 use Rattle.permit_office.proofs.Deciding.{denied_outcome, allowed_outcome}

@@ -1,19 +1,14 @@
-use Rattle.std.proofs.Common.{◌≡◌, ◌+◌, length, ap, ◌∙◌, sym, refl, inl, inr, arith}
+use Rattle.std.proofs.Common.{◌≡◌, ap, ◌∙◌, sym, refl, inl, arith}
 use Rattle.permit_base.specs.declared.request.Request.TheVariants.{ReadParcel}
 use Rattle.permit_base.specs.declared.words.Stage.TheVariants.{Office}
 use Rattle.permit_base.specs.declared.words.Action.TheVariants as action
-use Rattle.permit_model.specs.Caller.{Party}
 use Rattle.permit_model.specs.Parcels.{Parcel, parcels, parcel_numbered}
 use Rattle.std.specs.Prelude.{Some}
-use Rattle.std.proofs.lemmas.List.{length-map}
-use Rattle.permit_model.specs.Files.{filings, case_file, case_files}
-use Rattle.permit_model.specs.Tables.{Desk, tables}
+use Rattle.permit_model.specs.Tables.{tables}
 use Rattle.permit_model.specs.Facts.{parcel_facts}
 use Rattle.permit_model.specs.Policy.{decision}
-use Rattle.permit_model.specs.Machine.{entry_of}
-use Rattle.permit_office.proofs.Deciding.{denied_outcome, allowed_outcome, file_suits, wrapped}
+use Rattle.permit_office.proofs.Deciding.{denied_outcome}
 use Rattle.permit_office.proofs.Finding.{found_number, parcel_judged, parcel_read}
-use Rattle.permit_office.proofs.Tables.{file_more}
 use Rattle.permit_office.proofs.reading.read_parcel.Goals as goal
 
 pub returns-in-Some-denial-clause-model : goal.returns-in-Some-denial-clause-model

@@ -1,4 +1,4 @@
-use Rattle.std.proofs.Common.{◌≡◌, ap, ◌∙◌, sym, refl, arith}
+use Rattle.std.proofs.Common.{◌≡◌, ap, ◌∙◌, sym, arith}
 use Rattle.permit_model.specs.Tables.{Desk, tables}
 use Rattle.permit_office.proofs.Stepping.{stepped, caller_there}
 use Rattle.permit_office.proofs.serve.attempt.Goals as goal
