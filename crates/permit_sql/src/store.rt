@@ -10,6 +10,7 @@ ghost use Rattle.permit_store.specs.Counts.{next_count};
 ghost use Rattle.permit_store.specs.declared.store.OpenError.TheVariants as open_error;
 ghost use Rattle.permit_sql_rows.specs.Schema.{empty_schema};
 ghost use Rattle.permit_sql_rows.specs.Kept.{Keeps, Shows, IsFine};
+ghost use Rattle.permit_sql.specs.Seen.{Lasts};
 ghost use Rattle.permit_sql.specs.Opening.{HasOtherVersion};
 ghost use Rattle.permit_sql.specs.Found.{KeepsTyped};
 
@@ -139,9 +140,12 @@ impl<S: Alter> SqlStore<S> {
         }
     }
 
-    /// Gives the connection back with its database as it is.
+    /// Gives the connection back with its database as it is. Of any store, so after each of its calls: while the
+    /// connection is open, a crash leaves exactly what it shows. Each call that succeeds, on a disk that has given back
+    /// what was written, leaves it open.
     pub fn into_connection(self) -> Connection<S>
-        ensures { result ≡ self.conn }
+        ensures conn { result ≡ self.conn }
+        ensures lasts { IsTrue (state S.Store self.conn).is_open → Lasts (state S.Store self.conn) }
     {
         let SqlStore {
             alloc: _,
@@ -150,6 +154,7 @@ impl<S: Alter> SqlStore<S> {
             failed: _,
             commits: _,
         } = self;
+        let _settled = conn.is_autocommit();
         conn
     }
 }
