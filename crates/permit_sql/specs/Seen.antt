@@ -25,3 +25,7 @@ IsLeft trees t = (db : Database) × Keeps t db × (trees ≡ db.trees)
 -- what a crash leaves of a database that keeps these tables is what it left before, or trees of which this is said
 abbrev pub Outlasts : State → State → Tables → ((Tables → Type 0) → Type 0) → Type 0
 Outlasts old new t made = Keeps t old.now → Survives old new (λ trees. made (IsLeft trees))
+
+-- what a crash at this moment may leave is exactly what it shows
+abbrev pub Lasts : State → Type 0
+Lasts s = (db : Trees) → s.may_leave db → db ≡ s.now.trees

@@ -10,6 +10,7 @@ ghost use Rattle.permit_store.specs.Counts.{next_count};
 ghost use Rattle.permit_store.specs.declared.store.OpenError.TheVariants as open_error;
 ghost use Rattle.permit_sql_rows.specs.Schema.{empty_schema};
 ghost use Rattle.permit_sql_rows.specs.Kept.{Keeps, Shows, IsFine};
+ghost use Rattle.permit_sql.specs.Seen.{Lasts};
 ghost use Rattle.permit_sql.specs.Opening.{HasOtherVersion};
 ghost use Rattle.permit_sql.specs.Found.{KeepsTyped};
 
@@ -66,23 +67,29 @@ impl<S: Alter> SqlStore<S> {
     }
 
     /// Makes the tables in an empty database, with one party, number 1, an official, on the founding day, all in
-    /// one transaction. It refuses as `Exists` where the database has a table, an index or a view, and as `Store`
-    /// where a call failed or a transaction is open; with a refusal the connection comes back, its database as
-    /// before.
+    /// one transaction. It refuses as `Store` where a call failed or a transaction is open, and else as `Exists` exactly
+    /// where the database has a table, an index or a view; with a refusal the connection comes back, its database as
+    /// before. A crash inside leaves what was there, or the founding alone.
     pub fn create(
         alloc: Global,
         conn: Connection<S>,
         founder: &Founder,
     ) -> Result<SqlStore<S>, (Connection<S>, OpenError)>
         ensures founded { IfOk result (λ s. (⟦<SqlStore<S> as Store>⟧.view s).holds (tables (founding founder.now.name founder.now.digest founder.now.day))) }
-        ensures keeps { IfOk result (λ s. HasCleanDisk (state S.Store s.conn) → Keeps (tables (founding founder.now.name founder.now.digest founder.now.day)) (state S.Store s.conn).now) }
+        ensures keeps { IfOk result (λ s. HasCleanDisk (state S.Store s.conn)
+            → Keeps (tables (founding founder.now.name founder.now.digest founder.now.day)) (state S.Store s.conn).now) }
         ensures doubt { IfOk result (λ s. (⟦<SqlStore<S> as Store>⟧.view s).doubt ≡ doubt (state S.Store s.conn).is_clean) }
         ensures handed { IfOk result (λ s. (⟦<SqlStore<S> as Store>⟧.view s).handed ≡ 0) }
         ensures failed { IfOk result (λ s. (⟦<SqlStore<S> as Store>⟧.view s).failed ≡ 0) }
         ensures commits { IfOk result (λ s. (⟦<SqlStore<S> as Store>⟧.view s).commits ≡ 0) }
-        ensures crash { IfOk result (λ s. Survives (state S.Store conn) (state S.Store s.conn) (λ trees. (db : _) × Keeps (tables (founding founder.now.name founder.now.digest founder.now.day)) db × (trees ≡ db.trees))) }
+        ensures crash { IfOk result (λ s. Survives (state S.Store conn) (state S.Store s.conn)
+            (λ trees. (db : _) × Keeps (tables (founding founder.now.name founder.now.digest founder.now.day)) db × (trees ≡ db.trees))) }
         ensures same { IfErr result (λ e. IsFine (state S.Store e.0) → (state S.Store e.0).now ≡ (state S.Store conn).now) }
+        ensures kept { IfErr result (λ e. Survives (state S.Store conn) (state S.Store e.0)
+            (λ trees. (db : _) × Keeps (tables (founding founder.now.name founder.now.digest founder.now.day)) db × (trees ≡ db.trees))) }
+        ensures empty { IfOk result (λ _. (state S.Store conn).now.schema ≡ empty_schema) }
         ensures exists { IfErr result (λ e. e.1 ≡ OpenError.Exists → (state S.Store conn).now.schema ≢ empty_schema) }
+        ensures told { IfErr result (λ e. conn.in_transaction ≡ false → (state S.Store conn).now.schema ≢ empty_schema → e.1 ≡ OpenError.Exists) }
         ensures refusal { IfErr result (λ e. (e.1 ≡ open_error.Exists) ⊎ (e.1 ≡ open_error.Store)) }
     {
         let mut conn = conn;
@@ -139,9 +146,12 @@ impl<S: Alter> SqlStore<S> {
         }
     }
 
-    /// Gives the connection back with its database as it is.
+    /// Gives the connection back with its database as it is. Of any store, so after each of its calls: while the
+    /// connection is open, a crash leaves exactly what it shows. Each call that succeeds, on a disk that has given back
+    /// what was written, leaves it open.
     pub fn into_connection(self) -> Connection<S>
-        ensures { result ≡ self.conn }
+        ensures conn { result ≡ self.conn }
+        ensures lasts { IsTrue (state S.Store self.conn).is_open → Lasts (state S.Store self.conn) }
     {
         let SqlStore {
             alloc: _,
@@ -150,6 +160,7 @@ impl<S: Alter> SqlStore<S> {
             failed: _,
             commits: _,
         } = self;
+        let _settled = conn.is_autocommit();
         conn
     }
 }
