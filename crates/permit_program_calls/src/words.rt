@@ -97,7 +97,7 @@ fn bad_words(rt: HostRuntime) -> Result<(), Fail> {
     assert_eq!(rt; (status, out.as_str(), err.as_str()), (2, "", wanted));
     let (status, out, err) = run(&rt, &["check-policy"])?;
     let wanted =
-        "error: the following required arguments were not provided:\n  --policy <policy>\n\nUsage: check-policy --policy <policy>\n\nFor more information, try '--help'.\n";
+        "error: the following required arguments were not provided:\n  --policy <POLICY>\n\nUsage: permit check-policy --policy <POLICY>\n\nFor more information, try '--help'.\n";
     assert_eq!(rt; (status, out.as_str(), err.as_str()), (2, "", wanted));
     Ok(())
 }
