@@ -1,6 +1,9 @@
 -- An answer's text by its parts.
 use Rattle.std.proofs.Common.{ℕ, Bool, List, ◌≡◌, ◌++◌, length, codes, ap, ◌∙◌, refl}
 use Rattle.std.specs.Prelude.{IfOk, OnErr, Result, Ok, Err}
+use Rattle.permit_base.specs.declared.words.RegisterKind.{RegisterKind}
+use Rattle.permit_model.specs.Tables.{FileView}
+use Rattle.permit_model.specs.Register.{register_text}
 use Rattle.permit_answer.specs.AnswerText.{head_text}
 use Rattle.permit_answer.specs.Made.{made_bytes}
 use Rattle.permit_answer.specs.declared.write.Made.{Made}
@@ -19,6 +22,14 @@ pub made_in_memory : {E : Type 0} → (result : Result Made E) (said body : List
     → IfOk result (λ made. made_bytes made ≡ head_text 200 (codes "application/json") (length body) close ++ body)
 made_in_memory (Ok made) said body close s e = made_in_place 200 200 said body close (made_bytes made) refl s e
 made_in_memory (Err _) said body close s e = tt
+
+-- the same of what may be made of a register
+pub made_register : {E : Type 0} → (result : Result Made E) (kind : RegisterKind) (day : ℕ) (said files : List FileView) (close : Bool) → said ≡ files
+    → IfOk result (λ made. made_bytes made ≡ head_text 200 (codes "text/plain; charset=utf-8") (length (register_text kind day said)) close ++ register_text kind day said)
+    → IfOk result (λ made. made_bytes made ≡ head_text 200 (codes "text/plain; charset=utf-8") (length (register_text kind day files)) close ++ register_text kind day files)
+made_register (Ok made) kind day said files close s e =
+    e ∙ ap (λ x. head_text 200 (codes "text/plain; charset=utf-8") (length (register_text kind day x)) close ++ register_text kind day x) s
+made_register (Err _) kind day said files close s e = tt
 
 -- a fact that holds anyway holds at an error
 pub on_err : {A E : Type 0} → (result : Result A E) (P : Type 0) → P → OnErr result P

@@ -7,7 +7,7 @@ use Rattle.serde_json.specs.Written.{has_float, compact_text}
 use Rattle.permit_base.specs.declared.words.Step.{Step}
 use Rattle.permit_model.specs.Tables.{next_in_row}
 use Rattle.permit_model.specs.Tables.{FileView, Paper}
-use Rattle.permit_answer.specs.RowData.{count_or_null, step_or_null, papers_data, steps_data, done_steps, file_data}
+use Rattle.permit_answer.specs.RowData.{count_or_null, step_or_null, papers_data, steps_data, done_steps, file_data, listed_data, files_data, listing_data}
 
 pub count_plain : (n : Option ℕ) → has_float (count_or_null n) ≡ false
 count_plain None = refl
@@ -40,6 +40,28 @@ file_plain file papers =
       count_plain file.row.state.reviewer,
       count_plain file.row.state.temporary,
     ) refl
+
+listed_plain : (file : FileView) → has_float (listed_data file) ≡ false
+listed_plain file =
+    rw (
+      count_plain file.row.state.ask,
+      count_plain file.row.state.contractor,
+      count_plain file.row.state.deadline,
+      steps_plain (done_steps file.row.state),
+      count_plain file.row.state.inspector,
+      step_plain (next_in_row file.row.state),
+      step_plain file.row.state.request,
+      count_plain file.row.state.requested,
+      count_plain file.row.state.reviewer,
+      count_plain file.row.state.temporary,
+    ) refl
+
+files_plain : (files : List FileView) → has_float (files_data files) ≡ false
+files_plain [] = refl
+files_plain (file ∷ files) = rw (listed_plain file) (files_plain files)
+
+pub listing_plain : (files : List FileView) → has_float (listing_data files) ≡ false
+listing_plain files = rw (files_plain files) refl
 
 -- the text of a value that was made as data with no float
 pub text_of : {E : Type 0} → (result : Result (String Global) E) (made wanted : Data) → made ≡ wanted → has_float wanted ≡ false

@@ -90,5 +90,8 @@ listed_data file = object (members_before file (later_members file))
 abbrev pub file_data : FileView → List Paper → Data
 file_data file papers = object (members_before file (member (codes "papers") (papers_data papers) (later_members file)))
 
+abbrev pub files_data : List FileView → Data
+files_data files = array (items_of (map listed_data files))
+
 abbrev pub listing_data : List FileView → Data
-listing_data files = object (member (codes "files") (array (items_of (map listed_data files))) no_members)
+listing_data files = object (member (codes "files") (files_data files) no_members)

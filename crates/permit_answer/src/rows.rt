@@ -1,10 +1,10 @@
-//! Parcels and files as JSON.
+//! Parcels, files and listings as JSON.
 
 ghost use Rattle.std.specs.Prelude.{◌≡◌, IfOk, OnOk, string_bytes};
 ghost use Rattle.serde_json.specs.View.{view};
 ghost use Rattle.serde_json.specs.Written.{compact_text};
 ghost use Rattle.permit_answer.specs.Objects.{shown};
-ghost use Rattle.permit_answer.specs.RowData.{steps_data, parcel_data, paper_data, papers_data, later_members, file_data};
+ghost use Rattle.permit_answer.specs.RowData.{steps_data, parcel_data, paper_data, papers_data, later_members, listed_data, files_data, listing_data, file_data};
 ghost use Rattle.permit_answer.specs.Inserted.{with_middle, with_front};
 
 use crate::object::Object;
@@ -130,5 +130,41 @@ pub fn file_text(alloc: Global, file: &FileView, papers: &[Paper]) -> Result<Str
     ensures { IfOk result (λ s. string_bytes s ≡ compact_text (file_data file.now papers.now)) }
 {
     let value = file_value(alloc, file, papers)?;
+    value.to_string(alloc)
+}
+
+/// A file as a listing has it.
+fn listed_value(alloc: Global, file: &FileView) -> Result<Value, AllocError>
+    ensures { IfOk result (λ v. view v ≡ listed_data file.now) }
+{
+    let mut object = later(alloc, file)?;
+    put_middle(&mut object, file)?;
+    put_front(alloc, &mut object, file)?;
+    Ok(object.into_value())
+}
+
+fn files_value(alloc: Global, files: &[FileView]) -> Result<Value, AllocError>
+    ensures { IfOk result (λ v. view v ≡ files_data files.now) }
+{
+    let mut list = Vec::with_capacity(alloc, files.len())?;
+    for file in files {
+        push(&mut list, listed_value(alloc, file)?)?;
+    }
+    Ok(Value::Array(list))
+}
+
+fn listing_value(alloc: Global, files: &[FileView]) -> Result<Value, AllocError>
+    ensures { IfOk result (λ v. view v ≡ listing_data files.now) }
+{
+    let mut object = Object::new(alloc);
+    object.put("files", files_value(alloc, files)?)?;
+    Ok(object.into_value())
+}
+
+/// The text of a listing.
+pub fn listing_text(alloc: Global, files: &[FileView]) -> Result<String, AllocError>
+    ensures { IfOk result (λ s. string_bytes s ≡ compact_text (listing_data files.now)) }
+{
+    let value = listing_value(alloc, files)?;
     value.to_string(alloc)
 }

@@ -1,18 +1,23 @@
 //! Writing an answer.
 
-ghost use Rattle.std.specs.Prelude.{◌≡◌, ◌++◌, length, codes, true, IfOk, OnOk, OnErr, IsTrue};
+ghost use Rattle.std.specs.Prelude.{◌≡◌, ◌≤◌, ◌++◌, length, codes, true, IfOk, OnOk, OnErr, IsTrue};
 ghost use Rattle.std.specs.Io.KnownBytes.{Appends};
 ghost use Rattle.permit_answer.specs.AnswerText.{answer_data, answer_text, head_text, Faulted};
-ghost use Rattle.permit_answer.specs.Outgoing.{is_read_out, WroteFront, WroteAnswer, WroteFrontOfAnswer};
+ghost use Rattle.permit_model.specs.Register.{register_text};
+ghost use Rattle.permit_answer.specs.Outgoing.{is_read_out, GoesOut, WroteFront, WroteAnswer, WroteFrontOfAnswer};
 ghost use Rattle.permit_answer.specs.Made.{made_bytes};
 
 use crate::answer::{Answer, Fault};
 use crate::in_place::{done_body, fault_body, head, in_place, refusal_body};
 use crate::line::Line;
-use crate::rows::{file_text, parcel_text};
+use crate::rows::{file_text, listing_text, parcel_text};
 use crate::status::{fault_status, refusal_status};
 use http::StatusCode;
+use permit_base::values::Day;
+use permit_base::words::RegisterKind;
+use permit_core::row::FileView;
 use permit_office::reply::Reply;
+use permit_report::register;
 use std::alloc::{AllocError, Global};
 use std::io::Write;
 
@@ -54,15 +59,58 @@ impl Made {
     }
 }
 
-/// The whole text of the answer to a read.
-fn in_memory(alloc: Global, body: &str, close: bool) -> Result<Made, AllocError>
+/// The whole text of the answer to a read, with a body of this type.
+fn in_memory(
+    alloc: Global,
+    content_type: &str,
+    body: &[u8],
+    close: bool,
+) -> Result<Made, AllocError>
+    requires { length content_type.now ≤ 32 }
+    ensures { IfOk result (λ made. made_bytes made ≡ head_text 200 content_type.now (length body.now) close ++ body.now) }
+{
+    let head = head(StatusCode::OK, content_type, body.len(), close);
+    let mut bytes = Vec::with_capacity(alloc, head.len().saturating_add(body.len()))?;
+    bytes.extend_from_slice(head.as_slice())?;
+    bytes.extend_from_slice(body)?;
+    Ok(Made::InMemory(bytes))
+}
+
+/// The whole text of an answer in JSON to a read.
+fn json(alloc: Global, body: &str, close: bool) -> Result<Made, AllocError>
     ensures { IfOk result (λ made. made_bytes made ≡ head_text 200 (codes "application/json") (length body.now) close ++ body.now) }
 {
-    let head = head(StatusCode::OK, "application/json", body.len(), close);
-    let mut bytes = Vec::with_capacity(alloc, 256 + body.len())?;
-    bytes.extend_from_slice(head.as_slice())?;
-    bytes.extend_from_slice(body.as_bytes())?;
-    Ok(Made::InMemory(bytes))
+    in_memory(alloc, "application/json", body.as_bytes(), close)
+}
+
+/// The text of a register.
+fn register_bytes(
+    alloc: Global,
+    kind: RegisterKind,
+    day: Day,
+    files: &[FileView],
+) -> Result<Vec<u8>, AllocError>
+    ensures { IfOk result (λ bytes. bytes.items ≡ register_text kind day files.now) }
+{
+    let mut bytes = Vec::new(alloc);
+    match register(kind, day, files, &mut bytes) {
+        Ok(()) => Ok(bytes),
+        Err(_) => Err(AllocError),
+    }
+}
+
+/// The whole text of an answer with a register.
+fn plain_text(
+    alloc: Global,
+    kind: RegisterKind,
+    day: Day,
+    files: &[FileView],
+    close: bool,
+) -> Result<Made, AllocError>
+    ensures { IfOk result (λ made. made_bytes made ≡ head_text 200 (codes "text/plain; charset=utf-8") (length (register_text kind day files.now)) close ++ register_text kind day files.now) }
+{
+    let body = register_bytes(alloc, kind, day, files)?;
+    in_memory(alloc, "text/plain; charset=utf-8", body.as_slice(), close)
 }
 
 /// The text of an answer. Only a read takes memory.
@@ -87,10 +135,22 @@ fn make(alloc: Global, answer: &Answer, close: bool) -> Result<Made, AllocError>
                 &refusal_body(why),
                 close,
             ))),
-            Reply::Parcel(parcel) => in_memory(alloc, parcel_text(alloc, parcel)?.as_str(), close),
-            Reply::File(file, papers) => in_memory(
+            Reply::Parcel(parcel) => json(alloc, parcel_text(alloc, parcel)?.as_str(), close),
+            Reply::File(file, papers) => json(
                 alloc,
                 file_text(alloc, file, papers.as_slice())?.as_str(),
+                close,
+            ),
+            Reply::Listed(listing) => json(
+                alloc,
+                listing_text(alloc, listing.files.as_slice())?.as_str(),
+                close,
+            ),
+            Reply::Register { kind, listing } => plain_text(
+                alloc,
+                *kind,
+                *day,
+                listing.files.as_slice(),
                 close,
             ),
         },
@@ -103,6 +163,45 @@ fn store_refusal() -> Line
 {
     let body = fault_body(Fault::Memory);
     in_place(fault_status(Fault::Memory), &body, true)
+}
+
+/// The text that goes out for an answer, made whole before a byte is written.
+#[derive(Drop)]
+pub struct Outgoing {
+    text: Made,
+    closes: bool,
+}
+
+impl Outgoing {
+    /// The text of an answer. Where a read finds no memory for its own, it is that of the store's refusal, which closes.
+    pub fn new(alloc: Global, answer: &Answer, close: bool) -> Outgoing
+        ensures { GoesOut (answer_data answer.now) close (made_bytes result.text) result.closes }
+    {
+        match make(alloc, answer, close) {
+            Ok(text) => Outgoing {
+                text,
+                closes: close,
+            },
+            Err(AllocError) => Outgoing {
+                text: Made::InPlace(store_refusal()),
+                closes: true,
+            },
+        }
+    }
+
+    /// Its bytes.
+    pub fn as_bytes(&self) -> &[u8]
+        ensures { result.now ≡ made_bytes self.now.text }
+    {
+        self.text.as_slice()
+    }
+
+    /// Whether it closes the connection.
+    pub fn closes(&self) -> bool
+        ensures { result ≡ self.now.closes }
+    {
+        self.closes
+    }
 }
 
 /// Writes the text of an answer by its own loop over `write`, and says whether the text that went out closes the connection.
@@ -120,15 +219,7 @@ pub fn write_reply<W: Write>(
     ensures whole { IfOk result (WroteAnswer (answer_data answer.now) close (W.contents writer.old) (W.contents writer.new)) }
     ensures front { OnErr result (WroteFrontOfAnswer (answer_data answer.now) close (W.contents writer.old) (W.contents writer.new)) }
 {
-    match make(alloc, answer, close) {
-        Ok(text) => {
-            write_whole(writer, text.as_slice())?;
-            Ok(close)
-        }
-        Err(AllocError) => {
-            let text = store_refusal();
-            write_whole(writer, text.as_slice())?;
-            Ok(true)
-        }
-    }
+    let outgoing = Outgoing::new(alloc, answer, close);
+    write_whole(writer, outgoing.as_bytes())?;
+    Ok(outgoing.closes())
 }

@@ -105,7 +105,10 @@ fn is_of_role(role: Role, named: Option<NamedParty>) -> bool
 fn has_certificates(kind: Kind) -> bool
     ensures { result ≡ Steps.has_certificates kind }
 {
-    !matches!(kind, Kind::Repair | Kind::Demolish)
+    match kind {
+        Kind::Construct | Kind::Enlarge | Kind::Alter | Kind::Move | Kind::Occupancy => true,
+        Kind::Repair | Kind::Demolish => false,
+    }
 }
 
 /// The named party isn't there, or isn't of the role.
@@ -121,7 +124,18 @@ fn ask_limit(stage: Stage) -> u32
 {
     match stage {
         Stage::Issued | Stage::Working => LONGEST_TERM,
-        _ => LONGEST_REVIEW_EXTENSION,
+        Stage::Filed
+        | Stage::Review
+        | Stage::Returned
+        | Stage::Approved
+        | Stage::Rejected
+        | Stage::Revoked
+        | Stage::Finaled
+        | Stage::Certified
+        | Stage::Abandoned
+        | Stage::Lapsed
+        | Stage::New
+        | Stage::Office => LONGEST_REVIEW_EXTENSION,
     }
 }
 

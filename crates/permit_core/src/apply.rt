@@ -31,7 +31,27 @@ fn contractor_after(contractor: Option<PartyId>, command: &Command) -> Option<Pa
 {
     match command {
         Command::NameContractor { party } => Some(*party),
-        _ => contractor,
+        Command::AssignReviewer { .. }
+        | Command::AssignInspector { .. }
+        | Command::StartReview
+        | Command::Return { .. }
+        | Command::Resubmit { .. }
+        | Command::ApprovePlans
+        | Command::Reject { .. }
+        | Command::Issue
+        | Command::AskExtension { .. }
+        | Command::GrantExtension
+        | Command::RefuseExtension { .. }
+        | Command::BeginWork
+        | Command::RequestInspection { .. }
+        | Command::ApproveStep { .. }
+        | Command::Notice { .. }
+        | Command::ClearNotice { .. }
+        | Command::Stop { .. }
+        | Command::Lift
+        | Command::Revoke { .. }
+        | Command::Temporary { .. }
+        | Command::Certify => contractor,
     }
 }
 
@@ -41,7 +61,27 @@ fn reviewer_after(reviewer: Option<PartyId>, command: &Command) -> Option<PartyI
 {
     match command {
         Command::AssignReviewer { party } => Some(*party),
-        _ => reviewer,
+        Command::AssignInspector { .. }
+        | Command::NameContractor { .. }
+        | Command::StartReview
+        | Command::Return { .. }
+        | Command::Resubmit { .. }
+        | Command::ApprovePlans
+        | Command::Reject { .. }
+        | Command::Issue
+        | Command::AskExtension { .. }
+        | Command::GrantExtension
+        | Command::RefuseExtension { .. }
+        | Command::BeginWork
+        | Command::RequestInspection { .. }
+        | Command::ApproveStep { .. }
+        | Command::Notice { .. }
+        | Command::ClearNotice { .. }
+        | Command::Stop { .. }
+        | Command::Lift
+        | Command::Revoke { .. }
+        | Command::Temporary { .. }
+        | Command::Certify => reviewer,
     }
 }
 
@@ -51,7 +91,27 @@ fn inspector_after(inspector: Option<PartyId>, command: &Command) -> Option<Part
 {
     match command {
         Command::AssignInspector { party } => Some(*party),
-        _ => inspector,
+        Command::AssignReviewer { .. }
+        | Command::NameContractor { .. }
+        | Command::StartReview
+        | Command::Return { .. }
+        | Command::Resubmit { .. }
+        | Command::ApprovePlans
+        | Command::Reject { .. }
+        | Command::Issue
+        | Command::AskExtension { .. }
+        | Command::GrantExtension
+        | Command::RefuseExtension { .. }
+        | Command::BeginWork
+        | Command::RequestInspection { .. }
+        | Command::ApproveStep { .. }
+        | Command::Notice { .. }
+        | Command::ClearNotice { .. }
+        | Command::Stop { .. }
+        | Command::Lift
+        | Command::Revoke { .. }
+        | Command::Temporary { .. }
+        | Command::Certify => inspector,
     }
 }
 
@@ -69,7 +129,19 @@ fn stage_after(stage: Stage, command: &Command) -> Stage
         Command::ApproveStep { step: Step::Final } => Stage::Finaled,
         Command::Revoke { .. } => Stage::Revoked,
         Command::Certify => Stage::Certified,
-        _ => stage,
+        Command::AssignReviewer { .. }
+        | Command::AssignInspector { .. }
+        | Command::NameContractor { .. }
+        | Command::AskExtension { .. }
+        | Command::GrantExtension
+        | Command::RefuseExtension { .. }
+        | Command::RequestInspection { .. }
+        | Command::ApproveStep { .. }
+        | Command::Notice { .. }
+        | Command::ClearNotice { .. }
+        | Command::Stop { .. }
+        | Command::Lift
+        | Command::Temporary { .. } => stage,
     }
 }
 
@@ -104,7 +176,19 @@ fn deadline_after(
         | Command::RequestInspection { .. }
         | Command::ApproveStep { .. }
         | Command::Notice { .. } => Some(moved_by_activity(day, deadline)),
-        _ => deadline,
+        Command::AssignReviewer { .. }
+        | Command::AssignInspector { .. }
+        | Command::NameContractor { .. }
+        | Command::StartReview
+        | Command::Return { .. }
+        | Command::Resubmit { .. }
+        | Command::ApprovePlans
+        | Command::AskExtension { .. }
+        | Command::RefuseExtension { .. }
+        | Command::ClearNotice { .. }
+        | Command::Stop { .. }
+        | Command::Lift
+        | Command::Temporary { .. } => deadline,
     }
 }
 
@@ -128,7 +212,27 @@ fn done_after(done: u8, command: &Command) -> u8
 {
     match command {
         Command::ApproveStep { .. } => done.saturating_add(1),
-        _ => done,
+        Command::AssignReviewer { .. }
+        | Command::AssignInspector { .. }
+        | Command::NameContractor { .. }
+        | Command::StartReview
+        | Command::Return { .. }
+        | Command::Resubmit { .. }
+        | Command::ApprovePlans
+        | Command::Reject { .. }
+        | Command::Issue
+        | Command::AskExtension { .. }
+        | Command::GrantExtension
+        | Command::RefuseExtension { .. }
+        | Command::BeginWork
+        | Command::RequestInspection { .. }
+        | Command::Notice { .. }
+        | Command::ClearNotice { .. }
+        | Command::Stop { .. }
+        | Command::Lift
+        | Command::Revoke { .. }
+        | Command::Temporary { .. }
+        | Command::Certify => done,
     }
 }
 
@@ -139,7 +243,25 @@ fn request_after(request: Option<Step>, command: &Command) -> Option<Step>
     match command {
         Command::RequestInspection { step } => Some(*step),
         Command::ApproveStep { .. } | Command::Notice { .. } => None,
-        _ => request,
+        Command::AssignReviewer { .. }
+        | Command::AssignInspector { .. }
+        | Command::NameContractor { .. }
+        | Command::StartReview
+        | Command::Return { .. }
+        | Command::Resubmit { .. }
+        | Command::ApprovePlans
+        | Command::Reject { .. }
+        | Command::Issue
+        | Command::AskExtension { .. }
+        | Command::GrantExtension
+        | Command::RefuseExtension { .. }
+        | Command::BeginWork
+        | Command::ClearNotice { .. }
+        | Command::Stop { .. }
+        | Command::Lift
+        | Command::Revoke { .. }
+        | Command::Temporary { .. }
+        | Command::Certify => request,
     }
 }
 
@@ -150,7 +272,25 @@ fn requested_after(requested: Option<Day>, day: Day, command: &Command) -> Optio
     match command {
         Command::RequestInspection { .. } => Some(day),
         Command::ApproveStep { .. } | Command::Notice { .. } => None,
-        _ => requested,
+        Command::AssignReviewer { .. }
+        | Command::AssignInspector { .. }
+        | Command::NameContractor { .. }
+        | Command::StartReview
+        | Command::Return { .. }
+        | Command::Resubmit { .. }
+        | Command::ApprovePlans
+        | Command::Reject { .. }
+        | Command::Issue
+        | Command::AskExtension { .. }
+        | Command::GrantExtension
+        | Command::RefuseExtension { .. }
+        | Command::BeginWork
+        | Command::ClearNotice { .. }
+        | Command::Stop { .. }
+        | Command::Lift
+        | Command::Revoke { .. }
+        | Command::Temporary { .. }
+        | Command::Certify => requested,
     }
 }
 
@@ -161,7 +301,24 @@ fn ask_after(ask: Option<Days>, command: &Command) -> Option<Days>
     match command {
         Command::AskExtension { days, .. } => Some(*days),
         Command::GrantExtension | Command::RefuseExtension { .. } | Command::Issue => None,
-        _ => ask,
+        Command::AssignReviewer { .. }
+        | Command::AssignInspector { .. }
+        | Command::NameContractor { .. }
+        | Command::StartReview
+        | Command::Return { .. }
+        | Command::Resubmit { .. }
+        | Command::ApprovePlans
+        | Command::Reject { .. }
+        | Command::BeginWork
+        | Command::RequestInspection { .. }
+        | Command::ApproveStep { .. }
+        | Command::Notice { .. }
+        | Command::ClearNotice { .. }
+        | Command::Stop { .. }
+        | Command::Lift
+        | Command::Revoke { .. }
+        | Command::Temporary { .. }
+        | Command::Certify => ask,
     }
 }
 
@@ -172,7 +329,26 @@ fn stopped_after(stopped: bool, command: &Command) -> bool
     match command {
         Command::Stop { .. } => true,
         Command::Lift => false,
-        _ => stopped,
+        Command::AssignReviewer { .. }
+        | Command::AssignInspector { .. }
+        | Command::NameContractor { .. }
+        | Command::StartReview
+        | Command::Return { .. }
+        | Command::Resubmit { .. }
+        | Command::ApprovePlans
+        | Command::Reject { .. }
+        | Command::Issue
+        | Command::AskExtension { .. }
+        | Command::GrantExtension
+        | Command::RefuseExtension { .. }
+        | Command::BeginWork
+        | Command::RequestInspection { .. }
+        | Command::ApproveStep { .. }
+        | Command::Notice { .. }
+        | Command::ClearNotice { .. }
+        | Command::Revoke { .. }
+        | Command::Temporary { .. }
+        | Command::Certify => stopped,
     }
 }
 
@@ -183,7 +359,26 @@ fn notices_after(notices: u16, command: &Command) -> u16
     match command {
         Command::Notice { .. } => notices.saturating_add(1),
         Command::ClearNotice { .. } => notices.saturating_sub(1),
-        _ => notices,
+        Command::AssignReviewer { .. }
+        | Command::AssignInspector { .. }
+        | Command::NameContractor { .. }
+        | Command::StartReview
+        | Command::Return { .. }
+        | Command::Resubmit { .. }
+        | Command::ApprovePlans
+        | Command::Reject { .. }
+        | Command::Issue
+        | Command::AskExtension { .. }
+        | Command::GrantExtension
+        | Command::RefuseExtension { .. }
+        | Command::BeginWork
+        | Command::RequestInspection { .. }
+        | Command::ApproveStep { .. }
+        | Command::Stop { .. }
+        | Command::Lift
+        | Command::Revoke { .. }
+        | Command::Temporary { .. }
+        | Command::Certify => notices,
     }
 }
 
@@ -203,7 +398,27 @@ fn temporary_after(temporary: Option<u32>, day: Day, command: &Command) -> Optio
 {
     match command {
         Command::Temporary { days, .. } => Some(day.get() + days.get()),
-        _ => temporary,
+        Command::AssignReviewer { .. }
+        | Command::AssignInspector { .. }
+        | Command::NameContractor { .. }
+        | Command::StartReview
+        | Command::Return { .. }
+        | Command::Resubmit { .. }
+        | Command::ApprovePlans
+        | Command::Reject { .. }
+        | Command::Issue
+        | Command::AskExtension { .. }
+        | Command::GrantExtension
+        | Command::RefuseExtension { .. }
+        | Command::BeginWork
+        | Command::RequestInspection { .. }
+        | Command::ApproveStep { .. }
+        | Command::Notice { .. }
+        | Command::ClearNotice { .. }
+        | Command::Stop { .. }
+        | Command::Lift
+        | Command::Revoke { .. }
+        | Command::Certify => temporary,
     }
 }
 

@@ -12,3 +12,4 @@ pub mod restore;
 pub mod row;
 pub mod state;
 pub mod steps;
+pub mod taker;

@@ -34,7 +34,15 @@ pub fn paper_sort(command: &Command) -> Option<PaperSort>
         Command::Revoke { .. } => Some(PaperSort::Revoked),
         Command::Temporary { .. } => Some(PaperSort::Temporary),
         Command::Certify => Some(PaperSort::Certificate),
-        _ => None,
+        Command::AssignReviewer { .. }
+        | Command::AssignInspector { .. }
+        | Command::NameContractor { .. }
+        | Command::StartReview
+        | Command::ApprovePlans
+        | Command::BeginWork
+        | Command::RequestInspection { .. }
+        | Command::ApproveStep { .. }
+        | Command::ClearNotice { .. } => None,
     }
 }
 
@@ -52,7 +60,19 @@ pub fn paper_text(command: &Command) -> Option<&Text>
         | Command::Stop { text, .. }
         | Command::Revoke { text }
         | Command::Temporary { text, .. } => Some(text),
-        _ => None,
+        Command::AssignReviewer { .. }
+        | Command::AssignInspector { .. }
+        | Command::NameContractor { .. }
+        | Command::StartReview
+        | Command::ApprovePlans
+        | Command::Issue
+        | Command::GrantExtension
+        | Command::BeginWork
+        | Command::RequestInspection { .. }
+        | Command::ApproveStep { .. }
+        | Command::ClearNotice { .. }
+        | Command::Lift
+        | Command::Certify => None,
     }
 }
 
@@ -62,7 +82,27 @@ pub fn paper_terms(command: &Command) -> Option<&Text>
 {
     match command {
         Command::Stop { conditions, .. } => Some(conditions),
-        _ => None,
+        Command::AssignReviewer { .. }
+        | Command::AssignInspector { .. }
+        | Command::NameContractor { .. }
+        | Command::StartReview
+        | Command::Return { .. }
+        | Command::Resubmit { .. }
+        | Command::ApprovePlans
+        | Command::Reject { .. }
+        | Command::Issue
+        | Command::AskExtension { .. }
+        | Command::GrantExtension
+        | Command::RefuseExtension { .. }
+        | Command::BeginWork
+        | Command::RequestInspection { .. }
+        | Command::ApproveStep { .. }
+        | Command::Notice { .. }
+        | Command::ClearNotice { .. }
+        | Command::Lift
+        | Command::Revoke { .. }
+        | Command::Temporary { .. }
+        | Command::Certify => None,
     }
 }
 
@@ -89,7 +129,25 @@ impl FileState {
                 Some(days) => days.get(),
                 None => 0,
             },
-            _ => 0,
+            Command::AssignReviewer { .. }
+            | Command::AssignInspector { .. }
+            | Command::NameContractor { .. }
+            | Command::StartReview
+            | Command::Return { .. }
+            | Command::Resubmit { .. }
+            | Command::ApprovePlans
+            | Command::Reject { .. }
+            | Command::Issue
+            | Command::RefuseExtension { .. }
+            | Command::BeginWork
+            | Command::RequestInspection { .. }
+            | Command::ApproveStep { .. }
+            | Command::Notice { .. }
+            | Command::ClearNotice { .. }
+            | Command::Stop { .. }
+            | Command::Lift
+            | Command::Revoke { .. }
+            | Command::Certify => 0,
         }
     }
 }

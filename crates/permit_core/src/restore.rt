@@ -64,32 +64,62 @@ impl Model for StateFields {
 fn is_stored(stage: Stage) -> bool
     ensures { result ≡ SoundState.is_stored stage }
 {
-    !matches!(
-        stage,
-        Stage::Abandoned | Stage::Lapsed | Stage::New | Stage::Office
-    )
+    match stage {
+        Stage::Filed
+        | Stage::Review
+        | Stage::Returned
+        | Stage::Approved
+        | Stage::Rejected
+        | Stage::Issued
+        | Stage::Working
+        | Stage::Revoked
+        | Stage::Finaled
+        | Stage::Certified => true,
+        Stage::Abandoned | Stage::Lapsed | Stage::New | Stage::Office => false,
+    }
 }
 
 /// Whether a deadline stands in the stage.
 fn is_timed(stage: Stage) -> bool
     ensures { result ≡ SoundState.is_timed stage }
 {
-    matches!(
-        stage,
+    match stage {
         Stage::Filed
-            | Stage::Review
-            | Stage::Returned
-            | Stage::Approved
-            | Stage::Issued
-            | Stage::Working
-    )
+        | Stage::Review
+        | Stage::Returned
+        | Stage::Approved
+        | Stage::Issued
+        | Stage::Working => true,
+        Stage::Rejected
+        | Stage::Revoked
+        | Stage::Finaled
+        | Stage::Certified
+        | Stage::Abandoned
+        | Stage::Lapsed
+        | Stage::New
+        | Stage::Office => false,
+    }
 }
 
 /// Whether the work is over, with every step approved.
 fn is_completed(stage: Stage) -> bool
     ensures { result ≡ SoundState.is_completed stage }
 {
-    matches!(stage, Stage::Finaled | Stage::Certified)
+    match stage {
+        Stage::Finaled | Stage::Certified => true,
+        Stage::Filed
+        | Stage::Review
+        | Stage::Returned
+        | Stage::Approved
+        | Stage::Rejected
+        | Stage::Issued
+        | Stage::Working
+        | Stage::Revoked
+        | Stage::Abandoned
+        | Stage::Lapsed
+        | Stage::New
+        | Stage::Office => false,
+    }
 }
 
 /// Whether there is no request, or one for the next step.

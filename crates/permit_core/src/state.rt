@@ -72,7 +72,14 @@ fn past_stage(stage: Stage) -> Stage
     match stage {
         Stage::Filed | Stage::Review | Stage::Returned | Stage::Approved => Stage::Abandoned,
         Stage::Issued | Stage::Working => Stage::Lapsed,
-        other => other,
+        Stage::Rejected
+        | Stage::Revoked
+        | Stage::Finaled
+        | Stage::Certified
+        | Stage::Abandoned
+        | Stage::Lapsed
+        | Stage::New
+        | Stage::Office => stage,
     }
 }
 

@@ -12,7 +12,27 @@ use Rattle.permit_model.specs.BaseStage.{application_stages, permit_stages, base
 -- the days that a command grants: those of the ask that is pending before it
 abbrev pub days_granted : Command → List Act → ℕ
 days_granted GrantExtension before = unwrap_or (pending_ask before) 0
-days_granted _ before = 0
+days_granted (AssignReviewer party) before = 0
+days_granted (AssignInspector party) before = 0
+days_granted (NameContractor party) before = 0
+days_granted StartReview before = 0
+days_granted (Return text) before = 0
+days_granted (Resubmit text) before = 0
+days_granted ApprovePlans before = 0
+days_granted (Reject text) before = 0
+days_granted Issue before = 0
+days_granted (AskExtension days text) before = 0
+days_granted (RefuseExtension text) before = 0
+days_granted BeginWork before = 0
+days_granted (RequestInspection step) before = 0
+days_granted (ApproveStep step) before = 0
+days_granted (Notice text) before = 0
+days_granted (ClearNotice paper) before = 0
+days_granted (Stop text conditions) before = 0
+days_granted Lift before = 0
+days_granted (Revoke text) before = 0
+days_granted (Temporary days text) before = 0
+days_granted Certify before = 0
 
 -- issuance and activity
 abbrev pub is_anchor : Command → Bool

@@ -1,6 +1,7 @@
 -- The scripts of the worked examples, whose values stand on the functions of this crate.
 use Rattle.std.specs.Prelude.{ℕ, false, List, [], ◌∷◌, ◌++◌, map, length, Option, None, Some, codes}
 use Rattle.permit_base.specs.declared.words.Role.TheVariants.{Public, Clerk, Reviewer, Inspector}
+use Rattle.permit_base.specs.declared.words.Role.{Role}
 use Rattle.permit_base.specs.declared.words.Kind.TheVariants.{Construct, Alter, Repair}
 use Rattle.permit_base.specs.declared.words.Step.TheVariants.{Footing, Slab, Frame, Lath, Final}
 use Rattle.permit_base.specs.declared.words.Stage.TheVariants as stage
@@ -24,8 +25,9 @@ use Rattle.permit_base.specs.declared.words.Relation.TheVariants as relation
 use Rattle.permit_base.specs.declared.words.Action.TheVariants as action
 use Rattle.permit_model.specs.Caller.{Party}
 use Rattle.permit_base.specs.declared.words.Effect.TheVariants.{Allow, Deny}
-use Rattle.permit_model.specs.Policy.{Policy}
-use Rattle.permit_model.specs.Opened.{opened}
+use Rattle.permit_model.specs.Policy.{Policy, OneOf, Both, Any}
+use Rattle.permit_model.specs.Opened.{opened, allowed_by}
+use Rattle.permit_model.specs.Routes.{routes_of}
 use Rattle.permit_model.specs.HallRun.{Event, Put, Take, Collect}
 use Rattle.permit_base.specs.declared.request.Asked.{Asked}
 use Rattle.permit_base.specs.declared.request.Filter.{Filter}
@@ -148,6 +150,10 @@ opened_by_filter policy h party day wanted = rows_opened policy h day (party_num
 -- how many rows a listing of all files opens for the party with the number
 abbrev pub opened_for : Policy → History → ℕ → ℕ → ℕ
 opened_for policy h party day = opened_by_filter policy h party day All
+
+-- how many selections a listing makes for a role
+abbrev pub selections : Policy → Role → Filter → ℕ
+selections policy role wanted = length (routes_of (allowed_by policy role action.List) wanted)
 
 -- ---- files
 
@@ -352,8 +358,8 @@ lists party day wanted = numbers (turn staged_files (asks party day (ListFiles w
 -- owners are denied, and assigned reviewers may list
 abbrev pub own_denied : Policy
 own_denied =
-    record { name = codes "not-own"; effect = Deny; role = None; relation = Some (relation.Owner ∷ []); action = None; stage = None; timing = None; stopped = None }
-    ∷ record { name = codes "mine"; effect = Allow; role = None; relation = Some (relation.AssignedReviewer ∷ []); action = Some (action.List ∷ []); stage = None; timing = None; stopped = None }
+    record { name = codes "not-own"; effect = Deny; role = None; relation = OneOf (relation.Owner ∷ []); action = None; stage = None; timing = None; stopped = None }
+    ∷ record { name = codes "mine"; effect = Allow; role = None; relation = OneOf (relation.AssignedReviewer ∷ []); action = Some (action.List ∷ []); stage = None; timing = None; stopped = None }
     ∷ []
 
 -- party 3 is the reviewer of files 1 and 2 and owns the parcel of file 2
@@ -361,6 +367,18 @@ abbrev pub assigned_files : History
 assigned_files = after
     (file_house ∷ asks 6 19723 (File 2 Repair 100 (codes "Roof")) ∷ asks 5 19723 (File 1 Alter 100 (codes "Wall"))
     ∷ on_one 2 19723 (AssignReviewer 3) ∷ asks 2 19723 (OnFile 2 (AssignReviewer 3)) ∷ asks 2 19723 (Transfer 2 3) ∷ []) opening
+
+-- who is both the owner of its parcel and its contractor may list a file
+abbrev pub owner_and_contractor : Policy
+owner_and_contractor =
+    record { name = codes "builders"; effect = Allow; role = None; relation = Both relation.Owner relation.Contractor; action = Some (action.List ∷ []); stage = None; timing = None; stopped = None }
+    ∷ []
+
+-- file 1 of party 5 with contractor 6, files 2 and 3 of party 6 on its own parcel, the latter with contractor 6
+abbrev pub contracted_files : History
+contracted_files = after
+    (file_house ∷ asks 6 19723 (File 2 Repair 100 (codes "Roof")) ∷ asks 6 19723 (File 2 Alter 100 (codes "Wall"))
+    ∷ on_one 5 19723 (NameContractor 6) ∷ asks 2 19723 (OnFile 3 (NameContractor 6)) ∷ []) opening
 
 -- ---- parcels from a list
 
@@ -389,8 +407,6 @@ register_after ts kind day = register_by (after ts opening) 1 kind day
 abbrev pub line_end : List ℕ
 line_end = 10 ∷ []
 
--- ---- a hall
-
 -- the official approves the pending step
 abbrev pub by_official : Turn
 by_official = on_one 1 19820 (ApproveStep Frame)
@@ -398,10 +414,6 @@ by_official = on_one 1 19820 (ApproveStep Frame)
 -- the assigned inspector approves it
 abbrev pub by_inspector : Turn
 by_inspector = on_one 4 19820 (ApproveStep Frame)
-
--- the third put, the first collect and the third take do nothing
-abbrev pub hall_events : List (Event Turn)
-hall_events = Put 0 by_official ∷ Put 1 by_inspector ∷ Put 0 by_official ∷ Collect 0 ∷ Take 19820 ∷ Take 19820 ∷ Take 19820 ∷ Collect 1 ∷ Collect 0 ∷ []
 
 -- ---- tokens
 
@@ -430,3 +442,35 @@ opening_requests =
     ∷ founder_asks (ReadFile 99)
     ∷ founder_asks (ListFiles All)
     ∷ []
+
+-- ---- the hall
+
+-- the same history, where the founder has that token
+abbrev pub with_founders_token : History → History
+with_founders_token [] = []
+with_founders_token (founding ∷ []) = founded_with_token
+with_founders_token (entry ∷ before ∷ rest) = entry ∷ with_founders_token (before ∷ rest)
+
+-- the repair with its pending frame, where the founder has that token
+abbrev pub pending_with_token : History
+pending_with_token = with_founders_token pending_repair
+
+-- the approval of the frame, by token
+abbrev pub approves : List ℕ → Asked
+approves token = record { token = token; request = OnFile 1 (ApproveStep Frame) }
+
+-- the official approves the pending step
+abbrev pub asked_by_official : Asked
+asked_by_official = approves (codes "abcdefghijklmnopqrstuvwxyz")
+
+-- the assigned inspector approves it
+abbrev pub asked_by_inspector : Asked
+asked_by_inspector = approves (codes "d")
+
+-- the third put, the first collect and the third take do nothing
+abbrev pub hall_events : List (Event Asked)
+hall_events = Put 0 asked_by_official ∷ Put 1 asked_by_inspector ∷ Put 0 asked_by_official ∷ Collect 0 ∷ Take 19820 ∷ Take 19820 ∷ Take 19820 ∷ Collect 1 ∷ Collect 0 ∷ []
+
+-- the entry of the approval that is done
+abbrev pub frame_approved : Entry
+frame_approved = record { caller = 1; day = 19820; deed = Accepted (OnFile 1 (ApproveStep Frame)); number = None }

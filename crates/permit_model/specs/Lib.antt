@@ -18,6 +18,7 @@ pub mod Tables
 pub mod SoundState
 pub mod Listing
 pub mod Opened
+pub mod Routes
 pub mod Machine
 pub mod StandardPolicy
 pub mod Register

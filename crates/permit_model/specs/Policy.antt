@@ -5,18 +5,25 @@ use Rattle.permit_base.specs.declared.words.Role.{Role}
 use Rattle.permit_base.specs.declared.words.Stage.{Stage}
 use Rattle.permit_base.specs.declared.words.Timing.{Timing}
 use Rattle.permit_base.specs.declared.words.Relation.{Relation}
+use Rattle.permit_base.specs.declared.words.Relations.{Relations}
 use Rattle.permit_base.specs.declared.words.Action.{Action}
 use Rattle.permit_base.specs.declared.words.Effect.{Effect}
 use Rattle.permit_base.specs.declared.words.Effect.TheVariants.{Allow, Deny}
 use Rattle.permit_model.specs.Codes.{is_role, is_action, is_stage, is_timing}
 use Rattle.permit_model.specs.Facts.{Facts, holds}
 
+-- what a rule asks of the caller's relations: nothing, one of these at least, or both of two
+pub data RelationTest : Type 0 where
+  Any : RelationTest
+  OneOf : (words : List Relation) → RelationTest
+  Both : (first second : Relation) → RelationTest
+
 -- a key that isn't there is None
 pub record Rule : Type 0 where
   pub name : List ℕ
   pub effect : Effect
   pub role : Option (List Role)
-  pub relation : Option (List Relation)
+  pub relation : RelationTest
   pub action : Option (List Action)
   pub stage : Option (List Stage)
   pub timing : Option (List Timing)
@@ -36,11 +43,17 @@ abbrev pub matches_truth : Option Bool → Bool → Bool
 matches_truth None value = true
 matches_truth (Some wanted) value = if wanted then value else not value
 
+-- whether the set of relations passes
+abbrev pub matches_relations : RelationTest → Relations → Bool
+matches_relations Any set = true
+matches_relations (OneOf words) set = list_any (holds set) words
+matches_relations (Both first second) set = holds set first && holds set second
+
 -- all keys of the rule match
 abbrev pub matches : Rule → Facts → Bool
 matches rule facts =
     matches_list rule.role (is_role facts.role)
-    && matches_list rule.relation (holds facts.relations)
+    && matches_relations rule.relation facts.relations
     && matches_list rule.action (is_action facts.action)
     && matches_list rule.stage (is_stage facts.stage)
     && matches_list rule.timing (is_timing facts.timing)

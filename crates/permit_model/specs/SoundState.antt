@@ -33,12 +33,35 @@ is_timed s = is_stage_among timed_stages s
 abbrev pub is_completed : Stage → Bool
 is_completed stage.Finaled = true
 is_completed stage.Certified = true
-is_completed _ = false
+is_completed stage.Filed = false
+is_completed stage.Review = false
+is_completed stage.Returned = false
+is_completed stage.Approved = false
+is_completed stage.Rejected = false
+is_completed stage.Issued = false
+is_completed stage.Working = false
+is_completed stage.Revoked = false
+is_completed stage.Abandoned = false
+is_completed stage.Lapsed = false
+is_completed stage.New = false
+is_completed stage.Office = false
 
 -- whether the stage is certified
 abbrev pub is_certified : Stage → Bool
 is_certified stage.Certified = true
-is_certified _ = false
+is_certified stage.Filed = false
+is_certified stage.Review = false
+is_certified stage.Returned = false
+is_certified stage.Approved = false
+is_certified stage.Rejected = false
+is_certified stage.Issued = false
+is_certified stage.Working = false
+is_certified stage.Revoked = false
+is_certified stage.Finaled = false
+is_certified stage.Abandoned = false
+is_certified stage.Lapsed = false
+is_certified stage.New = false
+is_certified stage.Office = false
 
 -- a deadline stands in the six stages, and in no other
 abbrev pub deadline_stands : State → Bool

@@ -7,11 +7,11 @@ use Rattle.permit_base.specs.declared.words.Timing.{Timing}
 use Rattle.permit_base.specs.declared.words.PaperSort.{PaperSort}
 use Rattle.permit_base.specs.declared.words.PaperSort.TheVariants as sort
 use Rattle.permit_base.specs.declared.request.Command.{Command}
-use Rattle.permit_base.specs.declared.request.Command.TheVariants.{Return, Resubmit, Reject, AskExtension, RefuseExtension, Notice, Stop, Revoke, Temporary}
-use Rattle.permit_base.specs.declared.request.Request.TheVariants.{OnFile}
+use Rattle.permit_base.specs.declared.request.Command.TheVariants.{AssignReviewer, AssignInspector, NameContractor, StartReview, Return, Resubmit, ApprovePlans, Reject, Issue, AskExtension, GrantExtension, RefuseExtension, BeginWork, RequestInspection, ApproveStep, Notice, ClearNotice, Stop, Lift, Revoke, Temporary, Certify}
+use Rattle.permit_base.specs.declared.request.Request.TheVariants.{AddParty, AddParcel, Transfer, Declare, ReadParcel, File, ReadFile, ListFiles, Register, OnFile}
 use Rattle.permit_model.specs.Search.{add_last, has_number}
 use Rattle.permit_model.specs.Steps.{required_steps}
-use Rattle.permit_model.specs.History.{Deed, Accepted, Entry, History, last_day}
+use Rattle.permit_model.specs.History.{Deed, Founding, Accepted, Entry, History, last_day}
 use Rattle.permit_model.specs.Caller.{Party, parties}
 use Rattle.permit_model.specs.Parcels.{Parcel, parcels, Interest, interests}
 use Rattle.permit_model.specs.Files.{Act, act_of, acts_on, CaseFile, case_files}
@@ -108,7 +108,26 @@ pub record Paper : Type 0 where
 abbrev pub paper_days : Command → List Act → ℕ
 paper_days (AskExtension days text) before = days
 paper_days (Temporary days text) before = days
-paper_days command before = days_granted command before
+paper_days (AssignReviewer party) before = 0
+paper_days (AssignInspector party) before = 0
+paper_days (NameContractor party) before = 0
+paper_days StartReview before = 0
+paper_days (Return text) before = 0
+paper_days (Resubmit text) before = 0
+paper_days ApprovePlans before = 0
+paper_days (Reject text) before = 0
+paper_days Issue before = 0
+paper_days GrantExtension before = days_granted GrantExtension before
+paper_days (RefuseExtension text) before = 0
+paper_days BeginWork before = 0
+paper_days (RequestInspection step) before = 0
+paper_days (ApproveStep step) before = 0
+paper_days (Notice text) before = 0
+paper_days (ClearNotice paper) before = 0
+paper_days (Stop text conditions) before = 0
+paper_days Lift before = 0
+paper_days (Revoke text) before = 0
+paper_days Certify before = 0
 
 -- the text that a command gives its paper
 abbrev pub paper_text : Command → List ℕ
@@ -121,17 +140,60 @@ paper_text (Notice text) = text
 paper_text (Stop text conditions) = text
 paper_text (Revoke text) = text
 paper_text (Temporary days text) = text
-paper_text _ = []
+paper_text (AssignReviewer party) = []
+paper_text (AssignInspector party) = []
+paper_text (NameContractor party) = []
+paper_text StartReview = []
+paper_text ApprovePlans = []
+paper_text Issue = []
+paper_text GrantExtension = []
+paper_text BeginWork = []
+paper_text (RequestInspection step) = []
+paper_text (ApproveStep step) = []
+paper_text (ClearNotice paper) = []
+paper_text Lift = []
+paper_text Certify = []
 
 -- the conditions for resuming that a stop work order states
 abbrev pub paper_terms : Command → List ℕ
 paper_terms (Stop text conditions) = conditions
-paper_terms _ = []
+paper_terms (AssignReviewer party) = []
+paper_terms (AssignInspector party) = []
+paper_terms (NameContractor party) = []
+paper_terms StartReview = []
+paper_terms (Return text) = []
+paper_terms (Resubmit text) = []
+paper_terms ApprovePlans = []
+paper_terms (Reject text) = []
+paper_terms Issue = []
+paper_terms (AskExtension days text) = []
+paper_terms GrantExtension = []
+paper_terms (RefuseExtension text) = []
+paper_terms BeginWork = []
+paper_terms (RequestInspection step) = []
+paper_terms (ApproveStep step) = []
+paper_terms (Notice text) = []
+paper_terms (ClearNotice paper) = []
+paper_terms Lift = []
+paper_terms (Revoke text) = []
+paper_terms (Temporary days text) = []
+paper_terms Certify = []
 
 -- whether the paper is a correction notice
 abbrev pub is_notice : PaperSort → Bool
 is_notice sort.Notice = true
-is_notice _ = false
+is_notice sort.Permit = false
+is_notice sort.Returned = false
+is_notice sort.Resubmitted = false
+is_notice sort.Rejected = false
+is_notice sort.Asked = false
+is_notice sort.Granted = false
+is_notice sort.Refused = false
+is_notice sort.Stop = false
+is_notice sort.Lifted = false
+is_notice sort.Revoked = false
+is_notice sort.Temporary = false
+is_notice sort.Certificate = false
 
 -- the paper that an act makes, with the acts before it and the notices that are open now
 abbrev pub paper_by : ℕ → List ℕ → Act → List Act → Option Paper
@@ -151,7 +213,16 @@ paper_by file open_now act before =
 -- the paper of a deed, with the history that is now and the one before the deed
 abbrev pub paper_of_deed : History → Entry → Deed → History → Option Paper
 paper_of_deed now entry (Accepted (OnFile file command)) before = paper_by file (open_notices (acts_on file now)) (act_of entry command) (acts_on file before)
-paper_of_deed now entry _ before = None
+paper_of_deed now entry (Founding name digest) before = None
+paper_of_deed now entry (Accepted (AddParty name role token)) before = None
+paper_of_deed now entry (Accepted (AddParcel lot address owner)) before = None
+paper_of_deed now entry (Accepted (Transfer parcel to)) before = None
+paper_of_deed now entry (Accepted (Declare parcel)) before = None
+paper_of_deed now entry (Accepted (ReadParcel parcel)) before = None
+paper_of_deed now entry (Accepted (File parcel kind valuation description)) before = None
+paper_of_deed now entry (Accepted (ReadFile file)) before = None
+paper_of_deed now entry (Accepted (ListFiles filter)) before = None
+paper_of_deed now entry (Accepted (Register kind)) before = None
 
 -- the papers of the entries, oldest first, as they are in the history that is now
 abbrev pub papers_made : History → History → List Paper

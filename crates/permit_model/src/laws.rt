@@ -1,6 +1,6 @@
 //! The laws that hold of every history, and of every policy.
 
-ghost use Rattle.std.specs.Prelude.{◌≡◌, ◌≤◌, ◌+◌, ℕ, List, [], length, take, Some, is_some, true, false};
+ghost use Rattle.std.specs.Prelude.{◌≡◌, ◌≤◌, ◌+◌, ◌++◌, ℕ, List, [], length, take, Some, is_some, true, false};
 ghost use Rattle.permit_base.specs.declared.words.Step.{Step};
 ghost use Rattle.permit_base.specs.declared.words.Stage.TheVariants as stage;
 ghost use Rattle.permit_base.specs.declared.words.Relations.{Relations};
@@ -18,10 +18,10 @@ ghost use Rattle.permit_model.specs.Deadline.{deadline};
 ghost use Rattle.permit_model.specs.Facts.{Facts};
 ghost use Rattle.permit_model.specs.Policy.{Policy, allows};
 ghost use Rattle.permit_model.specs.Numbering.{IsNumbered};
-ghost use Rattle.permit_model.specs.Tables.{Paper, papers_of, state_of, next_in_row};
+ghost use Rattle.permit_model.specs.Tables.{Paper, papers_of, state_of, next_in_row, tables};
 ghost use Rattle.permit_model.specs.SoundState.{is_timed, IsSoundState};
 ghost use Rattle.permit_model.specs.Machine.{IsHistory, step_as, step, history_after};
-ghost use Rattle.permit_model.specs.Laws.{OfEachFile, with_relations, Narrowed};
+ghost use Rattle.permit_model.specs.Laws.{OfEachFile, with_relations, Narrowed, Wanted, parcels_asked};
 
 /// A step leads from a history to a history, and so does a run of steps, whoever asks for what on whatever day.
 pub fn steps_keep_histories()
@@ -30,8 +30,8 @@ pub fn steps_keep_histories()
     ensures run { (policy : Policy) (requests : List (Asked × ℕ)) (h : History) → IsHistory h → IsHistory (history_after policy requests h) }
 {}
 
-/// What a policy allows to a set of relations, it allows to none of them or to one of them alone.
-pub fn allowed_to_one_relation()
+/// What a policy allows to a set of relations, it allows to none of them, to one of them alone, or to two of them alone.
+pub fn allowed_to_two_relations()
     ensures narrowed { (policy : Policy) (facts : Facts) (set : Relations) → allows policy (with_relations facts set) ≡ true → Narrowed policy facts set }
 {}
 
@@ -73,4 +73,13 @@ pub fn deadlines_stand_in_bounds()
 /// work is over, and no stop work order on a certified file.
 pub fn rows_are_sound()
     ensures sound { OfEachFile (λ h file. IsSoundState (state_of file)) }
+{}
+
+/// A list of requests for parcels that runs twice over, on one day by one caller, leaves the history of once, and so its
+/// tables: what was added is taken then, and what was refused still is.
+pub fn parcels_are_added_once()
+    ensures history { (policy : Policy) (h : History) (token : List ℕ) (day : ℕ) (wanted : List Wanted)
+        → history_after policy (parcels_asked token day wanted ++ parcels_asked token day wanted) h ≡ history_after policy (parcels_asked token day wanted) h }
+    ensures tables { (policy : Policy) (h : History) (token : List ℕ) (day : ℕ) (wanted : List Wanted)
+        → tables (history_after policy (parcels_asked token day wanted ++ parcels_asked token day wanted) h) ≡ tables (history_after policy (parcels_asked token day wanted) h) }
 {}

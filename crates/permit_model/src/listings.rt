@@ -2,13 +2,14 @@
 
 ghost use Rattle.std.specs.Prelude.{◌≡◌, ◌∷◌, [], ◌++◌, codes};
 ghost use Rattle.permit_base.specs.declared.words.RegisterKind.TheVariants.{Files};
-ghost use Rattle.permit_base.specs.declared.words.Stage.TheVariants.{Filed, Review, Abandoned};
+ghost use Rattle.permit_base.specs.declared.words.Role.TheVariants.{Public, Clerk, Reviewer, Official};
+ghost use Rattle.permit_base.specs.declared.words.Stage.TheVariants.{Filed, Review, Abandoned, Lapsed};
 ghost use Rattle.permit_base.specs.declared.outcome.Refusal.TheVariants as refusal;
 ghost use Rattle.permit_base.specs.declared.request.Filter.TheVariants.{All, InStage, Due};
 ghost use Rattle.permit_base.specs.declared.request.Request.TheVariants.{ListFiles, Register};
 ghost use Rattle.permit_model.specs.Machine.{Listed, Refused};
 ghost use Rattle.permit_model.specs.StandardPolicy.{standard_policy};
-ghost use Rattle.permit_model.specs.Examples.{founded, opening, asks, after, last_reply, numbers, reply_under, opened_for, opened_by_filter, file_house, three_files, staged_files, lists, own_denied, assigned_files, register_by, line_end};
+ghost use Rattle.permit_model.specs.Examples.{founded, opening, asks, after, last_reply, numbers, reply_under, opened_for, opened_by_filter, file_house, three_files, staged_files, lists, own_denied, assigned_files, owner_and_contractor, contracted_files, selections, register_by, line_end};
 
 /// After the founding alone a listing is empty and opens no row.
 pub fn founding_alone_lists_nothing()
@@ -77,4 +78,25 @@ pub fn nothing_opened_nothing_read()
 pub fn deny_on_owner_allow_on_reviewer()
     ensures files { numbers (reply_under own_denied assigned_files 3 19723 (ListFiles All)) ≡ 1 ∷ [] }
     ensures opened { opened_for own_denied assigned_files 3 19723 ≡ 2 }
+{}
+
+/// Where only who is both its parcel's owner and its contractor may list a file, the public lists by one selection a
+/// kept cell, and opens the one file to which it is both.
+pub fn two_relations_at_once()
+    ensures files { numbers (reply_under owner_and_contractor contracted_files 6 19723 (ListFiles All)) ≡ 3 ∷ [] }
+    ensures opened { opened_for owner_and_contractor contracted_files 6 19723 ≡ 1 }
+    ensures selections { selections owner_and_contractor Public All ≡ 44 }
+{}
+
+/// How many selections a listing makes. Nothing is selected that no rule can open.
+pub fn selections_of_listings()
+    ensures official { selections standard_policy Official All ≡ 1 }
+    ensures clerk { selections standard_policy Clerk Due ≡ 24 }
+    ensures reviewer_abandoned { selections standard_policy Reviewer (InStage Abandoned) ≡ 32 }
+    ensures reviewer { selections standard_policy Reviewer All ≡ 176 }
+    ensures public { selections standard_policy Public All ≡ 96 }
+    ensures public_due { selections standard_policy Public Due ≡ 36 }
+    ensures public_lapsed { selections standard_policy Public (InStage Lapsed) ≡ 0 }
+    ensures own_denied { selections own_denied Reviewer All ≡ 44 }
+    ensures no_rules { selections [] Official All ≡ 0 }
 {}

@@ -10,18 +10,17 @@ use Rattle.permit_base.specs.declared.request.Command.{Command}
 use Rattle.permit_base.specs.declared.request.Command.TheVariants.{Return, Resubmit, Reject, Issue, AskExtension, GrantExtension, RefuseExtension, Notice, ClearNotice, Stop, Lift, Revoke, Temporary, Certify}
 use Rattle.permit_base.specs.declared.request.Request.TheVariants.{OnFile}
 use Rattle.permit_base.specs.Limits.{most_papers}
-use Rattle.permit_model.specs.Search.{add_last, has_number, when}
-use Rattle.permit_model.specs.History.{Entry, History}
-use Rattle.permit_model.specs.Parcels.{parcels}
+use Rattle.permit_model.specs.Search.{add_last, when}
+use Rattle.permit_model.specs.History.{History}
 use Rattle.permit_model.specs.Files.{Filing, Act, acts_on, filings, CaseFile, case_file, case_files, case_numbered}
-use Rattle.permit_model.specs.Work.{is_cleared, open_notices, paper_sort, makes_paper, paper_count}
-use Rattle.permit_model.specs.Tables.{State, FileRow, Paper, paper_by, papers_made, paper_days, paper_text, paper_terms, is_notice, file_row, state_of, tables}
+use Rattle.permit_model.specs.Work.{is_cleared, paper_sort, makes_paper, paper_count}
+use Rattle.permit_model.specs.Tables.{State, FileRow, Paper, paper_by, papers_made, is_notice, file_row, state_of, tables}
 use Rattle.permit_model.specs.Admission.{first_failing, file_tests, tests_on, reason_against}
 use Rattle.permit_model.proofs.Fronts.{AllPass, all_pass}
 use Rattle.permit_model.specs.Machine.{IsHistory, entry_of, paper_number}
 use Rattle.permit_model.proofs.Notices.{notices_after, IsFresh, uncleared}
 use Rattle.permit_model.proofs.Projection.{WereAdmitted, were_admitted}
-use Rattle.permit_model.proofs.Appending.{command_entry, with_act, touched, case_files-command}
+use Rattle.permit_model.proofs.Appending.{command_entry, with_act, case_files-command}
 use Rattle.permit_core.specs.Naming.{named_paper}
 use Rattle.permit_core.specs.RowAfter.{file_after, papers_after}
 use Rattle.permit_store.specs.Changes.{with_state, suits_effect, suits_row}

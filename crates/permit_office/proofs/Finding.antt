@@ -19,7 +19,7 @@ use Rattle.permit_model.specs.Files.{Filing, CaseFile, filings, case_file, case_
 use Rattle.permit_model.specs.Facts.{parcel_facts, file_facts}
 use Rattle.permit_model.specs.Policy.{Policy, decision}
 use Rattle.permit_model.specs.Tables.{Paper, FileRow, file_row, file_view, papers_of, tables}
-use Rattle.permit_model.specs.Machine.{Outcome, FileShown, ParcelShown, shown_parcel, outcome_by_decision, outcome_by_facts, outcome_by_request, refused, unchanged, shown_file}
+use Rattle.permit_model.specs.Machine.{FileShown, ParcelShown, shown_parcel, outcome_by_decision, outcome_by_facts, outcome_by_request, refused, unchanged, shown_file}
 use Rattle.permit_policy.specs.Denial.{denied}
 use Rattle.permit_office.proofs.Lists.{find_mapped}
 use Rattle.permit_office.proofs.Deciding.{allowed_outcome}

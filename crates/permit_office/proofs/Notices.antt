@@ -10,7 +10,7 @@ use Rattle.permit_base.specs.declared.request.Command.{Command}
 use Rattle.permit_base.specs.declared.request.Request.TheVariants.{OnFile}
 use Rattle.permit_model.specs.Search.{add_last, has_number, when}
 use Rattle.permit_model.specs.History.{Deed, Founding, Accepted, Entry, History}
-use Rattle.permit_model.specs.Files.{Filing, Act, act_of, acts_on, filings, CaseFile, case_file, case_numbered}
+use Rattle.permit_model.specs.Files.{Filing, Act, act_of, acts_on, filings, case_file, case_numbered}
 use Rattle.permit_model.specs.Work.{open_notices, paper_sort, makes_paper, paper_count}
 use Rattle.permit_model.specs.Tables.{Paper, paper_by, paper_of_deed, papers_made, paper_days, paper_text, paper_terms, is_notice}
 use Rattle.permit_model.specs.Machine.{IsHistory, IsFounding, MayFollow, paper_number}

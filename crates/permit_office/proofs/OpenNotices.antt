@@ -1,18 +1,17 @@
 -- A notice is open where the file has a paper of its number that says so.
-use Rattle.std.proofs.Common.{◌≡◌, ◌+◌, ℕ, ◌==◌, Bool, true, false, cond, not, List, [], ◌∷◌, ◌++◌, refl, sym, ◌∙◌, ap}
-use Rattle.std.specs.Prelude.{Option, None, Some, filter, option_map, unwrap_or, if◌then◌else◌, ◌||◌, ◌&&◌}
+use Rattle.std.proofs.Common.{◌≡◌, ℕ, ◌==◌, Bool, true, false, cond, not, List, [], ◌∷◌, refl, sym, ◌∙◌, ap}
+use Rattle.std.specs.Prelude.{Option, None, Some, filter, unwrap_or, ◌||◌, ◌&&◌}
 use Rattle.std.specs.List.{list_any}
 use Rattle.std.proofs.lemmas.List.Folds.{list_any-append}
 use Rattle.std.proofs.lemmas.Bool.{eqb-true}
 use Rattle.permit_base.specs.declared.words.PaperSort.{PaperSort}
 use Rattle.permit_base.specs.declared.request.Command.{Command}
 use Rattle.permit_base.specs.declared.request.Command.TheVariants.{Notice}
-use Rattle.permit_model.specs.Search.{add_last, has_number, when}
+use Rattle.permit_model.specs.Search.{add_last, has_number}
 use Rattle.permit_model.specs.History.{History}
-use Rattle.permit_model.specs.Files.{Act, CaseFile, case_file, case_numbered}
+use Rattle.permit_model.specs.Files.{Act, CaseFile, case_numbered}
 use Rattle.permit_model.specs.Work.{notices_given, is_cleared, open_notices, paper_sort}
-use Rattle.permit_model.specs.Tables.{Paper, paper_by, papers_of, paper_days, paper_text, paper_terms, is_notice, tables}
-use Rattle.permit_model.specs.Machine.{IsHistory}
+use Rattle.permit_model.specs.Tables.{Paper, paper_by, papers_of, is_notice, tables}
 use Rattle.permit_model.proofs.Papers.{papers_from, papers_of-case}
 use Rattle.permit_office.proofs.Finding.{IsCase, case_found}
 

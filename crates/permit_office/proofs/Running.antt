@@ -17,11 +17,12 @@ use Rattle.permit_model.specs.Admission.{reason_against}
 use Rattle.permit_model.proofs.Histories.{run_keeps}
 use Rattle.permit_model.specs.Policy.{Policy, decision, is_allow}
 use Rattle.permit_model.specs.Tables.{Tables, tables}
-use Rattle.permit_model.specs.Machine.{Reply, Outcome, Refused, refused, shown_parcel, shown_file, outcome_by_reason, outcome_if_allowed, outcome_by_facts, outcome_by_request, outcome_by_caller, entry_of, facts_of, IsHistory, step, replies_to, history_after}
+use Rattle.permit_model.specs.Machine.{Reply, Refused, refused, shown_parcel, shown_file, outcome_by_reason, outcome_if_allowed, outcome_by_facts, outcome_by_request, outcome_by_caller, entry_of, facts_of, IsHistory, step, replies_to, history_after}
 use Rattle.permit_office.specs.declared.reply.Reply.{Reply as Given}
 use Rattle.permit_office.specs.declared.reply.Reply.TheVariants as given
 use Rattle.permit_office.specs.Answers.{reply_of, is_store_refusal, Answers}
-use Rattle.permit_office.specs.Runs.{answered, own_replies, Ran}
+use Rattle.permit_office.specs.Opening.{rows_opened, Opens}
+use Rattle.permit_office.specs.Runs.{answered, own_replies, Tells, AllTell, Ran}
 
 one_more : {A : Type 0} (b : Bool) (x : A) (xs ys : List A) → (if b then xs ++ ys else x ∷ (xs ++ ys)) ≡ (if b then xs else x ∷ xs) ++ ys
 one_more true x xs ys = refl
@@ -64,23 +65,53 @@ nothing_more (x ∷ xs) = ap (λ ys. x ∷ ys) (nothing_more xs)
 longer : {A B : Type 0} (xs : List A) (ys : List B) (x : A) (y : B) → length ys ≡ length xs → length (ys ++ y ∷ []) ≡ length (xs ++ x ∷ [])
 longer xs ys x y e = length-append ys (y ∷ []) ∙ ap (λ n. n + 1) e ∙ sym (length-append xs (x ∷ []))
 
+-- ---- the counts that listings tell
+
+later_by : (policy : Policy) (b : Bool) (request : Asked × ℕ) (done : List (Asked × ℕ)) (h : History) →
+    history_after policy (if b then done else request ∷ done) h ≡ history_after policy done (if b then h else (step policy h request.0 request.1).history)
+later_by policy true request done h = refl
+later_by policy false request done h = refl
+
+tell_last : (policy : Policy) (requests : List (Asked × ℕ)) (replies : List Given) (h : History) (request : Asked × ℕ) (reply : Given) → length replies ≡ length requests → AllTell policy requests replies h →
+    Tells (rows_opened policy (history_after policy (answered requests replies) h) (digest_of request.0.token) request.0.request request.1) reply → AllTell policy (requests ++ request ∷ []) (replies ++ reply ∷ []) h
+tell_last policy [] [] h request reply e all one = (one, tt)
+tell_last policy [] (r ∷ rs) h request reply e all one = absurd (omega arith)
+tell_last policy (q ∷ qs) [] h request reply e all one = absurd (omega arith)
+tell_last policy (q ∷ qs) (r ∷ rs) h request reply e all one = (
+  all.0,
+  tell_last policy qs rs (if is_store_refusal r then h else (step policy h q.0 q.1).history) request reply (omega arith) all.1
+      (subst (λ now. Tells (rows_opened policy now (digest_of request.0.token) request.0.request request.1) reply) (later_by policy (is_store_refusal r) q (answered qs rs) h) one),
+)
+
+pub tells : (rows : Option ℕ) (reply : Given) (old new : ℕ) → Opens rows reply old new → Tells rows reply
+tells None reply old new opened = tt
+tells (Some n) (given.Listed l) old new opened = opened.told
+tells (Some n) (given.Register k l) old new opened = opened.told
+tells (Some n) (given.Done number) old new opened = tt
+tells (Some n) (given.Parcel p) old new opened = tt
+tells (Some n) (given.File f ps) old new opened = tt
+tells (Some n) (given.Refused why) old new opened = tt
+
 -- a request that the store refused
 skips : (holds after : Tables → Type 0) (policy : Policy) (requests : List (Asked × ℕ)) (replies : List Given) (h : History) (request : Asked × ℕ) (reply : Given) → Ran holds policy requests replies h →
+    Tells (rows_opened policy (history_after policy (answered requests replies) h) (digest_of request.0.token) request.0.request request.1) reply →
     is_store_refusal reply ≡ true → after (tables (history_after policy (answered requests replies) h)) → Ran after policy (requests ++ request ∷ []) (replies ++ reply ∷ []) h
-skips holds after policy requests replies h request reply ran e held =
+skips holds after policy requests replies h request reply ran one e held =
     let same : answered (requests ++ request ∷ []) (replies ++ reply ∷ []) ≡ answered requests replies =
     answered_last requests replies request reply ran.each ∙ ap (λ (b : Bool). answered requests replies ++ (if b then [] else request ∷ [])) e ∙ nothing_more (answered requests replies) in
     record {
       each = longer requests replies request reply ran.each;
       told = own_last replies reply ∙ ap (λ (b : Bool). own_replies replies ++ (if b then [] else reply_of reply ∷ [])) e ∙ nothing_more (own_replies replies) ∙ ran.told ∙ ap (λ xs. replies_to policy xs h) (sym same);
+      read = tell_last policy requests replies h request reply ran.each ran.read one;
       held = subst (λ xs. after (tables (history_after policy xs h))) (sym same) held;
     }
 
 -- a request that the machine answered
 goes_on : (holds after : Tables → Type 0) (policy : Policy) (requests : List (Asked × ℕ)) (replies : List Given) (h : History) (request : Asked × ℕ) (reply : Given) → Ran holds policy requests replies h →
+    Tells (rows_opened policy (history_after policy (answered requests replies) h) (digest_of request.0.token) request.0.request request.1) reply →
     is_store_refusal reply ≡ false → reply_of reply ≡ (step policy (history_after policy (answered requests replies) h) request.0 request.1).reply →
     after (tables (step policy (history_after policy (answered requests replies) h) request.0 request.1).history) → Ran after policy (requests ++ request ∷ []) (replies ++ reply ∷ []) h
-goes_on holds after policy requests replies h request reply ran e told held =
+goes_on holds after policy requests replies h request reply ran one e told held =
     let done = answered requests replies in
     let same : answered (requests ++ request ∷ []) (replies ++ reply ∷ []) ≡ done ++ request ∷ [] =
     answered_last requests replies request reply ran.each ∙ ap (λ (b : Bool). done ++ (if b then [] else request ∷ [])) e in
@@ -89,6 +120,7 @@ goes_on holds after policy requests replies h request reply ran e told held =
       told = own_last replies reply ∙ ap (λ (b : Bool). own_replies replies ++ (if b then [] else reply_of reply ∷ [])) e
           ∙ ap (λ xs. xs ++ reply_of reply ∷ []) ran.told ∙ ap (λ r. replies_to policy done h ++ r ∷ []) told
           ∙ sym (replies_last policy done request h) ∙ ap (λ xs. replies_to policy xs h) (sym same);
+      read = tell_last policy requests replies h request reply ran.each ran.read one;
       held = subst (λ xs. after (tables (history_after policy xs h))) (sym same) (subst (λ x. after (tables x)) (sym (history_last policy done request h)) held);
     }
 
@@ -157,18 +189,22 @@ same_refusal (given.Refused (refusal.NotAdmitted why)) = refl
 same_refusal (given.Done number) = refl
 same_refusal (given.Parcel p) = refl
 same_refusal (given.File f ps) = refl
+same_refusal (given.Listed l) = refl
+same_refusal (given.Register k l) = refl
 
 -- a run goes on by what the step answers
 pub ran_more : (holds after : Tables → Type 0) (policy : Policy) (requests : List (Asked × ℕ)) (replies : List Given) (h : History) (request : Asked × ℕ) (reply : Given) → IsHistory h → Ran holds policy requests replies h →
-    ((now : History) → IsHistory now → holds (tables now) → Answers after reply (step policy now request.0 request.1) now) → Ran after policy (requests ++ request ∷ []) (replies ++ reply ∷ []) h
-ran_more holds after policy requests replies h request reply is ran answers =
+    ((now : History) → IsHistory now → holds (tables now) → Answers after reply (step policy now request.0 request.1) now) →
+    ((now : History) → IsHistory now → holds (tables now) → Tells (rows_opened policy now (digest_of request.0.token) request.0.request request.1) reply) → Ran after policy (requests ++ request ∷ []) (replies ++ reply ∷ []) h
+ran_more holds after policy requests replies h request reply is ran answers told =
     let now : History = history_after policy (answered requests replies) h in
+    let one = told now (run_keeps policy (answered requests replies) h is) ran.held in
     ⊎_elim
     (λ (a : (reply_of reply ≡ (step policy now request.0 request.1).reply) × after (tables (step policy now request.0 request.1).history)).
-    goes_on holds after policy requests replies h request reply ran (same_refusal reply ∙ ap is_store a.0 ∙ never_store policy now request) a.0 a.1)
-    (λ (a : (reply ≡ given.Refused refusal.Store) × after (tables now)). skips holds after policy requests replies h request reply ran (ap is_store_refusal a.0) a.1)
+    goes_on holds after policy requests replies h request reply ran one (same_refusal reply ∙ ap is_store a.0 ∙ never_store policy now request) a.0 a.1)
+    (λ (a : (reply ≡ given.Refused refusal.Store) × after (tables now)). skips holds after policy requests replies h request reply ran one (ap is_store_refusal a.0) a.1)
     (answers now (run_keeps policy (answered requests replies) h is) ran.held)
 
 -- nothing was run yet
 pub ran_none : (holds : Tables → Type 0) (policy : Policy) (h : History) → holds (tables h) → Ran holds policy [] [] h
-ran_none holds policy h held = record { each = refl; told = refl; held = held }
+ran_none holds policy h held = record { each = refl; told = refl; read = tt; held = held }

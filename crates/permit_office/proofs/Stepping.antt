@@ -1,21 +1,26 @@
 -- A known caller in time is served.
 use Rattle.std.proofs.Common.{◌≡◌, ◌≤◌, ℕ, Bool, true, false, List, refl, ◌≢◌, sym, ◌∙◌, ap, subst, arith, inl, [], ◌∷◌, ◌++◌, not}
-use Rattle.std.specs.Prelude.{Some, nat_lt, if◌then◌else◌, IsTrue, Ok, Err}
+use Rattle.std.specs.Prelude.{Option, None, Some, option_and_then, Result, IfOk, nat_lt, if◌then◌else◌, IsTrue, Ok, Err}
 use Rattle.permit_store.specs.declared.store.StoreError.{StoreError}
 use Rattle.std.proofs.lemmas.Bool.Decides.{nat_tests}
+use Rattle.permit_base.specs.declared.outcome.Refusal.{Refusal}
 use Rattle.permit_base.specs.declared.outcome.Refusal.TheVariants as refusal
+use Rattle.permit_base.specs.Digests.{digest_of}
 use Rattle.permit_base.specs.declared.request.Asked.{Asked}
 use Rattle.permit_base.specs.declared.request.Request.{Request}
 use Rattle.permit_model.specs.History.{History, last_day}
 use Rattle.permit_model.specs.Caller.{Party, parties, who, is_party}
 use Rattle.permit_model.specs.Policy.{Policy}
-use Rattle.permit_model.specs.Machine.{Outcome, outcome_by_caller, outcome_by_request, refused, step_as}
+use Rattle.permit_model.specs.Tables.{tables}
+use Rattle.permit_model.specs.Machine.{IsHistory, outcome_by_caller, outcome_by_request, refused, step_as}
 use Rattle.permit_store.specs.Counts.{next_count}
 use Rattle.permit_store.specs.Frames.{StoreView, HasOneDesk}
 use Rattle.permit_office.specs.declared.reply.Reply.{Reply as Given}
 use Rattle.permit_office.specs.declared.reply.Reply.TheVariants as given
 use Rattle.permit_office.specs.Office.{OfficeView}
-use Rattle.permit_office.specs.Answers.{CommittedBy, commits_after, HandedBy, HandedIn, IsOwn, failed_by, is_store_refusal, is_built, is_on_file}
+use Rattle.permit_office.specs.Answers.{CommittedBy, commits_after, IsOwn, failed_by, is_store_refusal}
+use Rattle.permit_office.specs.Reach.{Reach, NoRow, OneRow, ManyRows, reach_of, is_many, HandedBy, HandedIn, FailedBy, FailedIn}
+use Rattle.permit_office.specs.Opening.{opened_for, rows_opened, Opens}
 use Rattle.permit_office.specs.Frames.{IsAttempt, IsStep, Steps}
 use Rattle.permit_model.proofs.Histories.{found_by_number}
 
@@ -45,14 +50,18 @@ committed_by (given.Refused (refusal.NotAdmitted why)) old new e = e
 committed_by (given.Done number) old new e = e
 committed_by (given.Parcel p) old new e = e
 committed_by (given.File f ps) old new e = e
+committed_by (given.Listed l) old new e = e
+committed_by (given.Register k l) old new e = e
 
-handed_ok : (b : Bool) (reply : Given) (old new : ℕ) → HandedIn b (Ok reply) old new → HandedBy b reply old new
-handed_ok false reply old new e = e
-handed_ok true reply old new e = e
+handed_ok : (r : Reach) (reply : Given) (old new : ℕ) → HandedIn r (Ok reply) old new → HandedBy r reply old new
+handed_ok NoRow reply old new e = e
+handed_ok OneRow reply old new e = e
+handed_ok ManyRows reply old new e = e
 
-handed_err : (b : Bool) (e : StoreError) (old new : ℕ) → HandedIn b (Err e) old new → HandedBy b (given.Refused refusal.Store) old new
-handed_err false e old new same = same
-handed_err true e old new either = either
+handed_err : (r : Reach) (e : StoreError) (old new : ℕ) → HandedIn r (Err e) old new → HandedBy r (given.Refused refusal.Store) old new
+handed_err NoRow e old new same = same
+handed_err OneRow e old new either = either
+handed_err ManyRows e old new any = tt
 
 counts_by : (b : Bool) (old new : ℕ) → new ≡ old → not b ≡ true → new ≡ (if b then next_count old else old)
 counts_by true old new e own = cc
@@ -66,38 +75,91 @@ clash : (b : Bool) → b ≡ true → not b ≡ true → ⊥
 clash true e f = cc
 clash false e f = cc
 
--- an attempt that gives a reply of the office's own is a step
-pub stepped_ok : {S : Type 0} (view : S → StoreView) (asked : Request) (old new : OfficeView S) (reply : Given) → new.policy ≡ old.policy → IsAttempt (is_on_file asked) (view old.store) (view new.store) (Ok reply) →
-    ((view new.store).doubt ≡ 0 → HasOneDesk (view new.store)) → (IsTrue (is_built asked) → IsOwn reply) → IsStep view asked old new reply
-stepped_ok view asked old new reply same attempt one own = record {
-  policy = same;
-  kept = attempt.kept;
-  one = λ sure _. one sure;
-  doubt = attempt.doubt;
-  failed = λ built. (λ refused. absurd (clash (is_store_refusal reply) refused (own built)), λ differs. absurd (differs attempt.failed));
-  failures = λ built. own_counts reply _ _ attempt.failed (own built);
-  commits = committed_by reply _ _ attempt.commits;
-  handed = handed_ok (is_on_file asked) reply _ _ attempt.handed;
-}
+-- no call failed where a reply was given
+none_failed : (r : Reach) (reply : Given) (old new : ℕ) → FailedIn r (Ok reply) old new → new ≡ old
+none_failed NoRow reply old new e = e
+none_failed OneRow reply old new e = e
+none_failed ManyRows reply old new e = e
 
--- an attempt in which a call failed is a step with the store's refusal
-pub stepped_err : {S : Type 0} (view : S → StoreView) (asked : Request) (old new : OfficeView S) (e : StoreError) → new.policy ≡ old.policy → IsAttempt (is_on_file asked) (view old.store) (view new.store) (Err e) →
-    IsStep view asked old new (given.Refused refusal.Store)
-stepped_err view asked old new e same attempt = record {
+listing_counts : (reply : Given) (old new : ℕ) → new ≡ old → FailedBy ManyRows reply old new
+listing_counts (given.Refused refusal.Store) old new e = inl e
+listing_counts (given.Refused refusal.Syntax) old new e = e
+listing_counts (given.Refused refusal.Caller) old new e = e
+listing_counts (given.Refused refusal.Clock) old new e = e
+listing_counts (given.Refused refusal.Record) old new e = e
+listing_counts (given.Refused (refusal.Denied name)) old new e = e
+listing_counts (given.Refused (refusal.NotAdmitted why)) old new e = e
+listing_counts (given.Done number) old new e = e
+listing_counts (given.Parcel p) old new e = e
+listing_counts (given.File f ps) old new e = e
+listing_counts (given.Listed l) old new e = e
+listing_counts (given.Register k l) old new e = e
+
+failed_ok : (r : Reach) (reply : Given) (old new : ℕ) → IsOwn reply → new ≡ old → FailedBy r reply old new
+failed_ok NoRow reply old new own e = own_counts reply old new e own
+failed_ok OneRow reply old new own e = own_counts reply old new e own
+failed_ok ManyRows reply old new own e = listing_counts reply old new e
+
+failed_err : (r : Reach) (e : StoreError) (old new : ℕ) → FailedIn r (Err e) old new → FailedBy r (given.Refused refusal.Store) old new
+failed_err NoRow e old new counted = counted
+failed_err OneRow e old new counted = counted
+failed_err ManyRows e old new either = either
+
+one_failed : (r : Reach) (e : StoreError) (old new : ℕ) → IsTrue (not (is_many r)) → FailedIn r (Err e) old new → new ≡ next_count old
+one_failed NoRow e old new few counted = counted
+one_failed OneRow e old new few counted = counted
+one_failed ManyRows e old new few either = cc
+
+-- a refusal opens nothing
+pub opens_refused : (rows : Option ℕ) (why : Refusal) (old new : ℕ) → Opens rows (given.Refused why) old new
+opens_refused None why old new = tt
+opens_refused (Some n) why old new = tt
+
+-- the rows that the known caller's request opens
+pub opened_known : (policy : Policy) (h : History) (digest : List ℕ) (asked : Request) (day : ℕ) (caller : Party) → Some caller ≡ who h digest → (result : Result Given StoreError) (mid old new : ℕ) → mid ≡ old →
+    IfOk result (λ reply. Opens (opened_for policy h day caller asked) reply mid new) → IfOk result (λ reply. Opens (rows_opened policy h digest asked day) reply old new)
+opened_known policy h digest asked day caller found result mid old new same opened =
+    subst (λ n. IfOk result (λ reply. Opens (rows_opened policy h digest asked day) reply n new)) same
+    (subst (λ rows. IfOk result (λ reply. Opens rows reply mid new)) (ap (option_and_then (λ (p : Party). opened_for policy h day p asked)) found) opened)
+
+-- an attempt that gives a reply of the office's own is a step
+pub stepped_ok : {S : Type 0} (view : S → StoreView) (digest : List ℕ) (asked : Request) (day : ℕ) (old new : OfficeView S) (reply : Given) → new.policy ≡ old.policy →
+    IsAttempt (reach_of asked) (view old.store) (view new.store) (Ok reply) → ((view new.store).doubt ≡ 0 → HasOneDesk (view new.store)) → IsOwn reply →
+    ((view new.store).doubt ≡ 0 → (h : History) → IsHistory h → (view old.store).holds (tables h) → Opens (rows_opened old.policy h digest asked day) reply (view old.store).handed (view new.store).handed) →
+    IsStep view digest asked day old new reply
+stepped_ok view digest asked day old new reply same attempt one own opened =
+    let none : (view new.store).failed ≡ (view old.store).failed = none_failed (reach_of asked) reply _ _ attempt.failed in
+    record {
+      policy = same;
+      kept = attempt.kept;
+      one = λ sure _. one sure;
+      doubt = attempt.doubt;
+      failed = λ _. (λ refused. absurd (clash (is_store_refusal reply) refused own), λ differs. absurd (differs none));
+      failures = failed_ok (reach_of asked) reply _ _ own none;
+      commits = committed_by reply _ _ attempt.commits;
+      handed = handed_ok (reach_of asked) reply _ _ attempt.handed;
+      opened = opened;
+    }
+
+-- an attempt that failed is a step with the store's refusal
+pub stepped_err : {S : Type 0} (view : S → StoreView) (digest : List ℕ) (asked : Request) (day : ℕ) (old new : OfficeView S) (e : StoreError) → new.policy ≡ old.policy →
+    IsAttempt (reach_of asked) (view old.store) (view new.store) (Err e) → IsStep view digest asked day old new (given.Refused refusal.Store)
+stepped_err view digest asked day old new e same attempt = record {
   policy = same;
   kept = attempt.kept;
   one = λ sure own. absurd (clash true refl own);
   doubt = attempt.doubt;
-  failed = λ built. (λ refused same. next_differs (view old.store).failed (sym attempt.failed ∙ same), λ differs. refl);
-  failures = λ built. attempt.failed;
+  failed = λ few. (λ refused same. next_differs (view old.store).failed (sym (one_failed (reach_of asked) e _ _ few attempt.failed) ∙ same), λ differs. refl);
+  failures = failed_err (reach_of asked) e _ _ attempt.failed;
   commits = attempt.commits;
-  handed = handed_err (is_on_file asked) e _ _ attempt.handed;
+  handed = handed_err (reach_of asked) e _ _ attempt.handed;
+  opened = λ sure h is held. opens_refused (rows_opened old.policy h digest asked day) refusal.Store _ _;
 }
 
 -- one step more
 pub steps_last : {S : Type 0} (view : S → StoreView) (requests : List (Asked × ℕ)) (replies : List Given) (request : Asked × ℕ) (reply : Given) (old between new : OfficeView S) → Steps view requests replies old between →
-    IsStep view request.0.request between new reply → Steps view (requests ++ request ∷ []) (replies ++ reply ∷ []) old new
-steps_last view [] [] request reply old between new ran step = (new, subst (λ o. IsStep view request.0.request o new reply) ran step, refl)
+    IsStep view (digest_of request.0.token) request.0.request request.1 between new reply → Steps view (requests ++ request ∷ []) (replies ++ reply ∷ []) old new
+steps_last view [] [] request reply old between new ran step = (new, subst (λ o. IsStep view (digest_of request.0.token) request.0.request request.1 o new reply) ran step, refl)
 steps_last view [] (r ∷ replies) request reply old between new ran step = absurd ran
 steps_last view (q ∷ requests) [] request reply old between new ran step = absurd ran
 steps_last view (q ∷ requests) (r ∷ replies) request reply old between new ran step = (ran.0, ran.1, steps_last view requests replies request reply ran.0 between new ran.2 step)

@@ -1,15 +1,20 @@
 -- What the office's calls of a store leave as it was.
-use Rattle.std.specs.Prelude.{◌≡◌, ◌≢◌, ◌≤◌, ◌↔◌, ℕ, Bool, List, [], ◌∷◌, Result, Ok, Err, OnOk, IsTrue, ⊤}
+use Rattle.std.specs.Prelude.{◌≡◌, ◌⊎◌, ◌≢◌, ◌≤◌, ◌↔◌, ℕ, List, [], ◌∷◌, Result, Ok, Err, OnOk, MatchResult, IsTrue, not, ⊤}
 use Rattle.permit_base.specs.declared.request.Asked.{Asked}
 use Rattle.permit_base.specs.declared.request.Request.{Request}
-use Rattle.permit_model.specs.Tables.{Tables}
+use Rattle.permit_base.specs.Digests.{digest_of}
+use Rattle.permit_model.specs.History.{History}
+use Rattle.permit_model.specs.Tables.{Tables, tables}
+use Rattle.permit_model.specs.Machine.{IsHistory}
 use Rattle.permit_store.specs.declared.store.StoreError.{StoreError}
-use Rattle.permit_store.specs.Counts.{failed_after}
+use Rattle.permit_store.specs.Counts.{next_count}
 use Rattle.permit_store.specs.Frames.{StoreView, HasOneDesk, Reads}
 use Rattle.permit_office.specs.declared.reply.Reply.{Reply as Given}
 use Rattle.permit_office.specs.declared.reply.Reply.TheVariants as given
 use Rattle.permit_office.specs.Office.{OfficeView}
-use Rattle.permit_office.specs.Answers.{Committed, CommittedBy, HandedIn, HandedBy, IsOwn, failed_by, is_built, is_on_file, is_store_refusal}
+use Rattle.permit_office.specs.Answers.{Committed, CommittedBy, IsOwn, is_store_refusal}
+use Rattle.permit_office.specs.Reach.{Reach, reach_of, is_many, HandedIn, HandedBy, FailedIn, FailedBy}
+use Rattle.permit_office.specs.Opening.{rows_opened, Opens}
 
 -- calls that read, any number of them
 abbrev pub OnlyReads : {A E : Type 0} → StoreView → StoreView → Result A E → Type 0
@@ -27,26 +32,37 @@ UnlessMade (Err e) said = said
 
 -- An attempt at a request leaves any tables, unless a command is done, and no doubt goes. After a reply a store that is
 -- without doubt can be read, where it could be before.
-pub record IsAttempt (on_file : Bool) (old new : StoreView) (result : Result Given StoreError) : Type 0 where
+pub record IsAttempt (reach : Reach) (old new : StoreView) (result : Result Given StoreError) : Type 0 where
   pub kept : (t : Tables) → old.holds t → UnlessMade result (new.holds t)
   pub one : new.doubt ≡ 0 → HasOneDesk old → OnOk result (HasOneDesk new)
   pub doubt : old.doubt ≤ new.doubt
-  pub failed : new.failed ≡ failed_after result old.failed
+  pub failed : FailedIn reach result old.failed new.failed
   pub commits : Committed result old.commits new.commits
-  pub handed : HandedIn on_file result old.handed new.handed
+  pub handed : HandedIn reach result old.handed new.handed
+
+-- A making that only reads. Where it fails, a call of the store failed, or memory was refused.
+pub record IsMaking {A : Type 0} (old new : StoreView) (result : Result A StoreError) : Type 0 where
+  pub kept : (t : Tables) → old.holds t → new.holds t
+  pub one : new.doubt ≡ 0 → HasOneDesk old → OnOk result (HasOneDesk new)
+  pub doubt : old.doubt ≤ new.doubt
+  pub failed : MatchResult result (λ made. new.failed ≡ old.failed) (λ e. (new.failed ≡ old.failed) ⊎ (new.failed ≡ next_count old.failed))
+  pub commits : new.commits ≡ old.commits
 
 -- A step leaves the policy, and any tables, unless a command is done; no doubt goes. After any reply but the store's
--- refusal, a store that is without doubt can be read. That refusal comes exactly where a call failed, and stands for one
--- that did; listings and registers, which aren't built yet, are refused without a call that failed.
-pub record IsStep {S : Type 0} (view : S → StoreView) (asked : Request) (old new : OfficeView S) (reply : Given) : Type 0 where
+-- refusal, a store that is without doubt can be read. That refusal stands for a call that failed, and comes exactly where
+-- one did, but for that of a listing or a register, which may be for want of memory. The rows handed out for a listing
+-- are those that it opens.
+pub record IsStep {S : Type 0} (view : S → StoreView) (digest : List ℕ) (asked : Request) (day : ℕ) (old new : OfficeView S) (reply : Given) : Type 0 where
   pub policy : new.policy ≡ old.policy
   pub kept : (t : Tables) → (view old.store).holds t → UnlessDone reply ((view new.store).holds t)
   pub one : (view new.store).doubt ≡ 0 → IsOwn reply → HasOneDesk (view new.store)
   pub doubt : (view old.store).doubt ≤ (view new.store).doubt
-  pub failed : IsTrue (is_built asked) → (IsTrue (is_store_refusal reply) ↔ ((view new.store).failed ≢ (view old.store).failed))
-  pub failures : IsTrue (is_built asked) → (view new.store).failed ≡ failed_by reply (view old.store).failed
+  pub failed : IsTrue (not (is_many (reach_of asked))) → (IsTrue (is_store_refusal reply) ↔ ((view new.store).failed ≢ (view old.store).failed))
+  pub failures : FailedBy (reach_of asked) reply (view old.store).failed (view new.store).failed
   pub commits : CommittedBy reply (view old.store).commits (view new.store).commits
-  pub handed : HandedBy (is_on_file asked) reply (view old.store).handed (view new.store).handed
+  pub handed : HandedBy (reach_of asked) reply (view old.store).handed (view new.store).handed
+  pub opened : (view new.store).doubt ≡ 0 → (h : History) → IsHistory h → (view old.store).holds (tables h)
+      → Opens (rows_opened old.policy h digest asked day) reply (view old.store).handed (view new.store).handed
 
 -- a run by steps, one for each request, with its reply
 abbrev pub Steps : {S : Type 0} → (S → StoreView) → List (Asked × ℕ) → List Given → OfficeView S → OfficeView S → Type 0
@@ -54,4 +70,4 @@ Steps view [] [] old new = new ≡ old
 Steps view [] (reply ∷ replies) old new = ⊥
 Steps view (request ∷ requests) [] old new = ⊥
 Steps {S} view (request ∷ requests) (reply ∷ replies) old new =
-    (between : OfficeView S) × IsStep view request.0.request old between reply × Steps view requests replies between new
+    (between : OfficeView S) × IsStep view (digest_of request.0.token) request.0.request request.1 old between reply × Steps view requests replies between new

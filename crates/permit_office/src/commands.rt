@@ -17,6 +17,7 @@ ghost use Rattle.permit_store.specs.Changes.{papers_after, suits_effect};
 ghost use Rattle.permit_office.specs.Answers.{Attempts, IsDecided, IsOwn};
 ghost use Rattle.permit_office.specs.Effects.{papers_entered};
 ghost use Rattle.permit_office.specs.Frames.{OnlyReads, IsAttempt};
+ghost use Rattle.permit_office.specs.Reach.{NoRow, OneRow};
 
 use crate::commit::carry_out;
 use crate::facts::{facts_on_file, owner_of};
@@ -129,7 +130,7 @@ fn perform<S: Store>(
         → last_day h ≤ day → IsTrue (Caller.is_party h caller)
         → Attempts (S.view store.new).holds result
         (outcome_by_reason h (entry_of h day caller (request.OnFile row.now.id command.now)) (reason_against h day caller (request.OnFile row.now.id command.now))) h }
-    ensures attempt { IsAttempt false (S.view store.old) (S.view store.new) result }
+    ensures attempt { IsAttempt NoRow (S.view store.old) (S.view store.new) result }
     ensures decided { IfOk result IsDecided }
     ensures own { IfOk result IsOwn }
 {
@@ -166,7 +167,7 @@ pub(crate) fn on_file<S: Store>(
     ensures model { (S.view store.new).doubt ≡ 0 → (h : History) → IsHistory h → (S.view store.old).holds (tables h) → last_day h ≤ day
         → IsTrue (Caller.is_party h caller.now.id)
         → Attempts (S.view store.new).holds result (outcome_by_request policy.now h day caller.now (request.OnFile file command.now)) h }
-    ensures attempt { IsAttempt true (S.view store.old) (S.view store.new) result }
+    ensures attempt { IsAttempt OneRow (S.view store.old) (S.view store.new) result }
     ensures own { IfOk result IsOwn }
 {
     let Some(row) = store.file(file)? else {

@@ -7,6 +7,7 @@ ghost use Rattle.permit_model.specs.Machine.{outcome_by_reason};
 ghost use Rattle.permit_store.specs.Changes.{Fits, changed};
 ghost use Rattle.permit_office.specs.Answers.{Attempts, IsDecided, IsOwn};
 ghost use Rattle.permit_office.specs.Frames.{IsAttempt};
+ghost use Rattle.permit_office.specs.Reach.{NoRow};
 
 use crate::reply::Reply;
 use permit_base::outcome::{Reason, Refusal};
@@ -25,7 +26,7 @@ pub(crate) fn carry_out<S: Store>(
     ensures model { (h : History) (entry : Entry) → (S.view store.old).holds (tables h)
         → (reason ≡ None → (number ≡ entry.number) × Fits (tables h) change.now day × (changed (tables h) change.now day ≡ tables (entry ∷ h)))
         → Attempts (S.view store.new).holds result (outcome_by_reason h entry reason) h }
-    ensures attempt { IsAttempt false (S.view store.old) (S.view store.new) result }
+    ensures attempt { IsAttempt NoRow (S.view store.old) (S.view store.new) result }
     ensures decided { IfOk result IsDecided }
     ensures own { IfOk result IsOwn }
 {

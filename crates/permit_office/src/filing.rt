@@ -9,6 +9,7 @@ ghost use Rattle.permit_model.specs.Tables.{tables, desk_of};
 ghost use Rattle.permit_model.specs.Machine.{IsHistory, outcome_by_request};
 ghost use Rattle.permit_office.specs.Answers.{Attempts, IsOwn};
 ghost use Rattle.permit_office.specs.Frames.{IsAttempt};
+ghost use Rattle.permit_office.specs.Reach.{NoRow};
 
 use crate::commit::carry_out;
 use crate::facts::facts_on_parcel;
@@ -47,7 +48,7 @@ pub(crate) fn file<S: Store>(
     ensures model { (S.view store.new).doubt ≡ 0 → (h : History) → IsHistory h → (S.view store.old).holds (tables h) → desk.now ≡ desk_of h
         → last_day h ≤ day → IsTrue (Caller.is_party h caller.now.id)
         → Attempts (S.view store.new).holds result (outcome_by_request policy.now h day caller.now (request.File parcel kind valuation description.now)) h }
-    ensures attempt { IsAttempt false (S.view store.old) (S.view store.new) result }
+    ensures attempt { IsAttempt NoRow (S.view store.old) (S.view store.new) result }
     ensures own { IfOk result IsOwn }
 {
     let Some(land) = store.parcel(parcel)? else {

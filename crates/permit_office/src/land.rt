@@ -11,6 +11,7 @@ ghost use Rattle.permit_model.specs.Tables.{Tables, tables, desk_of};
 ghost use Rattle.permit_model.specs.Machine.{IsHistory, outcome_by_request};
 ghost use Rattle.permit_office.specs.Answers.{Attempts, IsOwn};
 ghost use Rattle.permit_office.specs.Frames.{OnlyReads, IsAttempt};
+ghost use Rattle.permit_office.specs.Reach.{NoRow};
 
 use crate::commit::carry_out;
 use crate::facts::facts_on_parcel;
@@ -71,7 +72,7 @@ pub(crate) fn add_parcel<S: Store>(
 ) -> Got<Reply>
     ensures model { (S.view store.new).doubt ≡ 0 → (h : History) → IsHistory h → (S.view store.old).holds (tables h) → desk.now ≡ desk_of h → last_day h ≤ day
         → Attempts (S.view store.new).holds result (outcome_by_request policy.now h day caller.now (request.AddParcel lot.now address.now owner)) h }
-    ensures attempt { IsAttempt false (S.view store.old) (S.view store.new) result }
+    ensures attempt { IsAttempt NoRow (S.view store.old) (S.view store.new) result }
     ensures own { IfOk result IsOwn }
 {
     if let Some(name) = policy.denial(&Facts::office(caller.role, Action::AddParcel)) {
@@ -119,7 +120,7 @@ pub(crate) fn declare<S: Store>(
     ensures model { (S.view store.new).doubt ≡ 0 → (h : History) → (S.view store.old).holds (tables h) → last_day h ≤ day
         → IsTrue (Caller.is_party h caller.now.id)
         → Attempts (S.view store.new).holds result (outcome_by_request policy.now h day caller.now (request.Declare parcel)) h }
-    ensures attempt { IsAttempt false (S.view store.old) (S.view store.new) result }
+    ensures attempt { IsAttempt NoRow (S.view store.old) (S.view store.new) result }
     ensures own { IfOk result IsOwn }
 {
     let Some(land) = store.parcel(parcel)? else {
@@ -167,7 +168,7 @@ pub(crate) fn transfer<S: Store>(
 ) -> Got<Reply>
     ensures model { (S.view store.new).doubt ≡ 0 → (h : History) → (S.view store.old).holds (tables h) → last_day h ≤ day
         → Attempts (S.view store.new).holds result (outcome_by_request policy.now h day caller.now (request.Transfer parcel to)) h }
-    ensures attempt { IsAttempt false (S.view store.old) (S.view store.new) result }
+    ensures attempt { IsAttempt NoRow (S.view store.old) (S.view store.new) result }
     ensures own { IfOk result IsOwn }
 {
     let Some(land) = store.parcel(parcel)? else {

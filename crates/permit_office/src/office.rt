@@ -1,6 +1,8 @@
 //! The office and its steps.
 
 ghost use Rattle.std.specs.Prelude.{◌≡◌, ◌≤◌, IfOk, IfErr, OnErr};
+ghost use Rattle.permit_base.specs.Digests.{digest_of};
+ghost use Rattle.permit_base.specs.declared.request.Request.TheVariants as request;
 ghost use Rattle.permit_model.specs.History.{History};
 ghost use Rattle.permit_model.specs.Tables.{tables};
 ghost use Rattle.permit_model.specs.Machine.{IsHistory, step_as, step};
@@ -8,15 +10,21 @@ ghost use Rattle.permit_store.specs.Frames.{IsRead};
 ghost use Rattle.permit_store.specs.declared.store.OpenError.TheVariants as open_error;
 ghost use Rattle.permit_office.specs.Answers.{Answers};
 ghost use Rattle.permit_office.specs.Frames.{IsStep, Steps};
+ghost use Rattle.permit_office.specs.Opening.{rows_opened};
 ghost use Rattle.permit_office.specs.Runs.{Ran};
+ghost use Rattle.permit_office.specs.Showing.{IsShowing, OpensAt, Shows};
+ghost use Rattle.permit_office.specs.Stops.{StopsAt};
 
 use crate::reply::Reply;
 use crate::serve::attempt;
+use crate::showing::{RowsEnd, show};
 use permit_base::digests::digest;
 use permit_base::outcome::Refusal;
-use permit_base::request::{Asked, Request};
-use permit_base::values::{Day, Digest};
+use permit_base::request::{Asked, Filter, Request};
+use permit_base::values::{Day, Digest, Token};
+use permit_core::taker::Taker;
 use permit_policy::Policy;
+use permit_store::rows::FileView;
 use permit_store::store::{OpenError, Store};
 use std::alloc::{AllocError, Global};
 use std::marker::Model;
@@ -70,12 +78,13 @@ impl<S: Store + Drop> Office<S> {
     ///
     /// The refusals are tested in the order caller, clock, record, denied, not admitted; the first that applies
     /// is answered, and nothing has changed. Only an accepted command changes the tables, by one commit, and
-    /// moves the last day. The refusal for the store comes exactly where a call of the store failed; then, too,
-    /// nothing has changed.
+    /// moves the last day. A listing has no test but the first two; its files are found by the selections that the
+    /// policy's rules give, and no other row is read. The refusal for the store comes exactly where a call of the
+    /// store failed, or where memory was refused to a listing; then, too, nothing has changed.
     pub fn step_as(&mut self, digest: &Digest, asked: &Request, day: Day) -> Reply
         ensures model { (S.view self.new.store).doubt ≡ 0 → (h : History) → IsHistory h → (S.view self.old.store).holds (tables h)
             → Answers (S.view self.new.store).holds result (step_as self.old.policy h digest.now asked.now day) h }
-        ensures step { IsStep S.view asked.now self.old self.new result }
+        ensures step { IsStep S.view digest.now asked.now day self.old self.new result }
     {
         match attempt(&mut self.store, &self.policy, digest, asked, day) {
             Ok(reply) => reply,
@@ -87,11 +96,38 @@ impl<S: Store + Drop> Office<S> {
     pub fn step(&mut self, asked: &Asked, day: Day) -> Reply
         ensures model { (S.view self.new.store).doubt ≡ 0 → (h : History) → IsHistory h → (S.view self.old.store).holds (tables h)
             → Answers (S.view self.new.store).holds result (step self.old.policy h asked.now day) h }
-        ensures step { IsStep S.view asked.now.request self.old self.new result }
+        ensures step { IsStep S.view (digest_of asked.now.token) asked.now.request day self.old self.new result }
     {
         match digest(&asked.token) {
             Ok(digest) => self.step_as(&digest, &asked.request, day),
             Err(_) => Reply::Refused(Refusal::Store),
+        }
+    }
+
+    /// Hands the files that the token's party may list on the day to the taker, in rising number and each once, until it
+    /// asks to stop. The refusals are those of a request to list them.
+    ///
+    /// Where one selection finds all these files, each goes to the taker as the store hands it out: no list is kept, and
+    /// no row behind the file at which the taker stops is read. Where it takes several, the files are listed first.
+    pub fn rows<T: Taker<FileView>>(
+        &mut self,
+        token: &Token,
+        day: Day,
+        wanted: Filter,
+        taker: &mut T,
+    ) -> RowsEnd
+        ensures shown { (S.view self.new.store).doubt ≡ 0 → (h : History) → IsHistory h → (S.view self.old.store).holds (tables h)
+            → Shows T.took (step_as self.old.policy h (digest_of token.now) (request.ListFiles wanted) day).reply taker.old taker.new result }
+        ensures opened { (S.view self.new.store).doubt ≡ 0 → (h : History) → IsHistory h → (S.view self.old.store).holds (tables h)
+            → OpensAt (rows_opened self.old.policy h (digest_of token.now) (request.ListFiles wanted) day) result (S.view self.old.store).handed (S.view self.new.store).handed }
+        ensures stopped { (S.view self.new.store).doubt ≡ 0 → (h : History) → IsHistory h → (S.view self.old.store).holds (tables h)
+            → StopsAt T.took self.old.policy h (digest_of token.now) day wanted result taker.old taker.new (S.view self.old.store).handed (S.view self.new.store).handed }
+        ensures showing { IsShowing (S.view self.old.store) (S.view self.new.store) result }
+        ensures policy { self.new.policy ≡ self.old.policy }
+    {
+        match digest(token) {
+            Ok(digest) => show(&mut self.store, &self.policy, &digest, day, wanted, taker),
+            Err(_) => RowsEnd::Refused(Refusal::Store),
         }
     }
 

@@ -11,6 +11,7 @@ ghost use Rattle.permit_model.specs.Tables.{Tables, tables, desk_of};
 ghost use Rattle.permit_model.specs.Machine.{IsHistory, outcome_by_request};
 ghost use Rattle.permit_office.specs.Answers.{Attempts, IsOwn};
 ghost use Rattle.permit_office.specs.Frames.{OnlyReads, IsAttempt};
+ghost use Rattle.permit_office.specs.Reach.{NoRow};
 
 use crate::commit::carry_out;
 use crate::reply::Reply;
@@ -71,7 +72,7 @@ pub(crate) fn add_party<S: Store>(
 ) -> Got<Reply>
     ensures model { (S.view store.new).doubt ≡ 0 → (h : History) → IsHistory h → (S.view store.old).holds (tables h) → desk.now ≡ desk_of h → last_day h ≤ day
         → Attempts (S.view store.new).holds result (outcome_by_request policy.now h day caller.now (request.AddParty name.now role token.now)) h }
-    ensures attempt { IsAttempt false (S.view store.old) (S.view store.new) result }
+    ensures attempt { IsAttempt NoRow (S.view store.old) (S.view store.new) result }
     ensures own { IfOk result IsOwn }
 {
     if let Some(rule) = policy.denial(&Facts::office(caller.role, adding(role))) {

@@ -6,12 +6,15 @@ ghost use Rattle.permit_model.specs.History.{History, last_day};
 ghost use Rattle.permit_model.specs.Tables.{tables, desk_of};
 ghost use Rattle.permit_model.specs.Machine.{IsHistory, outcome_by_request, step_as};
 ghost use Rattle.permit_store.specs.Frames.{HasOneDesk};
-ghost use Rattle.permit_office.specs.Answers.{Attempts, is_built, is_on_file, IsOwn};
+ghost use Rattle.permit_office.specs.Answers.{Attempts, IsOwn};
 ghost use Rattle.permit_office.specs.Frames.{IsAttempt};
+ghost use Rattle.permit_office.specs.Opening.{opened_for, rows_opened, Opens};
+ghost use Rattle.permit_office.specs.Reach.{reach_of};
 
 use crate::commands::on_file;
 use crate::filing::file;
 use crate::land::{add_parcel, declare, transfer};
+use crate::listing::{list_files, show_register};
 use crate::people::add_party;
 use crate::reading::{read_file, read_parcel};
 use crate::reply::Reply;
@@ -34,8 +37,10 @@ fn serve_known<S: Store>(
     ensures model { (S.view store.new).doubt ≡ 0 → (h : History) → IsHistory h → (S.view store.old).holds (tables h) → desk.now ≡ desk_of h
         → last_day h ≤ day → IsTrue (Caller.is_party h caller.now.id)
         → Attempts (S.view store.new).holds result (outcome_by_request policy.now h day caller.now asked.now) h }
-    ensures attempt { IsAttempt (is_on_file asked.now) (S.view store.old) (S.view store.new) result }
-    ensures own { IsTrue (is_built asked.now) → IfOk result IsOwn }
+    ensures opened { (S.view store.new).doubt ≡ 0 → (h : History) → IsHistory h → (S.view store.old).holds (tables h)
+        → IfOk result (λ reply. Opens (opened_for policy.now h day caller.now asked.now) reply (S.view store.old).handed (S.view store.new).handed) }
+    ensures attempt { IsAttempt (reach_of asked.now) (S.view store.old) (S.view store.new) result }
+    ensures own { IfOk result IsOwn }
 {
     match asked {
         Request::AddParty { name, role, token } => add_party(
@@ -67,7 +72,8 @@ fn serve_known<S: Store>(
         Request::Transfer { parcel, to } => transfer(store, policy, caller, *parcel, *to, day),
         Request::ReadFile { file } => read_file(store, policy, caller, *file, day),
         Request::OnFile { file, command } => on_file(store, policy, caller, *file, command, day),
-        Request::ListFiles { .. } | Request::Register { .. } => Ok(Reply::Refused(Refusal::Store)),
+        Request::ListFiles { filter } => list_files(store, policy, caller, day, *filter),
+        Request::Register { kind } => show_register(store, policy, caller, day, *kind),
     }
 }
 
@@ -81,9 +87,11 @@ pub(crate) fn attempt<S: Store>(
 ) -> Got<Reply>
     ensures model { (S.view store.new).doubt ≡ 0 → (h : History) → IsHistory h → (S.view store.old).holds (tables h)
         → Attempts (S.view store.new).holds result (step_as policy.now h digest.now asked.now day) h }
-    ensures attempt { IsAttempt (is_on_file asked.now) (S.view store.old) (S.view store.new) result }
+    ensures opened { (S.view store.new).doubt ≡ 0 → (h : History) → IsHistory h → (S.view store.old).holds (tables h)
+        → IfOk result (λ reply. Opens (rows_opened policy.now h digest.now asked.now day) reply (S.view store.old).handed (S.view store.new).handed) }
+    ensures attempt { IsAttempt (reach_of asked.now) (S.view store.old) (S.view store.new) result }
     ensures one { (S.view store.new).doubt ≡ 0 → OnOk result (HasOneDesk (S.view store.new)) }
-    ensures own { IsTrue (is_built asked.now) → IfOk result IsOwn }
+    ensures own { IfOk result IsOwn }
 {
     let Some(caller) = store.party_by_token(digest)? else {
         return Ok(Reply::Refused(Refusal::Caller));

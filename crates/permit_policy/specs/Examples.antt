@@ -1,5 +1,8 @@
 -- Worked texts of policies.
-use Rattle.std.specs.Prelude.{ℕ, zero, suc, ◌+◌, ◌/◌, ◌%◌, length, List, [], ◌∷◌, ◌++◌, codes, Ok, Err}
+use Rattle.std.specs.Prelude.{ℕ, zero, suc, ◌+◌, ◌/◌, ◌%◌, length, List, [], ◌∷◌, ◌++◌, codes, None, Ok, Err}
+use Rattle.permit_base.specs.declared.words.Relation.TheVariants.{Owner, Contractor}
+use Rattle.permit_base.specs.declared.words.Effect.TheVariants.{Allow}
+use Rattle.permit_model.specs.Policy.{Rule, Both}
 use Rattle.permit_policy.specs.declared.fault.PolicyFault.{PolicyFault}
 use Rattle.permit_policy.specs.PolicyText.{Meaning}
 
@@ -11,6 +14,19 @@ line text = text ++ 10 ∷ []
 abbrev pub table_text : List ℕ → List ℕ → List ℕ
 table_text name effect =
     line (codes "[[rule]]") ++ line (codes "name = \"" ++ name ++ codes "\"") ++ line (codes "effect = \"" ++ effect ++ codes "\"")
+
+-- the rule of this name that allows all to who is owner and contractor
+abbrev pub owner_and_contractor : List ℕ → Rule
+owner_and_contractor name = record {
+  name = name;
+  effect = Allow;
+  role = None;
+  relation = Both Owner Contractor;
+  action = None;
+  stage = None;
+  timing = None;
+  stopped = None;
+}
 
 -- so many good rules, each with a name of its own
 abbrev pub good_rules : ℕ → List ℕ

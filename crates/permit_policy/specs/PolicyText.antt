@@ -1,5 +1,5 @@
 -- What a policy's text means: its rules, or the lowest fault that applies with the place of the first table that has it.
-use Rattle.std.specs.Prelude.{◌⊎◌, ◌≡◌, ℕ, ◌+◌, Bool, true, false, not, ◌&&◌, ◌||◌, nat_lt, if◌then◌else◌, List, [], ◌∷◌, ◌++◌, length, map, codes, bytes_eq, Option, None, Some, is_some, is_none, option_map, option_and_then, unwrap_or, Result, Ok, Err}
+use Rattle.std.specs.Prelude.{◌⊎◌, ◌≡◌, ℕ, ◌+◌, ◌==◌, Bool, true, false, not, ◌&&◌, ◌||◌, nat_lt, if◌then◌else◌, List, [], ◌∷◌, ◌++◌, length, map, codes, bytes_eq, Option, None, Some, is_some, is_none, option_map, option_and_then, unwrap_or, Result, Ok, Err}
 use Rattle.std.specs.List.{list_any, list_all, filter_map, position_from}
 use Rattle.toml.specs.Data.{Data, Items, no_items, item, Members, no_members, member, get, get_member, as_str, as_bool, as_array, as_table}
 use Rattle.toml.specs.Parse.{parse_document}
@@ -12,7 +12,7 @@ use Rattle.permit_base.specs.declared.words.Effect.{Effect}
 use Rattle.permit_base.specs.declared.words.Effect.TheVariants.{Deny}
 use Rattle.permit_base.specs.Texts.{is_rule_name}
 use Rattle.permit_base.specs.Words.{named, role_word, all_roles, stage_word, all_stages, timing_word, all_timings, relation_word, all_relations, action_word, all_actions, effect_word, all_effects}
-use Rattle.permit_model.specs.Policy.{Rule, Policy}
+use Rattle.permit_model.specs.Policy.{RelationTest, Any, OneOf, Both, Rule, Policy}
 use Rattle.permit_policy.specs.declared.fault.PolicyError.{PolicyError}
 use Rattle.permit_policy.specs.declared.fault.PolicyFault.{PolicyFault}
 use Rattle.permit_policy.specs.declared.fault.PolicyFault.TheVariants as fault
@@ -77,19 +77,28 @@ text_keys = codes "name" ∷ codes "effect" ∷ []
 
 -- the conditions that are lists of words
 abbrev pub list_keys : List (List ℕ)
-list_keys = codes "role" ∷ codes "relation" ∷ codes "action" ∷ codes "stage" ∷ codes "timing" ∷ []
+list_keys = codes "role" ∷ codes "relation" ∷ codes "both" ∷ codes "action" ∷ codes "stage" ∷ codes "timing" ∷ []
 
 -- the known keys
 abbrev pub rule_keys : List (List ℕ)
 rule_keys = text_keys ++ list_keys ++ codes "stopped" ∷ []
 
--- known keys, with name and effect among them, and each value of its type
+-- the key is there
+abbrev pub has_key : Members → List ℕ → Bool
+has_key members key = is_some (get_member key members)
+
+-- the caller's relations are asked for in two ways
+abbrev pub has_both_tests : Members → Bool
+has_both_tests members = has_key members (codes "relation") && has_key members (codes "both")
+
+-- known keys, with name and effect among them, each value of its type, and at most one of `relation` and `both`
 abbrev pub is_shaped : Members → Bool
 is_shaped members =
     keys_among rule_keys members
     && list_all (has is_text members) text_keys
     && list_all (may_have is_list_of_texts members) list_keys
     && may_have is_truth members (codes "stopped")
+    && not (has_both_tests members)
 
 -- an item that isn't a table of that shape
 abbrev pub is_misshapen : Data → Bool
@@ -146,9 +155,19 @@ is_bad_list read None = false
 is_bad_list read (Some []) = true
 is_bad_list read (Some (text ∷ texts)) = not (are_words read (text ∷ texts))
 
+-- a list of other than two words, with an unknown word, or with a word twice
+abbrev pub is_bad_pair : {A : Type 0} → (List ℕ → Option A) → Option (List (List ℕ)) → Bool
+is_bad_pair read None = false
+is_bad_pair read (Some texts) = not (length texts == 2 && are_words read texts)
+
 -- the words of a list
 abbrev pub words_of : {A : Type 0} → (List ℕ → Option A) → Option (List (List ℕ)) → Option (List A)
 words_of read texts = option_map (filter_map read) texts
+
+-- the two words of a list, where they are two
+abbrev pub pair_in : {A : Type 0} → Option (List A) → Option (A × A)
+pair_in (Some (first ∷ second ∷ [])) = Some (first, second)
+pair_in _ = None
 
 -- the role, relation, action, stage and timing that a text spells
 abbrev pub role_named : List ℕ → Option Role
@@ -166,16 +185,28 @@ stage_named = named stage_word all_stages
 abbrev pub timing_named : List ℕ → Option Timing
 timing_named = named timing_word all_timings
 
--- one of the five lists is bad
+-- one of the six lists is bad
 abbrev pub has_bad_list : Data → Bool
 has_bad_list entry =
     is_bad_list role_named (texts_at (codes "role") entry)
     || is_bad_list relation_named (texts_at (codes "relation") entry)
+    || is_bad_pair relation_named (texts_at (codes "both") entry)
     || is_bad_list action_named (texts_at (codes "action") entry)
     || is_bad_list stage_named (texts_at (codes "stage") entry)
     || is_bad_list timing_named (texts_at (codes "timing") entry)
 
 -- ---- the meaning
+
+-- what is asked of the caller's relations by the words of `relation` and those of `both`, of which one at most is there
+abbrev pub relation_test : Option (List Relation) → Option (Relation × Relation) → RelationTest
+relation_test None None = Any
+relation_test (Some words) None = OneOf words
+relation_test words (Some pair) = Both pair.0 pair.1
+
+-- what a table asks of the caller's relations
+abbrev pub relation_test_of : Data → RelationTest
+relation_test_of entry =
+    relation_test (words_of relation_named (texts_at (codes "relation") entry)) (pair_in (words_of relation_named (texts_at (codes "both") entry)))
 
 -- the rule of a table without a fault
 abbrev pub rule_of : Data → Rule
@@ -183,7 +214,7 @@ rule_of entry = record {
   name = name_of entry;
   effect = effect_of entry;
   role = words_of role_named (texts_at (codes "role") entry);
-  relation = words_of relation_named (texts_at (codes "relation") entry);
+  relation = relation_test_of entry;
   action = words_of action_named (texts_at (codes "action") entry);
   stage = words_of stage_named (texts_at (codes "stage") entry);
   timing = words_of timing_named (texts_at (codes "timing") entry);

@@ -8,6 +8,7 @@ use crate::facts::Facts;
 use crate::rule::Rule;
 use permit_base::values::RuleName;
 use permit_base::words::Effect;
+use std::alloc::Global;
 use std::marker::Model;
 
 /// The rules in the order written.
@@ -31,6 +32,18 @@ impl Policy {
         ensures { result ≡ rules.items }
     {
         Policy { rules }
+    }
+
+    /// The rules in the order written.
+    pub(crate) fn in_order(&self) -> &[Rule]
+        ensures { result.now ≡ self.now }
+    {
+        &self.rules
+    }
+
+    /// What its rules were allocated with, and what is made by it may be.
+    pub fn allocator(&self) -> Global {
+        *self.rules.allocator()
     }
 
     /// The count of rules.

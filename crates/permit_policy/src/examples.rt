@@ -1,10 +1,10 @@
 //! Worked texts of policies: functions with nothing to do, whose contracts say what the texts mean.
 
-ghost use Rattle.std.specs.Prelude.{◌≡◌, ◌≢◌, ◌<◌, ◌++◌, ℕ, List, [], length, Ok, Err, codes};
+ghost use Rattle.std.specs.Prelude.{◌≡◌, ◌≢◌, ◌<◌, ◌++◌, ℕ, List, [], ◌∷◌, length, Ok, Err, codes};
 ghost use Rattle.permit_model.specs.Facts.{Facts};
 ghost use Rattle.permit_model.specs.Policy.{decision, default_denial};
 ghost use Rattle.permit_model.specs.StandardPolicy.{standard_policy};
-ghost use Rattle.permit_policy.specs.Examples.{line, table_text, good_rules, fault_in, count_read, standard_text};
+ghost use Rattle.permit_policy.specs.Examples.{line, table_text, owner_and_contractor, good_rules, fault_in, count_read, standard_text};
 ghost use Rattle.permit_policy.specs.PolicyText.{meaning, refused};
 ghost use Rattle.permit_policy.specs.declared.fault.PolicyFault.TheVariants as fault;
 
@@ -37,6 +37,26 @@ pub fn faults_in_a_table()
         ≡ fault_in fault.List 1 }
     ensures lowest_first { meaning (table_text (codes "a") (codes "let") ++ table_text (codes "default") (codes "deny"))
         ≡ fault_in fault.Name 2 }
+{}
+
+/// Two relations at once: the key `both`, which has two words and stands in place of `relation`.
+pub fn two_relations()
+    ensures good { meaning (table_text (codes "a") (codes "allow") ++ line (codes "both = [\"owner\", \"contractor\"]"))
+        ≡ Ok (owner_and_contractor (codes "a") ∷ []) }
+    ensures beside_relation { meaning (table_text (codes "a") (codes "allow") ++ line (codes "relation = [\"owner\"]")
+        ++ line (codes "both = [\"owner\", \"contractor\"]")) ≡ fault_in fault.Shape 1 }
+    ensures no_list { meaning (table_text (codes "a") (codes "allow") ++ line (codes "both = \"owner\""))
+        ≡ fault_in fault.Shape 1 }
+    ensures no_words { meaning (table_text (codes "a") (codes "allow") ++ line (codes "both = []"))
+        ≡ fault_in fault.List 1 }
+    ensures one_word { meaning (table_text (codes "a") (codes "allow") ++ line (codes "both = [\"owner\"]"))
+        ≡ fault_in fault.List 1 }
+    ensures three_words { meaning (table_text (codes "a") (codes "allow") ++ line (codes "both = [\"owner\", \"contractor\", \"applicant\"]"))
+        ≡ fault_in fault.List 1 }
+    ensures unknown_word { meaning (table_text (codes "a") (codes "allow") ++ line (codes "both = [\"owner\", \"neighbour\"]"))
+        ≡ fault_in fault.List 1 }
+    ensures word_twice { meaning (table_text (codes "a") (codes "allow") ++ line (codes "both = [\"owner\", \"owner\"]"))
+        ≡ fault_in fault.List 1 }
 {}
 
 /// How many rules a policy may have: none, with the key `rule` or without it, and up to 64.

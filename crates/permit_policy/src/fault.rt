@@ -13,7 +13,8 @@ pub enum PolicyFault {
     TooLong,
     /// The text is not TOML 1.1.
     Unreadable,
-    /// An unknown key, a missing `name` or `effect`, or a value of another type than is stated.
+    /// An unknown key, a missing `name` or `effect`, `relation` and `both` in one table, or a value of another type
+    /// than is stated.
     Shape,
     /// More than 64 rules.
     TooMany,
@@ -21,7 +22,7 @@ pub enum PolicyFault {
     Name,
     /// An effect that is neither `allow` nor `deny`.
     Effect,
-    /// A list that is empty, has an unknown word, or a word twice.
+    /// A list that is empty, has an unknown word, or a word twice, and `both` of other than two words.
     List,
     /// Want of memory, which may come in place of any other.
     Memory,

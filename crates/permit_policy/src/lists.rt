@@ -1,10 +1,10 @@
 //! A condition's list of words.
 
-ghost use Rattle.std.specs.Prelude.{◌≡◌, true, false, not, map, IfOk, IfErr, option_map, if◌then◌else◌, None};
+ghost use Rattle.std.specs.Prelude.{◌≡◌, true, false, not, map, IfOk, IfErr, option_map, if◌then◌else◌, Some, None};
 ghost use Rattle.std.specs.List.{filter_map};
 ghost use Rattle.toml.specs.View.{view};
 ghost use Rattle.permit_base.specs.Words.{named};
-ghost use Rattle.permit_policy.specs.PolicyText.{text_of, texts_at, is_among, are_words, is_bad_list, words_of};
+ghost use Rattle.permit_policy.specs.PolicyText.{text_of, texts_at, is_among, are_words, is_bad_list, is_bad_pair, words_of, pair_in};
 ghost use Rattle.permit_policy.specs.Reading.{IsListFault};
 
 use crate::fault::PolicyFault;
@@ -51,6 +51,21 @@ fn read_words<W: Word>(alloc: Global, values: &[Value]) -> Result<Vec<W>, Policy
     Ok(words)
 }
 
+/// The words of two texts, unless the texts are other than two, one spells no word, or both the same.
+fn two_words<W: Word>(values: &[Value]) -> Option<(W, W)>
+    ensures { result ≡ (if is_bad_pair (named W.spelling W.every) (Some (map text_of (map view values.now))) then None
+        else pair_in (words_of (named W.spelling W.every) (Some (map text_of (map view values.now))))) }
+{
+    match values {
+        [first, second] => {
+            let first = read_word::<W>(text_of(first), &values[1..])?;
+            let second = W::read(text_of(second))?;
+            Some((first, second))
+        }
+        _ => None,
+    }
+}
+
 fn list_at<'t>(table: &'t Value, key: &str) -> Option<&'t [Value]>
     ensures { option_map (λ items. map text_of (map view items.now)) result ≡ texts_at key.now (view table.now) }
 {
@@ -81,6 +96,25 @@ pub(crate) fn read_list<W: Word>(
             }
             Ok(Some(read_words::<W>(alloc, values)?))
         }
+        None => Ok(None),
+    }
+}
+
+/// The two words of the list at a key of a table: None without the key. A list is refused that has other than two
+/// words, an unknown word, or a word twice.
+pub(crate) fn read_pair<W: Word>(table: &Value, key: &str) -> Result<Option<(W, W)>, PolicyFault>
+    ensures sound { IfOk result (λ pair.
+        is_bad_pair (named W.spelling W.every) (texts_at key.now (view table.now)) ≡ false) }
+    ensures pair { IfOk result (λ pair.
+        pair ≡ pair_in (words_of (named W.spelling W.every) (texts_at key.now (view table.now)))) }
+    ensures err { IfErr result (IsListFault
+        (is_bad_pair (named W.spelling W.every) (texts_at key.now (view table.now)))) }
+{
+    match list_at(table, key) {
+        Some(values) => match two_words::<W>(values) {
+            Some(pair) => Ok(Some(pair)),
+            None => Err(PolicyFault::List),
+        },
         None => Ok(None),
     }
 }

@@ -3,12 +3,28 @@
 ghost use Rattle.std.specs.Prelude.{◌≡◌, Some, option_map};
 ghost use Rattle.permit_model.specs.Facts.{holds};
 ghost use Rattle.permit_model.specs.Codes.{is_role, is_action, is_stage, is_timing};
-ghost use Rattle.permit_model.specs.Policy.{matches, matches_list, matches_truth};
+ghost use Rattle.permit_model.specs.Policy.{matches, matches_list, matches_relations, matches_truth};
+ghost use Rattle.permit_policy.specs.Relating.{relation_view};
+ghost use Rattle.permit_policy.specs.Hits.{is_for, covers};
+ghost use Rattle.permit_policy.specs.Explained.{relation_key, failing_key};
 
+use crate::cell::Cell;
 use crate::facts::Facts;
+use crate::key::Key;
 use permit_base::values::RuleName;
 use permit_base::words::{Action, Effect, Relation, Relations, Role, Stage, Timing};
 use std::marker::Model;
+
+/// What a rule asks of the caller's relations to the object.
+#[derive(Drop)]
+pub enum RelationTest {
+    /// Nothing.
+    Any,
+    /// One of these at least.
+    OneOf(Vec<Relation>),
+    /// Both of these.
+    Both(Relation, Relation),
+}
 
 /// A rule: its effect where each of its conditions holds. A condition that isn't there holds always.
 #[derive(Drop)]
@@ -19,8 +35,8 @@ pub struct Rule {
     pub effect: Effect,
     /// The caller has one of these roles.
     pub role: Option<Vec<Role>>,
-    /// The caller has one of these relations to the object.
-    pub relation: Option<Vec<Relation>>,
+    /// What the caller is to the object passes this test.
+    pub relation: RelationTest,
     /// One of these actions is asked.
     pub action: Option<Vec<Action>>,
     /// The object is in one of these stages.
@@ -34,10 +50,11 @@ pub struct Rule {
 impl Model for Rule {
     ghost use Rattle.std.specs.Prelude.{option_map};
     ghost use Rattle.permit_model.specs.Policy.{Rule as TheRule};
+    ghost use Rattle.permit_policy.specs.Relating.{relation_view};
 
     ghost Value = { TheRule };
 
-    ghost view = { λ r. record { name = r.name; effect = r.effect; role = option_map (λ v. v.items) r.role; relation = option_map (λ v. v.items) r.relation; action = option_map (λ v. v.items) r.action; stage = option_map (λ v. v.items) r.stage; timing = option_map (λ v. v.items) r.timing; stopped = r.stopped } };
+    ghost view = { λ r. record { name = r.name; effect = r.effect; role = option_map (λ v. v.items) r.role; relation = relation_view r.relation; action = option_map (λ v. v.items) r.action; stage = option_map (λ v. v.items) r.stage; timing = option_map (λ v. v.items) r.timing; stopped = r.stopped } };
 }
 
 impl Rule {
@@ -51,6 +68,47 @@ impl Rule {
             && stage_matches(&self.stage, facts.stage)
             && timing_matches(&self.timing, facts.timing)
             && truth_matches(self.stopped, facts.stopped)
+    }
+
+    /// The first key whose condition doesn't hold, or None where the rule matches.
+    pub(crate) fn failing_key(&self, facts: &Facts) -> Option<Key>
+        ensures { result ≡ failing_key self.now facts.now }
+    {
+        if !role_matches(&self.role, facts.role) {
+            return Some(Key::Role);
+        }
+        if !relation_matches(&self.relation, &facts.relations) {
+            return Some(relation_key(&self.relation));
+        }
+        if !action_matches(&self.action, facts.action) {
+            return Some(Key::Action);
+        }
+        if !stage_matches(&self.stage, facts.stage) {
+            return Some(Key::Stage);
+        }
+        if !timing_matches(&self.timing, facts.timing) {
+            return Some(Key::Timing);
+        }
+        if !truth_matches(self.stopped, facts.stopped) {
+            return Some(Key::Stopped);
+        }
+        None
+    }
+
+    /// Whether the rule's conditions on the role and the action hold.
+    pub(crate) fn is_for(&self, role: Role, action: Action) -> bool
+        ensures { result ≡ is_for self.now role action }
+    {
+        role_matches(&self.role, role) && action_matches(&self.action, action)
+    }
+
+    /// Whether the rule's conditions on the stage, the timing and the stop order hold.
+    pub(crate) fn covers(&self, cell: Cell) -> bool
+        ensures { result ≡ covers self.now cell }
+    {
+        stage_matches(&self.stage, cell.stage)
+            && timing_matches(&self.timing, cell.timing)
+            && truth_matches(self.stopped, cell.stopped)
     }
 }
 
@@ -112,12 +170,25 @@ fn role_matches(key: &Option<Vec<Role>>, role: Role) -> bool
     }
 }
 
-fn relation_matches(key: &Option<Vec<Relation>>, set: &Relations) -> bool
-    ensures { result ≡ matches_list (option_map (λ v. v.items) key.now) (holds set.now) }
+/// The key under which two relations at once are asked for, or one.
+fn relation_key(test: &RelationTest) -> Key
+    ensures { result ≡ relation_key (relation_view test.now) }
 {
-    match key {
-        None => true,
-        Some(words) => relation_in(words, set),
+    match test {
+        RelationTest::Any | RelationTest::OneOf(_) => Key::Relation,
+        RelationTest::Both(_, _) => Key::Both,
+    }
+}
+
+fn relation_matches(test: &RelationTest, set: &Relations) -> bool
+    ensures { result ≡ matches_relations (relation_view test.now) set.now }
+{
+    match test {
+        RelationTest::Any => true,
+        RelationTest::OneOf(words) => relation_in(words, set),
+        RelationTest::Both(first, second) => {
+            has_relation(set, *first) && has_relation(set, *second)
+        }
     }
 }
 

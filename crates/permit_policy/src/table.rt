@@ -4,7 +4,7 @@ ghost use Rattle.std.specs.Prelude.{◌≡◌, map, not, option_map, codes};
 ghost use Rattle.std.specs.List.{list_all};
 ghost use Rattle.toml.specs.Data.{get, get_member, as_array};
 ghost use Rattle.toml.specs.View.{view, table_view};
-ghost use Rattle.permit_policy.specs.PolicyText.{is_among, items_list, keys_among, rule_keys, text_keys, list_keys, text_at, truth_at, is_text, is_truth, is_list_of_texts, has, may_have, is_shaped, is_misshapen};
+ghost use Rattle.permit_policy.specs.PolicyText.{is_among, items_list, keys_among, rule_keys, text_keys, list_keys, text_at, truth_at, is_text, is_truth, is_list_of_texts, has, may_have, has_both_tests, is_shaped, is_misshapen};
 
 use toml::{Table, Value};
 
@@ -61,7 +61,12 @@ fn is_text_key(key: &str) -> bool
 fn is_list_key(key: &str) -> bool
     ensures { result ≡ is_among list_keys key.now }
 {
-    key == "role" || key == "relation" || key == "action" || key == "stage" || key == "timing"
+    key == "role"
+        || key == "relation"
+        || key == "both"
+        || key == "action"
+        || key == "stage"
+        || key == "timing"
 }
 
 fn is_rule_key(key: &str) -> bool
@@ -139,9 +144,16 @@ fn may_have_lists(table: &Table) -> bool
 {
     may_have_list(table, "role")
         && may_have_list(table, "relation")
+        && may_have_list(table, "both")
         && may_have_list(table, "action")
         && may_have_list(table, "stage")
         && may_have_list(table, "timing")
+}
+
+fn has_both_tests(table: &Table) -> bool
+    ensures { result ≡ has_both_tests (table_view table.now) }
+{
+    member(table, "relation").is_some() && member(table, "both").is_some()
 }
 
 fn is_shaped(table: &Table) -> bool
@@ -151,10 +163,11 @@ fn is_shaped(table: &Table) -> bool
         && has_texts(table)
         && may_have_lists(table)
         && may_have_truth(table, "stopped")
+        && !has_both_tests(table)
 }
 
-/// Whether an item of the array `rule` is no table, or one with an unknown key, without `name` or `effect`, or with
-/// a value of another type than is stated.
+/// Whether an item of the array `rule` is no table, or one with an unknown key, without `name` or `effect`, with both
+/// `relation` and `both`, or with a value of another type than is stated.
 pub(crate) fn is_misshapen(item: &Value) -> bool
     ensures { result ≡ is_misshapen (view item.now) }
 {

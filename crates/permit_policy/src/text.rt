@@ -3,16 +3,17 @@
 ghost use Rattle.std.specs.Prelude.{◌≡◌, [], ◌∷◌, false, map, codes, IfOk, IfErr, option_map, if◌then◌else◌, Some, None};
 ghost use Rattle.toml.specs.View.{view, table_view};
 ghost use Rattle.permit_policy.specs.declared.fault.PolicyFault.TheVariants as fault;
-ghost use Rattle.permit_policy.specs.PolicyText.{is_among, keys_among, tables_in, is_misshapen, first_place, is_new_name, bad_name_place, name_of, has_bad_effect, effect_of, has_bad_list, rule_of, meaning_of_tables, meaning, Means};
+ghost use Rattle.permit_policy.specs.PolicyText.{is_among, keys_among, tables_in, is_misshapen, first_place, is_new_name, bad_name_place, name_of, has_bad_effect, effect_of, has_bad_list, relation_test, rule_of, meaning_of_tables, meaning, Means};
+ghost use Rattle.permit_policy.specs.Relating.{relation_view};
 ghost use Rattle.permit_policy.specs.Reading.{AreParts, IsRefusal, IsListFault};
 
 use crate::decide::Policy;
 use crate::fault::{PolicyError, PolicyFault};
-use crate::lists::read_list;
-use crate::rule::Rule;
+use crate::lists::{read_list, read_pair};
+use crate::rule::{RelationTest, Rule};
 use crate::table::{is_misshapen, items, member, text_at, truth_at};
 use permit_base::values::RuleName;
-use permit_base::words::{Effect, Word};
+use permit_base::words::{Effect, Relation, Word};
 use std::alloc::Global;
 use toml::{Table, Value};
 
@@ -101,6 +102,17 @@ fn read_effects(alloc: Global, tables: &[Value]) -> Result<Vec<Effect>, PolicyEr
     Ok(effects)
 }
 
+/// What the words of `relation` and those of `both` ask of the caller's relations.
+fn relation_test(words: Option<Vec<Relation>>, pair: Option<(Relation, Relation)>) -> RelationTest
+    ensures { relation_view result ≡ relation_test (option_map (λ v. v.items) words) pair }
+{
+    match (words, pair) {
+        (_, Some((first, second))) => RelationTest::Both(first, second),
+        (Some(words), None) => RelationTest::OneOf(words),
+        (None, None) => RelationTest::Any,
+    }
+}
+
 /// The rule of a table, its name and effect read before.
 fn read_rule(
     alloc: Global,
@@ -117,7 +129,10 @@ fn read_rule(
         name,
         effect,
         role: read_list(alloc, table, "role")?,
-        relation: read_list(alloc, table, "relation")?,
+        relation: relation_test(
+            read_list(alloc, table, "relation")?,
+            read_pair(table, "both")?,
+        ),
         action: read_list(alloc, table, "action")?,
         stage: read_list(alloc, table, "stage")?,
         timing: read_list(alloc, table, "timing")?,
@@ -164,7 +179,8 @@ fn read_tables(alloc: Global, tables: &[Value]) -> Result<Policy, PolicyError>
 }
 
 /// Reads a policy's text, in TOML 1.1: an array of tables `rule`, each with `name` and `effect` and, where wanted, the
-/// lists of words `role`, `relation`, `action`, `stage` and `timing`, and the truth value `stopped`.
+/// lists of words `role`, `relation`, `action`, `stage` and `timing`, the list `both` of two relations in place of
+/// `relation`, and the truth value `stopped`.
 ///
 /// A text with a fault is refused with the fault of the lowest number that applies, and the place of the first table
 /// that has it. Want of memory may come in place of any other answer.

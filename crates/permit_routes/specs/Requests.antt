@@ -7,7 +7,7 @@ use Rattle.permit_base.specs.Words.{role_word, all_roles, kind_word, all_kinds}
 use Rattle.permit_base.specs.declared.request.Request.{Request}
 use Rattle.permit_base.specs.declared.request.Request.TheVariants as request
 use Rattle.permit_routes.specs.declared.routing.Target.{Target}
-use Rattle.permit_routes.specs.declared.routing.Target.TheVariants.{Parties, Parcels, Transfer, Declare, ReadParcel, Files, OnFile, ReadFile}
+use Rattle.permit_routes.specs.declared.routing.Target.TheVariants.{Parties, Parcels, Transfer, Declare, ReadParcel, Files, OnFile, ReadFile, ListFiles, Register}
 use Rattle.permit_routes.specs.Commands.{command_of}
 use Rattle.permit_routes.specs.Bodies.{◌>>=◌, object_of, number_at, text_at, word_at}
 
@@ -58,3 +58,5 @@ request_of (ReadParcel parcel) body = without_body (request.ReadParcel parcel) b
 request_of Files body = object_of 4 body >>= filing_of
 request_of (OnFile file action) body = option_map (request.OnFile file) (command_of action body)
 request_of (ReadFile file) body = without_body (request.ReadFile file) body
+request_of (ListFiles wanted) body = without_body (request.ListFiles wanted) body
+request_of (Register kind) body = without_body (request.Register kind) body

@@ -6,7 +6,7 @@ use Rattle.matchit.specs.Route.{Scan, parse_route}
 use Rattle.matchit.specs.Router.{RouteOf, route_from}
 use Rattle.matchit.specs.declared.error.InsertError.{InsertError}
 use Rattle.permit_routes.specs.declared.routing.Endpoint.{Endpoint}
-use Rattle.permit_routes.specs.declared.routing.Endpoint.TheVariants.{Parties, Parcels, ParcelAction, Files, FileAction, Parcel, File}
+use Rattle.permit_routes.specs.declared.routing.Endpoint.TheVariants.{Parties, Parcels, ParcelAction, Files, FileAction, Parcel, Listing, StageListing, File, Register}
 
 -- a pattern, and what it stands for
 abbrev pub Entry : Type 0
@@ -37,7 +37,10 @@ post_table =
 abbrev pub get_table : List Entry
 get_table =
     (codes "/parcels/{id}", Parcel)
+    ∷ (codes "/files", Listing)
+    ∷ (codes "/files/stage/{stage}", StageListing)
     ∷ (codes "/files/{id}", File)
+    ∷ (codes "/registers/{name}", Register)
     ∷ []
 
 unfoldable pub post_rows : Rows

@@ -7,9 +7,13 @@ use Rattle.matchit.specs.Router.{RouteOf}
 use Rattle.permit_routes.specs.declared.routing.Endpoint.{Endpoint}
 use Rattle.permit_routes.specs.declared.routing.Endpoint.TheVariants as endpoint
 use Rattle.permit_routes.specs.declared.routing.Target.{Target}
-use Rattle.permit_routes.specs.declared.routing.Target.TheVariants.{Parties, Parcels, Transfer, Declare, ReadParcel, Files, OnFile, ReadFile}
+use Rattle.permit_routes.specs.declared.routing.Target.TheVariants.{Parties, Parcels, Transfer, Declare, ReadParcel, Files, OnFile, ReadFile, ListFiles, Register}
 use Rattle.permit_base.specs.Limits.{only_if}
-use Rattle.permit_base.specs.Words.{action_word, all_actions, named as spelled}
+use Rattle.permit_base.specs.Stages.{is_file_stage}
+use Rattle.permit_base.specs.Words.{action_word, all_actions, stage_word, all_stages, register_word, all_registers, named as spelled}
+use Rattle.permit_base.specs.declared.request.Filter.TheVariants.{All, InStage}
+use Rattle.permit_base.specs.declared.words.Stage.{Stage}
+use Rattle.permit_base.specs.declared.words.RegisterKind.{RegisterKind}
 use Rattle.permit_base.specs.declared.words.Action.{Action}
 use Rattle.permit_base.specs.declared.words.Action.TheVariants as action
 use Rattle.permit_routes.specs.Ids.{id_in}
@@ -24,6 +28,13 @@ id_of parts = option_and_then id_in (named (codes "id") parts)
 
 abbrev pub action_of : Parts → Option Action
 action_of parts = option_and_then (spelled action_word all_actions) (named (codes "action") parts)
+
+-- a stage that a file can be in
+abbrev pub stage_of : Parts → Option Stage
+stage_of parts = option_and_then (only_if is_file_stage) (option_and_then (spelled stage_word all_stages) (named (codes "stage") parts))
+
+abbrev pub register_of : Parts → Option RegisterKind
+register_of parts = option_and_then (spelled register_word all_registers) (named (codes "name") parts)
 
 -- the actions on a file that is there, and change it
 abbrev pub is_command : Action → Bool
@@ -57,6 +68,9 @@ target_with endpoint.Files parts = Some Files
 target_with endpoint.FileAction parts =
     option_and_then (λ file. option_and_then (file_target file) (action_of parts)) (id_of parts)
 target_with endpoint.File parts = option_map ReadFile (id_of parts)
+target_with endpoint.Listing parts = Some (ListFiles All)
+target_with endpoint.StageListing parts = option_map (λ s. ListFiles (InStage s)) (stage_of parts)
+target_with endpoint.Register parts = option_map Register (register_of parts)
 
 abbrev pub target_at : List ℕ → RouteOf Endpoint → Option Target
 target_at path route = target_with route.value (walk route.pattern route.text path route.names 0 0)

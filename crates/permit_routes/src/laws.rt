@@ -6,7 +6,10 @@ ghost use Rattle.permit_base.specs.Limits.{is_object_number};
 ghost use Rattle.permit_routes.specs.Ids.{id_in};
 ghost use Rattle.permit_routes.specs.Targets.{target_of};
 ghost use Rattle.permit_base.specs.declared.words.Action.TheVariants.{Issue};
-ghost use Rattle.permit_routes.specs.declared.routing.Target.TheVariants.{Parties, Transfer, Declare, ReadParcel, OnFile, ReadFile};
+ghost use Rattle.permit_routes.specs.declared.routing.Target.TheVariants.{Parties, Transfer, Declare, ReadParcel, OnFile, ReadFile, ListFiles, Register};
+ghost use Rattle.permit_base.specs.declared.request.Filter.TheVariants.{All, InStage};
+ghost use Rattle.permit_base.specs.declared.words.Stage.TheVariants.{Review};
+ghost use Rattle.permit_base.specs.declared.words.RegisterKind.TheVariants.{Deadlines};
 
 /// Targets of methods and paths.
 pub fn worked_targets()
@@ -16,6 +19,9 @@ pub fn worked_targets()
     ensures a_parcel { target_of (codes "GET") (codes "/parcels/2") ≡ Some (ReadParcel 2) }
     ensures an_issue { target_of (codes "POST") (codes "/files/1/issue") ≡ Some (OnFile 1 Issue) }
     ensures a_file { target_of (codes "GET") (codes "/files/1") ≡ Some (ReadFile 1) }
+    ensures all_files { target_of (codes "GET") (codes "/files") ≡ Some (ListFiles All) }
+    ensures files_in_review { target_of (codes "GET") (codes "/files/stage/review") ≡ Some (ListFiles (InStage Review)) }
+    ensures a_register { target_of (codes "GET") (codes "/registers/deadlines") ≡ Some (Register Deadlines) }
     ensures the_last_file { target_of (codes "GET") (codes "/files/99999") ≡ Some (ReadFile 99999) }
 {}
 
@@ -32,6 +38,9 @@ pub fn worked_refusals()
     ensures another_word { target_of (codes "POST") (codes "/files/1/sleep") ≡ None }
     ensures a_read_as_a_command { target_of (codes "POST") (codes "/files/1/read") ≡ None }
     ensures a_command_on_a_parcel { target_of (codes "POST") (codes "/parcels/1/issue") ≡ None }
+    ensures a_stage_of_no_file { target_of (codes "GET") (codes "/files/stage/new") ≡ None }
+    ensures no_stage { target_of (codes "GET") (codes "/files/stage") ≡ None }
+    ensures another_register { target_of (codes "GET") (codes "/registers/fees") ≡ None }
     ensures a_command_by_get { target_of (codes "GET") (codes "/files/1/issue") ≡ None }
 {}
 

@@ -9,3 +9,5 @@ pub mod laws;
 mod parts;
 pub mod requests;
 pub mod routing;
+
+pub use parts::id;

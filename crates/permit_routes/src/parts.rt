@@ -1,15 +1,17 @@
-//! The parts that the parameters of a path took: the number of a parcel or a file, and an action's word.
+//! The parts that the parameters of a path took: the number of a parcel or a file, and the word of an action, a stage or
+//! a register.
 
 ghost use Rattle.std.specs.Prelude.{◌≡◌, ◌<◌, IfSome, option_map, IsAscii};
 ghost use Rattle.std.specs.List.{list_all};
 ghost use Rattle.std.specs.Char.{is_ascii_digit};
 ghost use Rattle.matchit.specs.Params.{walk, named};
 ghost use Rattle.permit_routes.specs.Ids.{is_plain_number, id_in, starts_with_zero};
-ghost use Rattle.permit_routes.specs.Targets.{id_of, action_of, is_command};
+ghost use Rattle.permit_routes.specs.Targets.{id_of, action_of, stage_of, register_of, is_command};
 
 use matchit::Params;
+use permit_base::request::FileStage;
 use permit_base::values::{FileId, ParcelId};
-use permit_base::words::{Action, Word};
+use permit_base::words::{Action, RegisterKind, Stage, Word};
 
 /// What a parameter took of an ASCII path, under an ASCII route.
 fn part<'p>(params: &Params<'_, 'p>, key: &str) -> Option<&'p str>
@@ -40,7 +42,7 @@ fn is_plain_number(word: &str) -> bool
 }
 
 /// The number from 1 to 99999 that a word spells without leading zeros.
-fn id(word: &str) -> Option<u32>
+pub fn id(word: &str) -> Option<u32>
     ensures number { result ≡ id_in word.now }
     ensures within { IfSome result (λ n. (0 < n) × (n < 100000)) }
 {
@@ -78,6 +80,24 @@ pub fn action_of(params: &Params<'_, '_>) -> Option<Action>
     ensures { result ≡ action_of (walk params.now.pattern.now params.now.text.now params.now.path.now params.now.names.now 0 0) }
 {
     Action::read(part(params, "action")?)
+}
+
+/// The stage of a file that the parameter `stage` names.
+pub fn stage_of(params: &Params<'_, '_>) -> Option<FileStage>
+    requires text { IsAscii params.now.text.now }
+    requires path { IsAscii params.now.path.now }
+    ensures { result ≡ stage_of (walk params.now.pattern.now params.now.text.now params.now.path.now params.now.names.now 0 0) }
+{
+    FileStage::new(Stage::read(part(params, "stage")?)?)
+}
+
+/// The register that the parameter `name` names.
+pub fn register_of(params: &Params<'_, '_>) -> Option<RegisterKind>
+    requires text { IsAscii params.now.text.now }
+    requires path { IsAscii params.now.path.now }
+    ensures { result ≡ register_of (walk params.now.pattern.now params.now.text.now params.now.path.now params.now.names.now 0 0) }
+{
+    RegisterKind::read(part(params, "name")?)
 }
 
 /// Whether an action is one of the 22 commands on a file.

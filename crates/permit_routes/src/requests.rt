@@ -101,5 +101,7 @@ pub fn read_body(alloc: Global, target: Target, body: &[u8]) -> Result<Request, 
             Ok(Request::OnFile { file, command })
         }
         Target::ReadFile(file) => without_body(Request::ReadFile { file }, body),
+        Target::ListFiles(filter) => without_body(Request::ListFiles { filter }, body),
+        Target::Register(kind) => without_body(Request::Register { kind }, body),
     }
 }

@@ -6,11 +6,12 @@ ghost use Rattle.permit_base.specs.Limits.{only_if};
 ghost use Rattle.permit_routes.specs.Routes.{post_rows, get_rows};
 ghost use Rattle.permit_routes.specs.Targets.{are_ascii, are_ascii_rows, parcel_target, file_target, target_with, target_among, target_of};
 
-use crate::parts::{action_of, file_of, is_command, parcel_of};
+use crate::parts::{action_of, file_of, is_command, parcel_of, register_of, stage_of};
 use http::Method;
 use matchit::{InsertError, Params, Router};
+use permit_base::request::Filter;
 use permit_base::values::{FileId, ParcelId};
-use permit_base::words::Action;
+use permit_base::words::{Action, RegisterKind};
 use std::alloc::{AllocError, Global};
 
 /// What a pattern of the routes stands for.
@@ -22,7 +23,10 @@ enum Endpoint {
     Files,
     FileAction,
     Parcel,
+    Listing,
+    StageListing,
     File,
+    Register,
 }
 
 /// What a method and a path ask for, before the body is read.
@@ -44,6 +48,10 @@ pub enum Target {
     OnFile { file: FileId, action: Action },
     /// A file, to be read.
     ReadFile(FileId),
+    /// The files, all or those in a stage.
+    ListFiles(Filter),
+    /// A register.
+    Register(RegisterKind),
 }
 
 fn post_router(alloc: Global) -> Result<Router<Endpoint>, InsertError>
@@ -63,7 +71,10 @@ fn get_router(alloc: Global) -> Result<Router<Endpoint>, InsertError>
 {
     let mut router = Router::new(alloc);
     router.insert("/parcels/{id}", Endpoint::Parcel)?;
+    router.insert("/files", Endpoint::Listing)?;
+    router.insert("/files/stage/{stage}", Endpoint::StageListing)?;
     router.insert("/files/{id}", Endpoint::File)?;
+    router.insert("/registers/{name}", Endpoint::Register)?;
     Ok(router)
 }
 
@@ -102,7 +113,10 @@ fn target_with(endpoint: Endpoint, params: &Params<'_, '_>) -> Option<Target>
         Endpoint::Parcel => Some(Target::ReadParcel(parcel_of(params)?)),
         Endpoint::Files => Some(Target::Files),
         Endpoint::FileAction => file_target(file_of(params)?, action_of(params)?),
+        Endpoint::Listing => Some(Target::ListFiles(Filter::All)),
+        Endpoint::StageListing => Some(Target::ListFiles(Filter::InStage(stage_of(params)?))),
         Endpoint::File => Some(Target::ReadFile(file_of(params)?)),
+        Endpoint::Register => Some(Target::Register(register_of(params)?)),
     }
 }
 
@@ -162,7 +176,7 @@ fn get_target(alloc: Global, path: &str) -> Result<Option<Target>, AllocError>
 /// The target of a method and a path, or none where they have no route.
 ///
 /// The path is compared byte by byte, and has no query. The number of a parcel or a file is 1 to 99999 without leading
-/// zeros, and an action is one of its words; another number or word has no route, nor has a path with a byte that is
+/// zeros, an action or a register is one of its words, and a stage one that a file can be in; another number or word has no route, nor has a path with a byte that is
 /// not ASCII. Memory is taken for the table of the method's routes alone, and an `Err` is want of it.
 pub fn route(alloc: Global, method: &[u8], path: &[u8]) -> Result<Option<Target>, AllocError>
     ensures { IfOk result (λ target. target ≡ target_of method.now path.now) }

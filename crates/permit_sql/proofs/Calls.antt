@@ -12,6 +12,7 @@ use Rattle.sqlite.specs.Held.{Held, state}
 use Rattle.permit_model.specs.Tables.{Tables, Desk}
 use Rattle.permit_store.specs.Counts.{next_count, handed_after}
 use Rattle.permit_store.specs.Frames.{HasOneDesk, Reads, IsCommit}
+use Rattle.permit_store.specs.Handing.{selected_after}
 use Rattle.permit_sql_rows.specs.Kept.{Keeps, Shows}
 use Rattle.permit_sql.specs.Seen.{seen}
 
@@ -62,6 +63,28 @@ module _ {S : Type 0} (g : Ghosts S) (old new : Held S) (handed failed commits :
     handed = refl;
   }
 
+  -- a read that hands rows out: one that answers, where the connection is open then, and one that fails
+  pub hand_ok : {A E : Type 0} (x : A) (count now : ℕ) → now ≡ count → KeepsShown → Doubts → (HasCleanDisk (state g new) → IsTrue (state g new).is_open) →
+      Reads {A = A} {E = E} ⊤ count (seen (state g old) handed failed commits) (seen (state g new) now failed commits) (Ok x)
+  hand_ok x count now is kept doubt open_ = record {
+    kept = λ t held clean. kept t clean (held (omega (arith, doubt, clean)));
+    one = λ clean _. seen_one (state g new) now failed commits clean (open_ clean);
+    doubt = doubt;
+    failed = refl;
+    commits = refl;
+    handed = is;
+  }
+
+  pub hand_err : {A E : Type 0} (e : E) (count now : ℕ) → now ≡ count → KeepsShown → Doubts → Reads {A = A} {E = E} ⊤ count (seen (state g old) handed failed commits) (seen (state g new) now (next_count failed) commits) (Err e)
+  hand_err e count now is kept doubt = record {
+    kept = λ t held clean. kept t clean (held (omega (arith, doubt, clean)));
+    one = λ _ _. tt;
+    doubt = doubt;
+    failed = refl;
+    commits = refl;
+    handed = is;
+  }
+
   -- a commit that is made, where the connection is open then
   pub commit_ok : {A E : Type 0} (x : A) → Doubts → (HasCleanDisk (state g new) → IsTrue (state g new).is_open) →
       IsCommit {A = A} {E = E} (seen (state g old) handed failed commits) (seen (state g new) handed failed (next_count commits)) (Ok x)
@@ -95,6 +118,13 @@ module _ {S : Type 0} (g : Ghosts S) (old new : Held S) (handed failed commits :
         Reads ⊤ (handed_after r handed) (seen (state g old) handed failed commits) (seen (state g store) handed' failed' commits') r
     look_up_err (Ok x) is same counted others kept doubt = absurd (never is)
     look_up_err (Err e) is same counted others kept doubt = read_err (Err e) is same counted others kept doubt
+
+    -- in a selection
+    pub select_err : {A E : Type 0} (count : A → ℕ) (r : Result A E) → IsErr r → store ≡ new → failed' ≡ next_count failed → (handed' ≡ handed) × (commits' ≡ commits) →
+        ((t : Tables) → HasCleanDisk (state g new) → Shows t (state g old) → Shows t (state g new)) → Doubts →
+        Reads ⊤ (selected_after count r handed) (seen (state g old) handed failed commits) (seen (state g store) handed' failed' commits') r
+    select_err count (Ok x) is same counted others kept doubt = absurd (never is)
+    select_err count (Err e) is same counted others kept doubt = read_err (Err e) is same counted others kept doubt
 
     -- in a commit
     pub commit_err : {A E : Type 0} (r : Result A E) → IsErr r → store ≡ new → failed' ≡ next_count failed → (handed' ≡ handed) × (commits' ≡ next_count commits) →

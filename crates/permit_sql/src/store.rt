@@ -15,15 +15,18 @@ ghost use Rattle.permit_sql.specs.Opening.{HasOtherVersion};
 ghost use Rattle.permit_sql.specs.Found.{KeepsTyped};
 
 use crate::open::check;
+use permit_base::route::Route;
 use permit_base::values::{Day, Digest, FileId, Lot, ParcelId, PartyId};
+use permit_core::taker::Taker;
 use permit_sql_statements::commit::commit_in;
 use permit_sql_statements::create::create_in;
 use permit_sql_statements::read::{
     find_parcel, find_party, has_interest, read_desk, read_file, read_papers, read_parcel,
     read_party,
 };
+use permit_sql_statements::select::{each_found, select_found};
 use permit_store::founder::Founder;
-use permit_store::rows::{Change, Desk, FileRow, Paper, Parcel, Party};
+use permit_store::rows::{Change, Desk, FileRow, Found, Paper, Parcel, Party};
 use permit_store::store::{Got, OpenError, Store, StoreError};
 use sqlite::{Alter, Connection};
 use std::alloc::Global;
@@ -230,6 +233,32 @@ impl<S: Alter> Store for SqlStore<S> {
         match read_papers(&mut self.conn, file, self.alloc) {
             Ok(papers) => Ok(papers),
             Err(_) => self.fail(),
+        }
+    }
+
+    fn select(&mut self, route: &Route, caller: PartyId, day: Day) -> Got<Vec<Found>> {
+        match select_found(&mut self.conn, route, caller, day, self.alloc) {
+            Ok(rows) => {
+                self.handed = self.handed.wrapping_add(rows.len() as u64);
+                Ok(rows)
+            }
+            Err(_) => self.fail(),
+        }
+    }
+
+    fn each<T: Taker<Found>>(
+        &mut self,
+        route: &Route,
+        caller: PartyId,
+        day: Day,
+        taker: &mut T,
+    ) -> Got<bool> {
+        match each_found(&mut self.conn, route, caller, day, &mut self.handed, taker) {
+            Ok(all) => Ok(all),
+            Err(why) => {
+                self.failed = self.failed.wrapping_add(1);
+                Err(why)
+            }
         }
     }
 

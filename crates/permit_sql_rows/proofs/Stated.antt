@@ -1,10 +1,11 @@
 -- A file's state is its fields.
 use Rattle.std.proofs.Common.{◌≡◌, ℕ, Bool, Option, None, ap, subst, sym, true≢false, ◌∙◌}
-use Rattle.std.specs.Prelude.{IsSome}
+use Rattle.std.specs.Prelude.{IsSome, List}
 use Rattle.permit_base.specs.declared.words.Kind.{Kind}
 use Rattle.permit_base.specs.declared.words.Step.{Step}
 use Rattle.permit_base.specs.declared.words.Stage.{Stage}
-use Rattle.permit_model.specs.Tables.{State}
+use Rattle.permit_model.specs.Tables.{State, FileRow}
+use Rattle.permit_model.specs.Routes.{Found}
 
 abbrev is_state : State → State
 is_state x = x
@@ -34,3 +35,20 @@ state_is s parcel_1 applicant_1 contractor_1 reviewer_1 inspector_1 kind_1 filed
 -- what is none is not some
 pub not_some : {A P : Type 0} (o : Option A) → o ≡ None → IsSome o → P
 not_some o none some = absurd (true≢false (sym (subst IsSome none some)))
+
+abbrev is_row : FileRow → FileRow
+is_row x = x
+
+pub row_is : (f : FileRow) (id : ℕ) (state : State) (valuation : ℕ) (description : List ℕ) → id ≡ f.id → state ≡ f.state → valuation ≡ f.valuation → description ≡ f.description
+    → ◌≡◌ {A = FileRow} (record { id = id; state = state; valuation = valuation; description = description }) f
+row_is f id state valuation description a b c d =
+    ap (λ (x : ℕ). is_row (record { id = x; state = state; valuation = valuation; description = description })) a ∙ ap (λ (x : State). is_row (record { id = f.id; state = x; valuation = valuation; description = description })) b
+    ∙ ap (λ (x : ℕ). is_row (record { id = f.id; state = f.state; valuation = x; description = description })) c ∙ ap (λ (x : List ℕ). is_row (record { id = f.id; state = f.state; valuation = f.valuation; description = x })) d
+
+abbrev is_found : Found → Found
+is_found x = x
+
+pub found_is : (f : Found) (row : FileRow) (owner : Option ℕ) (conflict : Bool) → row ≡ f.row → owner ≡ f.owner → conflict ≡ f.conflict → ◌≡◌ {A = Found} (record { row = row; owner = owner; conflict = conflict }) f
+found_is f row owner conflict a b c =
+    ap (λ (x : FileRow). is_found (record { row = x; owner = owner; conflict = conflict })) a ∙ ap (λ (x : Option ℕ). is_found (record { row = f.row; owner = x; conflict = conflict })) b
+    ∙ ap (λ (x : Bool). is_found (record { row = f.row; owner = f.owner; conflict = x })) c

@@ -1,5 +1,5 @@
 -- The rows of the tables as they are stored: none is 0 for a party and for an ask, and -1 elsewhere.
-use Rattle.std.specs.Prelude.{ℕ, pos, negsuc, [], ◌∷◌, Option, Some, None, option_map, Bool, true, false}
+use Rattle.std.specs.Prelude.{ℕ, pos, negsuc, [], ◌∷◌, ◌++◌, Option, Some, None, option_map, Bool, true, false}
 use Rattle.sqlite.specs.declared.types.Value.{Value}
 use Rattle.sqlite.specs.declared.types.Value.TheVariants.{Null, Int, Text}
 use Rattle.sqlite_value.specs.Order.{Row}
@@ -8,6 +8,7 @@ use Rattle.permit_model.specs.Codes.{role_code, kind_code, step_code, stage_code
 use Rattle.permit_model.specs.Caller.{Party}
 use Rattle.permit_model.specs.Parcels.{Parcel, Interest}
 use Rattle.permit_model.specs.Tables.{Desk, FileRow, Paper, State as FileState}
+use Rattle.permit_model.specs.Routes.{Found}
 
 -- ---- values
 
@@ -24,6 +25,11 @@ or_zero (Some n) = int n
 abbrev pub or_less : Option ℕ → Value
 or_less None = Int (negsuc 0)
 or_less (Some n) = int n
+
+-- a party that another table may not name; Null stands for none
+abbrev pub or_null : Option ℕ → Value
+or_null None = Null
+or_null (Some n) = int n
 
 -- a step by its code; -1 stands for none
 abbrev pub step_value : Option Step → Value
@@ -50,6 +56,10 @@ shown_file f =
     int f.id ∷ int f.state.parcel ∷ int f.state.applicant ∷ or_zero f.state.contractor ∷ or_zero f.state.reviewer ∷ or_zero f.state.inspector ∷ int (kind_code f.state.kind)
     ∷ int f.valuation ∷ Text f.description ∷ int f.state.filed ∷ int (stage_code f.state.stage) ∷ or_less f.state.deadline ∷ int f.state.done ∷ step_value f.state.request
     ∷ or_less f.state.requested ∷ or_zero f.state.ask ∷ flag f.state.stopped ∷ int f.state.notices ∷ int f.state.papers ∷ or_less f.state.temporary ∷ []
+
+-- of a file as a selection finds it
+abbrev pub shown_found : Found → Row
+shown_found f = shown_file f.row ++ or_null f.owner ∷ flag f.conflict ∷ []
 
 -- of a paper
 abbrev pub shown_paper : Paper → Row

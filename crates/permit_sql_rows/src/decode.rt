@@ -1,23 +1,25 @@
 //! A row that a query shows as a typed value.
 
-ghost use Rattle.std.specs.Prelude.{◌≡◌, [], ◌∷◌, List, map, Option, option_map, slice_get, IfOk, IfErr, IfSome, IsSome};
+ghost use Rattle.std.specs.Prelude.{◌≡◌, [], ◌∷◌, ◌++◌, List, map, Option, option_map, slice_get, IfOk, IfErr, IfSome, IsSome};
 ghost use Rattle.permit_model.specs.Caller.{Party as TheParty};
 ghost use Rattle.permit_model.specs.Parcels.{Parcel as TheParcel, Interest as TheInterest};
 ghost use Rattle.permit_model.specs.Tables.{Desk as TheDesk, FileRow as TheRow, State as TheState, Paper as ThePaper};
+ghost use Rattle.permit_model.specs.Routes.{Found as TheFound};
 ghost use Rattle.permit_model.specs.SoundState.{IsSoundState};
-ghost use Rattle.permit_sql_rows.specs.Rows.{int, shown_desk, shown_party, shown_parcel, shown_file, shown_interest, shown_paper};
+ghost use Rattle.sqlite.specs.declared.types.Value.{Value};
+ghost use Rattle.permit_sql_rows.specs.Rows.{int, shown_desk, shown_party, shown_parcel, shown_file, shown_found, shown_interest, shown_paper};
 ghost use Rattle.permit_sql_rows.specs.Kept.{IsNamed};
 ghost use Rattle.permit_sql_rows.specs.Typed.{firsts, IsObject, IsDesk, IsParty, IsParcel, IsInterest, IsPaper, IsState, IsFile, ShowsState};
 
 use crate::fields::{
     Read, RowFault, cents, day, day_or_less, days_or_zero, digest, file_number, kind, lot, number,
-    number_or_less, paper_number, parcel_number, party_number, party_or_zero, readable, role,
-    short_number, small_number, sort, stage, step_or_less, string, text, truth,
+    number_or_less, paper_number, parcel_number, party_number, party_or_null, party_or_zero,
+    readable, role, short_number, small_number, sort, stage, step_or_less, string, text, truth,
 };
 use permit_base::values::{ParcelId, PartyId};
 use permit_core::restore::StateFields;
 use permit_core::state::FileState;
-use permit_store::rows::{Desk, FileRow, Paper, Parcel, Party};
+use permit_store::rows::{Desk, FileRow, Found, Paper, Parcel, Party};
 use sqlite::Row;
 
 /// The desk's row, which is number 1 and of version 1.
@@ -125,7 +127,7 @@ pub fn paper_in(row: &Row) -> Option<Paper>
 
 /// What of a file's row its state keeps.
 fn fields_in(row: &Row) -> Option<StateFields>
-    ensures read { (is : TheRow) → IsNamed is.state → row.now ≡ shown_file is → IfSome result (λ f. f ≡ is.state) }
+    ensures read { (is : TheRow) (more : List Value) → IsNamed is.state → row.now ≡ shown_file is ++ more → IfSome result (λ f. f ≡ is.state) }
     ensures back { IfSome result (ShowsState row.now) }
     ensures named { IfSome result IsNamed }
     ensures typed { IfSome result IsState }
@@ -154,7 +156,7 @@ fn fields_in(row: &Row) -> Option<StateFields>
 
 /// The state in a file's row.
 fn state_in(row: &Row) -> Option<FileState>
-    ensures read { (is : TheRow) → IsNamed is.state → row.now ≡ shown_file is → IfSome result (λ s. s ≡ is.state) }
+    ensures read { (is : TheRow) (more : List Value) → IsNamed is.state → row.now ≡ shown_file is ++ more → IfSome result (λ s. s ≡ is.state) }
     ensures back { IfSome result (ShowsState row.now) }
     ensures named { IfSome result IsNamed }
     ensures typed { IfSome result IsState }
@@ -164,9 +166,9 @@ fn state_in(row: &Row) -> Option<FileState>
     FileState::restore(fields_in(row)?)
 }
 
-/// A file's row.
+/// A file's row, which may have further columns.
 pub fn file_of(row: &Row) -> Read<FileRow>
-    ensures read { (is : TheRow) → IsNamed is.state → row.now ≡ shown_file is → IfOk result (λ f. f ≡ is) }
+    ensures read { (is : TheRow) (more : List Value) → IsNamed is.state → row.now ≡ shown_file is ++ more → IfOk result (λ f. f ≡ is) }
     ensures back { IfOk result (λ f. firsts 20 0 row.now ≡ shown_file f) }
     ensures named { IfOk result (λ f. IsNamed f.state) }
     ensures typed { IfOk result IsFile }
@@ -185,4 +187,15 @@ pub fn file_in(row: &Row) -> Option<FileRow>
     ensures { (is : TheRow) → IsNamed is.state → row.now ≡ shown_file is → IfSome result (λ f. f ≡ is) }
 {
     file_of(row).ok()
+}
+
+/// A file's row as a selection shows it, with its parcel's owner and whether the caller has an interest in the parcel.
+pub fn found_in(row: &Row) -> Option<Found>
+    ensures { (is : TheFound) → IsNamed is.row.state → row.now ≡ shown_found is → IfSome result (λ f. f ≡ is) }
+{
+    Some(Found {
+        row: file_of(row).ok()?,
+        owner: party_or_null(row, 20)?,
+        conflict: truth(row, 21)?,
+    })
 }

@@ -5,7 +5,7 @@ ghost use Rattle.sqlite.specs.declared.types.Value.TheVariants.{Int, Text as Tex
 ghost use Rattle.sqlite_value.specs.Order.{column};
 ghost use Rattle.permit_base.specs.Texts.{is_printable, is_lot, is_digest};
 ghost use Rattle.permit_base.specs.declared.words.Step.{Step as TheStep};
-ghost use Rattle.permit_sql_rows.specs.Rows.{int, or_zero, or_less, step_value, flag};
+ghost use Rattle.permit_sql_rows.specs.Rows.{int, or_zero, or_less, or_null, step_value, flag};
 ghost use Rattle.permit_sql_rows.specs.Typed.{IsObject};
 ghost use Rattle.permit_model.specs.Codes.{role_code, kind_code, stage_code, sort_code, step_code};
 
@@ -164,6 +164,16 @@ pub(crate) fn party_or_zero(row: &Row, at: usize) -> Option<Option<PartyId>>
     match number_or_zero(row, at)? {
         None => Some(None),
         Some(number) => Some(Some(PartyId::new(number)?)),
+    }
+}
+
+/// The number of a party, where Null stands for none.
+pub(crate) fn party_or_null(row: &Row, at: usize) -> Option<Option<PartyId>>
+    ensures { (o : Option ℕ) → column row.now at ≡ or_null o → IfSome result (λ x. x ≡ o) }
+{
+    match row.get_ref(at) {
+        Ok(ValueRef::Null) => Some(None),
+        _ => Some(Some(party_number(row, at)?)),
     }
 }
 

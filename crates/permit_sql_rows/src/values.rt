@@ -18,7 +18,7 @@ use permit_store::rows::{Desk, NewPaper};
 use sqlite_value::value::ValueRef;
 
 /// A number.
-fn number<'a>(n: u32) -> ValueRef<'a>
+pub fn number<'a>(n: u32) -> ValueRef<'a>
     ensures { bound_value (owned result) ≡ int n }
 {
     ValueRef::Int(i64::from(n))
@@ -99,7 +99,7 @@ fn step_or_less<'a>(step: Option<Step>) -> ValueRef<'a>
 }
 
 /// 1 or 0.
-fn truth<'a>(is: bool) -> ValueRef<'a>
+pub fn truth<'a>(is: bool) -> ValueRef<'a>
     ensures { bound_value (owned result) ≡ flag is }
 {
     number(if is { 1 } else { 0 })

@@ -1,6 +1,13 @@
 pub mod Permuted
 pub mod Lookups
 pub mod QueryTexts
+pub mod RouteTexts
+pub mod Truths
+pub mod Selecting
+pub mod RouteShows
+pub mod RouteAnswers
+pub mod Reading
+pub mod Handing
 pub mod WriteTexts
 pub mod ReadLemmas
 pub mod WriteLemmas

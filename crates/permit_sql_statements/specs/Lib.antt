@@ -1,6 +1,9 @@
 pub use Rattle.permit_sql_rows.specs.Schema
 pub use Rattle.permit_sql_rows.specs.Kept
 pub mod Texts
+pub mod RouteTexts
+pub mod Selected
+pub mod Handed
 pub mod Steps
 pub mod StepOf
 pub mod Founding

@@ -8,6 +8,8 @@
 pub mod commit;
 pub mod create;
 pub mod query;
+mod question;
 pub mod read;
+pub mod select;
 mod steps;
 mod turns;

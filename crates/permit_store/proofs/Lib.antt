@@ -1,3 +1,4 @@
 mod Lists
 mod Kept
 mod Keeping
+mod Selecting

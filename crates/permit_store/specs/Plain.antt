@@ -1,9 +1,16 @@
 -- The tables that vectors keep, each file with its papers.
-use Rattle.std.specs.Prelude.{◌≡◌, ℕ, ◌==◌, List, [], length, map, filter, find, Option, None, Some}
+use Rattle.std.specs.Prelude.{◌≡◌, ℕ, ◌==◌, ◌&&◌, Bool, true, List, [], length, map, filter, ◌++◌, find, Option, None, Some, option_map, Result}
+use Rattle.std.specs.List.{list_any}
+use Rattle.permit_base.specs.declared.words.Relations.{Relations}
+use Rattle.permit_base.specs.declared.route.Route.{Route}
+use Rattle.permit_base.specs.declared.route.Route.TheVariants as route
 use Rattle.permit_model.specs.Caller.{Party}
 use Rattle.permit_model.specs.Parcels.{Parcel, Interest}
 use Rattle.permit_model.specs.Tables.{State, FileRow, Paper, Tables}
+use Rattle.permit_model.specs.Routes.{Found, is_kept_in, is_by, is_found}
+use Rattle.permit_store.specs.declared.plain.select.Selection.{Selection}
 use Rattle.permit_store.specs.Changes.{with_state}
+use Rattle.permit_store.specs.Handing.{Took, IsLeft, more_handed}
 
 -- a file's row, and its papers in rising number
 pub record KeptFile : Type 0 where
@@ -31,3 +38,36 @@ pub record Keeps (last : ℕ) (kept_parties : List Party) (kept_parcels : List P
   pub interests : t.interests ≡ kept_interests
   pub files : t.files ≡ map (λ k. k.row) kept_files
   pub papers : (file : ℕ) → filter (λ p. p.file == file) t.papers ≡ papers_at file kept_files
+
+-- ---- the rows that a selection finds
+
+-- whether the row lies in the selection's cell on the day
+abbrev pub lies_in : Route → ℕ → State → Bool
+lies_in route.Every day state = true
+lies_in (route.Cell files s b t) day state = is_kept_in s b t day state
+
+-- whether the selection asks for rows to which the caller has these relations
+abbrev pub is_wanted : Route → Relations → Bool
+is_wanted route.Every set = true
+is_wanted (route.Cell files s b t) set = is_by files set
+
+-- the row with its parcel's owner and whether the caller has an interest in the parcel
+abbrev pub row_seen : Selection → FileRow → Found
+row_seen s row = record {
+  row = row;
+  owner = option_map (λ p. p.owner) (find (λ p. p.id == row.state.parcel) s.parcels.now);
+  conflict = list_any (λ i. (i.parcel == row.state.parcel) && (i.party == s.caller)) s.interests.now;
+}
+
+-- the rows of the files that the selection finds
+abbrev pub rows_found : Selection → List KeptFile → List Found
+rows_found s files = filter (is_found s.route s.caller s.day) (map (λ k. row_seen s k.row) files)
+
+-- A beginning of the rows found was handed to the taker, or all of them, and each was counted.
+pub record HandsOut {T E : Type 0} (took : T → Found → T → Bool → Type 0) (found : List Found) (old new : ℕ) (before after : T) (result : Result Bool E) : Type 0 where
+  pub given : List Found
+  pub rest : List Found
+  pub whole : given ++ rest ≡ found
+  pub taken : Took took given before after result
+  pub left : IsLeft result rest
+  pub count : new ≡ more_handed (length given) old

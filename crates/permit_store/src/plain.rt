@@ -12,14 +12,18 @@ ghost use Rattle.permit_model.specs.Machine.{IsHistory};
 mod find;
 mod grow;
 mod kept;
+mod select;
 
 use crate::founder::Founder;
 use crate::plain::kept::Kept;
-use crate::rows::{Change, Desk, FileRow, Interest, Paper, Parcel, Party, RowEffect};
+use crate::plain::select::Selection;
+use crate::rows::{Change, Desk, FileRow, Found, Interest, Paper, Parcel, Party, RowEffect};
 use crate::store::{Got, OpenError, Store, StoreError};
+use permit_base::route::Route;
 use permit_base::values::{Day, Digest, FileId, Lot, ParcelId, PartyId};
 use permit_base::words::Role;
 use permit_core::state::FileState;
+use permit_core::taker::Taker;
 use std::alloc::Global;
 
 /// The tables as vectors, in memory, each file with its papers, so that no call goes over the papers of other files.
@@ -173,6 +177,46 @@ impl Store for PlainStore {
     fn papers(&mut self, file: FileId) -> Got<Vec<Paper>> {
         match find::papers_of(self.alloc, &self.files, file) {
             Ok(papers) => Ok(papers),
+            Err(_) => self.fail(),
+        }
+    }
+
+    fn select(&mut self, route: &Route, caller: PartyId, day: Day) -> Got<Vec<Found>> {
+        let selection = Selection {
+            route: *route,
+            caller,
+            day,
+            parcels: &self.parcels,
+            interests: &self.interests,
+        };
+        match selection.select(self.alloc, &self.files) {
+            Ok(rows) => {
+                self.handed = self.handed.wrapping_add(rows.len() as u64);
+                Ok(rows)
+            }
+            Err(_) => self.fail(),
+        }
+    }
+
+    fn each<T: Taker<Found>>(
+        &mut self,
+        route: &Route,
+        caller: PartyId,
+        day: Day,
+        taker: &mut T,
+    ) -> Got<bool> {
+        let selection = Selection {
+            route: *route,
+            caller,
+            day,
+            parcels: &self.parcels,
+            interests: &self.interests,
+        };
+        let mut handed = self.handed;
+        let outcome = selection.hand(&self.files, taker, &mut handed);
+        self.handed = handed;
+        match outcome {
+            Ok(all) => Ok(all),
             Err(_) => self.fail(),
         }
     }

@@ -112,6 +112,24 @@ impl Model for Interest {
     ghost inverse = { λ r. record { parcel = r.parcel; party = r.party } };
 }
 
+/// A file's row as a selection finds it for a caller, with what the caller's relations to the file are read from.
+#[derive(Drop)]
+pub struct Found {
+    pub row: FileRow,
+    /// The owner of the file's parcel; None where the parcel isn't there.
+    pub owner: Option<PartyId>,
+    /// Whether the caller has declared an interest in the parcel.
+    pub conflict: bool,
+}
+
+impl Model for Found {
+    ghost use Rattle.permit_model.specs.Routes.{Found as TheFound};
+
+    ghost Value = { TheFound };
+
+    ghost view = { λ f. record { row = f.row; owner = f.owner; conflict = f.conflict } };
+}
+
 /// A paper of a file. Its text and its terms may be empty.
 #[derive(Drop)]
 pub struct Paper {

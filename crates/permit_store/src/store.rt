@@ -1,13 +1,17 @@
 //! What every store promises.
 
-ghost use Rattle.std.specs.Prelude.{◌≡◌, IfOk, ◌==◌, ◌&&◌, find, filter, bytes_eq, OnOk};
+ghost use Rattle.std.specs.Prelude.{◌≡◌, IfOk, ◌==◌, ◌&&◌, find, filter, length, bytes_eq, OnOk, List, ⊤};
 ghost use Rattle.std.specs.List.{list_any};
+ghost use Rattle.permit_model.specs.Routes.{found_by, Found as TheFound};
 ghost use Rattle.permit_model.specs.Tables.{Tables};
 ghost use Rattle.permit_store.specs.Changes.{changed, Fits};
-ghost use Rattle.permit_store.specs.Frames.{StoreView, IsRead, IsLookUp, IsCommit};
+ghost use Rattle.permit_store.specs.Frames.{StoreView, Reads, IsRead, IsLookUp, IsCommit};
+ghost use Rattle.permit_store.specs.Handing.{AreFound, AreHanded, Hands, selected_after};
 
-use crate::rows::{Change, Desk, FileRow, Paper, Parcel, Party};
+use crate::rows::{Change, Desk, FileRow, Found, Paper, Parcel, Party};
+use permit_base::route::Route;
 use permit_base::values::{Day, Digest, FileId, Lot, ParcelId, PartyId};
+use permit_core::taker::Taker;
 
 /// A call of a store failed: memory was refused, or what keeps the tables doesn't answer.
 #[derive(Clone, Copy, Debug, PartialEq, Eq)]
@@ -38,9 +42,9 @@ pub enum OpenError {
 /// A disk may give back what was never written, and no call tells it. So what an answer says of the tables is said
 /// of a store that is without doubt after the call; one that isn't holds any tables. Memory is always without doubt.
 ///
-/// Each call says by its clauses: `found` or `made`, what it answers or makes; `read` or `commit`, that what the store
-/// holds stays, that a doubt never goes, that a store which answered and is without doubt can be read, and how the three
-/// counts move; `crash`, what a crash inside it may leave.
+/// Each call says by its clauses: `found`, `made` or `handed`, what it answers, makes or hands to a taker; `read`,
+/// `commit` or `handed`, that what the store holds stays, that a doubt never goes, that a store which answered and is
+/// without doubt can be read, and how the three counts move; `crash`, what a crash inside it may leave.
 pub trait Store {
     /// What contracts see of it: the tables that it holds, its doubt, and its counts.
     ghost view: { Self → StoreView };
@@ -99,6 +103,27 @@ pub trait Store {
         ensures found { (view self.new).doubt ≡ 0 → (t : Tables) → (view self.old).holds t
             → IfOk result (λ v. v.items ≡ filter (λ p. p.file == file) t.papers) }
         ensures read { IsRead (view self.old) (view self.new) result }
+        ensures crash { (t : Tables) → crash self.old self.new t (λ _. ⊥) };
+
+    /// The file rows that the selection finds for the caller on the day, in rising number, each with its parcel's owner
+    /// and whether the caller has an interest in the parcel. Each counts as handed out.
+    fn select(&mut self, route: &Route, caller: PartyId, day: Day) -> Got<Vec<Found>>
+        ensures found { (view self.new).doubt ≡ 0 → (t : Tables) → (view self.old).holds t → IfOk result (λ v. AreFound t v.items (found_by route.now caller day t)) }
+        ensures read { Reads ⊤ (selected_after (λ v. length v.items) result (view self.old).handed) (view self.old) (view self.new) result }
+        ensures crash { (t : Tables) → crash self.old self.new t (λ _. ⊥) };
+
+    /// Hands the same rows to the taker, one at a time and in the same order, until it asks to stop. True says that it
+    /// took them all and each answer was true, false that it asked to stop at the last row that it took. After an error
+    /// it has taken a beginning, and each answer was true. Each row that it took counts as handed out.
+    fn each<T: Taker<Found>>(
+        &mut self,
+        route: &Route,
+        caller: PartyId,
+        day: Day,
+        taker: &mut T,
+    ) -> Got<bool>
+        ensures handed { (given : List TheFound) × Hands T.took given (view self.old) (view self.new) taker.old taker.new result
+            × ((view self.new).doubt ≡ 0 → (t : Tables) → (view self.old).holds t → AreHanded t result given (found_by route.now caller day t)) }
         ensures crash { (t : Tables) → crash self.old self.new t (λ _. ⊥) };
 
     /// Makes exactly the change and sets the last day, or answers an error and changes nothing. Of a change that

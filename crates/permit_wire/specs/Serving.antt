@@ -1,6 +1,7 @@
 -- What serving one request of a connection does.
 use Rattle.std.specs.Prelude.{◌≡◌, ◌⊎◌, ℕ, Bool, true, false, List, Option, Some, None, Ok}
 use Rattle.permit_base.specs.Actions.{action_of}
+use Rattle.permit_base.specs.Digests.{digest_of}
 use Rattle.permit_base.specs.declared.request.Asked.{Asked}
 use Rattle.permit_model.specs.History.{History}
 use Rattle.permit_model.specs.Tables.{tables}
@@ -49,7 +50,7 @@ is_shut _ = true
 
 -- the office made one step for the request, and the reply is the machine's, or the store's refusal where a call failed
 pub record Steps {S : Type 0} (view : S → StoreView) (day : ℕ) (asked : Asked) (reply : Reply) (office office' : OfficeView S) : Type 0 where
-  pub step : IsStep view asked.request office office' reply
+  pub step : IsStep view (digest_of asked.token) asked.request day office office' reply
   pub model : (view office'.store).doubt ≡ 0 → (h : History) → IsHistory h → (view office.store).holds (tables h)
       → Answers (view office'.store).holds reply (machine_step office.policy h asked day) h
 

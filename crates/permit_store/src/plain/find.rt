@@ -36,6 +36,16 @@ fn parcel_numbered(parcels: &[Parcel], id: ParcelId) -> Option<&Parcel>
     })
 }
 
+/// The owner of the parcel of the number.
+pub(crate) fn owner_of(parcels: &[Parcel], id: ParcelId) -> Option<PartyId>
+    ensures { result ≡ option_map (λ p. p.owner) (find (λ p. p.id == id) parcels.now) }
+{
+    match parcel_numbered(parcels, id) {
+        None => None,
+        Some(parcel) => Some(parcel.owner),
+    }
+}
+
 fn parcel_with<'a>(parcels: &'a [Parcel], lot: &Lot) -> Option<&'a Parcel>
     ensures { option_map (λ p. p.now) result ≡ find (λ p. bytes_eq p.lot lot.now) parcels.now }
 {

@@ -1,6 +1,7 @@
 //! What the vectors gain, and what changes in them. Each call that answers false has left them as they were.
 
 ghost use Rattle.std.specs.Prelude.{◌≡◌, ◌≤◌, [], ◌∷◌, ◌++◌, ◌+◌, length, map, IsTrue, false, IfOk, IfSome, string_bytes};
+ghost use Rattle.permit_model.specs.Tables;
 ghost use Rattle.permit_store.specs.Changes.{given_to, closed_by, text_of, paper_of, papers_after};
 ghost use Rattle.permit_store.specs.Plain.{kept_with_state};
 
@@ -129,6 +130,27 @@ fn copied(alloc: Global, text: Option<&Text>) -> Result<String, AllocError>
     }
 }
 
+/// Whether the paper is a correction notice.
+fn is_notice(sort: PaperSort) -> bool
+    ensures { result ≡ Tables.is_notice sort }
+{
+    match sort {
+        PaperSort::Notice => true,
+        PaperSort::Permit
+        | PaperSort::Returned
+        | PaperSort::Resubmitted
+        | PaperSort::Rejected
+        | PaperSort::Asked
+        | PaperSort::Granted
+        | PaperSort::Refused
+        | PaperSort::Stop
+        | PaperSort::Lifted
+        | PaperSort::Revoked
+        | PaperSort::Temporary
+        | PaperSort::Certificate => false,
+    }
+}
+
 /// A paper of the file, with the number that is the count of papers in the file's new row.
 pub(crate) fn push_paper(
     alloc: Global,
@@ -150,7 +172,7 @@ pub(crate) fn push_paper(
     let Ok(terms) = copied(alloc, paper.terms) else {
         return false;
     };
-    let is_open = matches!(&paper.sort, PaperSort::Notice);
+    let is_open = is_notice(paper.sort);
     papers
         .push(Paper {
             file,

@@ -5,7 +5,7 @@ use Rattle.permit_model.specs.Files.{CaseFile, case_file}
 use Rattle.permit_model.specs.Tables.{FileRow, tables}
 use Rattle.permit_model.specs.Facts.{file_facts}
 use Rattle.permit_model.specs.Policy.{decision}
-use Rattle.permit_office.proofs.Deciding.{denied_outcome, allowed_outcome}
+use Rattle.permit_office.proofs.Deciding.{denied_outcome}
 use Rattle.permit_office.proofs.Finding.{IsFound, file_found, read_missing, read_judged, read_shown, shown_as}
 use Rattle.permit_office.proofs.reading.read_file.Goals as goal
 

@@ -42,3 +42,15 @@ returns-clause-a_command_on_a_parcel c = refl
 pub returns-clause-a_command_by_get : goal.returns-clause-a_command_by_get
 unfolding matchit_on_literals post_rows get_rows
 returns-clause-a_command_by_get c = refl
+
+pub returns-clause-a_stage_of_no_file : goal.returns-clause-a_stage_of_no_file
+unfolding matchit_on_literals post_rows get_rows
+returns-clause-a_stage_of_no_file c = refl
+
+pub returns-clause-no_stage : goal.returns-clause-no_stage
+unfolding matchit_on_literals post_rows get_rows
+returns-clause-no_stage c = refl
+
+pub returns-clause-another_register : goal.returns-clause-another_register
+unfolding matchit_on_literals post_rows get_rows
+returns-clause-another_register c = refl

@@ -30,3 +30,15 @@ returns-clause-a_file c = refl
 pub returns-clause-the_last_file : goal.returns-clause-the_last_file
 unfolding matchit_on_literals post_rows get_rows
 returns-clause-the_last_file c = refl
+
+pub returns-clause-all_files : goal.returns-clause-all_files
+unfolding matchit_on_literals post_rows get_rows
+returns-clause-all_files c = refl
+
+pub returns-clause-files_in_review : goal.returns-clause-files_in_review
+unfolding matchit_on_literals post_rows get_rows
+returns-clause-files_in_review c = refl
+
+pub returns-clause-a_register : goal.returns-clause-a_register
+unfolding matchit_on_literals post_rows get_rows
+returns-clause-a_register c = refl

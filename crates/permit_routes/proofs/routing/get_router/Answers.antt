@@ -5,4 +5,10 @@ use Rattle.permit_routes.proofs.routing.get_router.Goals as goal
 
 pub returns : goal.returns
 unfolding matchit_on_literals get_rows
-returns c = rw (c.in_ok-insert-2.ensures.1, c.in_ok-insert.ensures.1, c.new-router.ensures) refl
+returns c =
+    let a1 = c.in_ok-insert.ensures in
+    let a2 = c.in_ok-insert-2.ensures in
+    let a3 = c.in_ok-insert-3.ensures in
+    let a4 = c.in_ok-insert-4.ensures in
+    let a5 = c.in_ok-insert-5.ensures in
+    rw (a5.1, a4.1, a3.1, a2.1, a1.1, c.new-router.ensures) refl

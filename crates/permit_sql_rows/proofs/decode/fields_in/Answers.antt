@@ -4,7 +4,7 @@ use Rattle.permit_sql_rows.proofs.Stated.{state_is, not_some}
 use Rattle.permit_sql_rows.proofs.decode.fields_in.Goals as goal
 
 pub returns-clause-read : goal.returns-clause-read
-returns-clause-read c = λ is named e.
+returns-clause-read c = λ is more named e.
     let s = is.state in
     let at = λ (n : _). ap (λ r. column r n) e in
     state_is s _ _ _ _ _ _ _ _ _ _ _ _ _ _ _ _ _

@@ -2,6 +2,7 @@ use Rattle.std.proofs.Common.{◌≡◌, [], ◌∷◌, IfSome, ap, ap₂, subst
 use Rattle.sqlite_value.specs.Order.{column}
 use Rattle.permit_sql_rows.specs.Rows.{int}
 use Rattle.permit_sql_rows.specs.Typed.{ShowsState}
+use Rattle.permit_sql_rows.proofs.Stated.{row_is}
 use Rattle.permit_sql_rows.proofs.decode.file_of.Goals as goal
 
 pub returns-clause-back : goal.returns-clause-back
@@ -12,3 +13,12 @@ returns-clause-back c =
     let v = subst (λ o. IfSome o (λ x. column row 7 ≡ int x)) c.in_ok-readable-3.ensures.ok c.cents.ensures.back in
     let d = c.in_ok-text.ensures.back in
     ap₂ ◌∷◌ id (ap₂ ◌∷◌ h.parcel (ap₂ ◌∷◌ h.applicant (ap₂ ◌∷◌ h.contractor (ap₂ ◌∷◌ h.reviewer (ap₂ ◌∷◌ h.inspector (ap₂ ◌∷◌ h.kind (ap₂ ◌∷◌ v (ap₂ ◌∷◌ d (ap₂ ◌∷◌ h.filed (ap₂ ◌∷◌ h.stage (ap₂ ◌∷◌ h.deadline (ap₂ ◌∷◌ h.done (ap₂ ◌∷◌ h.request (ap₂ ◌∷◌ h.requested (ap₂ ◌∷◌ h.ask (ap₂ ◌∷◌ h.stopped (ap₂ ◌∷◌ h.notices (ap₂ ◌∷◌ h.papers (ap (λ v. v ∷ []) h.temporary)))))))))))))))))))
+
+pub returns-clause-read : goal.returns-clause-read
+returns-clause-read c = λ is more named e.
+    let at = λ (n : _). ap (λ r. column r n) e in
+    row_is is _ _ _ _
+    (subst (λ o. IfSome o (λ x. x ≡ is.id)) c.in_ok-readable.ensures.ok (c.file_number.ensures.read is.id (at 0)))
+    (subst (λ o. IfSome o (λ x. x ≡ is.state)) c.in_ok-readable-2.ensures.ok (c.state_in.ensures.read is more named e))
+    (subst (λ o. IfSome o (λ x. x ≡ is.valuation)) c.in_ok-readable-3.ensures.ok (c.cents.ensures.read is.valuation (at 7)))
+    (c.in_ok-text.ensures.read is.description (at 8))

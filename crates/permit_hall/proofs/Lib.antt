@@ -1,0 +1,14 @@
+pub mod Cases
+pub mod IntakeMoves
+pub mod LaneMoves
+pub mod Owning
+pub mod Opening
+pub mod Moving
+pub mod Closings
+pub mod Ending
+pub mod Entries
+pub mod EventSteps
+pub mod OfficeRuns
+pub mod HallRuns
+pub mod Histories
+pub mod ModelRuns

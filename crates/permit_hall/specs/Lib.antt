@@ -1,0 +1,16 @@
+pub mod Answers
+pub mod Closing
+pub mod Hall
+pub mod Intake
+pub mod Lane
+pub mod Owner
+pub mod Session
+pub mod Worker
+pub mod Runs
+pub mod Counts
+pub mod Queues
+pub mod OfficeSteps
+pub mod Events
+pub mod OneHistory
+pub mod Errors
+pub mod Doors

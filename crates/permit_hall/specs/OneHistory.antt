@@ -1,0 +1,41 @@
+-- One history for all threads: what the workers of a hall had the office serve.
+use Rattle.std.specs.Prelude.{◌≡◌, ◌<◌, ℕ, List, [], map, length, slice_get, Option, Some, MatchOption, All, Vec}
+use Rattle.std.specs.Global.{Global}
+use Rattle.permit_base.specs.declared.request.Asked.{Asked}
+use Rattle.permit_store.specs.Frames.{StoreView}
+use Rattle.permit_office.specs.declared.reply.Reply.{Reply}
+use Rattle.permit_office.specs.Office.{OfficeView}
+use Rattle.permit_hall.specs.declared.dated.Dated.{Dated}
+use Rattle.permit_hall.specs.OfficeSteps.{StepFor, IsRun}
+use Rattle.permit_hall.specs.Runs.{Entry, requests_of, replies_of}
+
+-- the office made one step, and the reply has the day of it
+abbrev pub StepOn : {S : Type 0} → (S → StoreView) → OfficeView S → Asked → ℕ → Dated → OfficeView S → Type 0
+StepOn view old asked day dated new = StepFor view old asked day dated.reply new × (dated.day ≡ day)
+
+-- the requests served, each with its day
+abbrev pub requests_on : List (Entry Asked Dated) → List (Asked × ℕ)
+requests_on served = map (λ e. (e.request, e.day)) served
+
+-- the replies to them
+abbrev pub replies_in : List (Entry Asked Dated) → List Reply
+replies_in served = map (λ e. e.reply.reply) served
+
+-- the requests served, each of one of the sessions and on a day of the clock, are one run of the office
+pub record OneHistory {S : Type 0} (view : S → StoreView) (is_day : ℕ → Type 0) (sessions : ℕ)
+    (old new : OfficeView S) (served : List (Entry Asked Dated)) : Type 0 where
+  pub run : IsRun view (requests_on served) (replies_in served) old new
+  pub each : All (λ e. (e.from < sessions) × is_day e.day) served
+
+-- The list was served whole, in its order, and its answers are the office's replies at their places. Of a list whose
+-- worker couldn't be started nothing was served.
+abbrev pub IsListServed : List (Entry Asked Dated) → ℕ → Vec Asked Global → Option (Vec Reply Global) → Type 0
+IsListServed served session list out =
+    MatchOption out (requests_of session served ≡ []) (λ answers.
+    (requests_of session served ≡ list.items) × (map (λ d. d.reply) (replies_of session served) ≡ answers.items))
+
+-- each list has its answers, or None
+pub record AreListsServed (lists : List (Vec Asked Global)) (outs : List (Option (Vec Reply Global))) (served : List (Entry Asked Dated)) : Type 0 where
+  pub count : length outs ≡ length lists
+  pub each : (session : ℕ) (list : Vec Asked Global) (out : Option (Vec Reply Global))
+      → slice_get lists session ≡ Some list → slice_get outs session ≡ Some out → IsListServed served session list out

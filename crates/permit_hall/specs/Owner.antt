@@ -1,0 +1,32 @@
+-- What the owner served.
+use Rattle.std.specs.Prelude.{◌≡◌, ℕ, ◌<◌, true, false, List, [], ◌∷◌, ◌++◌, length, slice_index_or, All}
+use Rattle.crossbeam_channel.specs.Claims.{view, IsSeatAt}
+use Rattle.crossbeam_channel.specs.Ends.{sends_on, receives_on}
+use Rattle.permit_hall.specs.Runs.{Entry, Runs, requests_of, replies_of}
+use Rattle.permit_hall.specs.declared.intake.Message.{Message}
+use Rattle.permit_hall.specs.declared.owner.Outlet.{Outlet}
+use Rattle.permit_hall.specs.Intake.{requests_in}
+use Rattle.permit_hall.specs.Lane.{lane_note}
+
+-- The entries take the machine from s to t, each is of one of n sessions and on a day of the clock, and those of a
+-- session are the requests that were taken of it.
+pub record Serves {S A Y : Type 0} (step : S → A → ℕ → Y → S → Type 0) (is_day : ℕ → Type 0) (n : ℕ)
+    (got : List (Message A)) (s t : S) (served : List (Entry A Y)) : Type 0 where
+  pub runs : Runs step s served t
+  pub each : All (λ e. (e.from < n) × is_day e.day) served
+  pub requests : (p : ℕ) → p < n → requests_of p served ≡ requests_in p got
+
+module _ {Y : Type 0} where
+  -- the owner's end of a lane, through which these replies were sent
+  abbrev pub HasSent : List Y → Outlet Y → Type 0
+  HasSent sent o = IsSeatAt (sends_on o.lane) o.lane_pass × (view o.lane_pass ≡ lane_note true false sent [])
+
+  abbrev pub SameLanes : List (Outlet Y) → List (Outlet Y) → Type 0
+  SameLanes before after =
+      (length after ≡ length before)
+      × ((p : ℕ) (d : Outlet Y) → p < length before → sends_on (slice_index_or after p d).lane ≡ sends_on (slice_index_or before p d).lane)
+
+module _ {A Y : Type 0} where
+  -- each session's lane was sent the replies to its requests
+  abbrev pub Sent : List (Entry A Y) → List (Outlet Y) → Type 0
+  Sent served outlets = (p : ℕ) (d : Outlet Y) → p < length outlets → HasSent (replies_of p served) (slice_index_or outlets p d)

@@ -1,0 +1,26 @@
+-- A session with nothing out.
+use Rattle.std.specs.Prelude.{◌≡◌, ℕ, true, false, List, [], ◌∷◌, ◌++◌}
+use Rattle.crossbeam_channel.specs.Claims.{view, IsSeatAt}
+use Rattle.crossbeam_channel.specs.Ends.{sends_on, receives_on}
+use Rattle.permit_hall.specs.declared.session.Session.{Session}
+use Rattle.permit_hall.specs.Intake.{session}
+use Rattle.permit_hall.specs.Lane.{lane_note}
+
+module _ {A Y : Type 0} where
+  -- it has put these requests and collected these answers
+  abbrev pub Has : Session A Y → List A → List Y → Type 0
+  Has s put got =
+      IsSeatAt (sends_on s.intake) s.pass × IsSeatAt (receives_on s.lane) s.lane_pass
+      × (view s.pass ≡ session s.number put) × (view s.lane_pass ≡ lane_note false true [] got)
+
+  abbrev pub put_by : Session A Y → List A
+  put_by s = (view s.pass).put
+
+  abbrev pub got_by : Session A Y → List Y
+  got_by s = (view s.lane_pass).got
+
+  abbrev pub IsSession : Session A Y → Type 0
+  IsSession s = Has s (put_by s) (got_by s)
+
+  abbrev pub IsSamePlace : Session A Y → Session A Y → Type 0
+  IsSamePlace s t = (t.number ≡ s.number) × (sends_on t.intake ≡ sends_on s.intake) × (receives_on t.lane ≡ receives_on s.lane)

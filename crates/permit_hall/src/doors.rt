@@ -1,0 +1,223 @@
+//! One worker a door, which yields connections.
+
+ghost use Rattle.std.specs.Prelude.{◌≡◌, ◌≤◌, ◌+◌, ℕ, [], List, length, map, true, ⊤, IfNone, IfOk, IfErr, MatchOption, vec_capacity};
+ghost use Rattle.std.specs.Option.{option_flatten};
+ghost use Rattle.permit_base.specs.declared.request.Asked.{Asked};
+ghost use Rattle.permit_hall.specs.declared.dated.Dated.{Dated};
+ghost use Rattle.permit_hall.specs.Runs.{Entry};
+ghost use Rattle.permit_hall.specs.Errors.{may_open as is_count, FitsCount};
+ghost use Rattle.permit_hall.specs.OneHistory.{OneHistory};
+ghost use Rattle.permit_hall.specs.Doors.{IsDoorDone, AreDoorsServed};
+ghost use Rattle.permit_hall.specs.Session.{Has, IsSession, IsSamePlace, put_by, got_by};
+
+use crate::dated::Dated;
+use crate::error::{HallError, may_open};
+use crate::session::Session;
+use crate::tasks::{TasksEnd, run_tasks};
+use crate::worker::Task;
+use permit_base::request::{Asked, action};
+use permit_base::values::Day;
+use permit_office::office::Office;
+use permit_store::store::Store;
+use permit_wire::{Answer, Inbox, answer_with, read_request};
+use std::alloc::{AllocError, Global};
+use std::io::{Read, Write};
+use std::sync::Wait;
+use std::thread::Threads;
+
+/// Where the connections of a session come from, one after the other. Each implementation names when it is spent.
+pub trait Door: Send {
+    type In: Read;
+
+    type Out: Write;
+
+    ghost spent: { Self → Type 0 };
+
+    /// The next connection's reader and writer, or `None` where no more comes.
+    fn next(&mut self) -> Option<(Self::In, Self::Out)>
+        ensures { IfNone result (spent self.new) };
+}
+
+/// A door that is spent, and how many answers its session has collected.
+#[derive(Drop)]
+pub struct DoorEnd<D: Drop> {
+    pub door: D,
+    pub collected: u64,
+}
+
+/// Puts a request that was read from a connection, collects its answer and writes it. A connection that fails then
+/// drops the answer.
+fn pass_on<O: Write, R: Wait>(
+    rt: &R,
+    alloc: Global,
+    session: &mut Session<Asked, Dated>,
+    inbox: &mut Inbox,
+    writer: &mut O,
+    asked: Asked,
+)
+    requires { IsSession session.old }
+    ensures session { IsSession session.new × IsSamePlace session.old session.new }
+    ensures put { length (put_by session.new) ≡ length (put_by session.old) + 1 }
+    ensures got { length (got_by session.new) ≡ length (got_by session.old) + 1 }
+{
+    let action = action(&asked.request);
+    let Dated { day, reply } = session.ask(rt, asked);
+    let answer = Answer::Replied { reply, action, day };
+    let _served = answer_with(alloc, inbox, &answer, writer);
+    drop(answer);
+}
+
+/// Serves a connection to its end, which comes with the end of its input, with a reader or a writer that fails, or with
+/// an answer that closes. Faults are answered without the office. Gives how many answers were collected, with those
+/// before; `None` where that would pass the greatest count.
+fn serve_connection<I: Read, O: Write, R: Wait>(
+    rt: &R,
+    alloc: Global,
+    session: &mut Session<Asked, Dated>,
+    reader: &mut I,
+    writer: &mut O,
+    count: u64,
+) -> Option<u64>
+    requires session { IsSession session.old }
+    requires count { (length (put_by session.old) ≡ count) × (length (got_by session.old) ≡ count) }
+    ensures session { IsSession session.new × IsSamePlace session.old session.new }
+    ensures even { length (put_by session.new) ≡ length (got_by session.new) }
+    ensures count { MatchOption result ⊤ (λ n. (length (put_by session.new) ≡ n) × (length (got_by session.new) ≡ n)) }
+{
+    let mut inbox = Inbox::new();
+    let mut count = count;
+    for _ in rt.forever() {
+        match read_request(alloc, &mut inbox, reader) {
+            Ok(Some(asked)) => {
+                let next = count.checked_add(1);
+                pass_on(rt, alloc, session, &mut inbox, writer, asked);
+                count = next?;
+            }
+            Ok(None) => return Some(count),
+            Err(error) => {
+                let Some(fault) = error.fault() else {
+                    return Some(count);
+                };
+                answer_with(alloc, &mut inbox, &Answer::Fault(fault), writer);
+            }
+        }
+    }
+    unreachable!()
+}
+
+/// A door, and what reading and writing take memory from. It gives back the door and the count of answers, or `None`
+/// where the count would pass the greatest.
+#[derive(Drop)]
+pub struct DoorTask<D: Drop> {
+    door: D,
+    alloc: Global,
+}
+
+impl<D: Door + Drop> Task<Asked, Dated, Option<DoorEnd<D>>> for DoorTask<D>
+where
+    D::In: Drop,
+    D::Out: Drop,
+{
+    ghost did = { λ t put got end. IsDoorDone D.spent put got end };
+
+    fn run<R: Wait>(self, rt: &R, session: &mut Session<Asked, Dated>) -> Option<DoorEnd<D>> {
+        let DoorTask { mut door, alloc } = self;
+        let mut collected = 0u64;
+        for _ in rt.forever() {
+            let Some((mut reader, mut writer)) = door.next() else {
+                return Some(DoorEnd { door, collected });
+            };
+            match serve_connection(rt, alloc, session, &mut reader, &mut writer, collected) {
+                Some(count) => collected = count,
+                None => return None,
+            }
+        }
+        unreachable!()
+    }
+}
+
+fn door_tasks<D: Drop>(alloc: Global, doors: Vec<D>) -> Result<Vec<DoorTask<D>>, AllocError>
+    ensures { IfOk result (λ ts. map (λ t. t.door) ts.items ≡ doors.items) }
+{
+    let mut all = Vec::new(alloc);
+    for door in doors {
+        all.push(DoorTask { door, alloc })?;
+    }
+    Ok(all)
+}
+
+/// The two kinds of None made one.
+fn flattened<D: Drop>(
+    outs: Vec<Option<Option<DoorEnd<D>>>>,
+    room: Vec<Option<DoorEnd<D>>>,
+) -> Vec<Option<DoorEnd<D>>>
+    requires { (room.items ≡ []) × (length outs.items ≤ vec_capacity room) }
+    ensures { result.items ≡ map option_flatten outs.items }
+{
+    let mut ends = room;
+    for out in outs {
+        ends.push_reserved(out.flatten());
+    }
+    ends
+}
+
+/// What a hall over doors leaves: the office, and for each session its door, spent, and how many answers it has
+/// collected, or `None` where its worker could not be started, or the count would pass the greatest.
+#[derive(Drop)]
+pub struct HallEnd<S: Store + Drop, D: Drop> {
+    pub office: Office<S>,
+    pub doors: Vec<Option<DoorEnd<D>>>,
+}
+
+/// Serves the connections of doors, one worker a door, 1 to 8 of them, while the calling thread owns the office.
+///
+/// A worker serves its door's connections one after the other: it reads a request, puts it into the intake, collects
+/// its answer and writes it. Faults in reading are answered without the office. The office serves the requests of all
+/// sessions one at a time, in one order, each on a day that the clock gives as it is taken. A request that is refused
+/// for the store has its refusal at its place, and has changed nothing. A connection that fails is left, and the next
+/// one of its door is served. With an error the office comes back as it was, and the doors are dropped.
+pub fn run_hall<
+    S: Store + Drop,
+    D,
+    C: Fn() -> Day,
+    R: Threads + Wait + Copy + Drop + Send + 'static,
+>(
+    rt: R,
+    alloc: Global,
+    office: Office<S>,
+    doors: Vec<D>,
+    clock: &C,
+) -> Result<HallEnd<S, D>, (Office<S>, HallError)>
+where
+    D: Door + Drop + Send + 'static,
+    D::In: Drop + Send + 'static,
+    D::Out: Drop + Send + 'static,
+    requires { C.IsAlwaysCallable clock.now }
+    ensures history { IfOk result (λ end. (served : List (Entry Asked Dated))
+        × OneHistory S.view (C.post clock.now) (length doors.items) office end.office served
+        × AreDoorsServed D.spent (length doors.items) end.doors.items served) }
+    ensures opens { IfOk result (λ end. is_count (length doors.items) ≡ true) }
+    ensures back { IfErr result (λ back. back.0 ≡ office) }
+    ensures error { IfErr result (λ back. FitsCount back.1 (is_count (length doors.items))) }
+{
+    if !may_open(doors.len()) {
+        return Err((office, HallError::Count));
+    }
+    let Ok(room) = Vec::with_capacity(alloc, doors.len()) else {
+        return Err((office, HallError::Memory));
+    };
+    let Ok(tasks) = door_tasks(alloc, doors) else {
+        return Err((office, HallError::Memory));
+    };
+    match run_tasks(rt, alloc, office, tasks, clock) {
+        Ok(end) => {
+            let TasksEnd { machine, outs } = end;
+            let doors = flattened(outs, room);
+            Ok(HallEnd {
+                office: machine,
+                doors,
+            })
+        }
+        Err(error) => Err(error),
+    }
+}

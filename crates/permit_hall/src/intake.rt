@@ -1,0 +1,87 @@
+//! The intake: a channel under a rule, into which the sessions put and from which the owner takes.
+
+ghost use Rattle.std.specs.Prelude.{[], ◌∷◌, ◌++◌, ◌+◌};
+ghost use Rattle.permit_hall.specs.Intake.{Taken, owner, session, nobody, PutsOne, TakesOne, Compares};
+
+use crossbeam_channel::protocol::{Join, Lesson, Outcome, Protocol, Split};
+use crossbeam_channel::{Pass, RuledReceiver, RuledSender};
+use std::collections::LinkedList;
+
+/// What a session puts, with its number: a request, or an end mark, which has none.
+#[derive(Drop)]
+pub struct Message<A> {
+    pub from: usize,
+    pub request: Option<A>,
+}
+
+/// What a pass of the intake knows; no value of it is made. A session's pass sends: it has the session's number and what
+/// it has put. The owner's pass gets: it has how many sessions were made, what was got, and what each of the sessions
+/// that came back had put.
+pub struct IntakeNote<A> {
+    pub sends: bool,
+    pub gets: bool,
+    pub from: usize,
+    pub made: u64,
+    pub put: LinkedList<A>,
+    pub got: LinkedList<Message<A>>,
+    pub known: LinkedList<LinkedList<A>>,
+}
+
+/// The rule of the intake.
+pub struct Intake;
+
+impl<A> Protocol<Message<A>, IntakeNote<A>> for Intake {
+    ghost holds = { Taken };
+
+    ghost first = { owner 0 [] [] };
+}
+
+/// A session puts. At a full intake it learns nothing.
+pub struct Puts;
+
+impl<A> Outcome<Message<A>, IntakeNote<A>> for Puts {
+    ghost then = { PutsOne };
+}
+
+impl<A> Lesson<Message<A>, IntakeNote<A>> for Puts {
+    ghost fact = { λ v items. Unit {0} };
+}
+
+/// The owner takes. At an empty intake it learns nothing.
+pub struct Takes;
+
+impl<A> Outcome<Message<A>, IntakeNote<A>> for Takes {
+    ghost then = { TakesOne };
+}
+
+impl<A> Lesson<Message<A>, IntakeNote<A>> for Takes {
+    ghost fact = { λ v items. Unit {0} };
+}
+
+/// The owner compares what the sessions that came back had put with what it has taken.
+pub struct Compared;
+
+impl<A> Lesson<Message<A>, IntakeNote<A>> for Compared {
+    ghost fact = { Compares };
+}
+
+/// The owner makes the next session, and takes back one that has ended.
+pub struct Sessions;
+
+impl<A> Split<IntakeNote<A>> for Sessions {
+    ghost left = { λ v. owner (v.made + 1) v.got v.known };
+
+    ghost right = { λ v. session v.made [] };
+}
+
+impl<A> Join<IntakeNote<A>> for Sessions {
+    ghost both = { λ v w. owner v.made v.got (v.known ++ w.put ∷ []) };
+
+    ghost spent = { nobody };
+}
+
+pub type IntakeSender<A> = RuledSender<Message<A>, IntakeNote<A>, Intake>;
+
+pub type IntakeReceiver<A> = RuledReceiver<Message<A>, IntakeNote<A>, Intake>;
+
+pub type IntakePass<A> = Pass<Message<A>, IntakeNote<A>>;

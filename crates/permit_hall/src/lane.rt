@@ -1,0 +1,76 @@
+//! A lane: a channel under a rule, by which the owner sends a session its answers.
+
+ghost use Rattle.std.specs.Prelude.{◌≡◌, true, false, [], ◌∷◌, ◌++◌};
+ghost use Rattle.permit_hall.specs.Lane.{Carried, lane_note};
+
+use crossbeam_channel::protocol::{Join, Lesson, Outcome, Protocol, Split};
+use crossbeam_channel::{Pass, RuledReceiver, RuledSender};
+use std::collections::LinkedList;
+
+/// What a pass of a lane knows; no value of it is made. The owner's pass sends and has what was sent, the session's gets
+/// and has what was got.
+pub struct LaneNote<Y> {
+    pub sends: bool,
+    pub gets: bool,
+    pub sent: LinkedList<Y>,
+    pub got: LinkedList<Y>,
+}
+
+/// The rule of a lane.
+pub struct Lane;
+
+impl<Y> Protocol<Y, LaneNote<Y>> for Lane {
+    ghost holds = { Carried };
+
+    ghost first = { lane_note true true [] [] };
+}
+
+/// The owner sends. At a full lane it learns nothing.
+pub struct Sends;
+
+impl<Y> Outcome<Y, LaneNote<Y>> for Sends {
+    ghost then = { λ v x w. w ≡ lane_note v.sends v.gets (v.sent ++ x ∷ []) v.got };
+}
+
+impl<Y> Lesson<Y, LaneNote<Y>> for Sends {
+    ghost fact = { λ v items. Unit {0} };
+}
+
+/// The session collects. At an empty lane it learns nothing.
+pub struct Collects;
+
+impl<Y> Outcome<Y, LaneNote<Y>> for Collects {
+    ghost then = { λ v x w. w ≡ lane_note v.sends v.gets v.sent (v.got ++ x ∷ []) };
+}
+
+impl<Y> Lesson<Y, LaneNote<Y>> for Collects {
+    ghost fact = { λ v items. Unit {0} };
+}
+
+/// What was collected, then what is there, is what was sent.
+pub struct Total;
+
+impl<Y> Lesson<Y, LaneNote<Y>> for Total {
+    ghost fact = { λ v items. v.sent ≡ v.got ++ items };
+}
+
+/// The first pass is cut into the owner's and the session's, which come together at the end.
+pub struct Ends;
+
+impl<Y> Split<LaneNote<Y>> for Ends {
+    ghost left = { λ v. lane_note true false v.sent [] };
+
+    ghost right = { λ v. lane_note false true [] v.got };
+}
+
+impl<Y> Join<LaneNote<Y>> for Ends {
+    ghost both = { λ v w. lane_note true true v.sent w.got };
+
+    ghost spent = { lane_note false false [] [] };
+}
+
+pub type LaneSender<Y> = RuledSender<Y, LaneNote<Y>, Lane>;
+
+pub type LaneReceiver<Y> = RuledReceiver<Y, LaneNote<Y>, Lane>;
+
+pub type LanePass<Y> = Pass<Y, LaneNote<Y>>;

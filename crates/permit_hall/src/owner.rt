@@ -1,0 +1,131 @@
+//! The owner's loop: it takes what is put into the intake, one after the other, and sends each answer into its session's lane.
+ghost use Rattle.std.specs.Prelude.{◌≡◌, ℕ, ◌++◌, ◌∷◌, [], ◌<◌, true, false, Some, None, List, length};
+ghost use Rattle.crossbeam_channel.specs.Claims.{view, IsSeatAt};
+ghost use Rattle.crossbeam_channel.specs.Ends.{sends_on, receives_on};
+ghost use Rattle.permit_hall.specs.Runs.{Entry};
+ghost use Rattle.permit_hall.specs.declared.intake.Message.{Message};
+ghost use Rattle.permit_hall.specs.Intake.{owner};
+ghost use Rattle.permit_hall.specs.Lane.{lane_note};
+ghost use Rattle.permit_hall.specs.Owner.{Serves, Sent, SameLanes, HasSent};
+
+use crate::intake::{IntakePass, IntakeReceiver, Message, Takes};
+use crate::lane::{LanePass, LaneSender, Sends};
+use crate::machine::Machine;
+use permit_base::values::Day;
+use std::sync::Wait;
+use std::thread;
+
+/// The owner's end of a lane.
+#[derive(Drop)]
+pub struct Outlet<Y: Drop> {
+    pub lane: LaneSender<Y>,
+    pub lane_pass: LanePass<Y>,
+}
+
+impl<Y: Drop> Outlet<Y> {
+    // Sends a reply, and tries again where the send is refused.
+    fn send<R: Wait>(&mut self, rt: &R, reply: Y)
+        requires seat { IsSeatAt (sends_on self.old.lane) self.old.lane_pass }
+        requires note { view self.old.lane_pass ≡ lane_note true false (view self.old.lane_pass).sent [] }
+        ensures sent { HasSent ((view self.old.lane_pass).sent ++ reply ∷ []) self.new }
+        ensures lane { sends_on self.new.lane ≡ sends_on self.old.lane }
+    {
+        let mut reply = reply;
+        for _ in rt.forever() {
+            match self
+                .lane
+                .send_as::<Sends, R>(rt, &mut self.lane_pass, reply)
+            {
+                Ok(()) => return,
+                Err(refused) => reply = refused.into_inner(),
+            }
+            thread::yield_now();
+        }
+        unreachable!()
+    }
+}
+
+// Serves a request of one of the sessions.
+fn answer<M: Machine, C: Fn() -> Day, R: Wait>(
+    rt: &R,
+    machine: &mut M,
+    outlets: &mut Vec<Outlet<M::Reply>>,
+    clock: &C,
+    from: usize,
+    request: M::Request,
+)
+    requires clock { C.IsAlwaysCallable clock.now }
+    requires from { from < length outlets.old.items }
+    requires sent { (served : List (Entry M.Request M.Reply)) × Sent served outlets.old.items }
+    ensures lanes { SameLanes outlets.old.items outlets.new.items }
+    ensures served { (served : List (Entry M.Request M.Reply)) → Sent served outlets.old.items
+        → (day : ℕ) × (reply : M.Reply) × C.post clock.now day × M.step machine.old request day reply machine.new
+        × Sent (served ++ record { from = from; request = request; day = day; reply = reply } ∷ []) outlets.new.items }
+{
+    let day = clock();
+    let reply = machine.serve(&request, day);
+    outlets[from].send(rt, reply);
+}
+
+// Takes a message, and says whether it was an end mark.
+fn take_one<M: Machine, C: Fn() -> Day, R: Wait>(
+    rt: &R,
+    machine: &mut M,
+    outlets: &mut Vec<Outlet<M::Reply>>,
+    clock: &C,
+    message: Message<M::Request>,
+) -> bool
+    requires clock { C.IsAlwaysCallable clock.now }
+    requires sent { (served : List (Entry M.Request M.Reply)) × Sent served outlets.old.items }
+    ensures lanes { SameLanes outlets.old.items outlets.new.items }
+    ensures served { (n : ℕ) (got : List (Message M.Request)) (start : M) (served : List (Entry M.Request M.Reply))
+        → n ≡ length outlets.old.items
+        → Serves M.step (C.post clock.now) n got start machine.old served → Sent served outlets.old.items
+        → (next : List (Entry M.Request M.Reply))
+        × Serves M.step (C.post clock.now) n (got ++ message ∷ []) start machine.new next × Sent next outlets.new.items }
+{
+    let Message { from, request } = message;
+    let Some(request) = request else {
+        return true;
+    };
+    if from >= outlets.len() {
+        return false;
+    }
+    answer(rt, machine, outlets, clock, from, request);
+    false
+}
+
+/// Serves what is put, until as many end marks were taken.
+pub fn serve_all<M: Machine, C: Fn() -> Day, R: Wait>(
+    rt: &R,
+    machine: &mut M,
+    intake: &IntakeReceiver<M::Request>,
+    pass: &mut IntakePass<M::Request>,
+    outlets: &mut Vec<Outlet<M::Reply>>,
+    clock: &C,
+    marks: usize,
+)
+    requires clock { C.IsAlwaysCallable clock.now }
+    requires pass { IsSeatAt (receives_on intake.now) pass.old × (view pass.old ≡ owner (view pass.old).made [] []) }
+    requires sent { Sent {A = M.Request} [] outlets.old.items }
+    ensures pass { IsSeatAt (receives_on intake.now) pass.new × (view pass.new ≡ owner (view pass.old).made (view pass.new).got []) }
+    ensures lanes { SameLanes outlets.old.items outlets.new.items }
+    ensures served { (served : List (Entry M.Request M.Reply))
+        × Serves M.step (C.post clock.now) (length outlets.old.items) (view pass.new).got machine.old machine.new served
+        × Sent served outlets.new.items }
+{
+    let mut left = marks;
+    for _ in rt.forever() {
+        if left == 0 {
+            break;
+        }
+        match intake.recv_as::<Takes, R>(rt, pass) {
+            Ok(message) => {
+                if take_one(rt, machine, outlets, clock, message) {
+                    left -= 1;
+                }
+            }
+            Err(_) => thread::yield_now(),
+        }
+    }
+}

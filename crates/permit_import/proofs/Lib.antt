@@ -1,0 +1,5 @@
+pub mod RecordLemmas
+pub mod ReadLemmas
+pub mod WriteLemmas
+pub mod Progress
+pub mod Ending

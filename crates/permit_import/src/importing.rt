@@ -1,0 +1,68 @@
+//! Importing a parcel list.
+
+ghost use Rattle.std.specs.Prelude.{◌≡◌, ◌≤◌};
+ghost use Rattle.permit_import.specs.Importing.{Imports};
+
+use crate::adding::add;
+use crate::fault::ImportFault;
+use crate::records::{is_header, read_next, records};
+use crate::tally::Tally;
+use crate::writing::{write_counts, write_outcome};
+use csv::ByteRecord;
+use permit_base::digests::digest;
+use permit_base::values::{Day, Token};
+use permit_office::office::Office;
+use permit_store::store::Store;
+use std::alloc::Global;
+use std::io::{Read, Write};
+
+/// The most records behind the first.
+const MOST_RECORDS: u32 = 999999;
+
+/// More bytes than any line has.
+const LINE_ROOM: usize = 128;
+
+/// Imports a parcel list for the caller of the token, on the day.
+///
+/// The list is text of comma-separated records, as `csv` reads them by default. The first is exactly `lot`, `address`,
+/// `owner`. Each behind it, at most 999999, is one step of the office for a new parcel, and has its line: `K added N`;
+/// `K kept` where a parcel of its lot is there already; else `K refused: ..` with the refusal, which is `syntax` for a
+/// record that has another number of fields, a field that is not UTF-8 or a value out of its limits. The line of the
+/// counts stands behind them. One record is held at a time, so memory does not grow with the list.
+///
+/// After a fault what was tried before it stands, and a beginning of the lines is out, without the counts unless the
+/// writer failed inside them. A record that the store refuses has that refusal in its line, and the import goes on.
+pub fn import<S: Store + Drop, R: Read + Drop, W: Write>(
+    alloc: Global,
+    office: &mut Office<S>,
+    token: &Token,
+    day: Day,
+    reader: R,
+    out: &mut W,
+) -> Result<Tally, ImportFault>
+    ensures imports { Imports S.view token.now day (R.remaining reader) (W.contents out.old) (W.contents out.new) office.old office.new result }
+    ensures policy { office.new.policy ≡ office.old.policy }
+    ensures doubt { (S.view office.old.store).doubt ≤ (S.view office.new.store).doubt }
+{
+    let digest = digest(token)?;
+    let mut line = String::with_capacity(alloc, LINE_ROOM)?;
+    let mut records = records(alloc, reader);
+    let mut row = ByteRecord::new(alloc);
+    if !read_next(&mut records, &mut row)? || !is_header(&row) {
+        return Err(ImportFault::FirstRecord);
+    }
+    let mut tally = Tally::new();
+    for number in 1..MOST_RECORDS + 2 {
+        if !read_next(&mut records, &mut row)? {
+            write_counts(out, &mut line, tally)?;
+            return Ok(tally);
+        }
+        if number > MOST_RECORDS {
+            break;
+        }
+        let outcome = add(alloc, office, &digest, day, &row)?;
+        write_outcome(out, &mut line, number, outcome)?;
+        tally.count(outcome);
+    }
+    Err(ImportFault::Reading)
+}

@@ -1,0 +1,16 @@
+//! Importing parcel lists: text of comma-separated records, each of which asks for one new parcel.
+//!
+//! `importing::import` reads the records one at a time, has the office add the parcel of each, and writes a line for
+//! each and one with the counts. `records` reads, `requests` says what a record asks for, `outcome` what became of it,
+//! and `refused` has the line of a refusal, which the whole program shares.
+#![tactic(auto)]
+
+mod adding;
+pub mod fault;
+pub mod importing;
+pub mod outcome;
+mod records;
+pub mod refused;
+mod requests;
+pub mod tally;
+mod writing;

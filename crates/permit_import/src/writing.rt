@@ -1,0 +1,57 @@
+//! Writing lines.
+
+ghost use Rattle.std.specs.Prelude.{◌≡◌, OnOk, OnErr, IfErr};
+ghost use Rattle.std.specs.Io.KnownBytes.{Appends};
+ghost use Rattle.permit_import.specs.Lines.{record_line, count_line};
+ghost use Rattle.permit_import.specs.Written.{WroteFront, StopsShort};
+
+use crate::fault::ImportFault;
+use crate::outcome::Outcome;
+use crate::tally::Tally;
+use std::io::Write;
+
+/// Writes all the bytes. Where a write fails or takes no byte, a beginning of them is out.
+fn write_whole<W: Write>(out: &mut W, bytes: &[u8]) -> Result<(), ImportFault>
+    ensures whole { OnOk result (Appends (W.contents out.old) (W.contents out.new) bytes.now) }
+    ensures front { OnErr result (WroteFront (W.contents out.old) (W.contents out.new) bytes.now) }
+    ensures fault { IfErr result (λ fault. fault ≡ ImportFault.Writing) }
+{
+    let mut at = 0;
+    while at < bytes.len() {
+        match out.write(&bytes[at..]) {
+            Ok(0) => return Err(ImportFault::Writing),
+            Ok(n) => at += n,
+            Err(_) => return Err(ImportFault::Writing),
+        }
+    }
+    Ok(())
+}
+
+/// Writes the line of a record by its number. The line is made whole first, in `line`.
+pub(crate) fn write_outcome<W: Write>(
+    out: &mut W,
+    line: &mut String,
+    number: u32,
+    outcome: Outcome,
+) -> Result<(), ImportFault>
+    ensures whole { OnOk result (Appends (W.contents out.old) (W.contents out.new) (record_line number outcome)) }
+    ensures short { IfErr result (StopsShort (W.contents out.old) (W.contents out.new) (record_line number outcome)) }
+{
+    line.clear();
+    writeln!(line, "{number} {outcome}")?;
+    write_whole(out, line.as_bytes())
+}
+
+/// Writes the line of the counts. The line is made whole first, in `line`.
+pub(crate) fn write_counts<W: Write>(
+    out: &mut W,
+    line: &mut String,
+    tally: Tally,
+) -> Result<(), ImportFault>
+    ensures whole { OnOk result (Appends (W.contents out.old) (W.contents out.new) (count_line tally)) }
+    ensures short { IfErr result (StopsShort (W.contents out.old) (W.contents out.new) (count_line tally)) }
+{
+    line.clear();
+    writeln!(line, "{tally}")?;
+    write_whole(out, line.as_bytes())
+}

@@ -1,6 +1,0 @@
--- The law is a lemma by induction on the rules.
-use Rattle.permit_model.proofs.PolicyFacts.{narrowed}
-use Rattle.permit_model.proofs.laws.allowed_to_one_relation.Goals as goal
-
-pub returns : goal.returns
-returns c = record { narrowed = narrowed }

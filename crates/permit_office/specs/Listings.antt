@@ -1,0 +1,65 @@
+-- How the rows that a listing's selections find become its files.
+use Rattle.std.specs.Prelude.{◌≡◌, ◌<◌, ℕ, ◌+◌, ◌%◌, ◌^◌, Bool, List, [], ◌∷◌, ◌++◌, length, map, filter, IsTrue, ⊤}
+use Rattle.std.specs.List.{flat_map, AllByRecursion}
+use Rattle.permit_base.specs.declared.route.Route.{Route}
+use Rattle.permit_base.specs.declared.words.Action.TheVariants as action
+use Rattle.permit_core.specs.Views.{row_stage, row_timing}
+use Rattle.permit_model.specs.History.{History}
+use Rattle.permit_model.specs.Caller.{Party}
+use Rattle.permit_model.specs.Facts.{Facts}
+use Rattle.permit_model.specs.Policy.{Policy, allows}
+use Rattle.permit_model.specs.Tables.{FileView, tables}
+use Rattle.permit_model.specs.Routes.{Found, relations_found, found_by}
+use Rattle.permit_model.specs.Machine.{IsHistory}
+use Rattle.permit_store.specs.Frames.{StoreView}
+use Rattle.permit_office.specs.declared.listing.Lister.{Lister}
+use Rattle.permit_office.specs.Reach.{HandedMore}
+
+-- the facts on a file that is found
+abbrev pub found_facts : Party → ℕ → Found → Facts
+found_facts caller day found = record {
+  role = caller.role;
+  relations = relations_found caller.id found;
+  action = action.List;
+  stage = row_stage day found.row.state;
+  stopped = found.row.state.stopped;
+  timing = row_timing day found.row.state;
+}
+
+-- whether the caller may list the file, by what it is to the file in full
+abbrev pub may_list : Policy → Party → ℕ → Found → Bool
+may_list policy caller day found = allows policy (found_facts caller day found)
+
+-- the file as it is shown on the day
+abbrev pub view_found : ℕ → Found → FileView
+view_found day found = record { row = found.row; stage = row_stage day found.row.state; timing = row_timing day found.row.state }
+
+-- the files among these that the caller may list
+abbrev pub views_found : Policy → Party → ℕ → List Found → List FileView
+views_found policy caller day found = map (view_found day) (filter (may_list policy caller day) found)
+
+-- The rows were taken: the files among them that may be listed stand behind those before, and the rows count.
+pub record Listed (given : List Found) (before after : Lister) : Type 0 where
+  pub policy : after.policy ≡ before.policy
+  pub caller : after.caller ≡ before.caller
+  pub day : after.day ≡ before.day
+  pub files : after.files.items ≡ before.files.items ++ views_found before.policy.now before.caller.now before.day given
+  pub read : after.read ≡ (before.read + length given) % 2 ^ 32
+
+-- one row is taken, where the answer is true
+abbrev pub Takes : Lister → Found → Lister → Bool → Type 0
+Takes before found after more = IsTrue more → Listed (found ∷ []) before after
+
+-- Rows were handed out, these are the files among them that may be listed and so many they were, and they are those that
+-- the selections find in turn.
+pub record Gathers (policy : Policy) (caller : Party) (day : ℕ) (routes : List Route) (old new : StoreView) (views : List FileView) (count : ℕ) : Type 0 where
+  pub given : List Found
+  pub files : views ≡ views_found policy caller day given
+  pub read : count ≡ length given % 2 ^ 32
+  pub handed : HandedMore (length given) old.handed new.handed
+  pub found : new.doubt ≡ 0 → (h : History) → IsHistory h → old.holds (tables h) → given ≡ flat_map (λ r. found_by r caller.id day (tables h)) routes
+
+-- the numbers of the files rise
+abbrev pub AreRising : List FileView → Type 0
+AreRising [] = ⊤
+AreRising (view ∷ views) = AllByRecursion (λ later. view.row.id < later.row.id) views × AreRising views

@@ -1,0 +1,151 @@
+//! The files of a listing, handed out one at a time.
+
+ghost use Rattle.std.specs.Prelude.{◌≡◌, ◌∷◌, [], IfOk, IfSome, IsSome, length, Some};
+ghost use Rattle.permit_base.specs.declared.request.Request.TheVariants as request;
+ghost use Rattle.permit_model.specs.History.{History};
+ghost use Rattle.permit_model.specs.Listing.{listing, register_filter};
+ghost use Rattle.permit_model.specs.Opened.{opened};
+ghost use Rattle.permit_model.specs.Tables.{tables};
+ghost use Rattle.permit_model.specs.Machine.{IsHistory, Listed, step_as};
+ghost use Rattle.permit_store.specs.Frames.{IsRead};
+ghost use Rattle.permit_office.specs.Frames.{IsMaking};
+ghost use Rattle.permit_office.specs.Opening.{rows_opened};
+ghost use Rattle.permit_office.specs.Showing.{HandedAt, IsShowing, OpensAt, Shows, TakesUp, caller_on, end_of};
+ghost use Rattle.permit_office.specs.Stops.{StopsAt, StopsFor};
+
+use crate::listing::{list_by_routes, listing_routes};
+use crate::passing::pass_on;
+use permit_base::outcome::Refusal;
+use permit_base::request::{FileStage, Filter};
+use permit_base::route::Route;
+use permit_base::values::{Day, Digest};
+use permit_base::words::{RegisterKind, Stage};
+use permit_core::taker::Taker;
+use permit_policy::Policy;
+use permit_store::rows::{FileView, Party};
+use permit_store::store::{Got, Store};
+
+/// How the handing out of a listing's files ended.
+#[derive(Clone, Copy)]
+pub enum RowsEnd {
+    /// The taker took each file, and each answer was true. The store handed out so many rows for the listing; the count
+    /// goes round after 4294967295.
+    All { read: u32 },
+    /// The caller isn't known or the day is below the last, and nothing was taken; or the store failed or memory was
+    /// refused, and what was taken is a beginning, with each answer true.
+    Refused(Refusal),
+    /// The taker asked to stop at the last file that it took.
+    Stopped,
+}
+
+/// Which files a register of the kind holds.
+pub fn register_filter(kind: RegisterKind) -> Filter
+    ensures { result ≡ register_filter kind }
+{
+    match kind {
+        RegisterKind::Files => Filter::All,
+        RegisterKind::Deadlines => Filter::Due,
+        RegisterKind::Inspections => match FileStage::new(Stage::Working) {
+            Some(stage) => Filter::InStage(stage),
+            // Files can be in that stage, so there is always one.
+            None => Filter::All,
+        },
+    }
+}
+
+/// The caller that has the digest, or why a listing is refused.
+fn caller_for<S: Store>(store: &mut S, digest: &Digest, day: Day) -> Got<Result<Party, Refusal>>
+    ensures known { (S.view store.new).doubt ≡ 0 → (h : History) → IsHistory h → (S.view store.old).holds (tables h)
+        → IfOk result (λ told. told ≡ caller_on h digest.now day) }
+    ensures read { IsRead (S.view store.old) (S.view store.new) result }
+{
+    let Some(caller) = store.party_by_token(digest)? else {
+        return Ok(Err(Refusal::Caller));
+    };
+    let desk = store.desk()?;
+    if day.get() < desk.last.get() {
+        return Ok(Err(Refusal::Clock));
+    }
+    Ok(Ok(caller))
+}
+
+/// The selection, where there is exactly one.
+fn only_route(routes: &[Route]) -> Option<Route>
+    ensures one { IfSome result (λ route. routes.now ≡ route ∷ []) }
+    ensures other { length routes.now ≡ 1 → IsSome result }
+{
+    if routes.len() > 1 {
+        return None;
+    }
+    routes.first().copied()
+}
+
+/// Hands the files to the taker until it asks to stop: whether each answer was true.
+fn hand_out<T: Taker<FileView>>(files: &[FileView], taker: &mut T) -> bool
+    ensures { TakesUp T.took files.now taker.old taker.new result }
+{
+    for view in files {
+        if !taker.take(view) {
+            return false;
+        }
+    }
+    true
+}
+
+/// Hands the files wanted to the taker, in rising number and each once, as far as memory and the store's calls allow.
+/// Those of one selection come so from the store; those of several are made a list first.
+fn hand_files<S: Store, T: Taker<FileView>>(
+    store: &mut S,
+    policy: &Policy,
+    caller: &Party,
+    day: Day,
+    wanted: Filter,
+    taker: &mut T,
+) -> Got<RowsEnd>
+    ensures shown { (S.view store.new).doubt ≡ 0 → (h : History) → IsHistory h → (S.view store.old).holds (tables h)
+        → Shows T.took (Listed (listing policy.now h day caller.now wanted)) taker.old taker.new (end_of result) }
+    ensures opened { (S.view store.new).doubt ≡ 0 → (h : History) → IsHistory h → (S.view store.old).holds (tables h)
+        → OpensAt (Some (length (opened policy.now h day caller.now wanted))) (end_of result) (S.view store.old).handed (S.view store.new).handed }
+    ensures stopped { (S.view store.new).doubt ≡ 0 → (h : History) → IsHistory h → (S.view store.old).holds (tables h)
+        → StopsFor T.took policy.now h caller.now day wanted (end_of result) taker.old taker.new (S.view store.old).handed (S.view store.new).handed }
+    ensures handed { HandedAt (end_of result) (S.view store.old).handed (S.view store.new).handed }
+    ensures making { IsMaking (S.view store.old) (S.view store.new) result }
+{
+    let routes = listing_routes(policy, caller.role, wanted)?;
+    if let Some(route) = only_route(&routes) {
+        return pass_on(store, policy, caller, day, &route, taker);
+    }
+    let listing = list_by_routes(store, policy, caller, day, &routes)?;
+    if hand_out(&listing.files, taker) {
+        Ok(RowsEnd::All { read: listing.read })
+    } else {
+        Ok(RowsEnd::Stopped)
+    }
+}
+
+/// Hands out the listing for the caller that has the digest.
+pub(crate) fn show<S: Store, T: Taker<FileView>>(
+    store: &mut S,
+    policy: &Policy,
+    digest: &Digest,
+    day: Day,
+    wanted: Filter,
+    taker: &mut T,
+) -> RowsEnd
+    ensures shown { (S.view store.new).doubt ≡ 0 → (h : History) → IsHistory h → (S.view store.old).holds (tables h)
+        → Shows T.took (step_as policy.now h digest.now (request.ListFiles wanted) day).reply taker.old taker.new result }
+    ensures opened { (S.view store.new).doubt ≡ 0 → (h : History) → IsHistory h → (S.view store.old).holds (tables h)
+        → OpensAt (rows_opened policy.now h digest.now (request.ListFiles wanted) day) result (S.view store.old).handed (S.view store.new).handed }
+    ensures stopped { (S.view store.new).doubt ≡ 0 → (h : History) → IsHistory h → (S.view store.old).holds (tables h)
+        → StopsAt T.took policy.now h digest.now day wanted result taker.old taker.new (S.view store.old).handed (S.view store.new).handed }
+    ensures showing { IsShowing (S.view store.old) (S.view store.new) result }
+{
+    match caller_for(store, digest, day) {
+        Ok(Ok(caller)) => match hand_files(store, policy, &caller, day, wanted, taker) {
+            Ok(end) => end,
+            Err(_) => RowsEnd::Refused(Refusal::Store),
+        },
+        Ok(Err(refusal)) => RowsEnd::Refused(refusal),
+        Err(_) => RowsEnd::Refused(Refusal::Store),
+    }
+}

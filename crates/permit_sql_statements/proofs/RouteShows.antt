@@ -1,0 +1,252 @@
+-- What each text of a selection shows of the tables.
+use Rattle.std.proofs.Common.{◌≡◌, refl, sym, ap, ap₂, subst, ◌∙◌, ℕ, suc, ◌<◌, ◌≤◌, Bool, true, false, cond, eqb, length, List, [], ◌∷◌, ◌++◌, map, filter, find, slice_get, drop, Option, Some, None, option_map, arith, append-nil, IsPermutation, IsSorted}
+use Rattle.std.specs.Prelude.{◌&&◌}
+use Rattle.std.specs.List.{flat_map, list_all, list_any}
+use Rattle.std.proofs.lemmas.List.Sorted.{IsPermutation-trans}
+use Rattle.sqlite.specs.declared.types.Value.{Value}
+use Rattle.sqlite_value.specs.Order.{Row, column}
+use Rattle.sqlite_sql.specs.Term.{Term, Env, col, holds}
+use Rattle.sqlite_sql.specs.Ops.{is_true}
+use Rattle.sqlite_sql.specs.Query.{Query, Join, inner, left, IsAnswer, Output, output, output_cmp, or_nulls, matches}
+use Rattle.sqlite_trees.specs.Tree.{Trees}
+use Rattle.sqlite_keyed.proofs.ListLemmas.{IsPermutation-flat_map, flat_map-map, flat_map_same_on, map-flat_map, filter-map, filter_same, slice_get-filter}
+use Rattle.permit_base.specs.declared.words.Stage.{Stage}
+use Rattle.permit_base.specs.declared.words.Timing.{Timing}
+use Rattle.permit_base.specs.declared.words.Relation.{Relation}
+use Rattle.permit_base.specs.declared.words.Relation.TheVariants as relation
+use Rattle.permit_base.specs.declared.words.Relations.{Relations}
+use Rattle.permit_base.specs.declared.route.By.TheVariants.{Whole, One, Two}
+use Rattle.permit_base.specs.declared.route.Route.{Route}
+use Rattle.permit_base.specs.declared.route.Route.TheVariants.{Every, Cell}
+use Rattle.permit_model.specs.Facts.{holds as has}
+use Rattle.permit_model.specs.Codes.{stage_code, relation_code}
+use Rattle.permit_model.specs.Parcels.{Parcel}
+use Rattle.permit_model.specs.Tables.{Tables, FileRow}
+use Rattle.permit_model.specs.Routes.{Found, found_row, found_by, has_interest_in, relations_found, is_found, is_kept_in}
+use Rattle.permit_sql_rows.specs.Kept.{AreKeyed}
+use Rattle.permit_sql_rows.specs.Rows.{int, or_null, flag, shown_found, parcel_row, file_row, shown_interest, shown_file}
+use Rattle.permit_sql_statements.specs.Selected.{first_deadline, next_deadline, leader, follower, cell_params, params_by, params_for, ShowFound}
+use Rattle.permit_sql_statements.proofs.Lookups.{plain_query, equals, answers, put_all_out, eq_is, one_test}
+use Rattle.permit_sql_statements.proofs.Permuted.{one_order}
+use Rattle.permit_sql_statements.proofs.RouteTexts.{declared, second, within, within_plus, shows, in_order, its_parcel, counts_one, counts_two, every_query, whole_query, direct_query, owner_query, conflict_query, query_by, query_for}
+use Rattle.permit_sql_statements.proofs.Truths.{beside_row, kept_is, led_is, party_is, owner_is, flag_is, has_second, second_is, and_false, and_all, same_number, led, led_alone, led_as_two}
+use Rattle.permit_sql_statements.proofs.Selecting.{counted_is, parcel_found, turned, of_one, out, shows_found}
+
+-- ---- lists of at most one value
+
+map_one : {A B : Type 0} (f : A → B) (b : Bool) (x : A) → map f (cond b (x ∷ []) []) ≡ cond b (f x ∷ []) []
+map_one f true x = refl
+map_one f false x = refl
+
+nil_after : {A : Type 0} (b : Bool) (x : A) → cond b (x ∷ []) [] ++ [] ≡ cond b (x ∷ []) []
+nil_after true x = refl
+nil_after false x = refl
+
+nested : {A : Type 0} (a b : Bool) (x : A) → cond (a && b) (x ∷ []) [] ≡ cond a (cond b (x ∷ []) []) []
+nested true b x = refl
+nested false b x = refl
+
+module _ (caller : ℕ) (there : 0 < caller) (t : Tables) (db : Trees) (keyed : AreKeyed t)
+    (parcels : IsPermutation (map parcel_row t.parcels) (db 3)) (interests : IsPermutation (map shown_interest t.interests) (map (drop 1) (db 5))) (files : IsPermutation (map file_row t.files) (db 7)) where
+  abbrev parcel_of : FileRow → Option Parcel
+  parcel_of f = find (λ p. eqb p.id f.state.parcel) t.parcels
+
+  abbrev conflict : FileRow → Bool
+  conflict f = has_interest_in t f.state.parcel caller
+
+  abbrev set_of : FileRow → Relations
+  set_of f = relations_found caller (found_row t caller f)
+
+  -- ---- a file's row beside its parcel's
+
+  module _ (more : Row) where
+    abbrev params : Row
+    params = int caller ∷ more
+
+    abbrev beside_one : FileRow → Row → Value → Env
+    beside_one f p v = params ∷ file_row f ∷ p ∷ (v ∷ []) ∷ []
+
+    abbrev beside_two : FileRow → Row → Value → Value → Env
+    beside_two f p v w = params ∷ file_row f ∷ p ∷ (v ∷ []) ∷ (w ∷ []) ∷ []
+
+    one_end : (terms : List Term) (f : FileRow) (p : Row) → matches db terms (counts_one 1 3) (params ∷ file_row f ∷ p ∷ []) ≡ cond (list_all (holds (beside_one f p (flag (conflict f)))) terms) (beside_one f p (flag (conflict f)) ∷ []) []
+    one_end terms f p =
+        ap (λ v. cond (list_all (holds (beside_one f p v)) terms) (beside_one f p v ∷ []) []) (counted_is f.state.parcel caller (λ r. params ∷ file_row f ∷ p ∷ r ∷ []) t.interests (db 5) interests)
+
+    two_end : (terms : List Term) (f : FileRow) (p : Row)
+        → matches db terms (counts_two 1 3 4) (params ∷ file_row f ∷ p ∷ []) ≡ cond (list_all (holds (beside_two f p (flag (conflict f)) (flag (conflict f)))) terms) (beside_two f p (flag (conflict f)) (flag (conflict f)) ∷ []) []
+    two_end terms f p =
+        let end = λ (v w : Value). cond (list_all (holds (beside_two f p v w)) terms) (beside_two f p v w ∷ []) [] in
+        let next = λ (v : Value). matches db terms (counts_one 1 4) (params ∷ file_row f ∷ p ∷ (v ∷ []) ∷ []) in
+        ap next (counted_is f.state.parcel caller (λ r. params ∷ file_row f ∷ p ∷ r ∷ []) t.interests (db 5) interests)
+        ∙ ap (end (flag (conflict f))) (counted_is f.state.parcel caller (λ r. params ∷ file_row f ∷ p ∷ (flag (conflict f) ∷ []) ∷ r ∷ []) t.interests (db 5) interests)
+
+    joined : (terms : List Term) (rest : Join) (f : FileRow) → matches db terms (left 3 its_parcel rest) (params ∷ file_row f ∷ []) ≡ matches db terms rest (params ∷ file_row f ∷ beside_row (parcel_of f) ∷ []) ++ []
+    joined terms rest f = ap (flat_map (λ r. matches db terms rest (params ∷ file_row f ∷ r ∷ []))) (parcel_found f.state.parcel t.parcels (db 3) parcels (keyed.parcels f.state.parcel))
+
+    owner_shown : (o : Option Parcel) → column (beside_row o) 4 ≡ or_null (option_map (λ (p : Parcel). p.owner) o)
+    owner_shown None = refl
+    owner_shown (Some p) = refl
+
+    shown_as : (f : FileRow) → (int f.id ∷ [], shown_file f ++ column (beside_row (parcel_of f)) 4 ∷ flag (conflict f) ∷ []) ≡ out t caller f
+    shown_as f = ap (λ v. (int f.id ∷ [], shown_file f ++ v ∷ flag (conflict f) ∷ [])) (owner_shown (parcel_of f))
+
+    -- the answer of a query over the files, each beside its parcel
+    module _ (rest : Join) (terms : List Term) (w : FileRow → Env) (ends : (f : FileRow) → matches db terms rest (params ∷ file_row f ∷ beside_row (parcel_of f) ∷ []) ≡ cond (list_all (holds (w f)) terms) (w f ∷ []) [])
+        (puts : (f : FileRow) → output every_query (w f) ≡ out t caller f) (test : FileRow → Bool) (tests : (f : FileRow) → list_all (holds (w f)) terms ≡ test f) where
+      abbrev file_query : Query
+      file_query = plain_query (inner 7 (left 3 its_parcel rest)) terms (shows 1 2 3) (in_order 1)
+
+      abbrev put_out : Row → List Output
+      put_out r = map (output file_query) (matches db terms (left 3 its_parcel rest) (params ∷ r ∷ []))
+
+      out_is : (f : FileRow) → put_out (file_row f) ≡ cond (test f) (out t caller f ∷ []) []
+      out_is f =
+          let b = list_all (holds (w f)) terms in
+          ap (map (output file_query)) (joined terms rest f ∙ ap (λ l. l ++ []) (ends f) ∙ nil_after b (w f)) ∙ map_one (output file_query) b (w f) ∙ ap₂ (λ b o. cond b (o ∷ []) []) (tests f) (puts f)
+
+      pub by_files : (rows : List Row) → IsAnswer file_query db params rows → ShowFound t rows (map (found_row t caller) (filter test t.files))
+      by_files rows a =
+          let got = answers (inner 7 (left 3 its_parcel rest)) terms (shows 1 2 3) (in_order 1) db params rows a in
+          let all = subst (λ l. IsPermutation l (flat_map put_out (db 7))) (put_all_out put_out file_row test (out t caller) out_is t.files) (IsPermutation-flat_map put_out _ _ files) in
+          let over : map (output file_query) (matches db terms (inner 7 (left 3 its_parcel rest)) (params ∷ [])) ≡ flat_map put_out (db 7) =
+          map-flat_map (output file_query) (λ r. matches db terms (left 3 its_parcel rest) (params ∷ r ∷ [])) (db 7) in
+          shows_found t caller test keyed.named got.0 rows (IsPermutation-trans _ _ _ all (subst (λ l. IsPermutation l got.0) over got.1)) got.2 got.3
+
+    abbrev w_one : FileRow → Env
+    w_one f = beside_one f (beside_row (parcel_of f)) (flag (conflict f))
+
+    abbrev w_two : FileRow → Env
+    w_two f = beside_two f (beside_row (parcel_of f)) (flag (conflict f)) (flag (conflict f))
+
+    pub by_one_count : (terms : List Term) (test : FileRow → Bool) → ((f : FileRow) → list_all (holds (w_one f)) terms ≡ test f) → (rows : List Row) → IsAnswer (plain_query (inner 7 (left 3 its_parcel (counts_one 1 3))) terms (shows 1 2 3) (in_order 1)) db params rows
+        → ShowFound t rows (map (found_row t caller) (filter test t.files))
+    by_one_count terms test tests = by_files (counts_one 1 3) terms w_one (λ f. one_end terms f (beside_row (parcel_of f))) shown_as test tests
+
+    pub by_two_counts : (terms : List Term) (test : FileRow → Bool) → ((f : FileRow) → list_all (holds (w_two f)) terms ≡ test f) → (rows : List Row) → IsAnswer (plain_query (inner 7 (left 3 its_parcel (counts_two 1 3 4))) terms (shows 1 2 3) (in_order 1)) db params rows
+        → ShowFound t rows (map (found_row t caller) (filter test t.files))
+    by_two_counts terms test tests = by_files (counts_two 1 3 4) terms w_two (λ f. two_end terms f (beside_row (parcel_of f))) shown_as test tests
+
+  pub every_shown : (rows : List Row) → IsAnswer every_query db (int caller ∷ []) rows → ShowFound t rows (map (found_row t caller) (filter (λ f. true) t.files))
+  every_shown = by_one_count [] [] (λ f. true) (λ f. refl)
+
+  -- ---- the rows of a cell
+
+  module _ (day : ℕ) (s : Stage) (b : Bool) (timing : Timing) where
+    abbrev kept : FileRow → Bool
+    kept f = is_kept_in s b timing day f.state
+
+    abbrev cell : Row
+    cell = int (stage_code s) ∷ flag b ∷ first_deadline timing day ∷ next_deadline timing day ∷ []
+
+    pub whole_shown : (rows : List Row) → IsAnswer whole_query db (cell_params caller day s b timing) rows → ShowFound t rows (map (found_row t caller) (filter (λ f. kept f && true) t.files))
+    whole_shown = by_one_count cell (within 1) (λ f. kept f && true) (λ f. kept_is s b timing day f.state true)
+
+    pub conflict_shown : (rows : List Row) → IsAnswer conflict_query db (cell_params caller day s b timing) rows → ShowFound t rows (map (found_row t caller) (filter (λ f. kept f && conflict f) t.files))
+    conflict_shown = by_two_counts cell (within 1 ++ col 4 0 ∷ []) (λ f. kept f && conflict f)
+        (λ f. kept_is s b timing day f.state (is_true (flag (conflict f)) && true) ∙ ap (λ c. kept f && c) (and_all _ ∙ flag_is (conflict f)))
+
+    -- by a relation that stands in a column of the file
+    pub direct_shown : (place : ℕ) (r : Relation) → ((f : FileRow) → holds (params [] ∷ file_row f ∷ []) (equals (col 1 place) (col 0 0)) ≡ has (set_of f) r) → (code : ℕ) (rows : List Row)
+        → IsAnswer (direct_query place) db (cell_params caller day s b timing ++ int code ∷ []) rows → ShowFound t rows (map (found_row t caller) (filter (λ f. kept f && (has (set_of f) r && has_second code (set_of f))) t.files))
+    direct_shown place r leads code = by_two_counts (cell ++ int code ∷ []) (equals (col 1 place) (col 0 0) ∷ (within_plus 1 ++ second 1 2 4 ∷ [])) (λ f. kept f && (has (set_of f) r && has_second code (set_of f)))
+        (λ f. led_is s b timing day f.state (holds (params [] ∷ file_row f ∷ []) (equals (col 1 place) (col 0 0))) (holds (w_two (cell ++ int code ∷ []) f) (second 1 2 4))
+        ∙ ap (λ k. kept f && k) (ap₂ ◌&&◌ (leads f)
+        (second_is code (set_of f) _ _ _ _ _ _ (eq_is f.state.applicant caller) (party_is f.state.contractor caller there) (owner_is (parcel_of f) caller) (party_is f.state.reviewer caller there) (party_is f.state.inspector caller there) (flag_is (conflict f)))))
+
+    -- by the owner of the parcel, which leads to its files
+    module _ (code : ℕ) where
+      abbrev asked : Row
+      asked = params (cell ++ int code ∷ [])
+
+      abbrev owner_terms : List Term
+      owner_terms = equals (col 2 2) (col 1 0) ∷ equals (col 1 4) (col 0 0) ∷ (within_plus 2 ++ second 2 1 4 ∷ [])
+
+      abbrev after : FileRow → Parcel → Value → Value → Env
+      after f p v w = asked ∷ parcel_row p ∷ file_row f ∷ (v ∷ []) ∷ (w ∷ []) ∷ []
+
+      pair_end : (f : FileRow) (p : Parcel) → matches db owner_terms (counts_two 2 3 4) (asked ∷ parcel_row p ∷ file_row f ∷ [])
+          ≡ cond (list_all (holds (after f p (flag (conflict f)) (flag (conflict f)))) owner_terms) (after f p (flag (conflict f)) (flag (conflict f)) ∷ []) []
+      pair_end f p =
+          let end = λ (v w : Value). cond (list_all (holds (after f p v w)) owner_terms) (after f p v w ∷ []) [] in
+          let next = λ (v : Value). matches db owner_terms (counts_one 2 4) (asked ∷ parcel_row p ∷ file_row f ∷ (v ∷ []) ∷ []) in
+          ap next (counted_is f.state.parcel caller (λ r. asked ∷ parcel_row p ∷ file_row f ∷ r ∷ []) t.interests (db 5) interests)
+          ∙ ap (end (flag (conflict f))) (counted_is f.state.parcel caller (λ r. asked ∷ parcel_row p ∷ file_row f ∷ (flag (conflict f) ∷ []) ∷ r ∷ []) t.interests (db 5) interests)
+
+      abbrev put_pair : Row → Row → List Output
+      put_pair p r = map (output owner_query) (matches db owner_terms (counts_two 2 3 4) (asked ∷ p ∷ r ∷ []))
+
+      -- the file as it is found where this is its parcel
+      abbrev found_with : FileRow → Option Parcel → Found
+      found_with f o = record { row = f; owner = option_map (λ (p : Parcel). p.owner) o; conflict = conflict f }
+
+      abbrev test_with : FileRow → Option Parcel → Bool
+      test_with f o = kept f && ((relations_found caller (found_with f o)).owner && has_second code (relations_found caller (found_with f o)))
+
+      abbrev put_with : FileRow → Option Parcel → List Output
+      put_with f o = cond (test_with f o) ((int f.id ∷ [], shown_found (found_with f o)) ∷ []) []
+
+      pair_is : (f : FileRow) (p : Parcel) → put_pair (parcel_row p) (file_row f) ≡ cond (eqb p.id f.state.parcel) (put_with f (Some p)) []
+      pair_is f p =
+          let w = after f p (flag (conflict f)) (flag (conflict f)) in
+          let set = relations_found caller (found_with f (Some p)) in
+          let tests : list_all (holds w) owner_terms ≡ (eqb p.id f.state.parcel && test_with f (Some p)) =
+          ap₂ ◌&&◌ (same_number f.state.parcel p.id) (led_is s b timing day f.state (holds w (equals (col 1 4) (col 0 0))) (holds w (second 2 1 4))
+          ∙ ap (λ k. kept f && k) (ap₂ ◌&&◌ (eq_is p.owner caller)
+          (second_is code set _ _ _ _ _ _ (eq_is f.state.applicant caller) (party_is f.state.contractor caller there) (eq_is p.owner caller) (party_is f.state.reviewer caller there) (party_is f.state.inspector caller there) (flag_is (conflict f))))) in
+          ap (map (output owner_query)) (pair_end f p) ∙ map_one (output owner_query) (list_all (holds w) owner_terms) w
+          ∙ ap (λ b. cond b (output owner_query w ∷ []) []) tests ∙ nested (eqb p.id f.state.parcel) (test_with f (Some p)) (output owner_query w)
+
+      picked : (f : FileRow) (l : List Parcel) → length l ≤ 1 → flat_map (λ p. put_with f (Some p)) l ≡ put_with f (slice_get l 0)
+      picked f [] short = sym (ap (λ b. cond b ((int f.id ∷ [], shown_found (found_with f None)) ∷ []) []) (and_false (kept f)))
+      picked f (p ∷ []) short = nil_after (test_with f (Some p)) (int f.id ∷ [], shown_found (found_with f (Some p)))
+      picked f (p ∷ q ∷ l) short = absurd (omega (arith, short))
+
+      short_put : (f : FileRow) (o : Option Parcel) → length (put_with f o) ≤ 1
+      short_put f o = go (test_with f o)
+        where
+          go : (c : Bool) → length {A = Output} (cond c ((int f.id ∷ [], shown_found (found_with f o)) ∷ []) []) ≤ 1
+          go true = omega arith
+          go false = omega arith
+
+      of_file : (f : FileRow) → flat_map (λ p. put_pair p (file_row f)) (db 3) ≡ put_with f (parcel_of f)
+      of_file f =
+          let once = keyed.parcels f.state.parcel in
+          let all : flat_map (λ p. put_pair p (file_row f)) (map parcel_row t.parcels) ≡ put_with f (parcel_of f) =
+          flat_map-map (λ p. put_pair p (file_row f)) parcel_row t.parcels ∙ flat_map_same_on _ _ (λ p. pair_is f p) t.parcels
+          ∙ of_one (λ p. put_with f (Some p)) (λ p. eqb p.id f.state.parcel) t.parcels once ∙ picked f (filter (λ p. eqb p.id f.state.parcel) t.parcels) once
+          ∙ ap (put_with f) (slice_get-filter (λ p. eqb p.id f.state.parcel) t.parcels) in
+          one_order _ _ (short_put f (parcel_of f)) (subst (λ l. IsPermutation l (flat_map (λ p. put_pair p (file_row f)) (db 3))) all (IsPermutation-flat_map (λ p. put_pair p (file_row f)) _ _ parcels))
+
+      pub owner_led : (rows : List Row) → IsAnswer owner_query db asked rows → ShowFound t rows (map (found_row t caller) (filter (λ f. test_with f (parcel_of f)) t.files))
+      owner_led rows a =
+          let got = answers owner_query.from owner_terms (shows 2 1 3) (in_order 2) db asked rows a in
+          let put_out : Row → List Output = λ r. flat_map (λ p. put_pair p r) (db 3) in
+          let all = subst (λ l. IsPermutation l (flat_map put_out (db 7))) (put_all_out put_out file_row (λ f. test_with f (parcel_of f)) (out t caller) of_file t.files) (IsPermutation-flat_map put_out _ _ files) in
+          let over : map (output owner_query) (matches db owner_terms owner_query.from (asked ∷ [])) ≡ flat_map (λ p. flat_map (put_pair p) (db 7)) (db 3) =
+          map-flat_map (output owner_query) (λ p. matches db owner_terms (inner 7 (counts_two 2 3 4)) (asked ∷ p ∷ [])) (db 3)
+          ∙ flat_map_same_on _ _ (λ p. map-flat_map (output owner_query) (λ r. matches db owner_terms (counts_two 2 3 4) (asked ∷ p ∷ r ∷ [])) (db 7)) (db 3) in
+          let same = IsPermutation-trans _ _ _ (IsPermutation-trans _ _ _ all (turned put_pair (db 3) (db 7))) (subst (λ l. IsPermutation l got.0) over got.1) in
+          shows_found t caller (λ f. test_with f (parcel_of f)) keyed.named got.0 rows same got.2 got.3
+
+    -- ---- by each relation
+
+    led_shown : (r : Relation) (code : ℕ) (rows : List Row) → IsAnswer (query_by r) db (params_by r (cell_params caller day s b timing) code) rows → ShowFound t rows (map (found_row t caller) (filter (λ f. kept f && led r code (set_of f)) t.files))
+    led_shown relation.Applicant code = direct_shown 3 relation.Applicant (λ f. eq_is f.state.applicant caller) code
+    led_shown relation.Contractor code = direct_shown 4 relation.Contractor (λ f. party_is f.state.contractor caller there) code
+    led_shown relation.Owner code = owner_led code
+    led_shown relation.AssignedReviewer code = direct_shown 5 relation.AssignedReviewer (λ f. party_is f.state.reviewer caller there) code
+    led_shown relation.AssignedInspector code = direct_shown 6 relation.AssignedInspector (λ f. party_is f.state.inspector caller there) code
+    led_shown relation.Conflict code = conflict_shown
+
+  -- ---- each selection
+
+  as_found : (route : Route) (day : ℕ) (rows : List Row) (test : FileRow → Bool) → ((f : FileRow) → test f ≡ is_found route caller day (found_row t caller f)) → ShowFound t rows (map (found_row t caller) (filter test t.files)) → ShowFound t rows (found_by route caller day t)
+  as_found route day rows test same = subst (ShowFound t rows) (ap (map (found_row t caller)) (filter_same _ _ same t.files) ∙ sym (filter-map (is_found route caller day) (found_row t caller) t.files))
+
+  pub answer_shown : (route : Route) (day : ℕ) (rows : List Row) → IsAnswer (query_for route) db (params_for route caller day) rows → ShowFound t rows (found_by route caller day t)
+  answer_shown Every day rows a = as_found Every day rows (λ f. true) (λ f. refl) (every_shown rows a)
+  answer_shown (Cell Whole s b timing) day rows a = as_found (Cell Whole s b timing) day rows _ (λ f. refl) (whole_shown day s b timing rows a)
+  answer_shown (Cell (One r) s b timing) day rows a = as_found (Cell (One r) s b timing) day rows _ (λ f. ap (λ k. is_kept_in s b timing day f.state && k) (led_alone r (set_of f))) (led_shown day s b timing r 0 rows a)
+  answer_shown (Cell (Two x c) s b timing) day rows a =
+      as_found (Cell (Two x c) s b timing) day rows _ (λ f. ap (λ k. is_kept_in s b timing day f.state && k) (led_as_two x c (set_of f))) (led_shown day s b timing (leader x c) (suc (relation_code (follower x c))) rows a)

@@ -1,0 +1,222 @@
+-- What the texts of the selections mean.
+use Rattle.std.proofs.Common.{◌≡◌, refl, sym, subst, List, [], ◌∷◌, ◌++◌, ℕ, pos, false}
+use Rattle.sqlite_tied.specs.Compute.{everything}
+use Rattle.sqlite.specs.Listing.{understood, reads_listing}
+use Rattle.sqlite.specs.declared.types.Value.TheVariants.{Null, Int}
+use Rattle.sqlite_value.specs.declared.keys.Key.{Key}
+use Rattle.sqlite_value.specs.declared.keys.Collation.TheVariants.{Binary}
+use Rattle.sqlite_value.specs.Keys.{ascending}
+use Rattle.sqlite_sql.specs.declared.ops.BinaryOp.TheVariants.{Compare, And, Or, Coalesce}
+use Rattle.sqlite_sql.specs.declared.ops.CompareOp.TheVariants.{Ge, Lt}
+use Rattle.sqlite_sql.specs.Term.{Term, lit, col, op2}
+use Rattle.sqlite_sql.specs.Query.{Query, Join, inner, left, counted, end}
+use Rattle.sqlite_schema.specs.declared.command.Command.TheVariants.{Select}
+use Rattle.sqlite.proofs.Callers.{command_of, IsPlain}
+use Rattle.permit_base.specs.declared.words.Relation.{Relation}
+use Rattle.permit_base.specs.declared.words.Relation.TheVariants.{Applicant, Contractor, Owner, AssignedReviewer, AssignedInspector, Conflict}
+use Rattle.permit_base.specs.declared.route.By.TheVariants.{Whole, One, Two}
+use Rattle.permit_base.specs.declared.route.Route.{Route}
+use Rattle.permit_base.specs.declared.route.Route.TheVariants.{Every, Cell}
+use Rattle.permit_sql_rows.specs.Schema.{office_schema}
+use Rattle.permit_sql_statements.specs.RouteTexts.{select_every, select_whole, select_applicant, select_contractor, select_owner, select_reviewer, select_inspector, select_conflict}
+use Rattle.permit_sql_statements.specs.Selected.{text_by, text_for, leader}
+use Rattle.permit_sql_statements.proofs.Lookups.{plain_query, equals}
+use Rattle.permit_sql_statements.proofs.QueryTexts.{alone, names_of, columns_of}
+
+-- ---- terms, by the slots of the rows that they read
+
+-- the caller has declared an interest in the parcel of the file
+abbrev pub declared : ℕ → ℕ → List Term
+declared file slot = equals (col slot 1) (col file 2) ∷ equals (col slot 2) (col 0 0) ∷ []
+
+abbrev pub code_is : ℕ → Term
+code_is n = equals (col 0 5) (lit (Int (pos n)))
+
+-- the second relation, with the slots of the file, of its parcel and of the count of interests
+abbrev pub second : ℕ → ℕ → ℕ → Term
+second file parcel count =
+    op2 Or (op2 Or (op2 Or (op2 Or (op2 Or (op2 Or (code_is 0)
+    (op2 And (code_is 1) (equals (col file 3) (col 0 0)))) (op2 And (code_is 2) (equals (col file 4) (col 0 0)))) (op2 And (code_is 3) (equals (col parcel 4) (col 0 0))))
+    (op2 And (code_is 4) (equals (col file 5) (col 0 0)))) (op2 And (code_is 5) (equals (col file 6) (col 0 0)))) (op2 And (code_is 6) (col count 0))
+
+abbrev pub within : ℕ → List Term
+within file = equals (col file 11) (col 0 1) ∷ equals (col file 17) (col 0 2) ∷ op2 (Compare Ge Binary) (col file 12) (col 0 3) ∷ op2 (Compare Lt Binary) (col file 12) (col 0 4) ∷ []
+
+-- a value after a plus
+abbrev pub after_plus : Term → Term
+after_plus x = op2 Coalesce x (lit Null)
+
+abbrev pub within_plus : ℕ → List Term
+within_plus file =
+    equals (after_plus (col file 11)) (col 0 1) ∷ equals (after_plus (col file 17)) (col 0 2)
+    ∷ op2 (Compare Ge Binary) (after_plus (col file 12)) (col 0 3) ∷ op2 (Compare Lt Binary) (after_plus (col file 12)) (col 0 4) ∷ []
+
+-- what is shown, by the same slots
+abbrev pub shows : ℕ → ℕ → ℕ → List Term
+shows file parcel count =
+    col file 0 ∷ col file 2 ∷ col file 3 ∷ col file 4 ∷ col file 5 ∷ col file 6 ∷ col file 7 ∷ col file 8 ∷ col file 9 ∷ col file 10 ∷ col file 11 ∷ col file 12 ∷ col file 13 ∷ col file 14 ∷ col file 15 ∷ col file 16
+    ∷ col file 17 ∷ col file 18 ∷ col file 19 ∷ col file 20 ∷ col parcel 4 ∷ col count 0 ∷ []
+
+abbrev pub in_order : ℕ → List (Term × Key)
+in_order file = (col file 0, ascending Binary) ∷ []
+
+abbrev pub its_parcel : List Term
+its_parcel = equals (col 2 0) (col 1 2) ∷ []
+
+-- the interests of the caller are counted once for what is shown, and once for the second relation
+abbrev pub counts_one : ℕ → ℕ → Join
+counts_one file slot = counted 1 (inner 5 end) (declared file slot) end
+
+abbrev pub counts_two : ℕ → ℕ → ℕ → Join
+counts_two file slot next = counted 1 (inner 5 end) (declared file slot) (counts_one file next)
+
+-- ---- the queries
+
+abbrev pub every_query : Query
+every_query = plain_query (inner 7 (left 3 its_parcel (counts_one 1 3))) [] (shows 1 2 3) (in_order 1)
+
+pub every_is : command_of (understood office_schema select_every) ≡ Select (alone every_query) (names_of (command_of (understood office_schema select_every)))
+unfolding understood everything
+every_is = refl
+
+abbrev pub whole_query : Query
+whole_query = plain_query (inner 7 (left 3 its_parcel (counts_one 1 3))) (within 1) (shows 1 2 3) (in_order 1)
+
+pub whole_is : command_of (understood office_schema select_whole) ≡ Select (alone whole_query) (names_of (command_of (understood office_schema select_whole)))
+unfolding understood everything
+whole_is = refl
+
+-- by a column of the file
+abbrev pub direct_query : ℕ → Query
+direct_query place = plain_query (inner 7 (left 3 its_parcel (counts_two 1 3 4))) (equals (col 1 place) (col 0 0) ∷ (within_plus 1 ++ second 1 2 4 ∷ [])) (shows 1 2 3) (in_order 1)
+
+abbrev pub owner_query : Query
+owner_query = plain_query (inner 3 (inner 7 (counts_two 2 3 4))) (equals (col 2 2) (col 1 0) ∷ equals (col 1 4) (col 0 0) ∷ (within_plus 2 ++ second 2 1 4 ∷ [])) (shows 2 1 3) (in_order 2)
+
+abbrev pub conflict_query : Query
+conflict_query = plain_query (inner 7 (left 3 its_parcel (counts_two 1 3 4))) (within 1 ++ col 4 0 ∷ []) (shows 1 2 3) (in_order 1)
+
+-- by each relation, and for each selection
+abbrev pub query_by : Relation → Query
+query_by Applicant = direct_query 3
+query_by Contractor = direct_query 4
+query_by Owner = owner_query
+query_by AssignedReviewer = direct_query 5
+query_by AssignedInspector = direct_query 6
+query_by Conflict = conflict_query
+
+abbrev pub query_for : Route → Query
+query_for Every = every_query
+query_for (Cell Whole s b t) = whole_query
+query_for (Cell (One r) s b t) = query_by r
+query_for (Cell (Two a c) s b t) = query_by (leader a c)
+
+pub applicant_is : command_of (understood office_schema select_applicant) ≡ Select (alone (direct_query 3)) (names_of (command_of (understood office_schema select_applicant)))
+unfolding understood everything
+applicant_is = refl
+
+pub contractor_is : command_of (understood office_schema select_contractor) ≡ Select (alone (direct_query 4)) (names_of (command_of (understood office_schema select_contractor)))
+unfolding understood everything
+contractor_is = refl
+
+pub owner_is : command_of (understood office_schema select_owner) ≡ Select (alone owner_query) (names_of (command_of (understood office_schema select_owner)))
+unfolding understood everything
+owner_is = refl
+
+pub reviewer_is : command_of (understood office_schema select_reviewer) ≡ Select (alone (direct_query 5)) (names_of (command_of (understood office_schema select_reviewer)))
+unfolding understood everything
+reviewer_is = refl
+
+pub inspector_is : command_of (understood office_schema select_inspector) ≡ Select (alone (direct_query 6)) (names_of (command_of (understood office_schema select_inspector)))
+unfolding understood everything
+inspector_is = refl
+
+pub conflict_is : command_of (understood office_schema select_conflict) ≡ Select (alone conflict_query) (names_of (command_of (understood office_schema select_conflict)))
+unfolding understood everything
+conflict_is = refl
+
+pub every_plain : IsPlain (understood office_schema select_every)
+unfolding understood everything
+every_plain = (refl, refl)
+
+pub every_unlisted : reads_listing office_schema select_every ≡ false
+unfolding understood everything
+every_unlisted = refl
+
+pub whole_plain : IsPlain (understood office_schema select_whole)
+unfolding understood everything
+whole_plain = (refl, refl)
+
+pub whole_unlisted : reads_listing office_schema select_whole ≡ false
+unfolding understood everything
+whole_unlisted = refl
+
+pub applicant_plain : IsPlain (understood office_schema select_applicant)
+unfolding understood everything
+applicant_plain = (refl, refl)
+
+pub applicant_unlisted : reads_listing office_schema select_applicant ≡ false
+unfolding understood everything
+applicant_unlisted = refl
+
+pub contractor_plain : IsPlain (understood office_schema select_contractor)
+unfolding understood everything
+contractor_plain = (refl, refl)
+
+pub contractor_unlisted : reads_listing office_schema select_contractor ≡ false
+unfolding understood everything
+contractor_unlisted = refl
+
+pub owner_plain : IsPlain (understood office_schema select_owner)
+unfolding understood everything
+owner_plain = (refl, refl)
+
+pub owner_unlisted : reads_listing office_schema select_owner ≡ false
+unfolding understood everything
+owner_unlisted = refl
+
+pub reviewer_plain : IsPlain (understood office_schema select_reviewer)
+unfolding understood everything
+reviewer_plain = (refl, refl)
+
+pub reviewer_unlisted : reads_listing office_schema select_reviewer ≡ false
+unfolding understood everything
+reviewer_unlisted = refl
+
+pub inspector_plain : IsPlain (understood office_schema select_inspector)
+unfolding understood everything
+inspector_plain = (refl, refl)
+
+pub inspector_unlisted : reads_listing office_schema select_inspector ≡ false
+unfolding understood everything
+inspector_unlisted = refl
+
+pub conflict_plain : IsPlain (understood office_schema select_conflict)
+unfolding understood everything
+conflict_plain = (refl, refl)
+
+pub conflict_unlisted : reads_listing office_schema select_conflict ≡ false
+unfolding understood everything
+conflict_unlisted = refl
+
+-- ---- the text of each selection
+
+abbrev pub Means : List ℕ → Query → Type 0
+Means text q = (command_of (understood office_schema text) ≡ Select (alone q) (names_of (command_of (understood office_schema text)))) × IsPlain (understood office_schema text) × (reads_listing office_schema text ≡ false)
+
+means_by : (r : Relation) → Means (text_by r) (query_by r)
+means_by Applicant = (applicant_is, applicant_plain, applicant_unlisted)
+means_by Contractor = (contractor_is, contractor_plain, contractor_unlisted)
+means_by Owner = (owner_is, owner_plain, owner_unlisted)
+means_by AssignedReviewer = (reviewer_is, reviewer_plain, reviewer_unlisted)
+means_by AssignedInspector = (inspector_is, inspector_plain, inspector_unlisted)
+means_by Conflict = (conflict_is, conflict_plain, conflict_unlisted)
+
+pub means_for : (route : Route) → Means (text_for route) (query_for route)
+means_for Every = (every_is, every_plain, every_unlisted)
+means_for (Cell Whole s b t) = (whole_is, whole_plain, whole_unlisted)
+means_for (Cell (One r) s b t) = means_by r
+means_for (Cell (Two a c) s b t) = means_by (leader a c)
+
+pub plain_for : (route : Route) (text : List ℕ) → text ≡ text_for route → IsPlain (understood office_schema text)
+plain_for route text is = subst (λ x. IsPlain (understood office_schema x)) (sym is) (means_for route).1

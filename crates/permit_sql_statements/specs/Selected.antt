@@ -1,0 +1,125 @@
+-- What a selection asks of the database, and what its answer shows.
+use Rattle.std.specs.Prelude.{◌≡◌, ℕ, ℤ, suc, ◌+◌, negsuc, List, [], ◌∷◌, ◌++◌, map, Bool}
+use Rattle.std.specs.List.{AllByRecursion}
+use Rattle.sqlite.specs.declared.types.Value.{Value}
+use Rattle.sqlite.specs.declared.types.Value.TheVariants.{Int, Blob}
+use Rattle.sqlite_value.specs.Order.{Row}
+use Rattle.permit_base.specs.declared.words.Stage.{Stage}
+use Rattle.permit_base.specs.declared.words.Timing.{Timing}
+use Rattle.permit_base.specs.declared.words.Timing.TheVariants.{Untimed, Past, Near, Ahead}
+use Rattle.permit_base.specs.declared.words.Relation.{Relation}
+use Rattle.permit_base.specs.declared.words.Relation.TheVariants.{Applicant, Contractor, Owner, AssignedReviewer, AssignedInspector, Conflict}
+use Rattle.permit_base.specs.declared.route.By.{By}
+use Rattle.permit_base.specs.declared.route.By.TheVariants.{Whole, One, Two}
+use Rattle.permit_base.specs.declared.route.Route.{Route}
+use Rattle.permit_base.specs.declared.route.Route.TheVariants.{Every, Cell}
+use Rattle.permit_model.specs.Codes.{stage_code, relation_code}
+use Rattle.permit_model.specs.Tables.{Tables}
+use Rattle.permit_model.specs.Routes.{Found}
+use Rattle.permit_store.specs.Handing.{AreFound}
+use Rattle.permit_sql_rows.specs.Kept.{IsNamed}
+use Rattle.permit_sql_rows.specs.Rows.{int, flag, shown_found}
+use Rattle.permit_sql_statements.specs.RouteTexts.{select_every, select_whole, select_applicant, select_contractor, select_owner, select_reviewer, select_inspector, select_conflict}
+
+-- ---- the question
+
+-- the text by whose relation the rows are looked up
+abbrev pub text_by : Relation → List ℕ
+text_by Applicant = select_applicant
+text_by Contractor = select_contractor
+text_by Owner = select_owner
+text_by AssignedReviewer = select_reviewer
+text_by AssignedInspector = select_inspector
+text_by Conflict = select_conflict
+
+-- of two relations the one whose text is taken, which is the second where the first is a conflict
+abbrev pub leader : Relation → Relation → Relation
+leader Applicant b = Applicant
+leader Contractor b = Contractor
+leader Owner b = Owner
+leader AssignedReviewer b = AssignedReviewer
+leader AssignedInspector b = AssignedInspector
+leader Conflict b = b
+
+-- the other one
+abbrev pub follower : Relation → Relation → Relation
+follower Applicant b = b
+follower Contractor b = b
+follower Owner b = b
+follower AssignedReviewer b = b
+follower AssignedInspector b = b
+follower Conflict b = Conflict
+
+abbrev pub text_for : Route → List ℕ
+text_for Every = select_every
+text_for (Cell Whole s b t) = select_whole
+text_for (Cell (One r) s b t) = text_by r
+text_for (Cell (Two a c) s b t) = text_by (leader a c)
+
+-- The deadlines of a timing are from the first value on and below the second. None is -1, and a blob is above each number.
+abbrev pub first_deadline : Timing → ℕ → Value
+first_deadline Untimed day = Int (negsuc 0)
+first_deadline Past day = int 0
+first_deadline Near day = int day
+first_deadline Ahead day = int (day + 31)
+
+abbrev pub next_deadline : Timing → ℕ → Value
+next_deadline Untimed day = int 0
+next_deadline Past day = int day
+next_deadline Near day = int (day + 31)
+next_deadline Ahead day = Blob []
+
+-- the parameters for a cell
+abbrev pub cell_params : ℕ → ℕ → Stage → Bool → Timing → Row
+cell_params caller day s b t = int caller ∷ int (stage_code s) ∷ flag b ∷ first_deadline t day ∷ next_deadline t day ∷ []
+
+-- with the code of a second relation, for which the text by conflict doesn't ask
+abbrev pub params_by : Relation → Row → ℕ → Row
+params_by Applicant params code = params ++ int code ∷ []
+params_by Contractor params code = params ++ int code ∷ []
+params_by Owner params code = params ++ int code ∷ []
+params_by AssignedReviewer params code = params ++ int code ∷ []
+params_by AssignedInspector params code = params ++ int code ∷ []
+params_by Conflict params code = params
+
+abbrev pub params_for : Route → ℕ → ℕ → Row
+params_for Every caller day = int caller ∷ []
+params_for (Cell Whole s b t) caller day = cell_params caller day s b t
+params_for (Cell (One r) s b t) caller day = params_by r (cell_params caller day s b t) 0
+params_for (Cell (Two a c) s b t) caller day = params_by (leader a c) (cell_params caller day s b t) (suc (relation_code (follower a c)))
+
+-- all values of the parameters, of which each text takes the first
+abbrev pub second_code : By → ℕ
+second_code Whole = 0
+second_code (One r) = 0
+second_code (Two a c) = suc (relation_code (follower a c))
+
+abbrev pub all_params : Route → ℕ → ℕ → Row
+all_params Every caller day = int caller ∷ int 0 ∷ int 0 ∷ int 0 ∷ int 0 ∷ int 0 ∷ []
+all_params (Cell files s b t) caller day = int caller ∷ int (stage_code s) ∷ flag b ∷ first_deadline t day ∷ next_deadline t day ∷ int (second_code files) ∷ []
+
+abbrev pub count_by : Relation → ℕ
+count_by Applicant = 6
+count_by Contractor = 6
+count_by Owner = 6
+count_by AssignedReviewer = 6
+count_by AssignedInspector = 6
+count_by Conflict = 5
+
+abbrev pub count_for : Route → ℕ
+count_for Every = 1
+count_for (Cell Whole s b t) = 5
+count_for (Cell (One r) s b t) = count_by r
+count_for (Cell (Two a c) s b t) = count_by (leader a c)
+
+-- ---- the answer
+
+abbrev pub AreNamed : List Found → Type 0
+AreNamed = AllByRecursion (λ g. IsNamed g.row.state)
+
+-- These rows show those found, in some order, and where the numbers of the tables' rows rise, in that order.
+pub record ShowFound (t : Tables) (rows : List Row) (found : List Found) : Type 0 where
+  pub given : List Found
+  pub are : AreFound t given found
+  pub shown : rows ≡ map shown_found given
+  pub named : AreNamed given

@@ -1,0 +1,167 @@
+//! The file rows that a selection finds, all at once or one at a time.
+
+ghost use Rattle.std.specs.Prelude.{◌≡◌, ◌≤◌, ◌++◌, [], ◌∷◌, List, false, IsTrue, map, length, IfOk, OnOk};
+ghost use Rattle.sqlite_trees.specs.View.{doubt};
+ghost use Rattle.sqlite.specs.State.{HasCleanDisk, Survives};
+ghost use Rattle.sqlite.specs.Given.{IsPlain};
+ghost use Rattle.sqlite.specs.Listing.{understood};
+ghost use Rattle.sqlite.specs.Values.{bound};
+ghost use Rattle.sqlite.specs.Held.{state};
+ghost use Rattle.permit_model.specs.Tables.{Tables};
+ghost use Rattle.permit_model.specs.Routes.{Found as TheFound, found_by};
+ghost use Rattle.permit_store.specs.Handing.{AreFound, AreHanded, Took, more_handed};
+ghost use Rattle.permit_sql_rows.specs.Kept.{IsFine, Keeps, Shows};
+ghost use Rattle.permit_sql_rows.specs.Rows.{shown_found};
+ghost use Rattle.permit_sql_statements.specs.Selected.{AreNamed, ShowFound};
+ghost use Rattle.permit_sql_statements.specs.Handed.{Gave};
+
+use crate::query::rows_of;
+use crate::question::{count_of, text_of, values_of};
+use permit_base::route::Route;
+use permit_base::values::{Day, PartyId};
+use permit_core::taker::Taker;
+use permit_sql_rows::decode::found_in;
+use permit_store::rows::Found;
+use permit_store::store::{Got, StoreError};
+use sqlite::{Alter, Connection, Row};
+use sqlite_value::value::ValueRef;
+use std::alloc::Global;
+
+/// The rows that show what the selection finds for the caller on the day.
+fn found_rows<S: Alter>(
+    conn: &mut Connection<S>,
+    route: &Route,
+    caller: PartyId,
+    day: Day,
+) -> Got<Vec<Row>>
+    requires calm { conn.old.in_transaction ≡ false }
+    ensures found { (t : Tables) → HasCleanDisk (state S.Store conn.new) → Shows t (state S.Store conn.old) → IfOk result (λ rows. ShowFound t rows.items (found_by route.now caller day t)) }
+    ensures kept { (t : Tables) → HasCleanDisk (state S.Store conn.new) → Shows t (state S.Store conn.old) → Shows t (state S.Store conn.new) }
+    ensures open { HasCleanDisk (state S.Store conn.new) → OnOk result (IsTrue (state S.Store conn.new).is_open) }
+    ensures doubt { doubt (state S.Store conn.old).is_clean ≤ doubt (state S.Store conn.new).is_clean }
+    ensures crash { (t : Tables) → Keeps t (state S.Store conn.old).now → Survives (state S.Store conn.old) (state S.Store conn.new) (λ _. ⊥) }
+    ensures calm { conn.new.in_transaction ≡ false }
+{
+    // Its number isn't 0, which stands for none in a row.
+    let _id = caller.get();
+    let values = values_of(route, caller, day);
+    rows_of(conn, text_of(route), &values[..count_of(route)])
+}
+
+/// A row more.
+fn push_found(all: &mut Vec<Found>, found: Found) -> Got<()>
+    ensures { OnOk result (all.new.items ≡ all.old.items ++ found ∷ []) }
+{
+    match all.push(found) {
+        Ok(()) => Ok(()),
+        Err(_) => Err(StoreError),
+    }
+}
+
+/// The rows as typed values.
+fn all_found(alloc: Global, rows: &[Row]) -> Got<Vec<Found>>
+    ensures { (given : List TheFound) → AreNamed given → rows.now ≡ map shown_found given → IfOk result (λ v. v.items ≡ given) }
+{
+    let mut all = Vec::new(alloc);
+    'rows: for row in rows {
+        let Some(found) = found_in(row) else {
+            return Err(StoreError);
+        };
+        push_found(&mut all, found)?;
+    }
+    Ok(all)
+}
+
+/// The rows that the selection finds for the caller on the day, in rising number.
+pub fn select_found<S: Alter>(
+    conn: &mut Connection<S>,
+    route: &Route,
+    caller: PartyId,
+    day: Day,
+    alloc: Global,
+) -> Got<Vec<Found>>
+    requires calm { conn.old.in_transaction ≡ false }
+    ensures found { (t : Tables) → HasCleanDisk (state S.Store conn.new) → Shows t (state S.Store conn.old) → IfOk result (λ v. AreFound t v.items (found_by route.now caller day t)) }
+    ensures kept { (t : Tables) → HasCleanDisk (state S.Store conn.new) → Shows t (state S.Store conn.old) → Shows t (state S.Store conn.new) }
+    ensures open { HasCleanDisk (state S.Store conn.new) → OnOk result (IsTrue (state S.Store conn.new).is_open) }
+    ensures doubt { doubt (state S.Store conn.old).is_clean ≤ doubt (state S.Store conn.new).is_clean }
+    ensures crash { (t : Tables) → Keeps t (state S.Store conn.old).now → Survives (state S.Store conn.old) (state S.Store conn.new) (λ _. ⊥) }
+    ensures calm { conn.new.in_transaction ≡ false }
+{
+    let rows = found_rows(conn, route, caller, day)?;
+    all_found(alloc, &rows)
+}
+
+/// Hands what the rows of the answer show to the taker, each as it is read, until it asks to stop, and counts each that
+/// it took. True says that it took them all. A connection that is well afterwards was so before, and shows the same.
+fn hand_rows<S: Alter, T: Taker<Found>>(
+    conn: &mut Connection<S>,
+    sql: &str,
+    params: &[ValueRef<'_>],
+    handed: &mut u64,
+    taker: &mut T,
+) -> Got<bool>
+    requires calm { conn.old.in_transaction ≡ false }
+    ensures handed { (given : List TheFound) × Took T.took given taker.old taker.new result × (handed.new ≡ more_handed (length given) handed.old)
+        × (HasCleanDisk (state S.Store conn.new) → (IsTrue (state S.Store conn.old).is_open → IsPlain (understood conn.old.schema sql.now)) → Gave result sql.now (bound params.now) (state S.Store conn.old) (state S.Store conn.new) given) }
+    ensures fine { IsFine (state S.Store conn.new) → IsFine (state S.Store conn.old) }
+    ensures same { IsFine (state S.Store conn.new) → IsPlain (understood conn.old.schema sql.now) → (state S.Store conn.new).now ≡ (state S.Store conn.old).now }
+    ensures open { HasCleanDisk (state S.Store conn.new) → OnOk result (IsTrue (state S.Store conn.new).is_open) }
+    ensures doubt { doubt (state S.Store conn.old).is_clean ≤ doubt (state S.Store conn.new).is_clean }
+    ensures crash { IsPlain (understood conn.old.schema sql.now) → Survives (state S.Store conn.old) (state S.Store conn.new) (λ _. ⊥) }
+    ensures calm { conn.new.in_transaction ≡ false }
+{
+    let before = *handed;
+    prove!(before <= u64::MAX);
+    let _settled = conn.is_autocommit();
+    let Ok(mut rows) = conn.query(sql, params) else {
+        return Err(StoreError);
+    };
+    'rows: for _ in 0..u64::MAX {
+        let Ok(next) = rows.next() else {
+            return Err(StoreError);
+        };
+        let Some(row) = next else {
+            return Ok(true);
+        };
+        let Some(found) = found_in(row) else {
+            return Err(StoreError);
+        };
+        *handed = handed.wrapping_add(1);
+        if !taker.take(&found) {
+            return Ok(false);
+        }
+    }
+    Err(StoreError)
+}
+
+/// Hands the rows that the selection finds for the caller on the day to the taker, one at a time and in rising number,
+/// until it asks to stop, and counts each that it took. True says that it took them all.
+pub fn each_found<S: Alter, T: Taker<Found>>(
+    conn: &mut Connection<S>,
+    route: &Route,
+    caller: PartyId,
+    day: Day,
+    handed: &mut u64,
+    taker: &mut T,
+) -> Got<bool>
+    requires calm { conn.old.in_transaction ≡ false }
+    ensures handed { (given : List TheFound) × Took T.took given taker.old taker.new result × (handed.new ≡ more_handed (length given) handed.old)
+        × ((t : Tables) → HasCleanDisk (state S.Store conn.new) → Shows t (state S.Store conn.old) → AreHanded t result given (found_by route.now caller day t)) }
+    ensures kept { (t : Tables) → HasCleanDisk (state S.Store conn.new) → Shows t (state S.Store conn.old) → Shows t (state S.Store conn.new) }
+    ensures open { HasCleanDisk (state S.Store conn.new) → OnOk result (IsTrue (state S.Store conn.new).is_open) }
+    ensures doubt { doubt (state S.Store conn.old).is_clean ≤ doubt (state S.Store conn.new).is_clean }
+    ensures crash { (t : Tables) → Keeps t (state S.Store conn.old).now → Survives (state S.Store conn.old) (state S.Store conn.new) (λ _. ⊥) }
+    ensures calm { conn.new.in_transaction ≡ false }
+{
+    // Its number isn't 0, which stands for none in a row.
+    let _id = caller.get();
+    let values = values_of(route, caller, day);
+    hand_rows(
+        conn,
+        text_of(route),
+        &values[..count_of(route)],
+        handed,
+        taker,
+    )
+}

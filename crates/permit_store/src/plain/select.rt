@@ -1,0 +1,151 @@
+//! The rows that a selection finds, in the order in which they are kept.
+
+ghost use Rattle.std.specs.Prelude.{◌≡◌, ◌<◌, ◌^◌, IfOk, filter, option_to_list, [], ◌∷◌};
+ghost use Rattle.permit_model.specs.Codes.{is_stage, is_timing};
+ghost use Rattle.permit_model.specs.Facts.{holds};
+ghost use Rattle.permit_model.specs.Routes;
+ghost use Rattle.permit_store.specs.Plain.{lies_in, is_wanted, row_seen, rows_found, HandsOut};
+
+use crate::plain::find;
+use crate::plain::kept::Kept;
+use crate::rows::{FileRow, Found, Interest, Parcel};
+use permit_base::route::{By, Route};
+use permit_base::values::{Day, ParcelId, PartyId};
+use permit_base::words::{Relation, Relations, Stage, Timing};
+use permit_core::state::FileState;
+use permit_core::taker::Taker;
+use std::alloc::{AllocError, Global};
+
+/// A selection for a caller on a day, with the rows in which owners and interests are looked up.
+#[derive(Clone, Copy)]
+pub(crate) struct Selection<'a> {
+    pub(crate) route: Route,
+    pub(crate) caller: PartyId,
+    pub(crate) day: Day,
+    pub(crate) parcels: &'a [Parcel],
+    pub(crate) interests: &'a [Interest],
+}
+
+fn same_stage(a: Stage, b: Stage) -> bool
+    ensures { result ≡ is_stage a b }
+{
+    a == b
+}
+
+fn same_timing(a: Timing, b: Timing) -> bool
+    ensures { result ≡ is_timing a b }
+{
+    a == b
+}
+
+fn has_relation(set: &Relations, relation: Relation) -> bool
+    ensures { result ≡ holds set.now relation }
+{
+    match relation {
+        Relation::Applicant => set.applicant,
+        Relation::Contractor => set.contractor,
+        Relation::Owner => set.owner,
+        Relation::AssignedReviewer => set.assigned_reviewer,
+        Relation::AssignedInspector => set.assigned_inspector,
+        Relation::Conflict => set.conflict,
+    }
+}
+
+/// Whether the row lies in the selection's cell on the day.
+fn is_in_cell(route: Route, day: Day, state: &FileState) -> bool
+    ensures { result ≡ lies_in route day state.now }
+{
+    match route {
+        Route::Every => true,
+        Route::Cell {
+            by: _,
+            stage,
+            stopped,
+            timing,
+        } => {
+            same_stage(stage, state.stored_stage())
+                && stopped == state.is_stopped()
+                && same_timing(timing, state.timing(day))
+        }
+    }
+}
+
+/// Whether the selection asks for rows to which the caller has these relations.
+fn asks_for(route: Route, set: &Relations) -> bool
+    ensures { result ≡ is_wanted route set.now }
+{
+    match route {
+        Route::Every => true,
+        Route::Cell { by, .. } => match by {
+            By::Whole => true,
+            By::One(relation) => has_relation(set, relation),
+            By::Two(first, second) => has_relation(set, first) && has_relation(set, second),
+        },
+    }
+}
+
+/// A copy of the row, as it is found.
+fn copy_found(row: &FileRow, owner: Option<PartyId>, conflict: bool) -> Result<Found, AllocError>
+    ensures { IfOk result (λ found. found ≡ record { row = row.now; owner = owner; conflict = conflict }) }
+{
+    let row = row.copy()?;
+    Ok(Found {
+        row,
+        owner,
+        conflict,
+    })
+}
+
+impl Selection<'_> {
+    /// The row with its owner and the caller's interest, where the selection finds it. What takes longer is looked up
+    /// for a row of the cell alone.
+    fn find(&self, row: &FileRow) -> Result<Option<Found>, AllocError>
+        ensures { IfOk result (λ found. option_to_list found ≡ filter (Routes.is_found self.now.route self.now.caller self.now.day) (row_seen self.now row.now ∷ [])) }
+    {
+        let state = &row.state;
+        if !is_in_cell(self.route, self.day, state) {
+            return Ok(None);
+        }
+        let owner = find::owner_of(self.parcels, state.parcel());
+        let conflict = find::has_interest(self.interests, state.parcel(), self.caller);
+        if !asks_for(self.route, &state.relations(self.caller, owner, conflict)) {
+            return Ok(None);
+        }
+        Ok(Some(copy_found(row, owner, conflict)?))
+    }
+
+    /// The rows of these files that it finds.
+    pub(crate) fn select(&self, alloc: Global, files: &[Kept]) -> Result<Vec<Found>, AllocError>
+        ensures { IfOk result (λ v. v.items ≡ rows_found self.now files.now) }
+    {
+        let mut rows = Vec::new(alloc);
+        for kept in files {
+            if let Some(found) = self.find(&kept.row)? {
+                rows.push(found)?;
+            }
+        }
+        Ok(rows)
+    }
+
+    /// Hands them to the taker until it asks to stop, and counts them: whether it took them all and each answer was true.
+    pub(crate) fn hand<T: Taker<Found>>(
+        &self,
+        files: &[Kept],
+        taker: &mut T,
+        handed: &mut u64,
+    ) -> Result<bool, AllocError>
+        requires { handed.old < 2 ^ 64 }
+        ensures { HandsOut T.took (rows_found self.now files.now) handed.old handed.new taker.old taker.new result }
+    {
+        for kept in files {
+            if let Some(found) = self.find(&kept.row)? {
+                let goes_on = taker.take(&found);
+                *handed = handed.wrapping_add(1);
+                if !goes_on {
+                    return Ok(false);
+                }
+            }
+        }
+        Ok(true)
+    }
+}
