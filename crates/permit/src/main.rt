@@ -5,5 +5,5 @@ use permit_cli::program::run;
 use std::process::ExitCode;
 
 fn main(rt: HostRuntime) -> ExitCode {
-    ExitCode::from(run(&rt, &mut rt.stdout(), &mut rt.stderr()))
+    ExitCode::from(run(&rt, rt, &mut rt.stdout(), &mut rt.stderr()))
 }

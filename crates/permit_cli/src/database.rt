@@ -1,29 +1,67 @@
 //! The office's database: one file with its log beside it.
 //!
-//! What works on a database is generic over its store, and the file is named in one function alone: each call of a
+//! What works on a database is generic over its store, and the file is named in two functions alone: each call of a
 //! generic function at the file's store costs the prover half a minute.
 
-use crate::asking::ask;
-use crate::fault::Fault;
-use permit_base::values::Day;
+use permit_base::request::Filter;
+use permit_base::values::{Day, Token};
+use permit_base::words::RegisterKind;
+use permit_import::importing::import;
+use permit_import::tally::Tally;
 use permit_office::office::Office;
+use permit_office::reply::Listing;
 use permit_policy::Policy;
+use permit_sockets::serving::serve;
 use permit_sql::store::SqlStore;
 use permit_store::founder::Founder;
-use permit_store::store::OpenError;
+use permit_store::store::{OpenError, Store};
+use permit_subcommands::asking::ask;
+use permit_subcommands::days::RunDays;
+use permit_subcommands::fault::Fault;
+use permit_subcommands::listing::{list, write_register};
+use permit_words::plan::ServeWords;
 use sqlite::{Alter, Connection, Error, ErrorCode};
 use std::alloc::Global;
+use std::fs::File;
+use std::io::Write;
+use std::sync::Wait;
+use std::thread::Threads;
 
 /// What is done on a database.
 #[derive(Drop)]
 pub enum Work<'a> {
     /// An office is founded in it.
     Found(Founder),
-    /// The office in it serves one request.
-    Serve {
+    /// The office in it is asked.
+    Ask {
         policy: Policy,
-        request: &'a str,
         day: Day,
+        question: Question<'a>,
+    },
+}
+
+/// What an office is asked.
+#[derive(Drop)]
+pub enum Question<'a> {
+    /// To serve the request of these bytes.
+    Serve {
+        request: &'a str,
+    },
+    /// To list files for the caller of the token.
+    List {
+        token: Token,
+        filter: Filter,
+    },
+    /// To write a register for the caller of the token.
+    Register {
+        token: Token,
+        kind: RegisterKind,
+    },
+    /// To import the records of a file at a path for the caller of the token.
+    Import {
+        token: Token,
+        path: &'a str,
+        records: File,
     },
 }
 
@@ -34,6 +72,12 @@ pub enum Done {
     Founded,
     /// The answer's bytes.
     Served(Vec<u8>),
+    /// The files that may be listed.
+    Listed(Listing),
+    /// The register is written.
+    Registered,
+    /// The records are imported, and their lines are written.
+    Imported(Tally),
 }
 
 /// Why a database is not opened.
@@ -73,21 +117,69 @@ fn office_in<S: Alter + Drop>(
     }
 }
 
-/// Has the office in a database serve one request.
-fn serve_in<S: Alter + Drop>(
+/// Asks an office. What can't be known before the last row or record is written to `out` on the way.
+fn ask_of<S: Store + Drop, O: Write>(
+    alloc: Global,
+    office: &mut Office<S>,
+    day: Day,
+    question: Question<'_>,
+    out: &mut O,
+) -> Result<Done, Fault> {
+    match question {
+        Question::Serve { request } => Ok(Done::Served(ask(alloc, office, request, day)?)),
+        Question::List { token, filter } => Ok(Done::Listed(list(office, token, filter, day)?)),
+        Question::Register { token, kind } => {
+            write_register(office, token, kind, day, out)?;
+            Ok(Done::Registered)
+        }
+        Question::Import {
+            token,
+            path,
+            records,
+        } => match import(alloc, office, &token, day, records, out) {
+            Ok(tally) => Ok(Done::Imported(tally)),
+            Err(fault) => Err(Fault::of_import(alloc, path, fault)),
+        },
+    }
+}
+
+/// Serves the office in a database over TCP, until its workers have ended.
+fn serve_in<S, R, O>(
+    rt: &HostRuntime,
+    workers: R,
+    conn: Connection<S>,
+    policy: Policy,
+    days: &RunDays,
+    words: &ServeWords<'_>,
+    out: &mut O,
+) -> (Connection<S>, Result<(), Fault>)
+where
+    S: Alter + Drop,
+    R: Threads + Wait + Copy + Drop + Send + 'static,
+    O: Write,
+{
+    match office_in(rt.alloc(), conn, policy) {
+        Ok(office) => {
+            let (office, served) = serve(rt, workers, office, words, &|| days.today(rt), out);
+            (office.into_store().into_connection(), served)
+        }
+        Err((conn, why)) => (conn, Err(Fault::Database(why))),
+    }
+}
+
+/// Asks the office in a database.
+fn ask_in<S: Alter + Drop, O: Write>(
     alloc: Global,
     conn: Connection<S>,
     policy: Policy,
-    request: &str,
     day: Day,
+    question: Question<'_>,
+    out: &mut O,
 ) -> (Connection<S>, Result<Done, Fault>) {
     match office_in(alloc, conn, policy) {
         Ok(office) => {
             let mut office = office;
-            let done = match ask(alloc, &mut office, request, day) {
-                Ok(answer) => Ok(Done::Served(answer)),
-                Err(_) => Err(Fault::memory()),
-            };
+            let done = ask_of(alloc, &mut office, day, question, out);
             (office.into_store().into_connection(), done)
         }
         Err((conn, why)) => (conn, Err(Fault::Database(why))),
@@ -95,31 +187,61 @@ fn serve_in<S: Alter + Drop>(
 }
 
 /// Does the work on a database, and gives its connection back.
-fn work_in<S: Alter + Drop>(
+fn work_in<S: Alter + Drop, O: Write>(
     alloc: Global,
     conn: Connection<S>,
     work: Work<'_>,
+    out: &mut O,
 ) -> (Connection<S>, Result<Done, Fault>) {
     match work {
         Work::Found(founder) => found_in(alloc, conn, &founder),
-        Work::Serve {
+        Work::Ask {
             policy,
-            request,
             day,
-        } => serve_in(alloc, conn, policy, request, day),
+            question,
+        } => ask_in(alloc, conn, policy, day, question, out),
     }
 }
 
-/// Does the work on the database at a path, which is made where there is none, and closes it.
+/// Does the work on the database at a path, which is made where there is none, and closes it. A register and the lines of
+/// an import are written to `out` on the way.
 ///
 /// Closing copies the log into the file. Where that fails, the log stays beside the file, and what was accepted stands
 /// in it.
-pub fn work_at(rt: &HostRuntime, path: &str, work: Work<'_>) -> Result<Done, Fault> {
+pub fn work_at<O: Write>(
+    rt: &HostRuntime,
+    path: &str,
+    work: Work<'_>,
+    out: &mut O,
+) -> Result<Done, Fault> {
     match Connection::open(rt, path) {
         Ok(conn) => {
-            let (conn, done) = work_in(rt.alloc(), conn, work);
+            let (conn, done) = work_in(rt.alloc(), conn, work, out);
             let _ = conn.close();
             done
+        }
+        Err(error) => Err(of_opening(error)),
+    }
+}
+
+/// Serves the office in the database at a path over TCP, and closes the database once its workers have ended.
+pub fn serve_at<R, O>(
+    rt: &HostRuntime,
+    workers: R,
+    policy: Policy,
+    days: &RunDays,
+    words: &ServeWords<'_>,
+    out: &mut O,
+) -> Result<(), Fault>
+where
+    R: Threads + Wait + Copy + Drop + Send + 'static,
+    O: Write,
+{
+    match Connection::open(rt, words.db) {
+        Ok(conn) => {
+            let (conn, served) = serve_in(rt, workers, conn, policy, days, words, out);
+            let _ = conn.close();
+            served
         }
         Err(error) => Err(of_opening(error)),
     }

@@ -1,31 +1,46 @@
 //! What the program does and prints.
 
-ghost use Rattle.std.specs.Prelude.{◌≡◌, ◌≤◌};
-ghost use Rattle.permit_cli.specs.Faults.{fault_status, IsStatusOf};
+ghost use Rattle.std.specs.Prelude.{◌≡◌, ◌≤◌, ◌⊎◌, IfErr, IfOk, None, Some};
+ghost use Rattle.permit_import.specs.declared.refused.RefusalWord.TheVariants.{Store};
+ghost use Rattle.permit_words.specs.FactsText.{facts_in, pieces};
+ghost use Rattle.permit_subcommands.specs.Faults.{fault_status, plain, IsStatusOf};
+ghost use Rattle.permit_subcommands.specs.declared.fault.Fault.TheVariants as fault;
 
-use crate::asking::{print, show};
-use crate::database::{Done, Work, work_at};
-use crate::days::day_of_run;
-use crate::fault::Fault;
-use crate::founding::founder;
-use crate::plan::{ActWords, InitWords, Plan, PlanFault};
-use crate::request::request;
-use crate::words::{plan, words_given};
-use permit_policy::Policy;
+use crate::database::{Done, Question, Work, serve_at, work_at};
+use permit_base::request::Filter;
 use permit_policy::text::read_policy;
+use permit_policy::{Facts, Policy};
 use permit_store::store::OpenError;
-use std::fs;
+use permit_subcommands::asking::{print, show};
+use permit_subcommands::days::{day_of_run, days_of_run};
+use permit_subcommands::fault::{Fault, status_after};
+use permit_subcommands::founding::founder;
+use permit_subcommands::listing::listing_text;
+use permit_subcommands::request::{caller, request};
+use permit_words::checking::{dead_text, explained_text, rules_text};
+use permit_words::facts::read_facts;
+use permit_words::plan::{
+    ActWords, Check, CheckPolicyWords, ImportWords, InitWords, ListWords, OfficeWords, Plan,
+    PlanFault, RegisterWords, ServeWords,
+};
+use permit_words::words::{plan, words_given};
+use std::alloc::Global;
+use std::fs::{self, File};
 use std::io::Write;
+use std::sync::Wait;
+use std::thread::Threads;
 
 /// What a plan came to, and so what is printed.
 #[derive(Drop)]
 enum Outcome {
     /// The program's name was asked for.
     Name,
-    /// The policy has so many rules.
-    Rules(usize),
+    /// What is said of a policy.
+    Checked(String),
     /// The work on the database is done.
     Worked(Done),
+    /// The office was served until its workers ended.
+    Ended,
 }
 
 /// Says a fault on standard error, whose own failure nobody can be told, and gives its status.
@@ -64,76 +79,213 @@ fn policy_at(rt: &HostRuntime, path: &str) -> Result<Policy, Fault> {
     }
 }
 
-/// Reads the policy at a path, and counts its rules.
-fn check_policy(rt: &HostRuntime, path: &str) -> Result<Outcome, Fault> {
-    Ok(Outcome::Rules(policy_at(rt, path)?.rules()))
+/// The facts of a word.
+fn facts_of(alloc: Global, text: &str) -> Result<Facts, Fault>
+    ensures read { IfOk result (λ facts. facts_in (pieces 44 text.now) ≡ Some facts) }
+    ensures refused { IfErr result (λ why. (why ≡ plain Store) ⊎ ((why ≡ fault.Facts) × (facts_in (pieces 44 text.now) ≡ None))) }
+{
+    match read_facts(alloc, text)? {
+        Some(facts) => Ok(facts),
+        None => Err(Fault::Facts),
+    }
+}
+
+/// Reads the policy at a path, and says of it what is asked. The facts are read first.
+fn check_policy(rt: &HostRuntime, words: &CheckPolicyWords<'_>) -> Result<Outcome, Fault> {
+    let alloc = rt.alloc();
+    let text = match words.check {
+        Check::Rules => rules_text(alloc, &policy_at(rt, words.policy)?)?,
+        Check::Dead => dead_text(alloc, &policy_at(rt, words.policy)?)?,
+        Check::Facts(text) => {
+            let facts = facts_of(alloc, text)?;
+            explained_text(alloc, &policy_at(rt, words.policy)?, &facts)?
+        }
+    };
+    Ok(Outcome::Checked(text))
 }
 
 /// Founds an office.
-fn init(rt: &HostRuntime, words: &InitWords<'_>) -> Result<Outcome, Fault> {
+fn init<O: Write>(rt: &HostRuntime, words: &InitWords<'_>, out: &mut O) -> Result<Outcome, Fault> {
     let day = day_of_run(rt, &words.days)?;
     let founder = founder(rt.alloc(), words.name, words.token, day)?;
-    let done = work_at(rt, words.db, Work::Found(founder))?;
+    let done = work_at(rt, words.db, Work::Found(founder), out)?;
     Ok(Outcome::Worked(done))
 }
 
-/// Has the office serve one request. No database is made where there is none.
-fn act(rt: &HostRuntime, words: &ActWords<'_>) -> Result<Outcome, Fault> {
-    let request = request(rt.alloc(), words)?;
+/// That there is a database at a path: none is made there.
+fn found_at(rt: &HostRuntime, path: &str) -> Result<(), Fault> {
+    match fs::exists(rt, path) {
+        Ok(false) => Err(Fault::Database(OpenError::Store)),
+        _ => Ok(()),
+    }
+}
+
+/// Asks the office that the words name. No database is made where there is none.
+fn ask_office<O: Write>(
+    rt: &HostRuntime,
+    words: &OfficeWords<'_>,
+    question: Question<'_>,
+    out: &mut O,
+) -> Result<Outcome, Fault> {
     let day = day_of_run(rt, &words.days)?;
     let policy = policy_at(rt, words.policy)?;
-    if let Ok(false) = fs::exists(rt, words.db) {
-        return Err(Fault::Database(OpenError::Store));
-    }
-    let work = Work::Serve {
+    found_at(rt, words.db)?;
+    let work = Work::Ask {
         policy,
-        request: request.as_str(),
         day,
+        question,
     };
-    Ok(Outcome::Worked(work_at(rt, words.db, work)?))
+    Ok(Outcome::Worked(work_at(rt, words.db, work, out)?))
 }
 
-/// Does what a plan asks for. The database is closed before anything is printed, so that what is printed stands.
-fn carry_out(rt: &HostRuntime, plan: &Plan<'_>) -> Result<Outcome, Fault> {
+/// Has the office serve one request.
+fn act<O: Write>(rt: &HostRuntime, words: &ActWords<'_>, out: &mut O) -> Result<Outcome, Fault> {
+    let request = request(rt.alloc(), words)?;
+    let question = Question::Serve {
+        request: request.as_str(),
+    };
+    ask_office(rt, &words.office, question, out)
+}
+
+/// Lists files.
+fn list<O: Write>(rt: &HostRuntime, words: &ListWords<'_>, out: &mut O) -> Result<Outcome, Fault> {
+    let token = caller(rt.alloc(), words.office.token)?;
+    let filter = match words.stage {
+        Some(stage) => Filter::InStage(stage),
+        None => Filter::All,
+    };
+    ask_office(rt, &words.office, Question::List { token, filter }, out)
+}
+
+/// Writes a register.
+fn register<O: Write>(
+    rt: &HostRuntime,
+    words: &RegisterWords<'_>,
+    out: &mut O,
+) -> Result<Outcome, Fault> {
+    let token = caller(rt.alloc(), words.office.token)?;
+    let kind = words.kind;
+    ask_office(rt, &words.office, Question::Register { token, kind }, out)
+}
+
+/// Imports the records of a file.
+fn import<O: Write>(
+    rt: &HostRuntime,
+    words: &ImportWords<'_>,
+    out: &mut O,
+) -> Result<Outcome, Fault> {
+    let token = caller(rt.alloc(), words.office.token)?;
+    let records = match File::open(rt, words.file) {
+        Ok(records) => records,
+        Err(error) => return Err(Fault::of_reading(rt.alloc(), words.file, &error)),
+    };
+    let question = Question::Import {
+        token,
+        path: words.file,
+        records,
+    };
+    ask_office(rt, &words.office, question, out)
+}
+
+/// Serves the office that the words name over TCP. The policy and the database are read before the address is taken.
+fn serve<R, O>(
+    rt: &HostRuntime,
+    workers: R,
+    words: &ServeWords<'_>,
+    out: &mut O,
+) -> Result<Outcome, Fault>
+where
+    R: Threads + Wait + Copy + Drop + Send + 'static,
+    O: Write,
+{
+    let days = days_of_run(&words.days)?;
+    let policy = policy_at(rt, words.policy)?;
+    found_at(rt, words.db)?;
+    serve_at(rt, workers, policy, &days, words, out)?;
+    Ok(Outcome::Ended)
+}
+
+/// Does what a plan asks for. The database is closed before anything else is printed than a register, the lines of an
+/// import or the address that is listened on, so that what is printed stands.
+fn carry_out<R, O>(
+    rt: &HostRuntime,
+    workers: R,
+    plan: &Plan<'_>,
+    out: &mut O,
+) -> Result<Outcome, Fault>
+where
+    R: Threads + Wait + Copy + Drop + Send + 'static,
+    O: Write,
+{
     match plan {
         Plan::Name => Ok(Outcome::Name),
-        Plan::CheckPolicy { policy } => check_policy(rt, policy),
-        Plan::Init(words) => init(rt, words),
-        Plan::Act(words) => act(rt, words),
+        Plan::CheckPolicy(words) => check_policy(rt, words),
+        Plan::Init(words) => init(rt, words, out),
+        Plan::Act(words) => act(rt, words, out),
+        Plan::List(words) => list(rt, words, out),
+        Plan::Register(words) => register(rt, words, out),
+        Plan::Import(words) => import(rt, words, out),
+        Plan::Serve(words) => serve(rt, workers, words, out),
     }
 }
 
-/// Prints what a plan came to. The refusal that an answer tells is the fault then.
-fn tell<O: Write>(outcome: &Outcome, out: &mut O) -> Result<(), Fault> {
+/// Prints a text.
+fn print_text<O: Write>(out: &mut O, text: &str) -> Result<(), Fault> {
+    match out.write_all(text.as_bytes()) {
+        Ok(()) => Ok(()),
+        Err(_) => Err(Fault::Output),
+    }
+}
+
+/// Prints what a plan came to, and gives the status. The refusal that an answer tells is the fault then.
+fn tell<O: Write>(alloc: Global, outcome: &Outcome, out: &mut O) -> Result<u8, Fault>
+    ensures { IfOk result (λ status. status ≤ 1) }
+{
     match outcome {
-        Outcome::Name => print(out, "permit"),
-        Outcome::Rules(rules) => match writeln!(out, "rules {rules}") {
-            Ok(()) => Ok(()),
-            Err(_) => Err(Fault::Output),
-        },
-        Outcome::Worked(Done::Founded) => print(out, "party 1"),
-        Outcome::Worked(Done::Served(answer)) => show(answer.as_slice(), out),
+        Outcome::Ended => {}
+        Outcome::Name => print(out, "permit")?,
+        Outcome::Checked(text) => print_text(out, text.as_str())?,
+        Outcome::Worked(Done::Founded) => print(out, "party 1")?,
+        Outcome::Worked(Done::Served(answer)) => show(answer.as_slice(), out)?,
+        Outcome::Worked(Done::Listed(listing)) => print_text(
+            out,
+            listing_text(alloc, listing)?.as_str(),
+        )?,
+        Outcome::Worked(Done::Registered) => {}
+        Outcome::Worked(Done::Imported(tally)) => return Ok(status_after(tally)),
     }
+    Ok(0)
 }
 
-/// Does what a plan asks for, and prints what it came to.
-fn perform<O: Write>(rt: &HostRuntime, plan: &Plan<'_>, out: &mut O) -> Result<(), Fault> {
-    tell(&carry_out(rt, plan)?, out)
+/// Does what a plan asks for, prints what it came to, and gives the status.
+fn perform<R, O>(rt: &HostRuntime, workers: R, plan: &Plan<'_>, out: &mut O) -> Result<u8, Fault>
+where
+    R: Threads + Wait + Copy + Drop + Send + 'static,
+    O: Write,
+    ensures { IfOk result (λ status. status ≤ 1) }
+{
+    let outcome = carry_out(rt, workers, plan, out)?;
+    tell(rt.alloc(), &outcome, out)
 }
 
 /// Runs the program on the words behind its name, and gives its status: 0 done, 1 refused, 2 bad words or files.
-/// What it prints goes to `out`, its faults to `err`.
-pub fn run_words<O: Write, E: Write>(
+/// What it prints goes to `out`, its faults to `err`. Where it serves, its workers are started by `workers`.
+pub fn run_words<R, O, E>(
     rt: &HostRuntime,
+    workers: R,
     words: &[String],
     out: &mut O,
     err: &mut E,
 ) -> u8
+where
+    R: Threads + Wait + Copy + Drop + Send + 'static,
+    O: Write,
+    E: Write,
     ensures { result ≤ 2 }
 {
     match plan(rt.alloc(), words) {
-        Ok(plan) => match perform(rt, &plan, out) {
-            Ok(()) => 0,
+        Ok(plan) => match perform(rt, workers, &plan, out) {
+            Ok(status) => status,
             Err(fault) => complain(&fault, err),
         },
         Err(fault) => without_plan(&fault, out, err),
@@ -141,11 +293,15 @@ pub fn run_words<O: Write, E: Write>(
 }
 
 /// Runs the program on the words that the process has, as `run_words` does.
-pub fn run<O: Write, E: Write>(rt: &HostRuntime, out: &mut O, err: &mut E) -> u8
+pub fn run<R, O, E>(rt: &HostRuntime, workers: R, out: &mut O, err: &mut E) -> u8
+where
+    R: Threads + Wait + Copy + Drop + Send + 'static,
+    O: Write,
+    E: Write,
     ensures { result ≤ 2 }
 {
     match words_given(rt) {
-        Ok(words) => run_words(rt, words.as_slice(), out, err),
+        Ok(words) => run_words(rt, workers, words.as_slice(), out, err),
         Err(fault) => without_plan(&fault, out, err),
     }
 }

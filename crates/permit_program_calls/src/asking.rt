@@ -3,16 +3,16 @@
 use crate::run::text;
 use permit_base::outcome::Reason;
 use permit_base::values::RuleName;
-use permit_cli::asking::{ask, show};
-use permit_cli::founding::founder;
-use permit_cli::plan::{ActWords, DayWords};
-use permit_cli::refused::{RefusalWord, Refused, refused_in};
-use permit_cli::request::request;
 use permit_office::office::Office;
 use permit_samples::ask::TOKENS;
 use permit_samples::makers::day;
 use permit_samples::offices::{FOUNDED, office_over};
 use permit_store::plain::PlainStore;
+use permit_subcommands::asking::{ask, show};
+use permit_subcommands::founding::founder;
+use permit_subcommands::refused::{RefusalWord, Refused, refused_in};
+use permit_subcommands::request::request;
+use permit_words::plan::{ActWords, DayWords, OfficeWords};
 use std::alloc::Global;
 use std::test::Fail;
 
@@ -34,12 +34,14 @@ fn asked<'x>(
 ) -> Result<(String, String), Fail> {
     let alloc = rt.alloc();
     let words = ActWords {
-        db: "",
-        policy: "",
-        token,
-        days: DayWords {
-            day: None,
-            zone: None,
+        office: OfficeWords {
+            db: "",
+            policy: "",
+            token,
+            days: DayWords {
+                day: None,
+                zone: None,
+            },
         },
         method,
         path,

@@ -5,7 +5,9 @@ use permit_days::dates::date_text;
 use permit_samples::ask::{Ask, TOKENS, read_ask};
 use permit_samples::standard::POLICY;
 use std::fs;
+use std::sync::Wait;
 use std::test::Fail;
+use std::thread::Threads;
 
 /// The files that the program opens.
 #[derive(Drop)]
@@ -15,7 +17,11 @@ pub struct Program {
 }
 
 /// Has the program found the office in a database, on the day of the founding.
-fn init<'x>(rt: &HostRuntime, database: &'x str) -> Result<(), Fail> {
+fn init<'x, R: Threads + Wait + Copy + Drop + Send + 'static>(
+    rt: &HostRuntime,
+    workers: R,
+    database: &'x str,
+) -> Result<(), Fail> {
     let token: &'x str = TOKENS[0];
     let words = [
         "init",
@@ -28,15 +34,16 @@ fn init<'x>(rt: &HostRuntime, database: &'x str) -> Result<(), Fail> {
         "--day",
         "2023-12-09",
     ];
-    match run(rt, &words)? {
+    match run(rt, workers, &words)? {
         (0, out, _) if out.as_str() == "party 1\n" => Ok(()),
         _ => Err(Fail::new("the program founds no office")),
     }
 }
 
 /// What the program prints for one request on a date: the answer's body, and a line end.
-fn act<'x>(
+fn act<'x, R: Threads + Wait + Copy + Drop + Send + 'static>(
     rt: &HostRuntime,
+    workers: R,
     database: &'x str,
     policy: &'x str,
     ask: Ask<'x>,
@@ -46,19 +53,23 @@ fn act<'x>(
         "act", ask.method, ask.path, ask.body, "--db", database, "--policy", policy, "--token",
         ask.token, "--day", date,
     ];
-    let (_, out, _) = run(rt, &words)?;
+    let (_, out, _) = run(rt, workers, &words)?;
     Ok(out)
 }
 
 impl Program {
     /// The program with its files in a folder, after the founding.
-    pub fn found(rt: &HostRuntime, folder: &str) -> Result<Program, Fail> {
+    pub fn found<R: Threads + Wait + Copy + Drop + Send + 'static>(
+        rt: &HostRuntime,
+        workers: R,
+        folder: &str,
+    ) -> Result<Program, Fail> {
         let program = Program {
             database: format!(in rt.alloc(); "{folder}/office.db")?,
             policy: format!(in rt.alloc(); "{folder}/policy.toml")?,
         };
         program.follow(rt, POLICY)?;
-        init(rt, program.database.as_str())?;
+        init(rt, workers, program.database.as_str())?;
         Ok(program)
     }
 
@@ -68,20 +79,55 @@ impl Program {
     }
 
     /// What the program prints for one request.
-    fn answer(&self, rt: &HostRuntime, ask: &Ask<'_>) -> Result<String, Fail> {
+    fn answer<R: Threads + Wait + Copy + Drop + Send + 'static>(
+        &self,
+        rt: &HostRuntime,
+        workers: R,
+        ask: &Ask<'_>,
+    ) -> Result<String, Fail> {
         let date = date_text(rt.alloc(), ask.day)?;
         let (database, policy) = (self.database.as_str(), self.policy.as_str());
-        act(rt, database, policy, *ask, date.as_str())
+        act(rt, workers, database, policy, *ask, date.as_str())
     }
 
     /// What the program prints for the requests of a script: the answers' bodies, each with a line end.
-    pub fn play(&self, rt: &HostRuntime, script: &str) -> Result<String, Fail> {
+    pub fn play<R: Threads + Wait + Copy + Drop + Send + 'static>(
+        &self,
+        rt: &HostRuntime,
+        workers: R,
+        script: &str,
+    ) -> Result<String, Fail> {
         let mut bodies = String::new(rt.alloc());
         for line in script.lines() {
             if let Some(request) = line.strip_prefix("> ") {
-                bodies.push_str(self.answer(rt, &read_ask(request)?)?.as_str())?;
+                bodies.push_str(self.answer(rt, workers, &read_ask(request)?)?.as_str())?;
             }
         }
         Ok(bodies)
+    }
+
+    /// What the program does for words behind which its files, a party's token and a date are named.
+    pub fn ask<'x, R: Threads + Wait + Copy + Drop + Send + 'static>(
+        &'x self,
+        rt: &HostRuntime,
+        workers: R,
+        words: &[&'x str],
+        token: &'x str,
+        date: &'x str,
+    ) -> Result<(u8, String, String), Fail> {
+        let mut all = Vec::new(rt.alloc());
+        all.extend_from_slice(words)?;
+        let files = [
+            "--db",
+            self.database.as_str(),
+            "--policy",
+            self.policy.as_str(),
+            "--token",
+            token,
+            "--day",
+            date,
+        ];
+        all.extend_from_slice(&files)?;
+        run(rt, workers, all.as_slice())
     }
 }

@@ -1,10 +1,16 @@
 //! Running the program on words.
 
 use permit_cli::program::run_words;
+use std::sync::Wait;
 use std::test::Fail;
+use std::thread::Threads;
 
 /// The status of a run on words, and what it printed and complained.
-pub fn run(rt: &HostRuntime, words: &[&str]) -> Result<(u8, String, String), Fail> {
+pub fn run<R: Threads + Wait + Copy + Drop + Send + 'static>(
+    rt: &HostRuntime,
+    workers: R,
+    words: &[&str],
+) -> Result<(u8, String, String), Fail> {
     let alloc = rt.alloc();
     let mut owned = Vec::new(alloc);
     for word in words {
@@ -12,11 +18,24 @@ pub fn run(rt: &HostRuntime, words: &[&str]) -> Result<(u8, String, String), Fai
     }
     let mut out = Vec::new(alloc);
     let mut err = Vec::new(alloc);
-    let status = run_words(rt, owned.as_slice(), &mut out, &mut err);
+    let status = run_words(rt, workers, owned.as_slice(), &mut out, &mut err);
     Ok((status, text(out)?, text(err)?))
 }
 
 /// Bytes that are to be text.
 pub fn text(bytes: Vec<u8>) -> Result<String, Fail> {
     Ok(String::from_utf8(bytes).ok().ok_or("text")?)
+}
+
+/// Fails where the status, the output or the errors aren't the wanted ones.
+pub fn agrees(
+    rt: &HostRuntime,
+    given: (u8, &str, &str),
+    wanted: (u8, &str, &str),
+) -> Result<(), Fail> {
+    if given == wanted {
+        return Ok(());
+    }
+    let (status, out, err) = given;
+    Err(Fail::new(format!(in rt.alloc(); "status {status}, printed {out}, complained {err}")?))
 }

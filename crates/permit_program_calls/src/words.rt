@@ -1,9 +1,12 @@
 //! The words of a command line, and what the program prints for them.
 
-use crate::run::run;
+use crate::run::{agrees, run};
 use permit_samples::ask::TOKENS;
+use permit_samples::standard::POLICY;
 use std::fs;
+use std::sync::Wait;
 use std::test::Fail;
+use std::thread::Threads;
 
 /// A policy of two rules.
 const TWO: &str =
@@ -11,7 +14,7 @@ const TWO: &str =
 
 #[test]
 fn without_words(rt: HostRuntime) -> Result<(), Fail> {
-    let (status, out, err) = run(&rt, &[])?;
+    let (status, out, err) = run(&rt, rt, &[])?;
     assert_eq!(rt; (status, out.as_str(), err.as_str()), (0, "permit\n", ""));
     Ok(())
 }
@@ -19,7 +22,7 @@ fn without_words(rt: HostRuntime) -> Result<(), Fail> {
 #[test]
 fn a_good_policy(rt: HostRuntime) -> Result<(), Fail> {
     fs::write(&rt, "good.toml", TWO)?;
-    let (status, out, err) = run(&rt, &["check-policy", "--policy", "good.toml"])?;
+    let (status, out, err) = run(&rt, rt, &["check-policy", "--policy", "good.toml"])?;
     assert_eq!(rt; (status, out.as_str(), err.as_str()), (0, "rules 2\n", ""));
     Ok(())
 }
@@ -31,7 +34,7 @@ fn a_bad_policy(rt: HostRuntime) -> Result<(), Fail> {
         "bad.toml",
         "[[rule]]\nname = \"default\"\neffect = \"deny\"\n",
     )?;
-    let (status, out, err) = run(&rt, &["check-policy", "--policy", "bad.toml"])?;
+    let (status, out, err) = run(&rt, rt, &["check-policy", "--policy", "bad.toml"])?;
     assert_eq!(rt;
         (status, out.as_str(), err.as_str()),
         (2, "", "policy: fault 5 at rule 1\n")
@@ -41,7 +44,7 @@ fn a_bad_policy(rt: HostRuntime) -> Result<(), Fail> {
 
 #[test]
 fn no_such_file(rt: HostRuntime) -> Result<(), Fail> {
-    let (status, out, err) = run(&rt, &["check-policy", "--policy", "nowhere.toml"])?;
+    let (status, out, err) = run(&rt, rt, &["check-policy", "--policy", "nowhere.toml"])?;
     assert_eq!(rt;
         (status, out.as_str(), err.as_str()),
         (2, "", "cannot read nowhere.toml\n")
@@ -62,9 +65,9 @@ fn a_founding(rt: HostRuntime) -> Result<(), Fail> {
         "--day",
         "2023-12-09",
     ];
-    let (status, out, err) = run(&rt, &words)?;
+    let (status, out, err) = run(&rt, rt, &words)?;
     assert_eq!(rt; (status, out.as_str(), err.as_str()), (0, "party 1\n", ""));
-    let (status, out, err) = run(&rt, &words)?;
+    let (status, out, err) = run(&rt, rt, &words)?;
     assert_eq!(rt;
         (status, out.as_str(), err.as_str()),
         (2, "", "database: exists\n")
@@ -82,7 +85,7 @@ fn a_founding_that_is_refused(rt: HostRuntime) -> Result<(), Fail> {
         let words = [
             "init", "--db", "none.db", "--name", "Chief", "--token", token, "--day", day,
         ];
-        let (is, out, err) = run(&rt, &words)?;
+        let (is, out, err) = run(&rt, rt, &words)?;
         assert_eq!(rt; (is, out.as_str(), err.as_str()), (status, "", line));
     }
     assert!(rt; !fs::exists(&rt, "none.db")?);
@@ -91,13 +94,168 @@ fn a_founding_that_is_refused(rt: HostRuntime) -> Result<(), Fail> {
 
 #[test]
 fn bad_words(rt: HostRuntime) -> Result<(), Fail> {
-    let (status, out, err) = run(&rt, &["frob"])?;
+    let (status, out, err) = run(&rt, rt, &["frob"])?;
     let wanted =
         "error: unrecognized subcommand 'frob'\n\nUsage: permit <COMMAND>\n\nFor more information, try '--help'.\n";
     assert_eq!(rt; (status, out.as_str(), err.as_str()), (2, "", wanted));
-    let (status, out, err) = run(&rt, &["check-policy"])?;
+    let (status, out, err) = run(&rt, rt, &["check-policy"])?;
     let wanted =
         "error: the following required arguments were not provided:\n  --policy <POLICY>\n\nUsage: permit check-policy --policy <POLICY>\n\nFor more information, try '--help'.\n";
     assert_eq!(rt; (status, out.as_str(), err.as_str()), (2, "", wanted));
     Ok(())
+}
+
+/// What the program does for words alone.
+fn told<R: Threads + Wait + Copy + Drop + Send + 'static>(
+    rt: &HostRuntime,
+    workers: R,
+    words: &[&str],
+    status: u8,
+    out: &str,
+    err: &str,
+) -> Result<(), Fail> {
+    let (is, printed, complained) = run(rt, workers, words)?;
+    agrees(rt, (is, &printed, &complained), (status, out, err))
+}
+
+/// A rule for clerks, one for all other roles, and one without a condition.
+const DEAD: &str =
+    "[[rule]]\nname = \"a\"\neffect = \"deny\"\nrole = [\"clerk\"]\n\n[[rule]]\nname = \"b\"\neffect = \"deny\"\nrole = [\"public\", \"reviewer\", \"inspector\", \"official\"]\n\n[[rule]]\nname = \"c\"\neffect = \"deny\"\n";
+
+#[test]
+fn dead_rule(rt: HostRuntime) -> Result<(), Fail> {
+    fs::write(&rt, "standard.toml", POLICY)?;
+    fs::write(&rt, "dead.toml", DEAD)?;
+    let of = |path| ["check-policy", "--dead", "--policy", path];
+    told(&rt, rt, &of("standard.toml"), 0, "rules 12\n", "")?;
+    told(&rt, rt, &of("dead.toml"), 0, "rules 3\ndead c\n", "")
+}
+
+#[test]
+fn explanation_of_a_denial(rt: HostRuntime) -> Result<(), Fail> {
+    fs::write(&rt, "standard.toml", POLICY)?;
+    let of = |facts| [
+        "check-policy",
+        "--policy",
+        "standard.toml",
+        "--facts",
+        facts,
+    ];
+    let own = "no-conflict relation\nown-work match\ndecided own-work deny\n";
+    told(
+        &rt,
+        rt,
+        &of("reviewer,assigned-reviewer+owner,approve-plans,review,no,ahead"),
+        0,
+        own,
+        "",
+    )?;
+    for facts in [
+        "",
+        "reviewer",
+        "reviewer,,read,review,no,ahead",
+        "reviewer,owner+owner,read,review,no,ahead",
+        "reviewer,owner+,read,review,no,ahead",
+        "reviewer,-+owner,read,review,no,ahead",
+        "reviewer,boss,read,review,no,ahead",
+        "boss,-,read,review,no,ahead",
+        "reviewer,-,frob,review,no,ahead",
+        "reviewer,-,read,frob,no,ahead",
+        "reviewer,-,read,review,maybe,ahead",
+        "reviewer,-,read,review,no,frob",
+        "reviewer,-,read,review,no,ahead,",
+        "reviewer,-,read,review,no, ahead",
+    ] {
+        told(&rt, rt, &of(facts), 2, "", "facts: unreadable\n")?;
+    }
+    Ok(())
+}
+
+#[test]
+fn facts_in_every_stage(rt: HostRuntime) -> Result<(), Fail> {
+    let policy =
+        "[[rule]]\nname = \"new\"\neffect = \"allow\"\nstage = [\"new\"]\nstopped = true\n";
+    fs::write(&rt, "stages.toml", policy)?;
+    let of = |facts| ["check-policy", "--policy", "stages.toml", "--facts", facts];
+    let (match_new, no_rule) = (
+        "new match\ndecided new allow\n",
+        "new stage\ndecided default deny\n",
+    );
+    told(&rt, rt, &of("public,-,file,new,yes,none"), 0, match_new, "")?;
+    told(
+        &rt,
+        rt,
+        &of("public,owner,file,office,yes,past"),
+        0,
+        no_rule,
+        "",
+    )?;
+    let not_stopped = "new stopped\ndecided default deny\n";
+    told(
+        &rt,
+        rt,
+        &of("public,-,file,new,no,near"),
+        0,
+        not_stopped,
+        "",
+    )
+}
+
+#[test]
+fn words_that_name_nothing(rt: HostRuntime) -> Result<(), Fail> {
+    let help = "\n\nFor more information, try '--help'.\n";
+    let office = [
+        "--db",
+        "none.db",
+        "--policy",
+        "none.toml",
+        "--token",
+        TOKENS[0],
+    ];
+    for (words, value, place) in [
+        (["list", "--stage"], "frob", "--stage <STAGE>"),
+        (["list", "--stage"], "new", "--stage <STAGE>"),
+        (["list", "--stage"], "office", "--stage <STAGE>"),
+        (["register", "--"], "frob", "<NAME>"),
+    ] {
+        let mut all = Vec::new(rt.alloc());
+        all.push(words[0])?;
+        all.extend_from_slice(&office)?;
+        all.extend_from_slice(&[words[1], value])?;
+        let line = format!(in rt.alloc(); "error: invalid value '{value}' for '{place}'{help}")?;
+        told(&rt, rt, &all, 2, "", line.as_str())?;
+    }
+    for (option, value, place) in [
+        ("--workers", "0", "--workers <WORKERS>"),
+        ("--workers", "9", "--workers <WORKERS>"),
+        ("--workers", "04", "--workers <WORKERS>"),
+        ("--connections", "100000", "--connections <CONNECTIONS>"),
+        ("--connections", "+1", "--connections <CONNECTIONS>"),
+    ] {
+        let words = [
+            "serve",
+            "--db",
+            "none.db",
+            "--policy",
+            "none.toml",
+            "--listen",
+            "nowhere",
+            option,
+            value,
+        ];
+        let line = format!(in rt.alloc(); "error: invalid value '{value}' for '{place}'{help}")?;
+        told(&rt, rt, &words, 2, "", line.as_str())?;
+    }
+    let both = [
+        "check-policy",
+        "--policy",
+        "none.toml",
+        "--dead",
+        "--facts",
+        "x",
+    ];
+    let line = format!(in rt.alloc();
+        "error: the argument '--dead' cannot be used with '--facts <FACTS>'{help}"
+    )?;
+    told(&rt, rt, &both, 2, "", line.as_str())
 }

@@ -1,7 +1,0 @@
-pub mod Asking
-pub mod Days
-pub mod Faults
-pub mod Founders
-pub mod Plans
-pub mod Refusals
-pub mod Requests

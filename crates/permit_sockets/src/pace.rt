@@ -1,0 +1,141 @@
+//! How long a connection may hold a worker: its reader and its writer count the clock.
+
+ghost use Rattle.std.specs.Prelude.{◌≡◌, ◌+◌, ◌-◌, ◌<◌, ◌≤◌, IfNone, IfSome};
+ghost use Rattle.std.specs.Duration.{as_nanos};
+ghost use Rattle.std.specs.Time.{instant_nanos};
+
+use crate::limits::{ANSWER, FAREWELL, REQUEST, SILENCE};
+use std::alloc::Global;
+use std::io::{self, ErrorKind, Read, Write};
+use std::net::{Shutdown, TcpStream};
+use std::sync::Arc;
+use std::sync::atomic::{AtomicBool, Ordering};
+use std::time::{Clock, Duration, Instant};
+
+/// What is left of a span of time; `None` once it is over.
+fn left(since: Instant, now: Instant, span: Duration) -> Option<Duration>
+    ensures some { IfSome result (λ d. (0 < as_nanos d) × (as_nanos d ≡ as_nanos span - (instant_nanos now - instant_nanos since))) }
+    ensures none { IfNone result (as_nanos span ≤ instant_nanos now - instant_nanos since) }
+{
+    let rest = span.saturating_sub(now.duration_since(since));
+    if rest.is_zero() { None } else { Some(rest) }
+}
+
+/// How long a read or a write may still wait, of so many seconds.
+fn wait_within(since: Instant, now: Instant, seconds: u64) -> io::Result<Duration> {
+    match left(since, now, Duration::from_secs(seconds)) {
+        Some(rest) => Ok(rest),
+        None => Err(io::Error::from(ErrorKind::TimedOut)),
+    }
+}
+
+/// Reads requests from a connection. A read fails where nothing comes in 2 seconds before a request, or where a request
+/// takes more than 10 seconds, however its bytes are spread over them.
+pub struct RequestReader<C: Clock + Drop> {
+    stream: TcpStream,
+    clock: C,
+    /// Whether an answer was written since the last read.
+    answered: Arc<AtomicBool, Global>,
+    /// When the first byte of the request came.
+    since: Option<Instant>,
+}
+
+impl<C: Clock + Drop> Read for RequestReader<C> {
+    fn read(&mut self, buf: &mut [u8]) -> io::Result<usize> {
+        if self.answered.swap(false, Ordering::SeqCst) {
+            self.since = None;
+        }
+        let wait = match self.since {
+            Some(since) => wait_within(since, Instant::now(&self.clock)?, REQUEST)?,
+            None => Duration::from_secs(SILENCE),
+        };
+        self.stream.set_read_timeout(Some(wait))?;
+        let count = self.stream.read(buf)?;
+        if self.since.is_none() {
+            self.since = Some(Instant::now(&self.clock)?);
+        }
+        Ok(count)
+    }
+}
+
+impl<C: Clock + Drop> Drop for RequestReader<C> {
+    fn drop(self) {
+        if self.answered.load(Ordering::SeqCst) {
+            let _ = see_off(&self.stream, &self.clock);
+        }
+        let RequestReader {
+            stream: _,
+            clock: _,
+            answered: _,
+            since: _,
+        } = self;
+    }
+}
+
+/// Says that no more answers come, and reads away what the other end still sends, until it ends too.
+fn see_off<C: Clock>(stream: &TcpStream, clock: &C) -> io::Result<()> {
+    stream.shutdown(Shutdown::Write)?;
+    let since = Instant::now(clock)?;
+    let mut bytes = [0u8; 4096];
+    for _ in 0..u64::MAX {
+        let wait = wait_within(since, Instant::now(clock)?, FAREWELL)?;
+        stream.set_read_timeout(Some(wait))?;
+        let mut reader = stream;
+        if reader.read(&mut bytes)? == 0 {
+            return Ok(());
+        }
+    }
+    Ok(())
+}
+
+/// Writes answers to a connection. A write fails where an answer takes more than 10 seconds.
+#[derive(Drop)]
+pub struct AnswerWriter<C: Clock + Drop> {
+    stream: TcpStream,
+    clock: C,
+    /// Whether an answer was written since the last read.
+    answered: Arc<AtomicBool, Global>,
+    /// When the first byte of an answer was written that is not yet written whole.
+    since: Option<Instant>,
+}
+
+impl<C: Clock + Drop> Write for AnswerWriter<C> {
+    /// An answer is handed in whole, and what is left of it again, so that it ends with a write that takes all.
+    fn write(&mut self, buf: &[u8]) -> io::Result<usize> {
+        self.answered.store(true, Ordering::SeqCst);
+        let now = Instant::now(&self.clock)?;
+        let since = self.since.unwrap_or(now);
+        let wait = wait_within(since, now, ANSWER)?;
+        self.stream.set_write_timeout(Some(wait))?;
+        let count = self.stream.write(buf)?;
+        self.since = if count < buf.len() { Some(since) } else { None };
+        Ok(count)
+    }
+
+    fn flush(&mut self) -> io::Result<()> {
+        Ok(())
+    }
+}
+
+/// A connection's reader and writer.
+pub fn paced<C: Clock + Copy + Drop>(
+    alloc: Global,
+    clock: C,
+    stream: TcpStream,
+) -> io::Result<(RequestReader<C>, AnswerWriter<C>)> {
+    stream.set_nodelay(true)?;
+    let answered = Arc::new(alloc, AtomicBool::new(true))?;
+    let writer = AnswerWriter {
+        stream: stream.try_clone()?,
+        clock,
+        answered: Arc::try_clone(&answered)?,
+        since: None,
+    };
+    let reader = RequestReader {
+        stream,
+        clock,
+        answered,
+        since: None,
+    };
+    Ok((reader, writer))
+}

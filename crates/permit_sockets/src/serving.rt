@@ -1,0 +1,87 @@
+//! Serving an office over TCP: each worker takes connections for itself.
+
+ghost use Rattle.std.specs.Prelude.{◌≡◌, IfOk, length, List, OnErr};
+ghost use Rattle.permit_base.specs.declared.request.Asked.{Asked};
+ghost use Rattle.permit_hall.specs.declared.dated.Dated.{Dated};
+ghost use Rattle.permit_hall.specs.Runs.{Entry};
+ghost use Rattle.permit_hall.specs.OneHistory.{OneHistory};
+
+use crate::connections::{Connections, doors};
+use permit_base::values::Day;
+use permit_hall::doors::run_hall;
+use permit_office::office::Office;
+use permit_store::store::Store;
+use permit_subcommands::fault::Fault;
+use permit_words::plan::ServeWords;
+use std::io::{self, Write};
+use std::net::{SocketAddr, TcpListener};
+use std::sync::Wait;
+use std::thread::Threads;
+
+/// A door for each worker on a listener at an address, and the address.
+fn doors_at(
+    rt: &HostRuntime,
+    words: &ServeWords<'_>,
+) -> io::Result<(Vec<Connections<HostRuntime>>, SocketAddr)>
+    ensures { IfOk result (λ taken. length taken.0.items ≡ words.now.workers) }
+{
+    let listener = TcpListener::bind(rt, words.listen)?;
+    let address = listener.local_addr()?;
+    let doors = doors(rt.alloc(), *rt, &listener, words.workers, words.connections)?;
+    Ok((doors, address))
+}
+
+/// Says on which address connections are taken.
+fn say<O: Write>(out: &mut O, address: SocketAddr) -> Result<(), Fault> {
+    match writeln!(out, "listening {address}") {
+        Ok(()) => match out.flush() {
+            Ok(()) => Ok(()),
+            Err(_) => Err(Fault::Output),
+        },
+        Err(_) => Err(Fault::Output),
+    }
+}
+
+/// Takes connections on an address, and says on which one.
+fn listen<O: Write>(
+    rt: &HostRuntime,
+    words: &ServeWords<'_>,
+    out: &mut O,
+) -> Result<Vec<Connections<HostRuntime>>, Fault>
+    ensures { IfOk result (λ doors. length doors.items ≡ words.now.workers) }
+{
+    let Ok((doors, address)) = doors_at(rt, words) else {
+        return Err(Fault::unheard(rt.alloc(), words.listen));
+    };
+    say(out, address)?;
+    Ok(doors)
+}
+
+/// Serves an office until its workers have ended, on the days that a clock gives, and gives it back: what its clients
+/// asked is one history of it. With a fault it is as it was.
+pub fn serve<S, T, R, O>(
+    rt: &HostRuntime,
+    workers: R,
+    office: Office<S>,
+    words: &ServeWords<'_>,
+    today: &T,
+    out: &mut O,
+) -> (Office<S>, Result<(), Fault>)
+where
+    S: Store + Drop,
+    T: Fn() -> Day,
+    R: Threads + Wait + Copy + Drop + Send + 'static,
+    O: Write,
+    requires { T.IsAlwaysCallable today.now }
+    ensures run { IfOk result.1 (λ _. (served : List (Entry Asked Dated)) × OneHistory S.view (T.post today.now) words.now.workers office result.0 served) }
+    ensures same { OnErr result.1 (result.0 ≡ office) }
+{
+    let doors = match listen(rt, words, out) {
+        Ok(doors) => doors,
+        Err(fault) => return (office, Err(fault)),
+    };
+    match run_hall(workers, rt.alloc(), office, doors, today) {
+        Ok(end) => (end.office, Ok(())),
+        Err((office, _)) => (office, Err(Fault::memory())),
+    }
+}

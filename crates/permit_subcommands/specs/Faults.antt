@@ -1,0 +1,71 @@
+-- The program's faults: the line that it prints for each, and its status.
+use Rattle.std.specs.Prelude.{◌≡◌, ◌≤◌, ◌==◌, ℕ, List, ◌++◌, codes, decimal, string_bytes, if◌then◌else◌}
+use Rattle.permit_import.specs.declared.fault.ImportFault.{ImportFault}
+use Rattle.permit_import.specs.declared.fault.ImportFault.TheVariants as stopping
+use Rattle.permit_import.specs.declared.tally.Tally.{Tally}
+use Rattle.permit_policy.specs.Fault.{fault_number}
+use Rattle.permit_store.specs.declared.store.OpenError.{OpenError}
+use Rattle.permit_store.specs.declared.store.OpenError.TheVariants as opening
+use Rattle.permit_import.specs.Refusals.{refused_line}
+use Rattle.permit_import.specs.declared.refused.Refused.TheVariants.{Plain}
+use Rattle.permit_import.specs.declared.refused.RefusalWord.{RefusalWord}
+use Rattle.permit_import.specs.declared.refused.RefusalWord.TheVariants.{Store}
+use Rattle.permit_words.specs.declared.plan.PlanFault.{PlanFault}
+use Rattle.permit_words.specs.declared.plan.PlanFault.TheVariants as planning
+use Rattle.permit_subcommands.specs.declared.fault.Fault.{Fault}
+use Rattle.permit_subcommands.specs.declared.fault.Fault.TheVariants.{Refused, File, Policy, Facts, Database, Day, Zone, Listen, Output}
+
+-- the refusal by a word alone
+abbrev pub plain : RefusalWord → Fault
+plain word = Refused (Plain word)
+
+abbrev pub open_word : OpenError → List ℕ
+open_word opening.Damaged = codes "damaged"
+open_word opening.Version = codes "version"
+open_word opening.Store = codes "store"
+open_word opening.Exists = codes "exists"
+
+-- the line for a fault
+abbrev pub fault_line : Fault → List ℕ
+fault_line (Refused why) = refused_line why
+fault_line (File path) = codes "cannot read " ++ string_bytes path
+fault_line (Policy error) = codes "policy: fault " ++ decimal (fault_number error.code) ++ codes " at rule " ++ decimal error.rule
+fault_line Facts = codes "facts: unreadable"
+fault_line (Database why) = codes "database: " ++ open_word why
+fault_line Day = codes "day: unreadable"
+fault_line Zone = codes "zone: unreadable"
+fault_line (Listen address) = codes "cannot listen " ++ string_bytes address
+fault_line Output = codes "cannot write"
+
+-- 1 where the program is refused or cannot print, 2 for bad words and files
+abbrev pub fault_status : Fault → ℕ
+fault_status (Refused why) = 1
+fault_status Output = 1
+fault_status _ = 2
+
+-- a file that can't be read is told by its path, unless memory is wanting for that
+abbrev pub IsUnread : List ℕ → Fault → Type 0
+IsUnread path (File told) = string_bytes told ≡ path
+IsUnread path fault = fault ≡ plain Store
+
+-- an address that can't be listened on is told, unless memory is wanting for that
+abbrev pub IsUnheard : List ℕ → Fault → Type 0
+IsUnheard address (Listen told) = string_bytes told ≡ address
+IsUnheard address fault = fault ≡ plain Store
+
+-- an import's records can't be read, memory is wanting, or the output failed
+abbrev pub IsFaultOfImport : List ℕ → ImportFault → Fault → Type 0
+IsFaultOfImport path stopping.FirstRecord fault = IsUnread path fault
+IsFaultOfImport path stopping.Reading fault = IsUnread path fault
+IsFaultOfImport path stopping.Memory fault = fault ≡ plain Store
+IsFaultOfImport path stopping.Writing fault = fault ≡ Output
+
+-- for words that give no plan: 2 where they are bad, 1 where memory is wanting, and for help 0 unless it cannot be printed
+abbrev pub IsStatusOf : PlanFault → ℕ → Type 0
+IsStatusOf (planning.Help text) status = status ≤ 1
+IsStatusOf (planning.Words text) status = status ≡ 2
+IsStatusOf planning.Memory status = status ≡ 1
+
+-- after an import: 1 where a record was refused
+abbrev pub import_status : Tally → ℕ
+import_status tally = if tally.refused == 0 then 0 else 1

@@ -1,0 +1,51 @@
+-- What the program asks of an office for a listing or a register, and what it prints of a listing.
+use Rattle.std.specs.Prelude.{◌≡◌, ◌⊎◌, ℕ, List, [], ◌∷◌, ◌++◌, Option, Result, Ok, Err, codes, decimal}
+use Rattle.std.specs.Io.KnownBytes.{Appends}
+use Rattle.permit_model.specs.Register.{register_text}
+use Rattle.permit_model.specs.Machine.{Reply as TheReply, RegisterShown}
+use Rattle.permit_model.specs.Machine as Shown
+use Rattle.permit_model.specs.Tables.{FileView}
+use Rattle.permit_report.specs.Outgoing.{WroteFront}
+use Rattle.permit_office.specs.declared.reply.Listing.{Listing}
+use Rattle.permit_office.specs.declared.reply.Reply.{Reply}
+use Rattle.permit_office.specs.declared.reply.Reply.TheVariants.{Done, Parcel, File, Listed, Register, Refused}
+use Rattle.permit_office.specs.declared.showing.RowsEnd.{RowsEnd}
+use Rattle.permit_office.specs.declared.showing.RowsEnd.TheVariants as ended
+use Rattle.permit_import.specs.Refusals.{refused_by}
+use Rattle.permit_import.specs.declared.refused.RefusalWord.TheVariants.{Store}
+use Rattle.permit_subcommands.specs.Faults.{plain}
+use Rattle.permit_subcommands.specs.declared.fault.Fault.{Fault}
+use Rattle.permit_subcommands.specs.declared.fault.Fault.TheVariants.{Output, Refused as refused}
+
+-- the files' numbers, a line each
+abbrev pub number_lines : List FileView → List ℕ
+number_lines [] = []
+number_lines (file ∷ files) = decimal file.row.id ++ codes "\n" ++ number_lines files
+
+-- the numbers, and how many rows were read
+abbrev pub listing_text : List FileView → ℕ → List ℕ
+listing_text files read = number_lines files ++ codes "read " ++ decimal read ++ codes "\n"
+
+-- the listing that the office's reply holds, or its refusal; the office gives no other reply to a request for a listing
+abbrev pub listed : Reply → Result Listing Fault
+listed (Listed listing) = Ok listing
+listed (Refused why) = Err (refused (refused_by why))
+listed (Done number) = Err (plain Store)
+listed (Parcel parcel) = Err (plain Store)
+listed (File file papers) = Err (plain Store)
+listed (Register kind listing) = Err (plain Store)
+
+-- how the office handed the files out, as the program tells it: an output that failed asked it to stop, or failed at the end
+abbrev pub Tells : RowsEnd → Result (Unit {0}) Fault → Type 0
+Tells (ended.All read) (Ok done) = Unit {0}
+Tells (ended.All read) (Err why) = why ≡ Output
+Tells ended.Stopped result = result ≡ Err Output
+Tells (ended.Refused why) result = result ≡ Err (refused (refused_by why))
+
+-- The register of the machine's reply is written, or a beginning of it where the output failed or the store refused. Where
+-- the machine refuses, nothing is, and its refusal is told, or the store's.
+abbrev pub Writes : ℕ → Option (List ℕ) → Option (List ℕ) → TheReply → Result (Unit {0}) Fault → Type 0
+Writes day before after (RegisterShown kind files) (Ok done) = Appends before after (register_text kind day files)
+Writes day before after (RegisterShown kind files) (Err why) = ((why ≡ Output) ⊎ (why ≡ plain Store)) × WroteFront before after (register_text kind day files)
+Writes day before after (Shown.Refused why) result = ((result ≡ Err (refused (refused_by why))) ⊎ (result ≡ Err (plain Store))) × (after ≡ before)
+Writes day before after reply result = ⊥

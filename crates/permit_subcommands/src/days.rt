@@ -1,0 +1,109 @@
+//! The day of a run: the date that its words name, or the clock's.
+
+ghost use Rattle.std.specs.Prelude.{◌≡◌, ◌≤◌, ℕ, false, IfErr, IfNone, IfOk, IfSome, IsSomeAnd, IsTrue, None, OnOk, Ok};
+ghost use Rattle.permit_days.specs.Dates.{last_day, IsTextOf};
+ghost use Rattle.permit_subcommands.specs.Days.{is_zone, zone_of, IsRefusedFor};
+ghost use Rattle.permit_subcommands.specs.declared.fault.Fault.TheVariants as fault;
+
+use crate::fault::Fault;
+use jiff::Timestamp;
+use jiff::tz::TimeZone;
+use permit_base::values::Day;
+use permit_days::dates::read_date;
+use permit_days::instants::day_of;
+use permit_words::plan::DayWords;
+use std::time::Clock;
+
+/// The day that a date names.
+fn dated(date: &str) -> Result<Day, Fault>
+    ensures read { IfOk result (λ day. IsTextOf day date.now) }
+    ensures every { (day : ℕ) → day ≤ last_day → IsTextOf day date.now → result ≡ Ok day }
+    ensures refused { IfErr result (λ why. why ≡ fault.Day) }
+{
+    match read_date(date) {
+        Some(day) => Ok(day),
+        None => Err(Fault::Day),
+    }
+}
+
+/// Day 0, which is before every founding.
+fn no_day() -> Day
+    ensures { result ≡ 0 }
+{
+    match Day::new(0) {
+        Some(day) => day,
+        None => unreachable!(),
+    }
+}
+
+/// The day on the clock in a zone; day 0 where the clock gives none that the office takes, so that the office refuses.
+fn on_the_clock<R: Clock>(rt: &R, zone: &TimeZone<'_>) -> Day {
+    match Timestamp::now(rt) {
+        Ok(now) => day_of(now, zone).unwrap_or(no_day()),
+        Err(_) => no_day(),
+    }
+}
+
+/// The zone of the clock.
+fn zone(words: &DayWords<'_>) -> Result<TimeZone<'static>, Fault>
+    ensures within { OnOk result (IsTrue (is_zone (zone_of words.now))) }
+    ensures refused { IfErr result (λ why. (why ≡ fault.Zone) × (is_zone (zone_of words.now) ≡ false)) }
+{
+    match TimeZone::posix(words.zone.unwrap_or("UTC0")) {
+        Ok(zone) => Ok(zone),
+        Err(_) => Err(Fault::Zone),
+    }
+}
+
+/// The day of a run: a date goes before the clock. The zone is read first, and with a date too.
+pub fn day_of_run<R: Clock>(rt: &R, words: &DayWords<'_>) -> Result<Day, Fault>
+    ensures read { IfSome words.now.day (λ date. IfOk result (λ day. IsTextOf day date.now)) }
+    ensures every { IfSome words.now.day (λ date. IsTrue (is_zone (zone_of words.now)) → (day : ℕ) → day ≤ last_day → IsTextOf day date.now → result ≡ Ok day) }
+    ensures within { OnOk result (IsTrue (is_zone (zone_of words.now))) }
+    ensures refused { IfErr result (IsRefusedFor words.now) }
+{
+    let zone = zone(words)?;
+    match words.day {
+        Some(date) => dated(date),
+        None => Ok(on_the_clock(rt, &zone)),
+    }
+}
+
+/// The days of a run that goes on: a date, or what the clock gives each time.
+#[derive(Drop)]
+pub struct RunDays {
+    zone: TimeZone<'static>,
+    date: Option<Day>,
+}
+
+/// The days of a run that goes on. The zone is read first, and with a date too.
+pub fn days_of_run(words: &DayWords<'_>) -> Result<RunDays, Fault>
+    ensures dated { IfSome words.now.day (λ date. IfOk result (λ days. IsSomeAnd days.date (λ day. IsTextOf day date.now))) }
+    ensures clock { IfNone words.now.day (IfOk result (λ days. days.date ≡ None)) }
+    ensures within { OnOk result (IsTrue (is_zone (zone_of words.now))) }
+    ensures refused { IfErr result (IsRefusedFor words.now) }
+{
+    let of_clock = zone(words)?;
+    match words.day {
+        Some(date) => Ok(RunDays {
+            zone: of_clock,
+            date: Some(dated(date)?),
+        }),
+        None => Ok(RunDays {
+            zone: of_clock,
+            date: None,
+        }),
+    }
+}
+
+impl RunDays {
+    /// The day: the date, or the clock's; day 0 where that gives none that the office takes.
+    pub fn today<R: Clock>(&self, rt: &R) -> Day
+        ensures { IfSome self.now.date (λ day. result ≡ day) }
+    {
+        match self.date {
+            Some(date) => date,
+            None => on_the_clock(rt, &self.zone),
+        }
+    }
+}

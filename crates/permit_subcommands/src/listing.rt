@@ -1,0 +1,96 @@
+//! Listings and registers of an office, over any store, and how a listing is printed.
+
+ghost use Rattle.std.specs.Prelude.{◌≡◌, ◌≤◌, IfOk, string_bytes};
+ghost use Rattle.permit_base.specs.Digests.{digest_of};
+ghost use Rattle.permit_base.specs.declared.request.Request.TheVariants.{ListFiles, Register};
+ghost use Rattle.permit_model.specs.History.{History};
+ghost use Rattle.permit_model.specs.Tables.{tables};
+ghost use Rattle.permit_model.specs.Machine.{IsHistory, step_as};
+ghost use Rattle.permit_office.specs.Frames.{IsStep};
+ghost use Rattle.permit_office.specs.Opening.{rows_opened};
+ghost use Rattle.permit_office.specs.Showing.{IsShowing, OpensAt};
+ghost use Rattle.permit_office.specs.declared.reply.Reply.{Reply as TheReply};
+ghost use Rattle.permit_office.specs.declared.showing.RowsEnd.{RowsEnd as TheEnd};
+ghost use Rattle.permit_subcommands.specs.Listings.{listed, listing_text, Tells, Writes};
+
+use crate::fault::Fault;
+use crate::refused::Refused;
+use permit_base::request::{Asked, Filter, Request};
+use permit_base::values::{Day, Token};
+use permit_base::words::RegisterKind;
+use permit_office::office::Office;
+use permit_office::reply::{Listing, Reply};
+use permit_office::showing::{RowsEnd, register_filter};
+use permit_report::laws::written_registers;
+use permit_report::{RegisterWriter, ReportError};
+use permit_store::store::Store;
+use std::alloc::{AllocError, Global};
+use std::io::Write;
+
+/// The listing that a reply holds, or its refusal.
+fn listed(reply: Reply) -> Result<Listing, Fault>
+    ensures { result ≡ listed reply }
+{
+    match reply {
+        Reply::Listed(listing) => Ok(listing),
+        Reply::Refused(why) => Err(Fault::Refused(Refused::from(why))),
+        // The office gives no other reply to a request for a listing.
+        _ => Err(Fault::memory()),
+    }
+}
+
+/// Lists the files of a filter, by one step of the office for the caller of the token.
+pub fn list<S: Store + Drop>(
+    office: &mut Office<S>,
+    token: Token,
+    filter: Filter,
+    day: Day,
+) -> Result<Listing, Fault>
+    ensures step { (reply : TheReply) × IsStep S.view (digest_of token) (ListFiles filter) day office.old office.new reply × (result ≡ listed reply) }
+{
+    let request = Request::ListFiles { filter };
+    let reply = office.step(&Asked { token, request }, day);
+    listed(reply)
+}
+
+/// Writes a register for the caller of the token, each line as the office hands its file out. After a failure a beginning of
+/// its text stands: the fault is the output's where that failed, else the office's refusal.
+pub fn write_register<S: Store + Drop, W: Write>(
+    office: &mut Office<S>,
+    token: Token,
+    kind: RegisterKind,
+    day: Day,
+    out: &mut W,
+) -> Result<(), Fault>
+    ensures text { (S.view office.new.store).doubt ≡ 0 → (h : History) → IsHistory h → (S.view office.old.store).holds (tables h)
+        → Writes day (W.contents out.old) (W.contents out.new) (step_as office.old.policy h (digest_of token) (Register kind) day).reply result }
+    ensures ends { (end : TheEnd) × Tells end result × IsShowing (S.view office.old.store) (S.view office.new.store) end
+        × ((S.view office.new.store).doubt ≡ 0 → (h : History) → IsHistory h → (S.view office.old.store).holds (tables h)
+        → OpensAt (rows_opened office.old.policy h (digest_of token) (Register kind) day) end (S.view office.old.store).handed (S.view office.new.store).handed) }
+    ensures policy { office.new.policy ≡ office.old.policy }
+{
+    written_registers::<W>();
+    let mut writer = RegisterWriter::new(kind, day, out);
+    match office.rows(&token, day, register_filter(kind), &mut writer) {
+        RowsEnd::All { .. } => match writer.finish() {
+            Ok(()) => Ok(()),
+            Err(ReportError::Write) => Err(Fault::Output),
+        },
+        RowsEnd::Stopped => Err(Fault::Output),
+        RowsEnd::Refused(why) => Err(Fault::Refused(Refused::from(why))),
+    }
+}
+
+/// The numbers of a listing's files, a line each, and how many rows were read for it.
+pub fn listing_text(alloc: Global, listing: &Listing) -> Result<String, AllocError>
+    ensures { IfOk result (λ text. string_bytes text ≡ listing_text listing.now.files.items listing.now.read) }
+{
+    let mut text = String::new(alloc);
+    for file in &listing.files {
+        let number = file.row.id.get();
+        writeln!(text, "{number}")?;
+    }
+    let read = listing.read;
+    writeln!(text, "read {read}")?;
+    Ok(text)
+}
