@@ -61,6 +61,21 @@ const FAULTS: &[(&str, u8, usize)] = &[
         1,
     ),
     (
+        "[[rule]]\nname = \"a\"\neffect = \"allow\"\nboth = \"owner\"\n",
+        3,
+        1,
+    ),
+    (
+        "[[rule]]\nname = \"a\"\neffect = \"allow\"\nboth = [\"owner\", 1]\n",
+        3,
+        1,
+    ),
+    (
+        "[[rule]]\nname = \"a\"\neffect = \"allow\"\nrelation = [\"owner\"]\nboth = [\"owner\", \"conflict\"]\n",
+        3,
+        1,
+    ),
+    (
         "[[rule]]\nname = \"default\"\neffect = \"deny\"\nrole = []\n",
         5,
         1,
@@ -96,6 +111,31 @@ const FAULTS: &[(&str, u8, usize)] = &[
         "[[rule]]\nname = \"a\"\neffect = \"allow\"\nstage = [\"filed\", \"filed\"]\n",
         7,
         1,
+    ),
+    (
+        "[[rule]]\nname = \"a\"\neffect = \"allow\"\nboth = []\n",
+        7,
+        1,
+    ),
+    (
+        "[[rule]]\nname = \"a\"\neffect = \"allow\"\nboth = [\"owner\"]\n",
+        7,
+        1,
+    ),
+    (
+        "[[rule]]\nname = \"a\"\neffect = \"allow\"\nboth = [\"owner\", \"conflict\", \"applicant\"]\n",
+        7,
+        1,
+    ),
+    (
+        "[[rule]]\nname = \"a\"\neffect = \"allow\"\nboth = [\"owner\", \"owner\"]\n",
+        7,
+        1,
+    ),
+    (
+        "[[rule]]\nname = \"a\"\neffect = \"allow\"\n[[rule]]\nname = \"b\"\neffect = \"deny\"\nboth = [\"owner\", \"heir\"]\n",
+        7,
+        2,
     ),
     (
         "[[rule]]\nname = \"a\"\neffect = \"let\"\n[[rule]]\nname = \"b\"\neffect = \"allow\"\neffects = 1\n",
@@ -200,5 +240,15 @@ fn allows_while_stopped(rt: HostRuntime) -> Result<(), Fail> {
     let policy = read_policy(rt.alloc(), text)?;
     assert!(rt; !decide(&policy, &plans(true, false)).is_allow());
     assert!(rt; decide(&policy, &plans(true, true)).is_allow());
+    Ok(())
+}
+
+#[test]
+fn allows_by_two_relations(rt: HostRuntime) -> Result<(), Fail> {
+    let text =
+        "[[rule]]\nname = \"two\"\neffect = \"allow\"\nboth = [\"owner\", \"assigned-reviewer\"]\n";
+    let policy = read_policy(rt.alloc(), text)?;
+    assert!(rt; decide(&policy, &plans(true, false)).is_allow());
+    assert!(rt; !decide(&policy, &plans(false, false)).is_allow());
     Ok(())
 }

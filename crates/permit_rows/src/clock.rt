@@ -38,6 +38,8 @@ fn word_of(reply: &Reply) -> &'static str {
         Reply::Done { .. } => "done",
         Reply::Parcel(_) => "parcel",
         Reply::File(..) => "file",
+        Reply::Listed(_) => "listing",
+        Reply::Register { .. } => "register",
         Reply::Refused(Refusal::Clock) => "clock",
         Reply::Refused(_) => "refused",
     }

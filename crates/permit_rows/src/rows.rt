@@ -2,10 +2,9 @@
 
 use crate::database::over_database;
 use permit_office::office::Office;
-use permit_samples::filing::FILED;
 use permit_samples::offices::{over_vectors, under};
 use permit_samples::opening::OPENING;
-use permit_samples::rows::{self, Row};
+use permit_samples::rows::{self, Row, UnderPolicy};
 use permit_samples::script::{agree, play};
 use permit_store::store::Store;
 use std::alloc::Global;
@@ -72,15 +71,28 @@ fn limits_of_text(rt: HostRuntime) -> Result<(), Fail> {
     hold(rt.alloc(), &[script.as_str()])
 }
 
-/// The answers under no rules, behind a filing.
-fn without_rules<S: Store + Drop>(alloc: Global, mut office: Office<S>) -> Result<String, Fail> {
-    play_all(alloc, &mut office, &[FILED])?;
-    play(alloc, &mut under(alloc, office, "")?, rows::zero_rules())
+#[test]
+fn listings(rt: HostRuntime) -> Result<(), Fail> {
+    hold_each(rt.alloc(), rows::listings())
+}
+
+/// The answers to a row's last script, under its policy.
+fn play_under<S: Store + Drop>(
+    alloc: Global,
+    mut office: Office<S>,
+    row: &UnderPolicy,
+) -> Result<String, Fail> {
+    play_all(alloc, &mut office, row.scripts)?;
+    play(alloc, &mut under(alloc, office, row.policy)?, row.last)
 }
 
 #[test]
-fn no_rules(rt: HostRuntime) -> Result<(), Fail> {
-    let served = without_rules(rt.alloc(), over_vectors(rt.alloc())?)?;
-    let kept = without_rules(rt.alloc(), over_database(rt.alloc())?)?;
-    agree(rt.alloc(), served.as_str(), kept.as_str())
+fn other_policies(rt: HostRuntime) -> Result<(), Fail> {
+    let alloc = rt.alloc();
+    for row in rows::other_policies() {
+        let served = play_under(alloc, over_vectors(alloc)?, row)?;
+        let kept = play_under(alloc, over_database(alloc)?, row)?;
+        agree(alloc, served.as_str(), kept.as_str())?;
+    }
+    Ok(())
 }

@@ -5,6 +5,7 @@
 pub mod ask;
 pub mod exchange;
 pub mod filing;
+mod listings;
 pub mod makers;
 pub mod offices;
 pub mod opening;

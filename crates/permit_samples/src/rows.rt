@@ -1,11 +1,22 @@
 //! The worked rows.
 
-use crate::{filing, plans, unknown_and_missing, work};
+use crate::{filing, listings, plans, unknown_and_missing, work};
 use std::alloc::Global;
 use std::test::Fail;
 
 /// A row: its scripts, one behind the other. It is played in an office of its own, behind the opening.
 pub type Row = &'static [&'static str];
+
+/// A row whose last script is played under another policy than the standard one.
+#[derive(Clone, Copy)]
+pub struct UnderPolicy {
+    /// The scripts before.
+    pub scripts: Row,
+    /// The policy's text.
+    pub policy: &'static str,
+    /// The script under it.
+    pub last: &'static str,
+}
 
 const FILINGS: &[Row] = &[
     unknown_and_missing::UNKNOWN,
@@ -32,10 +43,25 @@ const ORDERS: &[Row] = &[work::STOP, work::LAST_DAY, work::DAY_BEHIND, work::REV
 
 const CERTIFICATES: &[Row] = &[work::CERTIFICATE, work::NO_CERTIFICATE, work::TEMPORARY];
 
-const ZERO_RULES: &str = r#"
+const LISTINGS: &[Row] = &[listings::NOTHING, listings::WHO_LISTS, listings::REGISTERS];
+
+const ZERO_RULES: UnderPolicy = UnderPolicy {
+    scripts: &[filing::FILED],
+    policy: "",
+    last: r#"
 > 1 19723 GET /files/1
 < 403 Forbidden {"refused":"denied","rule":"default"}
-"#;
+> 1 19723 GET /files
+< 200 OK {"files":[]}
+"#,
+};
+
+const OTHER_POLICIES: &[UnderPolicy] = &[
+    ZERO_RULES,
+    listings::DENY_ON_OWNER,
+    listings::TWO_RELATIONS,
+    listings::PAIR_BEFORE_ONE,
+];
 
 /// Filing and abandonment, a caller whom nobody knows, and a record that there is not.
 pub fn filings() -> &'static [Row] {
@@ -62,9 +88,14 @@ pub fn certificates() -> &'static [Row] {
     CERTIFICATES
 }
 
-/// The script of the row under no rules, behind the opening and the filing.
-pub fn zero_rules() -> &'static str {
-    ZERO_RULES
+/// Listings and registers: who lists which files.
+pub fn listings() -> &'static [Row] {
+    LISTINGS
+}
+
+/// The rows under other policies: no rules, a denial before what another rule allows, and two relations at once.
+pub fn other_policies() -> &'static [UnderPolicy] {
+    OTHER_POLICIES
 }
 
 /// A filing whose description has so many bytes, as a script has it.

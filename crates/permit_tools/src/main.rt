@@ -1,17 +1,15 @@
-//! What is no product: a demonstration of the office, and programs that measure it. Without words it is the
-//! demonstration; the first word says what is measured, and an unknown one lists what can be.
+//! Programs that measure the office, in one. The first word says what is measured; without words, and with an unknown
+//! one, it lists what can be.
 #![tactic(auto)]
 
 mod calls;
 mod clock;
 mod database;
-mod demonstration;
 mod heads;
 mod history;
 mod office;
 mod orders;
 mod served;
-mod turns;
 
 use anyhow::Result;
 use database::{Task, measure_at};
@@ -38,7 +36,6 @@ fn main(rt: HostRuntime) -> Result<()> {
     let words: Vec<String> = env::args(&rt)?.skip(1).collect(rt.alloc())?;
     let place = word(&words, 1);
     match word(&words, 0) {
-        "" => demonstration::show(&rt),
         "heads" => heads::measure(&rt),
         "served" => served::measure(&rt, place),
         "lives" => history::measure_lives(&rt, place, number(&words, 2)),

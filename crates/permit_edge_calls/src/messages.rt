@@ -22,7 +22,7 @@ fn answers_at_once(text: &[u8], fault: MessageFault) -> bool {
 }
 
 /// A request whose head has so many bytes.
-fn padded(alloc: Global, size: usize) -> Result<Vec<u8>, AllocError> {
+pub fn padded(alloc: Global, size: usize) -> Result<Vec<u8>, AllocError> {
     let mut text = Vec::from_slice(
         alloc,
         b"POST /files HTTP/1.1\r\nHost: a\r\nContent-Length: 2\r\nX: ",
@@ -35,7 +35,7 @@ fn padded(alloc: Global, size: usize) -> Result<Vec<u8>, AllocError> {
 }
 
 /// A head with so many fields, `Host` among them.
-fn fields(alloc: Global, count: usize) -> Result<Vec<u8>, AllocError> {
+pub fn fields(alloc: Global, count: usize) -> Result<Vec<u8>, AllocError> {
     let mut text = Vec::from_slice(alloc, b"GET /files HTTP/1.1\r\nHost: a\r\n")?;
     for _ in 1..count {
         text.extend_from_slice(b"X: y\r\n")?;

@@ -1,6 +1,7 @@
 //! The requests of the demonstration.
 
-use crate::office::OFFICIAL;
+/// The founder's token: party 1, an official.
+pub const OFFICIAL: &str = "abcdefghijklmnopqrstuvwxyz";
 
 /// A request of the demonstration: the day, whose token, and the request.
 pub struct Turn {

@@ -1,18 +1,30 @@
 //! Shows the office at work, in memory: it is founded, parties and a parcel are added, an application is filed and read
 //! back, and the file goes through review, issuance and inspections to its certificate. What goes in and what comes out
 //! are the bytes of HTTP.
+#![tactic(auto)]
 
-use crate::office::{founded, request_text};
-use crate::turns::{TURNS, Turn};
+mod office;
+mod turns;
+
 use anyhow::{Result, anyhow};
+use office::found;
 use permit_base::values::Day;
 use permit_http::inbox::Inbox;
 use permit_office::office::Office;
 use permit_store::plain::PlainStore;
 use permit_wire::serve::serve_one;
-use std::alloc::Global;
+use std::alloc::{AllocError, Global};
 use std::fs;
-use std::rt::Files;
+use turns::{OFFICIAL, TURNS, Turn};
+
+/// The text of a turn's request.
+fn request_text(alloc: Global, turn: &Turn) -> Result<String, AllocError> {
+    let (method, path, token, body) = (turn.method, turn.path, turn.token, turn.body);
+    let size = body.len();
+    format!(in alloc;
+        "{method} {path} HTTP/1.1\r\nHost: localhost\r\nAuthorization: Bearer {token}\r\nContent-Length: {size}\r\n\r\n{body}"
+    )
+}
 
 /// The answer to a request that comes alone on a connection.
 fn answer(
@@ -39,18 +51,18 @@ fn play(
 ) -> Result<()> {
     let alloc = rt.alloc();
     let day = turn.day;
-    let asked = request_text(alloc, turn.method, turn.path, turn.token, turn.body)?;
+    let asked = request_text(alloc, turn)?;
     let answer = answer(alloc, office, asked.as_str(), day)?;
     println!(rt; "--- day {day}\n{asked}\n\n{answer}\n")?;
     Ok(())
 }
 
 /// Plays the demonstration under the standard policy, which lies where the program runs.
-pub fn show(rt: &(impl Files + Print + AllocGlobal)) -> Result<()> {
-    let policy = fs::read_to_string(rt, "standard.toml")?;
-    let mut office = founded(rt.alloc(), policy.as_str())?;
+fn main(rt: HostRuntime) -> Result<()> {
+    let policy = fs::read_to_string(&rt, "standard.toml")?;
+    let mut office = found(rt.alloc(), policy.as_str(), OFFICIAL)?;
     for turn in &TURNS {
-        play(rt, &mut office, turn)?;
+        play(&rt, &mut office, turn)?;
     }
     Ok(())
 }
