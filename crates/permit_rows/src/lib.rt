@@ -15,3 +15,5 @@ mod oversized_and_cut;
 mod reopening;
 #[cfg(test)]
 mod rows;
+#[cfg(test)]
+mod several;

@@ -24,7 +24,7 @@ use permit_sql_statements::read::{
     find_parcel, find_party, has_interest, read_desk, read_file, read_papers, read_parcel,
     read_party,
 };
-use permit_sql_statements::select::{each_found, select_found};
+use permit_sql_statements::select::{each_found, each_of_any_found, select_found};
 use permit_store::founder::Founder;
 use permit_store::rows::{Change, Desk, FileRow, Found, Paper, Parcel, Party};
 use permit_store::store::{Got, OpenError, Store, StoreError};
@@ -255,6 +255,22 @@ impl<S: Alter> Store for SqlStore<S> {
     ) -> Got<bool> {
         match each_found(&mut self.conn, route, caller, day, &mut self.handed, taker) {
             Ok(all) => Ok(all),
+            Err(why) => {
+                self.failed = self.failed.wrapping_add(1);
+                Err(why)
+            }
+        }
+    }
+
+    fn each_of_any<T: Taker<Found>>(
+        &mut self,
+        routes: &[Route],
+        caller: PartyId,
+        day: Day,
+        taker: &mut T,
+    ) -> Got<bool> {
+        match each_of_any_found(&mut self.conn, routes, caller, day, &mut self.handed, taker) {
+            Ok(took_all) => Ok(took_all),
             Err(why) => {
                 self.failed = self.failed.wrapping_add(1);
                 Err(why)

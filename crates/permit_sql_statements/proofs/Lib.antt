@@ -2,12 +2,14 @@ pub mod Permuted
 pub mod Lookups
 pub mod QueryTexts
 pub mod RouteTexts
+pub mod AloneTexts
 pub mod Truths
 pub mod Selecting
 pub mod RouteShows
 pub mod RouteAnswers
 pub mod Reading
 pub mod Handing
+pub mod AnyHanding
 pub mod WriteTexts
 pub mod ReadLemmas
 pub mod WriteLemmas

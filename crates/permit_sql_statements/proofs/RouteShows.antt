@@ -1,13 +1,15 @@
 -- What each text of a selection shows of the tables.
 use Rattle.std.proofs.Common.{◌≡◌, refl, sym, ap, ap₂, subst, ◌∙◌, ℕ, suc, ◌<◌, ◌≤◌, Bool, true, false, cond, eqb, length, List, [], ◌∷◌, ◌++◌, map, filter, find, slice_get, drop, Option, Some, None, option_map, arith, append-nil, IsPermutation, IsSorted}
 use Rattle.std.specs.Prelude.{◌&&◌}
-use Rattle.std.specs.List.{flat_map, list_all, list_any}
+use Rattle.std.specs.List.{flat_map, list_all}
+use Rattle.std.specs.Ordering.{on}
 use Rattle.std.proofs.lemmas.List.Sorted.{IsPermutation-trans}
 use Rattle.sqlite.specs.declared.types.Value.{Value}
 use Rattle.sqlite_value.specs.Order.{Row, column}
-use Rattle.sqlite_sql.specs.Term.{Term, Env, col, holds}
+use Rattle.sqlite_value.specs.declared.keys.Key.{Key}
+use Rattle.sqlite_sql.specs.Term.{Term, Env, col, holds, eval_all}
 use Rattle.sqlite_sql.specs.Ops.{is_true}
-use Rattle.sqlite_sql.specs.Query.{Query, Join, inner, left, IsAnswer, Output, output, output_cmp, or_nulls, matches}
+use Rattle.sqlite_sql.specs.Query.{Query, Join, inner, left, IsAnswer, Output, output, key_cmp, matches}
 use Rattle.sqlite_trees.specs.Tree.{Trees}
 use Rattle.sqlite_keyed.proofs.ListLemmas.{IsPermutation-flat_map, flat_map-map, flat_map_same_on, map-flat_map, filter-map, filter_same, slice_get-filter}
 use Rattle.permit_base.specs.declared.words.Stage.{Stage}
@@ -20,17 +22,19 @@ use Rattle.permit_base.specs.declared.route.Route.{Route}
 use Rattle.permit_base.specs.declared.route.Route.TheVariants.{Every, Cell}
 use Rattle.permit_model.specs.Facts.{holds as has}
 use Rattle.permit_model.specs.Codes.{stage_code, relation_code}
+use Rattle.permit_model.specs.Search.{is_the_party}
 use Rattle.permit_model.specs.Parcels.{Parcel}
 use Rattle.permit_model.specs.Tables.{Tables, FileRow}
 use Rattle.permit_model.specs.Routes.{Found, found_row, found_by, has_interest_in, relations_found, is_found, is_kept_in}
 use Rattle.permit_sql_rows.specs.Kept.{AreKeyed}
 use Rattle.permit_sql_rows.specs.Rows.{int, or_null, flag, shown_found, parcel_row, file_row, shown_interest, shown_file}
-use Rattle.permit_sql_statements.specs.Selected.{first_deadline, next_deadline, leader, follower, cell_params, params_by, params_for, ShowFound}
-use Rattle.permit_sql_statements.proofs.Lookups.{plain_query, equals, answers, put_all_out, eq_is, one_test}
+use Rattle.permit_sql_statements.specs.Selected.{first_deadline, next_deadline, leader, follower, cell_params, params_by, params_for, ShowWhere, ShowFound}
+use Rattle.permit_sql_statements.proofs.Lookups.{plain_query, equals, answers, put_all_out, eq_is}
 use Rattle.permit_sql_statements.proofs.Permuted.{one_order}
-use Rattle.permit_sql_statements.proofs.RouteTexts.{declared, second, within, within_plus, shows, in_order, its_parcel, counts_one, counts_two, every_query, whole_query, direct_query, owner_query, conflict_query, query_by, query_for}
+use Rattle.permit_sql_statements.proofs.RouteTexts.{second, within, within_plus, shows, in_order, its_parcel, counts_one, counts_two, every_query, whole_query, direct_query, owner_query, conflict_query, query_by, query_for}
+use Rattle.permit_sql_statements.proofs.AloneTexts.{column_alone, owner_alone, conflict_alone, query_alone}
 use Rattle.permit_sql_statements.proofs.Truths.{beside_row, kept_is, led_is, party_is, owner_is, flag_is, has_second, second_is, and_false, and_all, same_number, led, led_alone, led_as_two}
-use Rattle.permit_sql_statements.proofs.Selecting.{counted_is, parcel_found, turned, of_one, out, shows_found}
+use Rattle.permit_sql_statements.proofs.Selecting.{counted_is, parcel_found, turned, of_one, out, unkeyed, plain_unkeyed, shows_among, shows_found}
 
 -- ---- lists of at most one value
 
@@ -42,9 +46,20 @@ nil_after : {A : Type 0} (b : Bool) (x : A) → cond b (x ∷ []) [] ++ [] ≡ c
 nil_after true x = refl
 nil_after false x = refl
 
+at_most_one : {A : Type 0} (b : Bool) (x : A) → length (cond b (x ∷ []) []) ≤ 1
+at_most_one true x = omega arith
+at_most_one false x = omega arith
+
 nested : {A : Type 0} (a b : Bool) (x : A) → cond (a && b) (x ∷ []) [] ≡ cond a (cond b (x ∷ []) []) []
 nested true b x = refl
 nested false b x = refl
+
+-- these rows are shown of what is put out, in an order that ORDER BY allows
+pub record IsPut (order : List (Term × Key)) (all : List Output) (rows : List Row) : Type 0 where
+  pub ordered : List Output
+  pub same : IsPermutation all ordered
+  pub sorted : IsSorted (on (λ (o : Output). o.0) (key_cmp 0 (map (λ k. k.1) order))) ordered
+  pub shown : rows ≡ map (λ (o : Output). o.1) ordered
 
 module _ (caller : ℕ) (there : 0 < caller) (t : Tables) (db : Trees) (keyed : AreKeyed t)
     (parcels : IsPermutation (map parcel_row t.parcels) (db 3)) (interests : IsPermutation (map shown_interest t.interests) (map (drop 1) (db 5))) (files : IsPermutation (map file_row t.files) (db 7)) where
@@ -56,6 +71,25 @@ module _ (caller : ℕ) (there : 0 < caller) (t : Tables) (db : Trees) (keyed : 
 
   abbrev set_of : FileRow → Relations
   set_of f = relations_found caller (found_row t caller f)
+
+  as_shown : (file : ℕ) (test : FileRow → Bool) (rows : List Row) → IsPut (in_order file) (map (out t caller) (filter test t.files)) rows → ShowFound t rows (map (found_row t caller) (filter test t.files))
+  as_shown file test rows it = shows_found t caller test keyed.named it.ordered rows it.same it.sorted it.shown
+
+  -- what is put out of the parcel of a file
+  module _ (f : FileRow) (put_with : Option Parcel → List Output) (none : put_with None ≡ []) (short : (o : Option Parcel) → length (put_with o) ≤ 1) (put_of : Row → List Output)
+      (is : (p : Parcel) → put_of (parcel_row p) ≡ cond (eqb p.id f.state.parcel) (put_with (Some p)) []) where
+    picked : (l : List Parcel) → length l ≤ 1 → flat_map (λ p. put_with (Some p)) l ≡ put_with (slice_get l 0)
+    picked [] few = sym none
+    picked (p ∷ []) few = append-nil (put_with (Some p))
+    picked (p ∷ q ∷ l) few = absurd (omega (arith, few))
+
+    of_parcels : flat_map put_of (db 3) ≡ put_with (parcel_of f)
+    of_parcels =
+        let once = keyed.parcels f.state.parcel in
+        let all : flat_map put_of (map parcel_row t.parcels) ≡ put_with (parcel_of f) =
+        flat_map-map put_of parcel_row t.parcels ∙ flat_map_same_on _ _ is t.parcels ∙ of_one (λ p. put_with (Some p)) (λ p. eqb p.id f.state.parcel) t.parcels once
+        ∙ picked (filter (λ p. eqb p.id f.state.parcel) t.parcels) once ∙ ap put_with (slice_get-filter (λ p. eqb p.id f.state.parcel) t.parcels) in
+        one_order _ _ (short (parcel_of f)) (subst (λ l. IsPermutation l (flat_map put_of (db 3))) all (IsPermutation-flat_map put_of _ _ parcels))
 
   -- ---- a file's row beside its parcel's
 
@@ -91,27 +125,46 @@ module _ (caller : ℕ) (there : 0 < caller) (t : Tables) (db : Trees) (keyed : 
     shown_as : (f : FileRow) → (int f.id ∷ [], shown_file f ++ column (beside_row (parcel_of f)) 4 ∷ flag (conflict f) ∷ []) ≡ out t caller f
     shown_as f = ap (λ v. (int f.id ∷ [], shown_file f ++ v ∷ flag (conflict f) ∷ [])) (owner_shown (parcel_of f))
 
-    -- the answer of a query over the files, each beside its parcel
-    module _ (rest : Join) (terms : List Term) (w : FileRow → Env) (ends : (f : FileRow) → matches db terms rest (params ∷ file_row f ∷ beside_row (parcel_of f) ∷ []) ≡ cond (list_all (holds (w f)) terms) (w f ∷ []) [])
-        (puts : (f : FileRow) → output every_query (w f) ≡ out t caller f) (test : FileRow → Bool) (tests : (f : FileRow) → list_all (holds (w f)) terms ≡ test f) where
+    -- what a query over the files puts out, each beside its parcel
+    module _ (rest : Join) (terms : List Term) (order : List (Term × Key)) (w : FileRow → Env) (ends : (f : FileRow) → matches db terms rest (params ∷ file_row f ∷ beside_row (parcel_of f) ∷ []) ≡ cond (list_all (holds (w f)) terms) (w f ∷ []) [])
+        (puts : FileRow → Output) (put : (f : FileRow) → (eval_all (map (λ k. k.0) order) (w f), eval_all (shows 1 2 3) (w f)) ≡ puts f) (test : FileRow → Bool) (tests : (f : FileRow) → list_all (holds (w f)) terms ≡ test f) where
       abbrev file_query : Query
-      file_query = plain_query (inner 7 (left 3 its_parcel rest)) terms (shows 1 2 3) (in_order 1)
+      file_query = plain_query (inner 7 (left 3 its_parcel rest)) terms (shows 1 2 3) order
 
       abbrev put_out : Row → List Output
       put_out r = map (output file_query) (matches db terms (left 3 its_parcel rest) (params ∷ r ∷ []))
 
-      out_is : (f : FileRow) → put_out (file_row f) ≡ cond (test f) (out t caller f ∷ []) []
+      out_is : (f : FileRow) → put_out (file_row f) ≡ cond (test f) (puts f ∷ []) []
       out_is f =
           let b = list_all (holds (w f)) terms in
-          ap (map (output file_query)) (joined terms rest f ∙ ap (λ l. l ++ []) (ends f) ∙ nil_after b (w f)) ∙ map_one (output file_query) b (w f) ∙ ap₂ (λ b o. cond b (o ∷ []) []) (tests f) (puts f)
+          ap (map (output file_query)) (joined terms rest f ∙ ap (λ l. l ++ []) (ends f) ∙ nil_after b (w f)) ∙ map_one (output file_query) b (w f) ∙ ap₂ (λ b o. cond b (o ∷ []) []) (tests f) (put f)
 
-      pub by_files : (rows : List Row) → IsAnswer file_query db params rows → ShowFound t rows (map (found_row t caller) (filter test t.files))
+      pub by_files : (rows : List Row) → IsAnswer file_query db params rows → IsPut order (map puts (filter test t.files)) rows
       by_files rows a =
-          let got = answers (inner 7 (left 3 its_parcel rest)) terms (shows 1 2 3) (in_order 1) db params rows a in
-          let all = subst (λ l. IsPermutation l (flat_map put_out (db 7))) (put_all_out put_out file_row test (out t caller) out_is t.files) (IsPermutation-flat_map put_out _ _ files) in
+          let got = answers (inner 7 (left 3 its_parcel rest)) terms (shows 1 2 3) order db params rows a in
+          let all = subst (λ l. IsPermutation l (flat_map put_out (db 7))) (put_all_out put_out file_row test puts out_is t.files) (IsPermutation-flat_map put_out _ _ files) in
           let over : map (output file_query) (matches db terms (inner 7 (left 3 its_parcel rest)) (params ∷ [])) ≡ flat_map put_out (db 7) =
           map-flat_map (output file_query) (λ r. matches db terms (left 3 its_parcel rest) (params ∷ r ∷ [])) (db 7) in
-          shows_found t caller test keyed.named got.0 rows (IsPermutation-trans _ _ _ all (subst (λ l. IsPermutation l got.0) over got.1)) got.2 got.3
+          record { ordered = got.0; same = IsPermutation-trans _ _ _ all (subst (λ l. IsPermutation l got.0) over got.1); sorted = got.2; shown = got.3 }
+
+    -- what a query over another table and then the files puts out, where each file is met by at most one row of that table
+    module _ (lead : ℕ) (rest : Join) (terms project : List Term) (order : List (Term × Key)) where
+      abbrev pair_query : Query
+      pair_query = plain_query (inner lead (inner 7 rest)) terms project order
+
+      abbrev put_pair : Row → Row → List Output
+      put_pair p r = map (output pair_query) (matches db terms rest (params ∷ p ∷ r ∷ []))
+
+      pub by_pairs : (puts : FileRow → Output) (test : FileRow → Bool) → ((f : FileRow) → flat_map (λ p. put_pair p (file_row f)) (db lead) ≡ cond (test f) (puts f ∷ []) []) → (rows : List Row) → IsAnswer pair_query db params rows → IsPut order (map puts (filter test t.files)) rows
+      by_pairs puts test met rows a =
+          let got = answers pair_query.from terms project order db params rows a in
+          let put_out : Row → List Output = λ r. flat_map (λ p. put_pair p r) (db lead) in
+          let all = subst (λ l. IsPermutation l (flat_map put_out (db 7))) (put_all_out put_out file_row test puts met t.files) (IsPermutation-flat_map put_out _ _ files) in
+          let over : map (output pair_query) (matches db terms pair_query.from (params ∷ [])) ≡ flat_map (λ p. flat_map (put_pair p) (db 7)) (db lead) =
+          map-flat_map (output pair_query) (λ p. matches db terms (inner 7 rest) (params ∷ p ∷ [])) (db lead)
+          ∙ flat_map_same_on _ _ (λ p. map-flat_map (output pair_query) (λ r. matches db terms rest (params ∷ p ∷ r ∷ [])) (db 7)) (db lead) in
+          let same = IsPermutation-trans _ _ _ (IsPermutation-trans _ _ _ all (turned put_pair (db lead) (db 7))) (subst (λ l. IsPermutation l got.0) over got.1) in
+          record { ordered = got.0; same = same; sorted = got.2; shown = got.3 }
 
     abbrev w_one : FileRow → Env
     w_one f = beside_one f (beside_row (parcel_of f)) (flag (conflict f))
@@ -121,11 +174,11 @@ module _ (caller : ℕ) (there : 0 < caller) (t : Tables) (db : Trees) (keyed : 
 
     pub by_one_count : (terms : List Term) (test : FileRow → Bool) → ((f : FileRow) → list_all (holds (w_one f)) terms ≡ test f) → (rows : List Row) → IsAnswer (plain_query (inner 7 (left 3 its_parcel (counts_one 1 3))) terms (shows 1 2 3) (in_order 1)) db params rows
         → ShowFound t rows (map (found_row t caller) (filter test t.files))
-    by_one_count terms test tests = by_files (counts_one 1 3) terms w_one (λ f. one_end terms f (beside_row (parcel_of f))) shown_as test tests
+    by_one_count terms test tests rows a = as_shown 1 test rows (by_files (counts_one 1 3) terms (in_order 1) w_one (λ f. one_end terms f (beside_row (parcel_of f))) (out t caller) shown_as test tests rows a)
 
     pub by_two_counts : (terms : List Term) (test : FileRow → Bool) → ((f : FileRow) → list_all (holds (w_two f)) terms ≡ test f) → (rows : List Row) → IsAnswer (plain_query (inner 7 (left 3 its_parcel (counts_two 1 3 4))) terms (shows 1 2 3) (in_order 1)) db params rows
         → ShowFound t rows (map (found_row t caller) (filter test t.files))
-    by_two_counts terms test tests = by_files (counts_two 1 3 4) terms w_two (λ f. two_end terms f (beside_row (parcel_of f))) shown_as test tests
+    by_two_counts terms test tests rows a = as_shown 1 test rows (by_files (counts_two 1 3 4) terms (in_order 1) w_two (λ f. two_end terms f (beside_row (parcel_of f))) (out t caller) shown_as test tests rows a)
 
   pub every_shown : (rows : List Row) → IsAnswer every_query db (int caller ∷ []) rows → ShowFound t rows (map (found_row t caller) (filter (λ f. true) t.files))
   every_shown = by_one_count [] [] (λ f. true) (λ f. refl)
@@ -173,8 +226,8 @@ module _ (caller : ℕ) (there : 0 < caller) (t : Tables) (db : Trees) (keyed : 
           ap next (counted_is f.state.parcel caller (λ r. asked ∷ parcel_row p ∷ file_row f ∷ r ∷ []) t.interests (db 5) interests)
           ∙ ap (end (flag (conflict f))) (counted_is f.state.parcel caller (λ r. asked ∷ parcel_row p ∷ file_row f ∷ (flag (conflict f) ∷ []) ∷ r ∷ []) t.interests (db 5) interests)
 
-      abbrev put_pair : Row → Row → List Output
-      put_pair p r = map (output owner_query) (matches db owner_terms (counts_two 2 3 4) (asked ∷ p ∷ r ∷ []))
+      abbrev put_owned : Row → Row → List Output
+      put_owned p r = map (output owner_query) (matches db owner_terms (counts_two 2 3 4) (asked ∷ p ∷ r ∷ []))
 
       -- the file as it is found where this is its parcel
       abbrev found_with : FileRow → Option Parcel → Found
@@ -186,7 +239,7 @@ module _ (caller : ℕ) (there : 0 < caller) (t : Tables) (db : Trees) (keyed : 
       abbrev put_with : FileRow → Option Parcel → List Output
       put_with f o = cond (test_with f o) ((int f.id ∷ [], shown_found (found_with f o)) ∷ []) []
 
-      pair_is : (f : FileRow) (p : Parcel) → put_pair (parcel_row p) (file_row f) ≡ cond (eqb p.id f.state.parcel) (put_with f (Some p)) []
+      pair_is : (f : FileRow) (p : Parcel) → put_owned (parcel_row p) (file_row f) ≡ cond (eqb p.id f.state.parcel) (put_with f (Some p)) []
       pair_is f p =
           let w = after f p (flag (conflict f)) (flag (conflict f)) in
           let set = relations_found caller (found_with f (Some p)) in
@@ -197,37 +250,11 @@ module _ (caller : ℕ) (there : 0 < caller) (t : Tables) (db : Trees) (keyed : 
           ap (map (output owner_query)) (pair_end f p) ∙ map_one (output owner_query) (list_all (holds w) owner_terms) w
           ∙ ap (λ b. cond b (output owner_query w ∷ []) []) tests ∙ nested (eqb p.id f.state.parcel) (test_with f (Some p)) (output owner_query w)
 
-      picked : (f : FileRow) (l : List Parcel) → length l ≤ 1 → flat_map (λ p. put_with f (Some p)) l ≡ put_with f (slice_get l 0)
-      picked f [] short = sym (ap (λ b. cond b ((int f.id ∷ [], shown_found (found_with f None)) ∷ []) []) (and_false (kept f)))
-      picked f (p ∷ []) short = nil_after (test_with f (Some p)) (int f.id ∷ [], shown_found (found_with f (Some p)))
-      picked f (p ∷ q ∷ l) short = absurd (omega (arith, short))
-
-      short_put : (f : FileRow) (o : Option Parcel) → length (put_with f o) ≤ 1
-      short_put f o = go (test_with f o)
-        where
-          go : (c : Bool) → length {A = Output} (cond c ((int f.id ∷ [], shown_found (found_with f o)) ∷ []) []) ≤ 1
-          go true = omega arith
-          go false = omega arith
-
-      of_file : (f : FileRow) → flat_map (λ p. put_pair p (file_row f)) (db 3) ≡ put_with f (parcel_of f)
-      of_file f =
-          let once = keyed.parcels f.state.parcel in
-          let all : flat_map (λ p. put_pair p (file_row f)) (map parcel_row t.parcels) ≡ put_with f (parcel_of f) =
-          flat_map-map (λ p. put_pair p (file_row f)) parcel_row t.parcels ∙ flat_map_same_on _ _ (λ p. pair_is f p) t.parcels
-          ∙ of_one (λ p. put_with f (Some p)) (λ p. eqb p.id f.state.parcel) t.parcels once ∙ picked f (filter (λ p. eqb p.id f.state.parcel) t.parcels) once
-          ∙ ap (put_with f) (slice_get-filter (λ p. eqb p.id f.state.parcel) t.parcels) in
-          one_order _ _ (short_put f (parcel_of f)) (subst (λ l. IsPermutation l (flat_map (λ p. put_pair p (file_row f)) (db 3))) all (IsPermutation-flat_map (λ p. put_pair p (file_row f)) _ _ parcels))
+      owned : (f : FileRow) → flat_map (λ p. put_owned p (file_row f)) (db 3) ≡ put_with f (parcel_of f)
+      owned f = of_parcels f (put_with f) (ap (λ b. cond b ((int f.id ∷ [], shown_found (found_with f None)) ∷ []) []) (and_false (kept f))) (λ o. at_most_one (test_with f o) _) (λ p. put_owned p (file_row f)) (pair_is f)
 
       pub owner_led : (rows : List Row) → IsAnswer owner_query db asked rows → ShowFound t rows (map (found_row t caller) (filter (λ f. test_with f (parcel_of f)) t.files))
-      owner_led rows a =
-          let got = answers owner_query.from owner_terms (shows 2 1 3) (in_order 2) db asked rows a in
-          let put_out : Row → List Output = λ r. flat_map (λ p. put_pair p r) (db 3) in
-          let all = subst (λ l. IsPermutation l (flat_map put_out (db 7))) (put_all_out put_out file_row (λ f. test_with f (parcel_of f)) (out t caller) of_file t.files) (IsPermutation-flat_map put_out _ _ files) in
-          let over : map (output owner_query) (matches db owner_terms owner_query.from (asked ∷ [])) ≡ flat_map (λ p. flat_map (put_pair p) (db 7)) (db 3) =
-          map-flat_map (output owner_query) (λ p. matches db owner_terms (inner 7 (counts_two 2 3 4)) (asked ∷ p ∷ [])) (db 3)
-          ∙ flat_map_same_on _ _ (λ p. map-flat_map (output owner_query) (λ r. matches db owner_terms (counts_two 2 3 4) (asked ∷ p ∷ r ∷ [])) (db 7)) (db 3) in
-          let same = IsPermutation-trans _ _ _ (IsPermutation-trans _ _ _ all (turned put_pair (db 3) (db 7))) (subst (λ l. IsPermutation l got.0) over got.1) in
-          shows_found t caller (λ f. test_with f (parcel_of f)) keyed.named got.0 rows same got.2 got.3
+      owner_led rows a = as_shown 2 (λ f. test_with f (parcel_of f)) rows (by_pairs (cell ++ int code ∷ []) 3 (counts_two 2 3 4) owner_terms (shows 2 1 3) (in_order 2) (out t caller) (λ f. test_with f (parcel_of f)) owned rows a)
 
     -- ---- by each relation
 
@@ -250,3 +277,71 @@ module _ (caller : ℕ) (there : 0 < caller) (t : Tables) (db : Trees) (keyed : 
   answer_shown (Cell (One r) s b timing) day rows a = as_found (Cell (One r) s b timing) day rows _ (λ f. ap (λ k. is_kept_in s b timing day f.state && k) (led_alone r (set_of f))) (led_shown day s b timing r 0 rows a)
   answer_shown (Cell (Two x c) s b timing) day rows a =
       as_found (Cell (Two x c) s b timing) day rows _ (λ f. ap (λ k. is_kept_in s b timing day f.state && k) (led_as_two x c (set_of f))) (led_shown day s b timing (leader x c) (suc (relation_code (follower x c))) rows a)
+
+  -- ---- by one relation alone
+
+  abbrev ShowTested : (FileRow → Bool) → List Row → Type 0
+  ShowTested test rows = ShowWhere rows (λ given. IsPermutation given (map (found_row t caller) (filter test t.files)))
+
+  as_tested : (test : FileRow → Bool) (rows : List Row) → IsPut [] (map (unkeyed t caller) (filter test t.files)) rows → ShowTested test rows
+  as_tested test rows it = shows_among t caller (unkeyed t caller) (plain_unkeyed t caller) test keyed.named it.ordered rows it.same it.shown
+
+  unkeyed_as : (f : FileRow) → ([], shown_file f ++ column (beside_row (parcel_of f)) 4 ∷ flag (conflict f) ∷ []) ≡ unkeyed t caller f
+  unkeyed_as f = ap (λ v. ([], shown_file f ++ v ∷ flag (conflict f) ∷ [])) (owner_shown [] (parcel_of f))
+
+  -- by a relation that stands in a column of the file
+  column_shown : (place : ℕ) (test : FileRow → Bool) → ((f : FileRow) → holds (params [] ∷ file_row f ∷ []) (equals (col 1 place) (col 0 0)) ≡ test f) → (rows : List Row) → IsAnswer (column_alone place) db (params []) rows → ShowTested test rows
+  column_shown place test tests rows a =
+      let terms = equals (col 1 place) (col 0 0) ∷ [] in
+      as_tested test rows (by_files [] (counts_one 1 3) terms [] (w_one []) (λ f. one_end [] terms f (beside_row (parcel_of f))) (unkeyed t caller) unkeyed_as test (λ f. and_all _ ∙ tests f) rows a)
+
+  interest_shown : (rows : List Row) → IsAnswer conflict_alone db (params []) rows → ShowTested conflict rows
+  interest_shown rows a =
+      as_tested conflict rows (by_files [] (counts_two 1 3 4) (col 4 0 ∷ []) [] (w_two []) (λ f. two_end [] (col 4 0 ∷ []) f (beside_row (parcel_of f))) (unkeyed t caller) unkeyed_as conflict (λ f. and_all _ ∙ flag_is (conflict f)) rows a)
+
+  -- by the owner of the parcel
+  module _ (f : FileRow) where
+    abbrev owned_terms : List Term
+    owned_terms = equals (col 2 2) (col 1 0) ∷ equals (col 1 4) (col 0 0) ∷ []
+
+    abbrev beside_owned : Parcel → Value → Env
+    beside_owned p v = params [] ∷ parcel_row p ∷ file_row f ∷ (v ∷ []) ∷ []
+
+    abbrev is_owned : Option Parcel → Bool
+    is_owned o = is_the_party (option_map (λ (p : Parcel). p.owner) o) caller
+
+    abbrev out_with : Option Parcel → Output
+    out_with o = ([], shown_found (record { row = f; owner = option_map (λ (p : Parcel). p.owner) o; conflict = conflict f }))
+
+    owned_end : (p : Parcel) → matches db owned_terms (counts_one 2 3) (params [] ∷ parcel_row p ∷ file_row f ∷ [])
+        ≡ cond (list_all (holds (beside_owned p (flag (conflict f)))) owned_terms) (beside_owned p (flag (conflict f)) ∷ []) []
+    owned_end p =
+        ap (λ v. cond (list_all (holds (beside_owned p v)) owned_terms) (beside_owned p v ∷ []) [])
+        (counted_is f.state.parcel caller (λ r. params [] ∷ parcel_row p ∷ file_row f ∷ r ∷ []) t.interests (db 5) interests)
+
+    owned_is : (p : Parcel) → map (output owner_alone) (matches db owned_terms (counts_one 2 3) (params [] ∷ parcel_row p ∷ file_row f ∷ [])) ≡ cond (eqb p.id f.state.parcel) (cond (is_owned (Some p)) (out_with (Some p) ∷ []) []) []
+    owned_is p =
+        let w = beside_owned p (flag (conflict f)) in
+        let tests : list_all (holds w) owned_terms ≡ (eqb p.id f.state.parcel && is_owned (Some p)) = ap₂ ◌&&◌ (same_number f.state.parcel p.id) (and_all _ ∙ eq_is p.owner caller) in
+        ap (map (output owner_alone)) (owned_end p) ∙ map_one (output owner_alone) (list_all (holds w) owned_terms) w
+        ∙ ap (λ b. cond b (output owner_alone w ∷ []) []) tests ∙ nested (eqb p.id f.state.parcel) (is_owned (Some p)) (output owner_alone w)
+
+    its_owner : flat_map (λ p. map (output owner_alone) (matches db owned_terms (counts_one 2 3) (params [] ∷ p ∷ file_row f ∷ []))) (db 3) ≡ cond (is_owned (parcel_of f)) (unkeyed t caller f ∷ []) []
+    its_owner = of_parcels f (λ o. cond (is_owned o) (out_with o ∷ []) []) refl (λ o. at_most_one (is_owned o) (out_with o)) (λ p. map (output owner_alone) (matches db owned_terms (counts_one 2 3) (params [] ∷ p ∷ file_row f ∷ []))) owned_is
+
+  owned_shown : (rows : List Row) → IsAnswer owner_alone db (params []) rows → ShowTested (λ f. (set_of f).owner) rows
+  owned_shown rows a =
+      as_tested (λ f. (set_of f).owner) rows (by_pairs [] 3 (counts_one 2 3) (equals (col 2 2) (col 1 0) ∷ equals (col 1 4) (col 0 0) ∷ []) (shows 2 1 3) [] (unkeyed t caller) (λ f. (set_of f).owner) its_owner rows a)
+
+  tested_shown : (r : Relation) (rows : List Row) → IsAnswer (query_alone r) db (params []) rows → ShowTested (λ f. has (set_of f) r) rows
+  tested_shown relation.Applicant = column_shown 3 (λ f. (set_of f).applicant) (λ f. eq_is f.state.applicant caller)
+  tested_shown relation.Contractor = column_shown 4 (λ f. (set_of f).contractor) (λ f. party_is f.state.contractor caller there)
+  tested_shown relation.Owner = owned_shown
+  tested_shown relation.AssignedReviewer = column_shown 5 (λ f. (set_of f).assigned_reviewer) (λ f. party_is f.state.reviewer caller there)
+  tested_shown relation.AssignedInspector = column_shown 6 (λ f. (set_of f).assigned_inspector) (λ f. party_is f.state.inspector caller there)
+  tested_shown relation.Conflict = interest_shown
+
+  -- the answer to the text of a relation shows the rows to which the caller has it, in some order
+  pub alone_shown : (r : Relation) (rows : List Row) → IsAnswer (query_alone r) db (params []) rows
+      → ShowWhere rows (λ given. IsPermutation given (filter (λ found. has (relations_found caller found) r) (map (found_row t caller) t.files)))
+  alone_shown r rows a = subst (λ l. ShowWhere rows (λ given. IsPermutation given l)) (sym (filter-map (λ found. has (relations_found caller found) r) (found_row t caller) t.files)) (tested_shown r rows a)

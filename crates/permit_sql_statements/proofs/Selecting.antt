@@ -1,32 +1,30 @@
 -- What the texts of the selections show of the tables.
-use Rattle.std.proofs.Common.{◌≡◌, ◌⊎◌, inl, inr, refl, sym, ap, ap₂, subst, ◌∙◌, ℕ, zero, suc, ◌<◌, ◌≤◌, Bool, true, false, cond, not, eqb, min, length, List, [], ◌∷◌, ◌++◌, map, filter, find, drop, slice_get, pos, Option, Some, None, option_map, arith, append_assoc, true≢false, IsPermutation, IsSorted, Less}
+use Rattle.std.proofs.Common.{◌≡◌, ◌⊎◌, inl, inr, refl, sym, ap, ap₂, subst, ◌∙◌, ℕ, zero, suc, ◌<◌, ◌≤◌, Bool, true, false, cond, not, eqb, min, length, List, [], ◌∷◌, ◌++◌, map, filter, find, drop, slice_get, arith, append_assoc, true≢false, IsPermutation, IsSorted, Less}
 use Rattle.std.specs.Prelude.{◌&&◌}
-use Rattle.std.specs.List.{flat_map, list_all, list_any, AllByRecursion}
+use Rattle.std.specs.List.{flat_map, list_any, AllByRecursion}
 use Rattle.std.proofs.lemmas.Bool.{cases_lt}
 use Rattle.std.proofs.lemmas.Bool.Decides.{nat_tests}
 use Rattle.std.proofs.lemmas.List.Sorted.{IsPermutation-map, IsPermutation-trans, IsPermutation-sym, IsPermutation-refl, IsPermutation-append, IsPermutation-append_comm, IsPermutation-cons, IsPermutation-middle, length_permutation, All-permutation}
 use Rattle.std.proofs.lemmas.List.Elements.{recursion_from_All, All-from_recursion}
-use Rattle.sqlite.specs.declared.types.Value.{Value}
-use Rattle.sqlite.specs.declared.types.Value.TheVariants.{Null, Int}
+use Rattle.sqlite.specs.declared.types.Value.TheVariants.{Null}
 use Rattle.sqlite_value.specs.Order.{Row, column, value_cmp}
 use Rattle.sqlite_value.specs.declared.keys.Collation.TheVariants.{Binary}
 use Rattle.sqlite_value.proofs.OrderLemmas.{value_cmp-Int}
 use Rattle.sqlite_sql.specs.declared.ops.BinaryOp.TheVariants.{Compare}
 use Rattle.sqlite_sql.specs.declared.ops.CompareOp.TheVariants.{Eq}
 use Rattle.sqlite_sql.specs.Ops.{binary, is_true}
-use Rattle.sqlite_sql.specs.Term.{Term, Env}
-use Rattle.sqlite_sql.specs.Query.{Query, Output, output, output_cmp, or_nulls}
+use Rattle.sqlite_sql.specs.Query.{Output, output_cmp, or_nulls}
 use Rattle.sqlite_sql.proofs.QueryLemmas.{output_cmp_total}
-use Rattle.sqlite_trees.specs.Tree.{Trees, IsAscending}
-use Rattle.sqlite_keyed.proofs.ListLemmas.{IsPermutation-flat_map, IsPermutation-filter, flat_map-map, map-map, filter-map, filter_same, none_counted, along_permutation, slice_get-filter, all-filter, all_map, ascending-map, ascending_weaker, ascending-filter}
+use Rattle.sqlite_trees.specs.Tree.{IsAscending}
+use Rattle.sqlite_keyed.proofs.ListLemmas.{IsPermutation-filter, map-map, filter-map, filter_same, none_counted, along_permutation, slice_get-filter, all-filter, all_map, ascending-map, ascending_weaker, ascending-filter}
 use Rattle.sqlite_keyed.proofs.SortLemmas.{sorted_unique}
 use Rattle.permit_model.specs.Parcels.{Parcel, Interest}
 use Rattle.permit_model.specs.Tables.{Tables, FileRow}
-use Rattle.permit_model.specs.Routes.{Found, found_row, has_interest_in}
+use Rattle.permit_model.specs.Routes.{found_row}
 use Rattle.permit_store.specs.Handing.{AreRising}
 use Rattle.permit_sql_rows.specs.Kept.{IsNamed}
 use Rattle.permit_sql_rows.specs.Rows.{int, flag, parcel_row, shown_interest, shown_found}
-use Rattle.permit_sql_statements.specs.Selected.{ShowFound}
+use Rattle.permit_sql_statements.specs.Selected.{ShowWhere, ShowFound}
 use Rattle.permit_sql_statements.proofs.Lookups.{eq_is, one_test}
 use Rattle.permit_sql_statements.proofs.Permuted.{one_order}
 use Rattle.permit_sql_statements.proofs.RouteTexts.{every_query}
@@ -204,6 +202,28 @@ module _ (t : Tables) (caller : ℕ) where
   plain : (fs : List FileRow) → map (λ (o : Output). o.1) (map out fs) ≡ map shown_found (map (found_row t caller) fs)
   plain fs = map-map (λ (o : Output). o.1) out fs ∙ sym (map-map shown_found (found_row t caller) fs)
 
+  -- rows in some order that show the files that pass a test
+  module _ (puts : FileRow → Output) (plainly : (fs : List FileRow) → map (λ (o : Output). o.1) (map puts fs) ≡ map shown_found (map (found_row t caller) fs)) (test : FileRow → Bool) (named : AllByRecursion (λ f. IsNamed f.state) t.files) where
+    kept : AllByRecursion (λ f. IsNamed f.state) (filter test t.files)
+    kept = all-filter (λ f. IsNamed f.state) test t.files named
+
+    pub shows_among : (ordered : List Output) (rows : List Row) → IsPermutation (map puts (filter test t.files)) ordered → rows ≡ map (λ (o : Output). o.1) ordered
+        → ShowWhere rows (λ given. IsPermutation given (map (found_row t caller) (filter test t.files)))
+    shows_among ordered rows same shown =
+        let it = unmapped puts (filter test t.files) ordered same in record {
+          given = map (found_row t caller) it.0;
+          are = IsPermutation-map (found_row t caller) _ _ (IsPermutation-sym _ _ it.1);
+          shown = shown ∙ ap (map (λ (o : Output). o.1)) it.2 ∙ plainly it.0;
+          named = all_map (λ g. IsNamed g.row.state) (found_row t caller) it.0 (recursion_from_All (λ f. IsNamed f.state) it.0 (All-permutation (λ f. IsNamed f.state) (filter test t.files) it.0 it.1 (All-from_recursion (λ f. IsNamed f.state) (filter test t.files) kept)));
+        }
+
+  -- a row by no key
+  abbrev pub unkeyed : FileRow → Output
+  unkeyed f = ([], shown_found (found_row t caller f))
+
+  pub plain_unkeyed : (fs : List FileRow) → map (λ (o : Output). o.1) (map unkeyed fs) ≡ map shown_found (map (found_row t caller) fs)
+  plain_unkeyed fs = map-map (λ (o : Output). o.1) unkeyed fs ∙ sym (map-map shown_found (found_row t caller) fs)
+
   -- rows in the order of their numbers that show the files that pass a test
   pub shows_found : (test : FileRow → Bool) → AllByRecursion (λ f. IsNamed f.state) t.files → (ordered : List Output) (rows : List Row) → IsPermutation (map out (filter test t.files)) ordered → IsSorted (output_cmp every_query) ordered
       → rows ≡ map (λ (o : Output). o.1) ordered → ShowFound t rows (map (found_row t caller) (filter test t.files))
@@ -212,9 +232,6 @@ module _ (t : Tables) (caller : ℕ) where
     | inr not_up ↦ in_some_order not_up
   ]
     where
-      kept : AllByRecursion (λ f. IsNamed f.state) (filter test t.files)
-      kept = all-filter (λ f. IsNamed f.state) test t.files named
-
       in_order : AreRising t.files → ShowFound t rows (map (found_row t caller) (filter test t.files))
       in_order up =
           let low = ascending-filter (λ a b. a.id < b.id) test t.files (rising t.files up) in
@@ -222,14 +239,10 @@ module _ (t : Tables) (caller : ℕ) where
             given = map (found_row t caller) (filter test t.files);
             are = record { same = IsPermutation-refl _; order = λ _. refl };
             shown = shown ∙ ap (map (λ (o : Output). o.1)) (sorted_unique (output_cmp every_query) (output_cmp_total every_query) (map out (filter test t.files)) ordered strict same sorted) ∙ plain (filter test t.files);
-            named = all_map (λ g. IsNamed g.row.state) (found_row t caller) (filter test t.files) kept;
+            named = all_map (λ g. IsNamed g.row.state) (found_row t caller) (filter test t.files) (kept out plain test named);
           }
 
       in_some_order : ¬ AreRising t.files → ShowFound t rows (map (found_row t caller) (filter test t.files))
       in_some_order not_up =
-          let it = unmapped out (filter test t.files) ordered same in record {
-            given = map (found_row t caller) it.0;
-            are = record { same = IsPermutation-map (found_row t caller) _ _ (IsPermutation-sym _ _ it.1); order = λ up. absurd (not_up up) };
-            shown = shown ∙ ap (map (λ (o : Output). o.1)) it.2 ∙ plain it.0;
-            named = all_map (λ g. IsNamed g.row.state) (found_row t caller) it.0 (recursion_from_All (λ f. IsNamed f.state) it.0 (All-permutation (λ f. IsNamed f.state) (filter test t.files) it.0 it.1 (All-from_recursion (λ f. IsNamed f.state) (filter test t.files) kept)));
-          }
+          let it = shows_among out plain test named ordered rows same shown in
+          record { given = it.given; are = record { same = it.are; order = λ up. absurd (not_up up) }; shown = it.shown; named = it.named }

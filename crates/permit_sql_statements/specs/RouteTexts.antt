@@ -42,3 +42,23 @@ select_inspector = shown_columns ++ (codes " FROM file LEFT JOIN parcel ON parce
 -- an interest has no index that leads to the files once each, so that of the cell does
 abbrev pub select_conflict : List ℕ
 select_conflict = shown_columns ++ (codes " FROM file LEFT JOIN parcel ON parcel.id = file.parcel WHERE stage = ?2 AND stopped = ?3 AND deadline >= ?4 AND deadline < ?5 AND EXISTS (SELECT 1 FROM interest WHERE interest.parcel = file.parcel AND interest.party = ?1)" ++ by_number)
+
+-- ---- by one relation alone, whatever the cell: the one parameter is the caller, and the rows come in any order
+
+abbrev pub select_as_applicant : List ℕ
+select_as_applicant = shown_columns ++ codes " FROM file LEFT JOIN parcel ON parcel.id = file.parcel WHERE applicant = ?1"
+
+abbrev pub select_as_contractor : List ℕ
+select_as_contractor = shown_columns ++ codes " FROM file LEFT JOIN parcel ON parcel.id = file.parcel WHERE contractor = ?1"
+
+abbrev pub select_as_owner : List ℕ
+select_as_owner = shown_columns ++ codes " FROM parcel JOIN file ON file.parcel = parcel.id WHERE parcel.owner = ?1"
+
+abbrev pub select_as_reviewer : List ℕ
+select_as_reviewer = shown_columns ++ codes " FROM file LEFT JOIN parcel ON parcel.id = file.parcel WHERE reviewer = ?1"
+
+abbrev pub select_as_inspector : List ℕ
+select_as_inspector = shown_columns ++ codes " FROM file LEFT JOIN parcel ON parcel.id = file.parcel WHERE inspector = ?1"
+
+abbrev pub select_as_conflict : List ℕ
+select_as_conflict = shown_columns ++ codes " FROM file LEFT JOIN parcel ON parcel.id = file.parcel WHERE EXISTS (SELECT 1 FROM interest WHERE interest.parcel = file.parcel AND interest.party = ?1)"

@@ -1,5 +1,5 @@
 -- What a selection asks of the database, and what its answer shows.
-use Rattle.std.specs.Prelude.{◌≡◌, ℕ, ℤ, suc, ◌+◌, negsuc, List, [], ◌∷◌, ◌++◌, map, Bool}
+use Rattle.std.specs.Prelude.{◌≡◌, ◌⊎◌, ℕ, suc, ◌+◌, negsuc, List, [], ◌∷◌, ◌++◌, map, Bool, Option, Some, None}
 use Rattle.std.specs.List.{AllByRecursion}
 use Rattle.sqlite.specs.declared.types.Value.{Value}
 use Rattle.sqlite.specs.declared.types.Value.TheVariants.{Int, Blob}
@@ -19,7 +19,7 @@ use Rattle.permit_model.specs.Routes.{Found}
 use Rattle.permit_store.specs.Handing.{AreFound}
 use Rattle.permit_sql_rows.specs.Kept.{IsNamed}
 use Rattle.permit_sql_rows.specs.Rows.{int, flag, shown_found}
-use Rattle.permit_sql_statements.specs.RouteTexts.{select_every, select_whole, select_applicant, select_contractor, select_owner, select_reviewer, select_inspector, select_conflict}
+use Rattle.permit_sql_statements.specs.RouteTexts.{select_every, select_whole, select_applicant, select_contractor, select_owner, select_reviewer, select_inspector, select_conflict, select_as_applicant, select_as_contractor, select_as_owner, select_as_reviewer, select_as_inspector, select_as_conflict}
 
 -- ---- the question
 
@@ -112,14 +112,41 @@ count_for (Cell Whole s b t) = 5
 count_for (Cell (One r) s b t) = count_by r
 count_for (Cell (Two a c) s b t) = count_by (leader a c)
 
+-- ---- several selections at once
+
+-- the text by the relation alone
+abbrev pub text_alone : Relation → List ℕ
+text_alone Applicant = select_as_applicant
+text_alone Contractor = select_as_contractor
+text_alone Owner = select_as_owner
+text_alone AssignedReviewer = select_as_reviewer
+text_alone AssignedInspector = select_as_inspector
+text_alone Conflict = select_as_conflict
+
+-- the relation by which a selection is looked up
+abbrev pub relation_of : Route → Option Relation
+relation_of Every = None
+relation_of (Cell Whole s b t) = None
+relation_of (Cell (One r) s b t) = Some r
+relation_of (Cell (Two a c) s b t) = Some (leader a c)
+
+-- The text shows the rows of each of these selections, and may show others: it is by a relation by which each is looked
+-- up, or shows every row.
+abbrev pub ShowsEach : List Route → List ℕ → Type 0
+ShowsEach routes text = (text ≡ select_every) ⊎ ((r : Relation) × AllByRecursion (λ route. relation_of route ≡ Some r) routes × (text ≡ text_alone r))
+
 -- ---- the answer
 
 abbrev pub AreNamed : List Found → Type 0
 AreNamed = AllByRecursion (λ g. IsNamed g.row.state)
 
--- These rows show those found, in some order, and where the numbers of the tables' rows rise, in that order.
-pub record ShowFound (t : Tables) (rows : List Row) (found : List Found) : Type 0 where
+-- These rows show rows of which this holds.
+pub record ShowWhere (rows : List Row) (Are : List Found → Type 0) : Type 0 where
   pub given : List Found
-  pub are : AreFound t given found
+  pub are : Are given
   pub shown : rows ≡ map shown_found given
   pub named : AreNamed given
+
+-- These rows show those found, in some order, and where the numbers of the tables' rows rise, in that order.
+abbrev pub ShowFound : Tables → List Row → List Found → Type 0
+ShowFound t rows found = ShowWhere rows (λ given. AreFound t given found)

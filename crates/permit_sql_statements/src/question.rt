@@ -1,10 +1,12 @@
 //! What a selection asks of the database: a text and the values of its parameters.
 
-ghost use Rattle.std.specs.Prelude.{◌≡◌, suc};
+ghost use Rattle.std.specs.Prelude.{◌≡◌, suc, IfSome};
+ghost use Rattle.std.specs.List.{AllByRecursion};
 ghost use Rattle.sqlite.specs.Values.{bound, bound_value};
 ghost use Rattle.sqlite_value.specs.Value.{owned};
 ghost use Rattle.permit_model.specs.Codes.{stage_code, relation_code};
 ghost use Rattle.permit_sql_statements.specs.Selected;
+ghost use Rattle.permit_sql_statements.specs.Selected.{ShowsEach};
 
 use permit_base::route::{By, Route};
 use permit_base::values::{Day, PartyId};
@@ -37,6 +39,25 @@ const BY_INSPECTOR: &str =
 
 const BY_CONFLICT: &str =
     "SELECT file.id, file.parcel, applicant, contractor, reviewer, inspector, kind, valuation, description, filed, stage, deadline, done, request, requested, ask, stopped, notices, papers, temporary, parcel.owner, EXISTS (SELECT 1 FROM interest WHERE interest.parcel = file.parcel AND interest.party = ?1) FROM file LEFT JOIN parcel ON parcel.id = file.parcel WHERE stage = ?2 AND stopped = ?3 AND deadline >= ?4 AND deadline < ?5 AND EXISTS (SELECT 1 FROM interest WHERE interest.parcel = file.parcel AND interest.party = ?1) ORDER BY file.id";
+
+// By a relation alone, for several selections at once. Each cell is then told by the typed row.
+const AS_APPLICANT: &str =
+    "SELECT file.id, file.parcel, applicant, contractor, reviewer, inspector, kind, valuation, description, filed, stage, deadline, done, request, requested, ask, stopped, notices, papers, temporary, parcel.owner, EXISTS (SELECT 1 FROM interest WHERE interest.parcel = file.parcel AND interest.party = ?1) FROM file LEFT JOIN parcel ON parcel.id = file.parcel WHERE applicant = ?1";
+
+const AS_CONTRACTOR: &str =
+    "SELECT file.id, file.parcel, applicant, contractor, reviewer, inspector, kind, valuation, description, filed, stage, deadline, done, request, requested, ask, stopped, notices, papers, temporary, parcel.owner, EXISTS (SELECT 1 FROM interest WHERE interest.parcel = file.parcel AND interest.party = ?1) FROM file LEFT JOIN parcel ON parcel.id = file.parcel WHERE contractor = ?1";
+
+const AS_OWNER: &str =
+    "SELECT file.id, file.parcel, applicant, contractor, reviewer, inspector, kind, valuation, description, filed, stage, deadline, done, request, requested, ask, stopped, notices, papers, temporary, parcel.owner, EXISTS (SELECT 1 FROM interest WHERE interest.parcel = file.parcel AND interest.party = ?1) FROM parcel JOIN file ON file.parcel = parcel.id WHERE parcel.owner = ?1";
+
+const AS_REVIEWER: &str =
+    "SELECT file.id, file.parcel, applicant, contractor, reviewer, inspector, kind, valuation, description, filed, stage, deadline, done, request, requested, ask, stopped, notices, papers, temporary, parcel.owner, EXISTS (SELECT 1 FROM interest WHERE interest.parcel = file.parcel AND interest.party = ?1) FROM file LEFT JOIN parcel ON parcel.id = file.parcel WHERE reviewer = ?1";
+
+const AS_INSPECTOR: &str =
+    "SELECT file.id, file.parcel, applicant, contractor, reviewer, inspector, kind, valuation, description, filed, stage, deadline, done, request, requested, ask, stopped, notices, papers, temporary, parcel.owner, EXISTS (SELECT 1 FROM interest WHERE interest.parcel = file.parcel AND interest.party = ?1) FROM file LEFT JOIN parcel ON parcel.id = file.parcel WHERE inspector = ?1";
+
+const AS_CONFLICT: &str =
+    "SELECT file.id, file.parcel, applicant, contractor, reviewer, inspector, kind, valuation, description, filed, stage, deadline, done, request, requested, ask, stopped, notices, papers, temporary, parcel.owner, EXISTS (SELECT 1 FROM interest WHERE interest.parcel = file.parcel AND interest.party = ?1) FROM file LEFT JOIN parcel ON parcel.id = file.parcel WHERE EXISTS (SELECT 1 FROM interest WHERE interest.parcel = file.parcel AND interest.party = ?1)";
 
 /// The text by the relation that leads.
 fn text_by(relation: Relation) -> &'static str
@@ -78,6 +99,57 @@ pub(crate) fn text_of(route: &Route) -> &'static str
             By::One(relation) => text_by(relation),
             By::Two(first, second) => text_by(in_order(first, second).0),
         },
+    }
+}
+
+/// The text by the relation alone.
+fn text_alone(relation: Relation) -> &'static str
+    ensures { result.now ≡ Selected.text_alone relation }
+{
+    match relation {
+        Relation::Applicant => AS_APPLICANT,
+        Relation::Contractor => AS_CONTRACTOR,
+        Relation::Owner => AS_OWNER,
+        Relation::AssignedReviewer => AS_REVIEWER,
+        Relation::AssignedInspector => AS_INSPECTOR,
+        Relation::Conflict => AS_CONFLICT,
+    }
+}
+
+/// The relation by which the selection is looked up.
+fn relation_of(route: &Route) -> Option<Relation>
+    ensures { result ≡ Selected.relation_of route.now }
+{
+    match *route {
+        Route::Every => None,
+        Route::Cell { by, .. } => match by {
+            By::Whole => None,
+            By::One(relation) => Some(relation),
+            By::Two(first, second) => Some(in_order(first, second).0),
+        },
+    }
+}
+
+/// The relation by which each of the selections is looked up, if it is the same.
+fn shared_relation(routes: &[Route]) -> Option<Relation>
+    ensures { IfSome result (λ r. AllByRecursion (λ route. Selected.relation_of route ≡ Some r) routes.now) }
+{
+    let shared = relation_of(routes.first()?)?;
+    'routes: for route in routes {
+        if relation_of(route) != Some(shared) {
+            return None;
+        }
+    }
+    Some(shared)
+}
+
+/// The text that shows all rows of several selections, and may show others. Its one parameter is the caller.
+pub(crate) fn text_of_any(routes: &[Route]) -> &'static str
+    ensures { ShowsEach routes.now result.now }
+{
+    match shared_relation(routes) {
+        Some(relation) => text_alone(relation),
+        None => EVERY,
     }
 }
 

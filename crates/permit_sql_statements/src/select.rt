@@ -9,19 +9,21 @@ ghost use Rattle.sqlite.specs.Values.{bound};
 ghost use Rattle.sqlite.specs.Held.{state};
 ghost use Rattle.permit_model.specs.Tables.{Tables};
 ghost use Rattle.permit_model.specs.Routes.{Found as TheFound, found_by};
-ghost use Rattle.permit_store.specs.Handing.{AreFound, AreHanded, Took, more_handed};
+ghost use Rattle.permit_store.specs.Handing.{AreAmong, AreFound, AreHanded, Took, found_by_any, more_handed};
 ghost use Rattle.permit_sql_rows.specs.Kept.{IsFine, Keeps, Shows};
 ghost use Rattle.permit_sql_rows.specs.Rows.{shown_found};
 ghost use Rattle.permit_sql_statements.specs.Selected.{AreNamed, ShowFound};
 ghost use Rattle.permit_sql_statements.specs.Handed.{Gave};
 
 use crate::query::rows_of;
-use crate::question::{count_of, text_of, values_of};
+use crate::question::{count_of, text_of, text_of_any, values_of};
 use permit_base::route::Route;
 use permit_base::values::{Day, PartyId};
 use permit_core::taker::Taker;
 use permit_sql_rows::decode::found_in;
+use permit_sql_rows::values::number;
 use permit_store::rows::Found;
+use permit_store::sieve::Sieve;
 use permit_store::store::{Got, StoreError};
 use sqlite::{Alter, Connection, Row};
 use sqlite_value::value::ValueRef;
@@ -164,4 +166,39 @@ pub fn each_found<S: Alter, T: Taker<Found>>(
         handed,
         taker,
     )
+}
+
+/// Hands the rows that any of the selections finds for the caller on the day to the taker, each once and in any order, one
+/// at a time, until it asks to stop, and counts each that it took. True says that it took them all.
+pub fn each_of_any_found<S: Alter, T: Taker<Found>>(
+    conn: &mut Connection<S>,
+    routes: &[Route],
+    caller: PartyId,
+    day: Day,
+    handed: &mut u64,
+    taker: &mut T,
+) -> Got<bool>
+    requires calm { conn.old.in_transaction ≡ false }
+    ensures handed { (given : List TheFound) × Took T.took given taker.old taker.new result × (handed.new ≡ more_handed (length given) handed.old)
+        × ((t : Tables) → HasCleanDisk (state S.Store conn.new) → Shows t (state S.Store conn.old) → AreAmong result given (found_by_any routes.now caller day t)) }
+    ensures kept { (t : Tables) → HasCleanDisk (state S.Store conn.new) → Shows t (state S.Store conn.old) → Shows t (state S.Store conn.new) }
+    ensures open { HasCleanDisk (state S.Store conn.new) → OnOk result (IsTrue (state S.Store conn.new).is_open) }
+    ensures doubt { doubt (state S.Store conn.old).is_clean ≤ doubt (state S.Store conn.new).is_clean }
+    ensures crash { (t : Tables) → Keeps t (state S.Store conn.old).now → Survives (state S.Store conn.old) (state S.Store conn.new) (λ _. ⊥) }
+    ensures calm { conn.new.in_transaction ≡ false }
+{
+    // Its number isn't 0, which stands for none in a row.
+    let params = [number(caller.get())];
+    // Counts also the rows that none of the selections finds, so it isn't what was handed out.
+    let mut seen = 0;
+    let mut sieve = Sieve {
+        routes,
+        caller,
+        day,
+        taker,
+        passed: 0,
+    };
+    let all = hand_rows(conn, text_of_any(routes), &params, &mut seen, &mut sieve);
+    *handed = handed.wrapping_add(sieve.passed);
+    all
 }

@@ -2,3 +2,5 @@ mod Lists
 mod Kept
 mod Keeping
 mod Selecting
+pub mod Sifting
+pub mod Sieving

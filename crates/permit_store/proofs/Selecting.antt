@@ -13,10 +13,14 @@ use Rattle.permit_model.specs.Parcels.{Parcel, Interest}
 use Rattle.permit_model.specs.Routes.{Found, is_found, relations_found, found_row, found_by}
 use Rattle.permit_model.specs.Tables.{FileRow, Tables}
 use Rattle.permit_store.specs.declared.plain.select.Selection.{Selection}
+use Rattle.permit_store.specs.declared.sieve.Sieve.{Sieve}
 use Rattle.permit_store.specs.Counts.{next_count}
 use Rattle.permit_store.specs.Frames.{StoreView, Reads}
-use Rattle.permit_store.specs.Handing.{more_handed, AreFound, AreHanded, Hands}
-use Rattle.permit_store.specs.Plain.{KeptFile, Keeps, lies_in, is_wanted, row_seen, rows_found, HandsOut}
+use Rattle.permit_store.specs.Handing.{more_handed, Took, AreFound, AreHanded, AreAmong, Hands, is_found_by_any, found_by_any}
+use Rattle.permit_store.specs.Finding.{lies_in, is_wanted}
+use Rattle.permit_store.specs.Plain.{KeptFile, Keeps, row_seen, rows_found, HandsOut}
+use Rattle.permit_store.specs.Sieving.{Sieves}
+use Rattle.permit_store.proofs.Sieving.{IsSieveOf, sifted, passed_on, among}
 
 -- a row is found where it lies in the cell and is wanted
 found_parts : (r : Route) (caller day : ℕ) (found : Found) → is_found r caller day found ≡ (lies_in r day found.row.state && is_wanted r (relations_found caller found))
@@ -197,3 +201,38 @@ hands took found found_in old new a b result same r p = (
   record { taken = p.taken; read = record { kept = r.kept; one = r.one; doubt = r.doubt; failed = r.failed; commits = r.commits; handed = p.count } },
   λ _ t h. (p.rest, p.left, are_found t (p.given ++ p.rest) (found_in t) (p.whole ∙ same t h)),
 )
+
+-- ---- several selections
+
+-- the selection of each row finds each
+pub found_every : (caller day : ℕ) (rows : List Found) → filter (is_found route.Every caller day) rows ≡ rows
+found_every caller day [] = refl
+found_every caller day (row ∷ rows) = ap (λ found. row ∷ found) (found_every caller day rows)
+
+module _ {T E : Type 0} (took : T → Found → T → Bool → Type 0) (routes : List Route) (caller day : ℕ) (found : List Found) (n m : ℕ) (before after : Sieve T) (result : Result Bool E) where
+  few_yet : before.passed ≡ 0 → before.passed < 2 ^ 64
+  few_yet none = omega arith
+
+  -- the sieve passed on to the taker that it had
+  pub same_taker : IsSieveOf routes caller day before → before.passed ≡ 0 → HandsOut (Sieves took) found n m before after result → after.taker.ghost_name ≡ before.taker.ghost_name
+  same_taker own none p = (passed_on took routes caller day result p.given before after (few_yet none) own p.taken).same
+
+  -- what a sieve passed on of the rows that it was handed, which are all those of each of the tables that a store holds
+  pub hands_of_any : (old new : StoreView) (last : T) → IsSieveOf routes caller day before → before.passed ≡ 0 → last ≡ after.taker.now
+      → ((t : Tables) → old.holds t → found ≡ map (found_row t caller) t.files) → Reads ⊤ new.handed old new result → new.handed ≡ more_handed after.passed old.handed
+      → HandsOut (Sieves took) found n m before after result
+      → (given : List Found) × Hands took given old new before.taker.now last result × (new.doubt ≡ 0 → (t : Tables) → old.holds t → AreAmong result given (found_by_any routes caller day t))
+  hands_of_any old new last own none is same r count p =
+      let on = passed_on took routes caller day result p.given before after (few_yet none) own p.taken in
+      let given = sifted took routes caller day p.given in (
+        given,
+        record {
+          taken = subst (λ (x : T). Took took given before.taker.now x result) (sym is) on.taken;
+          read = record { kept = r.kept; one = r.one; doubt = r.doubt; failed = r.failed; commits = r.commits; handed = counted (length given) before.passed after.passed old.handed new.handed none on.passed count };
+        },
+        λ _ t h. among result (is_found_by_any routes caller day) p.given p.rest (map (found_row t caller) t.files) p.left
+            (subst (IsPermutation (p.given ++ p.rest)) (p.whole ∙ same t h) (IsPermutation-refl (p.given ++ p.rest))),
+      )
+    where
+      counted : (k a b c d : ℕ) → a ≡ 0 → b ≡ more_handed k a → d ≡ more_handed b c → d ≡ more_handed k c
+      counted k a b c d none e f = omega arith

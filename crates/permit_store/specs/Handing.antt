@@ -1,8 +1,9 @@
 -- The rows that a selection hands out, all at once or to a taker, one at a time.
-use Rattle.std.specs.Prelude.{◌≡◌, ◌<◌, ℕ, ◌+◌, ◌%◌, ◌^◌, Bool, true, false, List, [], ◌∷◌, ◌++◌, length, Result, Ok, Err, ⊤, IsPermutation}
-use Rattle.std.specs.List.{AllByRecursion}
+use Rattle.std.specs.Prelude.{◌≡◌, ◌<◌, ℕ, ◌+◌, ◌%◌, ◌^◌, Bool, true, false, List, [], ◌∷◌, ◌++◌, length, Result, Ok, Err, ⊤, IsPermutation, map, filter}
+use Rattle.std.specs.List.{AllByRecursion, list_any}
+use Rattle.permit_base.specs.declared.route.Route.{Route}
 use Rattle.permit_model.specs.Tables.{FileRow, Tables}
-use Rattle.permit_model.specs.Routes.{Found}
+use Rattle.permit_model.specs.Routes.{Found, found_row, is_found}
 use Rattle.permit_core.specs.Taking.{TookAll}
 use Rattle.permit_store.specs.Frames.{StoreView, Reads}
 
@@ -40,6 +41,20 @@ IsLeft (Err e) rest = ⊤
 -- The rows that were handed to a taker are a beginning of those found, or all of them.
 abbrev pub AreHanded : {E : Type 0} → Tables → Result Bool E → List Found → List Found → Type 0
 AreHanded t result given found = (rest : List Found) × IsLeft result rest × AreFound t (given ++ rest) found
+
+-- ---- several selections at once
+
+-- whether any of the selections finds the row
+abbrev pub is_found_by_any : List Route → ℕ → ℕ → Found → Bool
+is_found_by_any routes caller day found = list_any (λ route. is_found route caller day found) routes
+
+-- the rows that any of the selections finds, each once, in the order in which they are kept
+abbrev pub found_by_any : List Route → ℕ → ℕ → Tables → List Found
+found_by_any routes caller day t = filter (is_found_by_any routes caller day) (map (found_row t caller) t.files)
+
+-- The rows that were handed to a taker are some of those found, in any order, or all of them.
+abbrev pub AreAmong : {E : Type 0} → Result Bool E → List Found → List Found → Type 0
+AreAmong result given found = (rest : List Found) × IsLeft result rest × IsPermutation (given ++ rest) found
 
 -- These rows were handed to a taker by a call that reads, and each counts as handed out.
 pub record Hands {T E : Type 0} (took : T → Found → T → Bool → Type 0) (given : List Found) (old new : StoreView) (before after : T) (result : Result Bool E) : Type 0 where

@@ -1,13 +1,10 @@
 -- The tables that vectors keep, each file with its papers.
-use Rattle.std.specs.Prelude.{◌≡◌, ℕ, ◌==◌, ◌&&◌, Bool, true, List, [], length, map, filter, ◌++◌, find, Option, None, Some, option_map, Result}
+use Rattle.std.specs.Prelude.{◌≡◌, ℕ, ◌==◌, ◌&&◌, Bool, List, [], length, map, filter, ◌++◌, find, Option, None, Some, option_map, Result}
 use Rattle.std.specs.List.{list_any}
-use Rattle.permit_base.specs.declared.words.Relations.{Relations}
-use Rattle.permit_base.specs.declared.route.Route.{Route}
-use Rattle.permit_base.specs.declared.route.Route.TheVariants as route
 use Rattle.permit_model.specs.Caller.{Party}
 use Rattle.permit_model.specs.Parcels.{Parcel, Interest}
 use Rattle.permit_model.specs.Tables.{State, FileRow, Paper, Tables}
-use Rattle.permit_model.specs.Routes.{Found, is_kept_in, is_by, is_found}
+use Rattle.permit_model.specs.Routes.{Found, is_found}
 use Rattle.permit_store.specs.declared.plain.select.Selection.{Selection}
 use Rattle.permit_store.specs.Changes.{with_state}
 use Rattle.permit_store.specs.Handing.{Took, IsLeft, more_handed}
@@ -40,16 +37,6 @@ pub record Keeps (last : ℕ) (kept_parties : List Party) (kept_parcels : List P
   pub papers : (file : ℕ) → filter (λ p. p.file == file) t.papers ≡ papers_at file kept_files
 
 -- ---- the rows that a selection finds
-
--- whether the row lies in the selection's cell on the day
-abbrev pub lies_in : Route → ℕ → State → Bool
-lies_in route.Every day state = true
-lies_in (route.Cell files s b t) day state = is_kept_in s b t day state
-
--- whether the selection asks for rows to which the caller has these relations
-abbrev pub is_wanted : Route → Relations → Bool
-is_wanted route.Every set = true
-is_wanted (route.Cell files s b t) set = is_by files set
 
 -- the row with its parcel's owner and whether the caller has an interest in the parcel
 abbrev pub row_seen : Selection → FileRow → Found

@@ -18,6 +18,7 @@ use crate::founder::Founder;
 use crate::plain::kept::Kept;
 use crate::plain::select::Selection;
 use crate::rows::{Change, Desk, FileRow, Found, Interest, Paper, Parcel, Party, RowEffect};
+use crate::sieve::Sieve;
 use crate::store::{Got, OpenError, Store, StoreError};
 use permit_base::route::Route;
 use permit_base::values::{Day, Digest, FileId, Lot, ParcelId, PartyId};
@@ -215,6 +216,36 @@ impl Store for PlainStore {
         let mut handed = self.handed;
         let outcome = selection.hand(&self.files, taker, &mut handed);
         self.handed = handed;
+        match outcome {
+            Ok(all) => Ok(all),
+            Err(_) => self.fail(),
+        }
+    }
+
+    fn each_of_any<T: Taker<Found>>(
+        &mut self,
+        routes: &[Route],
+        caller: PartyId,
+        day: Day,
+        taker: &mut T,
+    ) -> Got<bool> {
+        let selection = Selection {
+            route: Route::Every,
+            caller,
+            day,
+            parcels: &self.parcels,
+            interests: &self.interests,
+        };
+        let mut sieve = Sieve {
+            routes,
+            caller,
+            day,
+            taker,
+            passed: 0,
+        };
+        let mut seen = 0;
+        let outcome = selection.hand(&self.files, &mut sieve, &mut seen);
+        self.handed = self.handed.wrapping_add(sieve.passed);
         match outcome {
             Ok(all) => Ok(all),
             Err(_) => self.fail(),

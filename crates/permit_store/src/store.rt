@@ -6,7 +6,7 @@ ghost use Rattle.permit_model.specs.Routes.{found_by, Found as TheFound};
 ghost use Rattle.permit_model.specs.Tables.{Tables};
 ghost use Rattle.permit_store.specs.Changes.{changed, Fits};
 ghost use Rattle.permit_store.specs.Frames.{StoreView, Reads, IsRead, IsLookUp, IsCommit};
-ghost use Rattle.permit_store.specs.Handing.{AreFound, AreHanded, Hands, selected_after};
+ghost use Rattle.permit_store.specs.Handing.{AreAmong, AreFound, AreHanded, Hands, found_by_any, selected_after};
 
 use crate::rows::{Change, Desk, FileRow, Found, Paper, Parcel, Party};
 use permit_base::route::Route;
@@ -124,6 +124,19 @@ pub trait Store {
     ) -> Got<bool>
         ensures handed { (given : List TheFound) × Hands T.took given (view self.old) (view self.new) taker.old taker.new result
             × ((view self.new).doubt ≡ 0 → (t : Tables) → (view self.old).holds t → AreHanded t result given (found_by route.now caller day t)) }
+        ensures crash { (t : Tables) → crash self.old self.new t (λ _. ⊥) };
+
+    /// Hands the rows that any of the selections finds to the taker, each once and in any order, one at a time, until it
+    /// asks to stop. It answers and counts as `each` does.
+    fn each_of_any<T: Taker<Found>>(
+        &mut self,
+        routes: &[Route],
+        caller: PartyId,
+        day: Day,
+        taker: &mut T,
+    ) -> Got<bool>
+        ensures handed { (given : List TheFound) × Hands T.took given (view self.old) (view self.new) taker.old taker.new result
+            × ((view self.new).doubt ≡ 0 → (t : Tables) → (view self.old).holds t → AreAmong result given (found_by_any routes.now caller day t)) }
         ensures crash { (t : Tables) → crash self.old self.new t (λ _. ⊥) };
 
     /// Makes exactly the change and sets the last day, or answers an error and changes nothing. Of a change that

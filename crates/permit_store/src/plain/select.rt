@@ -1,18 +1,15 @@
 //! The rows that a selection finds, in the order in which they are kept.
 
 ghost use Rattle.std.specs.Prelude.{◌≡◌, ◌<◌, ◌^◌, IfOk, filter, option_to_list, [], ◌∷◌};
-ghost use Rattle.permit_model.specs.Codes.{is_stage, is_timing};
-ghost use Rattle.permit_model.specs.Facts.{holds};
 ghost use Rattle.permit_model.specs.Routes;
-ghost use Rattle.permit_store.specs.Plain.{lies_in, is_wanted, row_seen, rows_found, HandsOut};
+ghost use Rattle.permit_store.specs.Plain.{row_seen, rows_found, HandsOut};
 
 use crate::plain::find;
 use crate::plain::kept::Kept;
+use crate::routes::{asks_for, is_in_cell};
 use crate::rows::{FileRow, Found, Interest, Parcel};
-use permit_base::route::{By, Route};
-use permit_base::values::{Day, ParcelId, PartyId};
-use permit_base::words::{Relation, Relations, Stage, Timing};
-use permit_core::state::FileState;
+use permit_base::route::Route;
+use permit_base::values::{Day, PartyId};
 use permit_core::taker::Taker;
 use std::alloc::{AllocError, Global};
 
@@ -24,64 +21,6 @@ pub(crate) struct Selection<'a> {
     pub(crate) day: Day,
     pub(crate) parcels: &'a [Parcel],
     pub(crate) interests: &'a [Interest],
-}
-
-fn same_stage(a: Stage, b: Stage) -> bool
-    ensures { result ≡ is_stage a b }
-{
-    a == b
-}
-
-fn same_timing(a: Timing, b: Timing) -> bool
-    ensures { result ≡ is_timing a b }
-{
-    a == b
-}
-
-fn has_relation(set: &Relations, relation: Relation) -> bool
-    ensures { result ≡ holds set.now relation }
-{
-    match relation {
-        Relation::Applicant => set.applicant,
-        Relation::Contractor => set.contractor,
-        Relation::Owner => set.owner,
-        Relation::AssignedReviewer => set.assigned_reviewer,
-        Relation::AssignedInspector => set.assigned_inspector,
-        Relation::Conflict => set.conflict,
-    }
-}
-
-/// Whether the row lies in the selection's cell on the day.
-fn is_in_cell(route: Route, day: Day, state: &FileState) -> bool
-    ensures { result ≡ lies_in route day state.now }
-{
-    match route {
-        Route::Every => true,
-        Route::Cell {
-            by: _,
-            stage,
-            stopped,
-            timing,
-        } => {
-            same_stage(stage, state.stored_stage())
-                && stopped == state.is_stopped()
-                && same_timing(timing, state.timing(day))
-        }
-    }
-}
-
-/// Whether the selection asks for rows to which the caller has these relations.
-fn asks_for(route: Route, set: &Relations) -> bool
-    ensures { result ≡ is_wanted route set.now }
-{
-    match route {
-        Route::Every => true,
-        Route::Cell { by, .. } => match by {
-            By::Whole => true,
-            By::One(relation) => has_relation(set, relation),
-            By::Two(first, second) => has_relation(set, first) && has_relation(set, second),
-        },
-    }
 }
 
 /// A copy of the row, as it is found.

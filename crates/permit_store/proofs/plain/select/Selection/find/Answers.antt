@@ -1,6 +1,7 @@
 use Rattle.std.proofs.Common.{◌≡◌, refl, sym}
 use Rattle.permit_model.specs.Routes.{relations_found}
-use Rattle.permit_store.specs.Plain.{row_seen, lies_in}
+use Rattle.permit_store.specs.Finding.{lies_in}
+use Rattle.permit_store.specs.Plain.{row_seen}
 use Rattle.permit_store.proofs.Selecting.{found_unwanted, found_wanted}
 use Rattle.permit_store.proofs.plain.select.Selection.find.Goals as goal
 
