@@ -125,6 +125,17 @@ module _ {T : Type 0} (took : T → FileView → T → Bool → Type 0) (policy 
   stops e old new before after (Ok (ended.Refused why)) passed sure held = tt
   stops e old new before after (Err error) passed sure held = tt
 
+-- over any tables it is a listing of some files
+pub shown_some : {T : Type 0} (took : T → FileView → T → Bool → Type 0) (policy : Policy) (caller : Party) (day : ℕ) (route : Route) (old new : StoreView) (before after : T) (result : Result RowsEnd StoreError)
+    → PassedOn took policy caller day route old new before after result → (files : List FileView) × Shows took (Listed files) before after (end_of result)
+shown_some took policy caller day route old new before after (Ok (ended.All read)) passed = (views_found policy caller day passed.given, passed.taken.1)
+shown_some took policy caller day route old new before after (Ok ended.Stopped) passed =
+    let stops = passed.taken in
+    let given = views_found policy caller day stops.passed in
+    (given ++ view_found day stops.last ∷ [], (given, view_found day stops.last, [], refl, stops.between, stops.taken, stops.stopped))
+shown_some took policy caller day route old new before after (Ok (ended.Refused why)) passed = absurd passed.taken
+shown_some took policy caller day route old new before after (Err error) passed = (views_found policy caller day passed.given, passed.taken)
+
 pub handed_at : {T : Type 0} (took : T → FileView → T → Bool → Type 0) (policy : Policy) (caller : Party) (day : ℕ) (route : Route) (old new : StoreView) (before after : T) (result : Result RowsEnd StoreError)
     → PassedOn took policy caller day route old new before after result → HandedAt (end_of result) old.handed new.handed
 handed_at took policy caller day route old new before after (Ok (ended.All read)) passed = (length passed.given, passed.taken.0, passed.handed)

@@ -16,7 +16,7 @@ use Rattle.permit_model.specs.Machine.{Listed, Refused, Outcome, outcome_by_call
 use Rattle.permit_office.specs.declared.showing.RowsEnd.{RowsEnd}
 use Rattle.permit_office.specs.declared.showing.RowsEnd.TheVariants as ended
 use Rattle.permit_office.specs.Opening.{opened_for, rows_opened}
-use Rattle.permit_office.specs.Showing.{OpensAt, Shows, caller_in_time, caller_on}
+use Rattle.permit_office.specs.Showing.{OpensAt, RefusesCaller, Shows, ShowsSome, caller_in_time, caller_on}
 use Rattle.permit_office.specs.Stops.{StopsAt, StopsFor}
 use Rattle.permit_office.proofs.Stepping.{stepped}
 
@@ -76,3 +76,13 @@ opens_known policy h digest day wanted caller e old new end opens =
 pub opens_refused : (rows : Option ℕ) (why : Refusal) (old new : ℕ) → OpensAt rows (ended.Refused why) old new
 opens_refused None why old new = tt
 opens_refused (Some n) why old new = tt
+
+-- a caller or a clock that is refused is given nothing, whichever tables there are
+pub shows_nothing : {T : Type 0} (took : T → FileView → T → Bool → Type 0) (t : T) (why : Refusal) → RefusesCaller why → ShowsSome took t t (ended.Refused why)
+shows_nothing took t refusal.Caller known = (Refused refusal.Caller, tt, (refl, refl))
+shows_nothing took t refusal.Clock known = (Refused refusal.Clock, tt, (refl, refl))
+shows_nothing took t refusal.Store known = absurd known
+shows_nothing took t refusal.Syntax known = absurd known
+shows_nothing took t refusal.Record known = absurd known
+shows_nothing took t (refusal.Denied rule) known = absurd known
+shows_nothing took t (refusal.NotAdmitted why) known = absurd known

@@ -1,6 +1,7 @@
 -- How the rows that a listing's selections find become its files.
-use Rattle.std.specs.Prelude.{◌≡◌, ◌<◌, ℕ, ◌+◌, ◌%◌, ◌^◌, Bool, List, [], ◌∷◌, ◌++◌, length, map, filter, IsTrue, ⊤}
+use Rattle.std.specs.Prelude.{◌≡◌, ◌<◌, ℕ, ◌+◌, ◌%◌, ◌^◌, Bool, List, [], ◌∷◌, ◌++◌, length, map, filter, IsTrue, ⊤, IsPermutation}
 use Rattle.std.specs.List.{flat_map, AllByRecursion}
+use Rattle.permit_base.specs.declared.request.Filter.{Filter}
 use Rattle.permit_base.specs.declared.route.Route.{Route}
 use Rattle.permit_base.specs.declared.words.Action.TheVariants as action
 use Rattle.permit_core.specs.Views.{row_stage, row_timing}
@@ -8,8 +9,9 @@ use Rattle.permit_model.specs.History.{History}
 use Rattle.permit_model.specs.Caller.{Party}
 use Rattle.permit_model.specs.Facts.{Facts}
 use Rattle.permit_model.specs.Policy.{Policy, allows}
+use Rattle.permit_model.specs.Opened.{allowed_by}
 use Rattle.permit_model.specs.Tables.{FileView, tables}
-use Rattle.permit_model.specs.Routes.{Found, relations_found, found_by}
+use Rattle.permit_model.specs.Routes.{Found, relations_found, found_by, routes_of}
 use Rattle.permit_model.specs.Machine.{IsHistory}
 use Rattle.permit_store.specs.Frames.{StoreView}
 use Rattle.permit_office.specs.declared.listing.Lister.{Lister}
@@ -50,14 +52,16 @@ pub record Listed (given : List Found) (before after : Lister) : Type 0 where
 abbrev pub Takes : Lister → Found → Lister → Bool → Type 0
 Takes before found after more = IsTrue more → Listed (found ∷ []) before after
 
--- Rows were handed out, these are the files among them that may be listed and so many they were, and they are those that
--- the selections find in turn.
+-- Rows were handed out, these are the files among them that may be listed and so many they were; and where the selections
+-- are those of a listing for the caller, the rows are those that these find, as often and in any order.
 pub record Gathers (policy : Policy) (caller : Party) (day : ℕ) (routes : List Route) (old new : StoreView) (views : List FileView) (count : ℕ) : Type 0 where
   pub given : List Found
   pub files : views ≡ views_found policy caller day given
   pub read : count ≡ length given % 2 ^ 32
   pub handed : HandedMore (length given) old.handed new.handed
-  pub found : new.doubt ≡ 0 → (h : History) → IsHistory h → old.holds (tables h) → given ≡ flat_map (λ r. found_by r caller.id day (tables h)) routes
+  pub found : new.doubt ≡ 0 → (h : History) → IsHistory h → old.holds (tables h)
+      → (wanted : Filter) → routes ≡ routes_of (allowed_by policy caller.role action.List) wanted
+      → IsPermutation given (flat_map (λ r. found_by r caller.id day (tables h)) routes)
 
 -- the numbers of the files rise
 abbrev pub AreRising : List FileView → Type 0

@@ -43,6 +43,22 @@ Shows took (Refused why) old new (ended.Refused refusal.Store) = new ≡ old
 Shows took (Refused why) old new (ended.Refused told) = (told ≡ why) × (new ≡ old)
 Shows took reply old new end = ⊥
 
+-- a refusal of the caller or the clock
+abbrev pub RefusesCaller : Refusal → Type 0
+RefusesCaller refusal.Caller = ⊤
+RefusesCaller refusal.Clock = ⊤
+RefusesCaller why = ⊥
+
+-- a listing of some files, or why it is refused
+abbrev pub IsListing : Reply → Type 0
+IsListing (Listed files) = ⊤
+IsListing (Refused why) = RefusesCaller why
+IsListing reply = ⊥
+
+-- What the taker was given is some listing, whichever tables there are.
+abbrev pub ShowsSome : {T : Type 0} → (T → FileView → T → Bool → Type 0) → T → T → RowsEnd → Type 0
+ShowsSome took old new end = (reply : Reply) × IsListing reply × Shows took reply old new end
+
 -- the end for want of memory or a failing store
 abbrev pub is_store_end : RowsEnd → Bool
 is_store_end (ended.Refused refusal.Store) = true

@@ -1,28 +1,30 @@
 //! Listings and registers.
 
-ghost use Rattle.std.specs.Prelude.{◌≡◌, Some, length, IfOk};
+ghost use Rattle.std.specs.Prelude.{◌≡◌, Some, length, IfOk, List};
 ghost use Rattle.std.specs.List.{Contains, Any};
 ghost use Rattle.permit_base.specs.declared.request.Request.TheVariants as request;
 ghost use Rattle.permit_base.specs.declared.request.Filter.{Filter as TheFilter};
 ghost use Rattle.permit_base.specs.declared.words.Action.TheVariants as action;
 ghost use Rattle.permit_model.specs.History.{History};
-ghost use Rattle.permit_model.specs.Tables.{tables, FileView as TheView};
+ghost use Rattle.permit_model.specs.Tables.{Tables, tables, FileView as TheView};
 ghost use Rattle.permit_model.specs.Listing.{listing, register_filter};
 ghost use Rattle.permit_model.specs.Opened.{opened, allowed_by};
-ghost use Rattle.permit_model.specs.Routes.{routes_of};
+ghost use Rattle.permit_model.specs.Routes.{Found as TheFound, routes_of};
 ghost use Rattle.permit_model.specs.Machine.{IsHistory, outcome_by_request};
 ghost use Rattle.permit_office.specs.Answers.{Attempts, IsOwn};
 ghost use Rattle.permit_office.specs.Frames.{IsAttempt, IsMaking};
-ghost use Rattle.permit_office.specs.Listings.{found_facts, view_found, Gathers, AreRising};
+ghost use Rattle.permit_office.specs.Listings.{found_facts, view_found, Takes, Gathers, AreRising};
 ghost use Rattle.permit_office.specs.Opening.{Opens, OpensRows};
 ghost use Rattle.permit_office.specs.Reach.{ManyRows, WereRead};
 ghost use Rattle.permit_office.specs.Stops.{routes_for};
+ghost use Rattle.permit_store.specs.Handing.{AreAmong, Hands, found_by_any};
 
+use crate::groups::{group_of, has_alike, relations_everywhere};
 use crate::reply::{Listing, Reply};
 use crate::showing::register_filter;
 use permit_base::request::Filter;
 use permit_base::route::Route;
-use permit_base::values::Day;
+use permit_base::values::{Day, PartyId};
 use permit_base::words::{Action, RegisterKind, Role};
 use permit_core::taker::Taker;
 use permit_policy::decide::decide;
@@ -71,8 +73,6 @@ pub(crate) fn view_on(day: Day, found: &Found) -> Result<FileView, AllocError>
 }
 
 impl Taker<Found> for Lister<'_> {
-    ghost use Rattle.permit_office.specs.Listings.{Takes};
-
     ghost took = { Takes };
 
     /// Decides by the policy's first match on the full set of the caller's relations, whatever selection found the
@@ -90,8 +90,26 @@ impl Taker<Found> for Lister<'_> {
     }
 }
 
-/// The files that the caller may list among the rows that the selections find, as often as they are found and in the
-/// order in which they are.
+/// Hands the rows that any selection of the group finds to the lister.
+fn hand_group<S: Store>(
+    store: &mut S,
+    group: &[Route],
+    caller: PartyId,
+    day: Day,
+    lister: &mut Lister<'_>,
+) -> Got<bool>
+    ensures handed { (given : List TheFound) × Hands Takes given (S.view store.old) (S.view store.new) lister.old lister.new result
+        × ((S.view store.new).doubt ≡ 0 → (t : Tables) → (S.view store.old).holds t
+        → AreAmong result given (found_by_any group.now caller day t)) }
+{
+    if group.len() == 1 {
+        return store.each(&group[0], caller, day, lister);
+    }
+    store.each_of_any(group, caller, day, lister)
+}
+
+/// The files that the caller may list among the rows that the selections find, as often as they are found and in any
+/// order.
 fn gather<S: Store>(
     store: &mut S,
     policy: &Policy,
@@ -110,9 +128,15 @@ fn gather<S: Store>(
         files: Vec::new(policy.allocator()),
         read: 0,
     };
-    for route in routes {
-        let goes_on = store.each(route, caller.id, day, &mut lister)?;
-        if !goes_on {
+    let whole = relations_everywhere(routes);
+    for (place, route) in routes.iter().enumerate() {
+        if has_alike(whole, &routes[..place], route) {
+            continue;
+        }
+        let Ok(group) = group_of(policy.allocator(), whole, routes, route) else {
+            return Err(StoreError);
+        };
+        if !hand_group(store, &group, caller.id, day, &mut lister)? {
             return Err(StoreError);
         }
     }

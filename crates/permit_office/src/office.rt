@@ -12,7 +12,7 @@ ghost use Rattle.permit_office.specs.Answers.{Answers};
 ghost use Rattle.permit_office.specs.Frames.{IsStep, Steps};
 ghost use Rattle.permit_office.specs.Opening.{rows_opened};
 ghost use Rattle.permit_office.specs.Runs.{Ran};
-ghost use Rattle.permit_office.specs.Showing.{IsShowing, OpensAt, Shows};
+ghost use Rattle.permit_office.specs.Showing.{IsShowing, OpensAt, Shows, ShowsSome};
 ghost use Rattle.permit_office.specs.Stops.{StopsAt};
 
 use crate::reply::Reply;
@@ -118,6 +118,7 @@ impl<S: Store + Drop> Office<S> {
     ) -> RowsEnd
         ensures shown { (S.view self.new.store).doubt ≡ 0 → (h : History) → IsHistory h → (S.view self.old.store).holds (tables h)
             → Shows T.took (step_as self.old.policy h (digest_of token.now) (request.ListFiles wanted) day).reply taker.old taker.new result }
+        ensures some { ShowsSome T.took taker.old taker.new result }
         ensures opened { (S.view self.new.store).doubt ≡ 0 → (h : History) → IsHistory h → (S.view self.old.store).holds (tables h)
             → OpensAt (rows_opened self.old.policy h (digest_of token.now) (request.ListFiles wanted) day) result (S.view self.old.store).handed (S.view self.new.store).handed }
         ensures stopped { (S.view self.new.store).doubt ≡ 0 → (h : History) → IsHistory h → (S.view self.old.store).holds (tables h)

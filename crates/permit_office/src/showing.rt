@@ -1,16 +1,16 @@
 //! The files of a listing, handed out one at a time.
 
-ghost use Rattle.std.specs.Prelude.{◌≡◌, ◌∷◌, [], IfOk, IfSome, IsSome, length, Some};
+ghost use Rattle.std.specs.Prelude.{◌≡◌, ◌∷◌, [], IfErr, IfOk, IfSome, IsSome, length, List, Some};
 ghost use Rattle.permit_base.specs.declared.request.Request.TheVariants as request;
 ghost use Rattle.permit_model.specs.History.{History};
 ghost use Rattle.permit_model.specs.Listing.{listing, register_filter};
 ghost use Rattle.permit_model.specs.Opened.{opened};
-ghost use Rattle.permit_model.specs.Tables.{tables};
+ghost use Rattle.permit_model.specs.Tables.{tables, FileView as TheView};
 ghost use Rattle.permit_model.specs.Machine.{IsHistory, Listed, step_as};
 ghost use Rattle.permit_store.specs.Frames.{IsRead};
 ghost use Rattle.permit_office.specs.Frames.{IsMaking};
 ghost use Rattle.permit_office.specs.Opening.{rows_opened};
-ghost use Rattle.permit_office.specs.Showing.{HandedAt, IsShowing, OpensAt, Shows, TakesUp, caller_on, end_of};
+ghost use Rattle.permit_office.specs.Showing.{HandedAt, IsShowing, OpensAt, RefusesCaller, Shows, ShowsSome, TakesUp, caller_on, end_of};
 ghost use Rattle.permit_office.specs.Stops.{StopsAt, StopsFor};
 
 use crate::listing::{list_by_routes, listing_routes};
@@ -57,6 +57,7 @@ pub fn register_filter(kind: RegisterKind) -> Filter
 fn caller_for<S: Store>(store: &mut S, digest: &Digest, day: Day) -> Got<Result<Party, Refusal>>
     ensures known { (S.view store.new).doubt ≡ 0 → (h : History) → IsHistory h → (S.view store.old).holds (tables h)
         → IfOk result (λ told. told ≡ caller_on h digest.now day) }
+    ensures told { IfOk result (λ told. IfErr told RefusesCaller) }
     ensures read { IsRead (S.view store.old) (S.view store.new) result }
 {
     let Some(caller) = store.party_by_token(digest)? else {
@@ -104,6 +105,7 @@ fn hand_files<S: Store, T: Taker<FileView>>(
 ) -> Got<RowsEnd>
     ensures shown { (S.view store.new).doubt ≡ 0 → (h : History) → IsHistory h → (S.view store.old).holds (tables h)
         → Shows T.took (Listed (listing policy.now h day caller.now wanted)) taker.old taker.new (end_of result) }
+    ensures some { (files : List TheView) × Shows T.took (Listed files) taker.old taker.new (end_of result) }
     ensures opened { (S.view store.new).doubt ≡ 0 → (h : History) → IsHistory h → (S.view store.old).holds (tables h)
         → OpensAt (Some (length (opened policy.now h day caller.now wanted))) (end_of result) (S.view store.old).handed (S.view store.new).handed }
     ensures stopped { (S.view store.new).doubt ≡ 0 → (h : History) → IsHistory h → (S.view store.old).holds (tables h)
@@ -134,6 +136,7 @@ pub(crate) fn show<S: Store, T: Taker<FileView>>(
 ) -> RowsEnd
     ensures shown { (S.view store.new).doubt ≡ 0 → (h : History) → IsHistory h → (S.view store.old).holds (tables h)
         → Shows T.took (step_as policy.now h digest.now (request.ListFiles wanted) day).reply taker.old taker.new result }
+    ensures some { ShowsSome T.took taker.old taker.new result }
     ensures opened { (S.view store.new).doubt ≡ 0 → (h : History) → IsHistory h → (S.view store.old).holds (tables h)
         → OpensAt (rows_opened policy.now h digest.now (request.ListFiles wanted) day) result (S.view store.old).handed (S.view store.new).handed }
     ensures stopped { (S.view store.new).doubt ≡ 0 → (h : History) → IsHistory h → (S.view store.old).holds (tables h)

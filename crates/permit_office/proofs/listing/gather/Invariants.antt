@@ -1,11 +1,11 @@
 use Rattle.std.proofs.Common.{◌≡◌, ◌≤◌, take}
 use Rattle.permit_model.specs.Tables.{Tables}
 use Rattle.permit_store.specs.Frames.{HasOneDesk}
-use Rattle.permit_office.specs.Listings.{Gathers}
+use Rattle.permit_office.proofs.Listings.{GathersOf}
 use Rattle.permit_office.proofs.listing.gather.Given as goal
 
-abbrev pub invariant-loop-route : goal.invariant-loop-route
-invariant-loop-route g l = record {
+abbrev pub invariant-loop-place : goal.invariant-loop-place
+invariant-loop-place g l = record {
   policy : l.lister.policy.now ≡ l.fn.policy;
   caller : l.lister.caller.now ≡ l.fn.caller;
   day : l.lister.day ≡ l.fn.day;
@@ -14,5 +14,5 @@ invariant-loop-route g l = record {
   doubt : (g.S.Store.view l.fn.store).doubt ≤ (g.S.Store.view l.store).doubt;
   failed : (g.S.Store.view l.store).failed ≡ (g.S.Store.view l.fn.store).failed;
   commits : (g.S.Store.view l.store).commits ≡ (g.S.Store.view l.fn.store).commits;
-  gathers : Gathers l.fn.policy l.fn.caller l.fn.day (take l.route-index l.routes) (g.S.Store.view l.fn.store) (g.S.Store.view l.store) l.lister.files.items l.lister.read;
+  gathers : GathersOf l.whole l.fn.policy l.fn.caller l.fn.day l.routes (take l.place l.routes) (g.S.Store.view l.fn.store) (g.S.Store.view l.store) l.lister.files.items l.lister.read;
 }

@@ -8,7 +8,7 @@ use Rattle.permit_model.specs.Tables.{FileView}
 use Rattle.permit_model.specs.Opened.{allowed_by}
 use Rattle.permit_model.specs.Routes.{routes_of}
 use Rattle.permit_office.specs.Stops.{routes_for}
-use Rattle.permit_office.proofs.OneRoute.{shown, opens, stops, handed_at, stops_behind}
+use Rattle.permit_office.proofs.OneRoute.{shown, shown_some, opens, stops, handed_at, stops_behind}
 use Rattle.permit_office.proofs.showing.hand_files.Goals as goal
 
 pub returns-in-Some-clause-shown : goal.returns-in-Some-clause-shown
@@ -19,6 +19,12 @@ returns-in-Some-clause-shown g c = λ doubt h is held.
     let named : c.in_ok-routes.routes.items ≡ routes_for a.policy.now a.caller.now a.wanted = c.in_ok-routes.ensures ∙ ap (λ (r : Role). routes_of (allowed_by a.policy.now r action.List) a.wanted) (ap (λ (p : Party). p.role) c.caller.view_is) in
     let one : routes_for a.policy.now a.caller.now a.wanted ≡ route ∷ [] = sym (c.deref.ensures.value ∙ named) ∙ c.in-Some.ensures.one in
     shown g.T.Taker.took a.policy.now h a.day a.caller.now a.wanted is route one (s a.store.now) (s c.pass_on.new.store) a.taker.now c.pass_on.new.taker c.pass_on.result c.pass_on.ensures.passed doubt held
+
+pub returns-in-Some-clause-some : goal.returns-in-Some-clause-some
+returns-in-Some-clause-some g c =
+    let a = c.args in
+    let s = g.S.Store.view in
+    shown_some g.T.Taker.took a.policy.now a.caller.now a.day c.in-Some.route (s a.store.now) (s c.pass_on.new.store) a.taker.now c.pass_on.new.taker c.pass_on.result c.pass_on.ensures.passed
 
 pub returns-in-Some-clause-opened : goal.returns-in-Some-clause-opened
 returns-in-Some-clause-opened g c = λ doubt h is held.

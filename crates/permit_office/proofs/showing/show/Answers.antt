@@ -1,12 +1,13 @@
-use Rattle.std.proofs.Common.{◌≡◌, ◌∙◌, sym, arith}
+use Rattle.std.proofs.Common.{◌≡◌, ◌∙◌, [], refl, sym, arith}
 use Rattle.std.specs.Prelude.{Ok, Err}
 use Rattle.permit_model.specs.Tables.{tables}
+use Rattle.permit_model.specs.Machine.{Listed}
 use Rattle.permit_base.specs.declared.request.Request.TheVariants as request
 use Rattle.permit_base.specs.declared.outcome.Refusal.TheVariants as refusal
 use Rattle.permit_office.specs.declared.showing.RowsEnd.TheVariants as ended
 use Rattle.permit_office.specs.Opening.{rows_opened}
 use Rattle.permit_office.specs.Showing.{caller_on}
-use Rattle.permit_office.proofs.ShownFiles.{opens_refused, opens_known, shows_known, shows_refused, stops_known}
+use Rattle.permit_office.proofs.ShownFiles.{opens_refused, opens_known, shows_known, shows_nothing, shows_refused, stops_known}
 use Rattle.permit_office.proofs.showing.show.Goals as goal
 
 pub returns-in-Ok-clause-shown : goal.returns-in-Ok-clause-shown
@@ -64,3 +65,19 @@ pub returns-clause-opened : goal.returns-clause-opened
 returns-clause-opened g c = λ doubt h is held.
     let a = c.args in
     opens_refused (rows_opened a.policy.now h a.digest.now (request.ListFiles a.wanted) a.day) _ _ _
+
+pub returns-in-Ok-clause-some : goal.returns-in-Ok-clause-some
+returns-in-Ok-clause-some g c =
+    let some = c.in-Ok.ensures.some in
+    (Listed some.0, tt, some.1)
+
+pub returns-in-Ok-Ok-clause-some : goal.returns-in-Ok-Ok-clause-some
+returns-in-Ok-Ok-clause-some g c =
+    let some = c.in-Err-hand_files.ensures.some in
+    (Listed some.0, tt, some.1)
+
+pub returns-in-Ok-Err-clause-some : goal.returns-in-Ok-Err-clause-some
+returns-in-Ok-Err-clause-some g c = shows_nothing g.T.Taker.took c.args.taker.now c.in-Ok-Err.refusal (rw c.in-Ok-Err.field-0-is at c.in-Ok-Err.ensures.told)
+
+pub returns-clause-some : goal.returns-clause-some
+returns-clause-some g c = (Listed [], tt, ([], [], refl, refl))
