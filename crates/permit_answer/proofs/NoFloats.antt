@@ -1,9 +1,6 @@
 -- No row has a float, so that each has one text.
-use Rattle.std.proofs.Common.{◌≡◌, ℕ, false, List, [], ◌∷◌, Option, Some, None, refl, ap, ◌∙◌}
-use Rattle.std.specs.Prelude.{IfOk, Result, Ok, Err, String, string_bytes}
-use Rattle.std.specs.declared.alloc.Global.{Global}
-use Rattle.serde_json.specs.Data.{Data}
-use Rattle.serde_json.specs.Written.{has_float, compact_text}
+use Rattle.std.proofs.Common.{◌≡◌, ℕ, false, List, [], ◌∷◌, Option, Some, None, refl}
+use Rattle.serde_json.specs.Written.{has_float}
 use Rattle.permit_base.specs.declared.words.Step.{Step}
 use Rattle.permit_model.specs.Tables.{next_in_row}
 use Rattle.permit_model.specs.Tables.{FileView, Paper}
@@ -62,9 +59,3 @@ files_plain (file ∷ files) = rw (listed_plain file) (files_plain files)
 
 pub listing_plain : (files : List FileView) → has_float (listing_data files) ≡ false
 listing_plain files = rw (files_plain files) refl
-
--- the text of a value that was made as data with no float
-pub text_of : {E : Type 0} → (result : Result (String Global) E) (made wanted : Data) → made ≡ wanted → has_float wanted ≡ false
-    → IfOk result (λ s. has_float made ≡ false → string_bytes s ≡ compact_text made) → IfOk result (λ s. string_bytes s ≡ compact_text wanted)
-text_of (Ok s) made wanted e plain h = h (rw e plain) ∙ ap compact_text e
-text_of (Err _) made wanted e plain h = tt

@@ -4,5 +4,4 @@ pub mod Outgoing
 pub mod RowData
 pub mod Examples
 pub mod Made
-pub mod Inserted
-pub mod Objects
+pub mod Sent

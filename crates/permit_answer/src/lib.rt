@@ -8,7 +8,7 @@ pub mod answer;
 pub mod examples;
 mod in_place;
 mod line;
-mod object;
+mod member;
 mod rows;
 mod status;
 mod write;

@@ -1,170 +1,202 @@
 //! Parcels, files and listings as JSON.
 
-ghost use Rattle.std.specs.Prelude.{◌≡◌, IfOk, OnOk, string_bytes};
-ghost use Rattle.serde_json.specs.View.{view};
+ghost use Rattle.std.specs.Prelude.{◌≡◌, [], Some, IfOk, OnOk};
+ghost use Rattle.serde.specs.Event.{Log};
+ghost use Rattle.serde_json.specs.Events.{SendsValue, SendsMembers};
+ghost use Rattle.serde_json.specs.Sent.{IsTextOf};
 ghost use Rattle.serde_json.specs.Written.{compact_text};
-ghost use Rattle.permit_answer.specs.Objects.{shown};
 ghost use Rattle.permit_answer.specs.RowData.{steps_data, parcel_data, paper_data, papers_data, later_members, listed_data, files_data, listing_data, file_data};
-ghost use Rattle.permit_answer.specs.Inserted.{with_middle, with_front};
+ghost use Rattle.permit_answer.specs.Sent.{SendsBefore};
 
-use crate::object::Object;
+use crate::member::{put_count, put_flag, put_number, put_step, put_text};
 use permit_base::words::{Step, Word};
 use permit_core::row::FileView;
 use permit_core::steps::required_steps;
 use permit_store::rows::{Paper, Parcel};
-use serde_json::{Value, push};
+use serde::{Described, Serialize, Serializer};
 use std::alloc::{AllocError, Global};
 
-fn parcel_value(alloc: Global, parcel: &Parcel) -> Result<Value, AllocError>
-    ensures { IfOk result (λ v. view v ≡ parcel_data parcel.now) }
+/// The text of what is sent. The writer fails where memory is refused, and any failure counts as that.
+fn text_of<T: Serialize>(alloc: Global, sent: &T) -> Result<Vec<u8>, AllocError>
+    ensures { IfOk result (λ text. (log : Log) × T.writes sent.now (Some []) log × IsTextOf log text.items) }
 {
-    let mut object = Object::new(alloc);
-    object.put_count("owner", u64::from(parcel.owner.get()))?;
-    object.put_text("lot", parcel.lot.as_str())?;
-    object.put_count("id", u64::from(parcel.id.get()))?;
-    object.put_text("address", parcel.address.as_str())?;
-    Ok(object.into_value())
+    match serde_json::to_vec(alloc, sent) {
+        Ok(text) => Ok(text),
+        Err(_) => Err(AllocError),
+    }
+}
+
+/// A parcel that is sent.
+#[derive(Drop)]
+struct SentParcel<'p>(&'p Parcel);
+
+impl Described for SentParcel<'_> {
+    ghost writes = { λ sent. SendsValue (parcel_data sent.0.now) };
+}
+
+impl Serialize for SentParcel<'_> {
+    fn serialize<S: Serializer>(&self, out: &mut S) -> Result<(), S::Error> {
+        let parcel = self.0;
+        out.begin_map(Some(4))?;
+        put_text(out, "address", parcel.address.as_str())?;
+        put_count(out, "id", u64::from(parcel.id.get()))?;
+        put_text(out, "lot", parcel.lot.as_str())?;
+        put_count(out, "owner", u64::from(parcel.owner.get()))?;
+        out.end_map()
+    }
 }
 
 /// The text of a parcel.
-pub fn parcel_text(alloc: Global, parcel: &Parcel) -> Result<String, AllocError>
-    ensures { IfOk result (λ s. string_bytes s ≡ compact_text (parcel_data parcel.now)) }
+pub fn parcel_text(alloc: Global, parcel: &Parcel) -> Result<Vec<u8>, AllocError>
+    ensures { IfOk result (λ text. text.items ≡ compact_text (parcel_data parcel.now)) }
 {
-    let value = parcel_value(alloc, parcel)?;
-    value.to_string(alloc)
+    text_of(alloc, &SentParcel(parcel))
 }
 
-fn steps_value(alloc: Global, steps: &[Step]) -> Result<Value, AllocError>
-    ensures { IfOk result (λ v. view v ≡ steps_data steps.now) }
+fn send_steps<S: Serializer>(out: &mut S, steps: &[Step]) -> Result<(), S::Error>
+    ensures { OnOk result (SendsValue (steps_data steps.now) (S.written out.old) (S.written out.new)) }
 {
-    let mut list = Vec::new(alloc);
+    out.begin_seq(Some(steps.len()))?;
     for step in steps {
-        push(&mut list, Value::try_from_str(alloc, step.word())?)?;
+        out.str(step.word())?;
     }
-    Ok(Value::Array(list))
+    out.end_seq()
 }
 
-fn paper_value(alloc: Global, paper: &Paper) -> Result<Value, AllocError>
-    ensures { IfOk result (λ v. view v ≡ paper_data paper.now) }
+fn send_paper<S: Serializer>(out: &mut S, paper: &Paper) -> Result<(), S::Error>
+    ensures { OnOk result (SendsValue (paper_data paper.now) (S.written out.old) (S.written out.new)) }
 {
-    let mut object = Object::new(alloc);
-    object.put_text("text", paper.text.as_str())?;
-    object.put_text("terms", paper.terms.as_str())?;
-    object.put_text("sort", paper.sort.word())?;
-    object.put("open", Value::from(paper.is_open))?;
-    object.put_count("number", u64::from(paper.number.get()))?;
-    object.put_count("days", u64::from(paper.days))?;
-    object.put_count("day", u64::from(paper.day.get()))?;
-    object.put_count("author", u64::from(paper.author.get()))?;
-    Ok(object.into_value())
+    out.begin_map(Some(8))?;
+    put_count(out, "author", u64::from(paper.author.get()))?;
+    put_count(out, "day", u64::from(paper.day.get()))?;
+    put_count(out, "days", u64::from(paper.days))?;
+    put_count(out, "number", u64::from(paper.number.get()))?;
+    put_flag(out, "open", paper.is_open)?;
+    put_text(out, "sort", paper.sort.word())?;
+    put_text(out, "terms", paper.terms.as_str())?;
+    put_text(out, "text", paper.text.as_str())?;
+    out.end_map()
 }
 
-fn papers_value(alloc: Global, papers: &[Paper]) -> Result<Value, AllocError>
-    ensures { IfOk result (λ v. view v ≡ papers_data papers.now) }
+fn send_papers<S: Serializer>(out: &mut S, papers: &[Paper]) -> Result<(), S::Error>
+    ensures { OnOk result (SendsValue (papers_data papers.now) (S.written out.old) (S.written out.new)) }
 {
-    let mut list = Vec::new(alloc);
+    out.begin_seq(Some(papers.len()))?;
     for paper in papers {
-        push(&mut list, paper_value(alloc, paper)?)?;
+        send_paper(out, paper)?;
     }
-    Ok(Value::Array(list))
+    out.end_seq()
 }
 
-/// The members from parcel on.
-fn later(alloc: Global, file: &FileView) -> Result<Object, AllocError>
-    ensures { IfOk result (λ o. shown o ≡ later_members file.now) }
-{
-    let state = &file.row.state;
-    let mut object = Object::new(alloc);
-    object.put_count("valuation", file.row.valuation.get())?;
-    object.put_text("timing", file.timing.word())?;
-    object.put_number("temporary", state.temporary())?;
-    object.put("stopped", Value::from(state.is_stopped()))?;
-    object.put_text("stage", file.stage.word())?;
-    object.put_number("reviewer", state.reviewer().map(|party| party.get()))?;
-    object.put_number("requested", state.requested().map(|day| day.get()))?;
-    object.put_step("request", state.request())?;
-    object.put_count("parcel", u64::from(state.parcel().get()))?;
-    Ok(object)
-}
-
-/// Puts the members from filed to notices.
-fn put_middle(object: &mut Object, file: &FileView) -> Result<(), AllocError>
-    ensures { OnOk result (shown object.new ≡ with_middle file.now (shown object.old)) }
-{
-    let state = &file.row.state;
-    object.put_count("notices", u64::from(state.notices()))?;
-    object.put_step("next", state.next_step())?;
-    object.put_text("kind", state.kind().word())?;
-    object.put_number("inspector", state.inspector().map(|party| party.get()))?;
-    object.put_count("id", u64::from(file.row.id.get()))?;
-    object.put_count("filed", u64::from(state.filed().get()))
-}
-
-/// Puts the members up to done.
-fn put_front(alloc: Global, object: &mut Object, file: &FileView) -> Result<(), AllocError>
-    ensures { OnOk result (shown object.new ≡ with_front file.now (shown object.old)) }
+/// Sends the members up to notices.
+fn send_before<S: Serializer>(out: &mut S, file: &FileView) -> Result<(), S::Error>
+    ensures { OnOk result (SendsBefore file.now (S.written out.old) (S.written out.new)) }
 {
     let state = &file.row.state;
     let required = required_steps(state.kind());
-    let done = &required[..usize::from(state.done()).min(required.len())];
-    object.put("done", steps_value(alloc, done)?)?;
-    object.put_text("description", file.row.description.as_str())?;
-    object.put_number("deadline", state.deadline())?;
-    object.put_number("contractor", state.contractor().map(|party| party.get()))?;
-    object.put_number("ask", state.ask().map(|days| days.get()))?;
-    object.put_count("applicant", u64::from(state.applicant().get()))
+    put_count(out, "applicant", u64::from(state.applicant().get()))?;
+    put_number(out, "ask", state.ask().map(|days| days.get()))?;
+    put_number(
+        out,
+        "contractor",
+        state.contractor().map(|party| party.get()),
+    )?;
+    put_number(out, "deadline", state.deadline())?;
+    put_text(out, "description", file.row.description.as_str())?;
+    out.key("done")?;
+    send_steps(
+        out,
+        &required[..usize::from(state.done()).min(required.len())],
+    )?;
+    put_count(out, "filed", u64::from(state.filed().get()))?;
+    put_count(out, "id", u64::from(file.row.id.get()))?;
+    put_number(out, "inspector", state.inspector().map(|party| party.get()))?;
+    put_text(out, "kind", state.kind().word())?;
+    put_step(out, "next", state.next_step())?;
+    put_count(out, "notices", u64::from(state.notices()))
 }
 
-fn file_value(alloc: Global, file: &FileView, papers: &[Paper]) -> Result<Value, AllocError>
-    ensures { IfOk result (λ v. view v ≡ file_data file.now papers.now) }
+/// Sends the members from parcel on, and the object's end.
+fn send_later<S: Serializer>(out: &mut S, file: &FileView) -> Result<(), S::Error>
+    ensures { OnOk result (SendsMembers (later_members file.now) (S.written out.old) (S.written out.new)) }
 {
-    let mut object = later(alloc, file)?;
-    object.put("papers", papers_value(alloc, papers)?)?;
-    put_middle(&mut object, file)?;
-    put_front(alloc, &mut object, file)?;
-    Ok(object.into_value())
+    let state = &file.row.state;
+    put_count(out, "parcel", u64::from(state.parcel().get()))?;
+    put_step(out, "request", state.request())?;
+    put_number(out, "requested", state.requested().map(|day| day.get()))?;
+    put_number(out, "reviewer", state.reviewer().map(|party| party.get()))?;
+    put_text(out, "stage", file.stage.word())?;
+    put_flag(out, "stopped", state.is_stopped())?;
+    put_number(out, "temporary", state.temporary())?;
+    put_text(out, "timing", file.timing.word())?;
+    put_count(out, "valuation", file.row.valuation.get())?;
+    out.end_map()
+}
+
+/// A file that is sent with its papers.
+#[derive(Drop)]
+struct SentFile<'f>(&'f FileView, &'f [Paper]);
+
+impl Described for SentFile<'_> {
+    ghost writes = { λ sent. SendsValue (file_data sent.0.now sent.1.now) };
+}
+
+impl Serialize for SentFile<'_> {
+    fn serialize<S: Serializer>(&self, out: &mut S) -> Result<(), S::Error> {
+        out.begin_map(Some(22))?;
+        send_before(out, self.0)?;
+        out.key("papers")?;
+        send_papers(out, self.1)?;
+        send_later(out, self.0)
+    }
 }
 
 /// The text of a file with its papers.
-pub fn file_text(alloc: Global, file: &FileView, papers: &[Paper]) -> Result<String, AllocError>
-    ensures { IfOk result (λ s. string_bytes s ≡ compact_text (file_data file.now papers.now)) }
+pub fn file_text(alloc: Global, file: &FileView, papers: &[Paper]) -> Result<Vec<u8>, AllocError>
+    ensures { IfOk result (λ text. text.items ≡ compact_text (file_data file.now papers.now)) }
 {
-    let value = file_value(alloc, file, papers)?;
-    value.to_string(alloc)
+    text_of(alloc, &SentFile(file, papers))
 }
 
-/// A file as a listing has it.
-fn listed_value(alloc: Global, file: &FileView) -> Result<Value, AllocError>
-    ensures { IfOk result (λ v. view v ≡ listed_data file.now) }
+/// Sends a file as a listing has it.
+fn send_listed<S: Serializer>(out: &mut S, file: &FileView) -> Result<(), S::Error>
+    ensures { OnOk result (SendsValue (listed_data file.now) (S.written out.old) (S.written out.new)) }
 {
-    let mut object = later(alloc, file)?;
-    put_middle(&mut object, file)?;
-    put_front(alloc, &mut object, file)?;
-    Ok(object.into_value())
+    out.begin_map(Some(21))?;
+    send_before(out, file)?;
+    send_later(out, file)
 }
 
-fn files_value(alloc: Global, files: &[FileView]) -> Result<Value, AllocError>
-    ensures { IfOk result (λ v. view v ≡ files_data files.now) }
+fn send_files<S: Serializer>(out: &mut S, files: &[FileView]) -> Result<(), S::Error>
+    ensures { OnOk result (SendsValue (files_data files.now) (S.written out.old) (S.written out.new)) }
 {
-    let mut list = Vec::with_capacity(alloc, files.len())?;
+    out.begin_seq(Some(files.len()))?;
     for file in files {
-        push(&mut list, listed_value(alloc, file)?)?;
+        send_listed(out, file)?;
     }
-    Ok(Value::Array(list))
+    out.end_seq()
 }
 
-fn listing_value(alloc: Global, files: &[FileView]) -> Result<Value, AllocError>
-    ensures { IfOk result (λ v. view v ≡ listing_data files.now) }
-{
-    let mut object = Object::new(alloc);
-    object.put("files", files_value(alloc, files)?)?;
-    Ok(object.into_value())
+/// The files of a listing that are sent.
+#[derive(Drop)]
+struct SentListing<'f>(&'f [FileView]);
+
+impl Described for SentListing<'_> {
+    ghost writes = { λ sent. SendsValue (listing_data sent.0.now) };
+}
+
+impl Serialize for SentListing<'_> {
+    fn serialize<S: Serializer>(&self, out: &mut S) -> Result<(), S::Error> {
+        out.begin_map(Some(1))?;
+        out.key("files")?;
+        send_files(out, self.0)?;
+        out.end_map()
+    }
 }
 
 /// The text of a listing.
-pub fn listing_text(alloc: Global, files: &[FileView]) -> Result<String, AllocError>
-    ensures { IfOk result (λ s. string_bytes s ≡ compact_text (listing_data files.now)) }
+pub fn listing_text(alloc: Global, files: &[FileView]) -> Result<Vec<u8>, AllocError>
+    ensures { IfOk result (λ text. text.items ≡ compact_text (listing_data files.now)) }
 {
-    let value = listing_value(alloc, files)?;
-    value.to_string(alloc)
+    text_of(alloc, &SentListing(files))
 }

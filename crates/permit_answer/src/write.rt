@@ -77,10 +77,10 @@ fn in_memory(
 }
 
 /// The whole text of an answer in JSON to a read.
-fn json(alloc: Global, body: &str, close: bool) -> Result<Made, AllocError>
+fn json(alloc: Global, body: &[u8], close: bool) -> Result<Made, AllocError>
     ensures { IfOk result (λ made. made_bytes made ≡ head_text 200 (codes "application/json") (length body.now) close ++ body.now) }
 {
-    in_memory(alloc, "application/json", body.as_bytes(), close)
+    in_memory(alloc, "application/json", body, close)
 }
 
 /// The text of a register.
@@ -135,15 +135,15 @@ fn make(alloc: Global, answer: &Answer, close: bool) -> Result<Made, AllocError>
                 &refusal_body(why),
                 close,
             ))),
-            Reply::Parcel(parcel) => json(alloc, parcel_text(alloc, parcel)?.as_str(), close),
+            Reply::Parcel(parcel) => json(alloc, parcel_text(alloc, parcel)?.as_slice(), close),
             Reply::File(file, papers) => json(
                 alloc,
-                file_text(alloc, file, papers.as_slice())?.as_str(),
+                file_text(alloc, file, papers.as_slice())?.as_slice(),
                 close,
             ),
             Reply::Listed(listing) => json(
                 alloc,
-                listing_text(alloc, listing.files.as_slice())?.as_str(),
+                listing_text(alloc, listing.files.as_slice())?.as_slice(),
                 close,
             ),
             Reply::Register { kind, listing } => plain_text(
