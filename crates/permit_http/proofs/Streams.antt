@@ -1,16 +1,35 @@
 -- From the bytes in an inbox to its stream.
-use Rattle.std.proofs.Common.{◌≡◌, ℕ, List, ◌++◌, Option, Some, None, refl, sym, ap, ◌∙◌, append_assoc, append-nil, subst}
+use Rattle.std.proofs.Common.{◌≡◌, ℕ, List, ◌++◌, Option, Some, None, refl, sym, ap, ◌∙◌, append_assoc, append-nil, subst, arith}
+use Rattle.std.proofs.lemmas.List.{take-append-le, drop-append-le, length-append}
 use Rattle.std.specs.Io.KnownBytes.{Keeps, IsAtEnd}
 use Rattle.httparse.specs.Grammar.{RequestHead}
 use Rattle.httparse.proofs.GrammarLemmas.{ReadsRequest-append}
 use Rattle.permit_http.specs.Stream.{InboxData, stream, Filled}
 use Rattle.permit_http.specs.Head.{HeadAt, NeverHasHead}
+use Rattle.permit_http.specs.Message.{MessageData, IsMessage, HasFault, message_of}
+use Rattle.permit_http.specs.declared.fault.MessageFault.{MessageFault}
 
 pub head-append : (bytes more after : List ℕ) (h : RequestHead) → HeadAt bytes h after → HeadAt (bytes ++ more) h (after ++ more)
 head-append bytes more after h x = record { reads = ReadsRequest-append bytes h after more x.reads; short = x.short; few = x.few }
 
 pub never-append : (bytes more : List ℕ) → NeverHasHead bytes → NeverHasHead (bytes ++ more)
 never-append bytes more nope extra h rest x = nope (more ++ extra) h rest (rw (← append_assoc) x)
+
+-- a whole message stays in front of what comes behind it
+pub message-append : (bytes rest more : List ℕ) (m : MessageData) → IsMessage bytes m rest → IsMessage (bytes ++ more) m (rest ++ more)
+message-append bytes rest more m x = (
+  x.0,
+  x.1 ++ more,
+  x.2,
+  record { head = head-append bytes more x.1 x.0 x.3.head; length = x.3.length },
+  omega (arith, x.4, length-append x.1 more),
+  x.5 ∙ ap (message_of x.0) (sym (take-append-le x.2 x.1 more x.4)),
+  ap (λ r. r ++ more) x.6 ∙ sym (drop-append-le x.2 x.1 more x.4),
+)
+
+-- and so does a fault of its head
+pub fault-append : (bytes more : List ℕ) (fault : MessageFault) → HasFault bytes fault → HasFault (bytes ++ more) fault
+fault-append bytes more fault x = (x.0, x.1 ++ more, head-append bytes more x.1 x.0 x.2, x.3)
 
 -- the stream is the bytes in the inbox, and then some
 pub split : (i : InboxData) (left : Option (List ℕ)) (bytes : List ℕ) → stream i left ≡ Some bytes → (more : List ℕ) × (bytes ≡ i.bytes ++ more) × (left ≡ Some more)

@@ -1,6 +1,6 @@
 //! Laws of the definitions: functions with nothing to do, whose contracts are the laws.
 
-ghost use Rattle.std.specs.Prelude.{◌≡◌, ℕ, List};
+ghost use Rattle.std.specs.Prelude.{◌≡◌, ℕ, List, ◌++◌};
 ghost use Rattle.permit_http.specs.Message.{MessageData, IsMessage, HasFault, IsUnfinished};
 ghost use Rattle.permit_http.specs.declared.fault.MessageFault.{MessageFault};
 
@@ -13,4 +13,11 @@ pub fn one_meaning()
     ensures message_or_fault { (bytes rest : List ℕ) (m : MessageData) (fault : MessageFault) → IsMessage bytes m rest → HasFault bytes fault → ⊥ }
     ensures message_or_unfinished { (bytes rest : List ℕ) (m : MessageData) → IsMessage bytes m rest → IsUnfinished bytes → ⊥ }
     ensures fault_or_unfinished { (bytes : List ℕ) (fault : MessageFault) → HasFault bytes fault → IsUnfinished bytes → ⊥ }
+{}
+
+/// The message or the fault that bytes begin with, they begin with whatever comes behind them. So bytes that begin with
+/// either are the beginning of no unfinished ones.
+pub fn front_stays()
+    ensures message { (bytes rest more : List ℕ) (m : MessageData) → IsMessage bytes m rest → IsMessage (bytes ++ more) m (rest ++ more) }
+    ensures fault { (bytes more : List ℕ) (fault : MessageFault) → HasFault bytes fault → HasFault (bytes ++ more) fault }
 {}

@@ -1,6 +1,6 @@
 //! One message of a connection: its parts, lent from the inbox.
 
-ghost use Rattle.std.specs.Prelude.{◌≡◌, ◌+◌, ◌||◌, drop, min, nat_le, true, false, ⊤, Ok, None, OnErr, OnOk, IfOk, IfErr, IfSome};
+ghost use Rattle.std.specs.Prelude.{◌≡◌, ℕ, ◌+◌, ◌||◌, List, ◌++◌, drop, min, nat_le, true, false, ⊤, Ok, None, OnErr, OnOk, IfOk, IfErr, IfSome};
 ghost use Rattle.std.specs.Io.KnownBytes.{Keeps};
 ghost use Rattle.permit_http.specs.Stream.{Filled, stream};
 ghost use Rattle.permit_http.specs.Spans.{GivesHead, GivesMessage, Holds, ReadsMessage, StopsAt, message_at, view_of, IsFound};
@@ -124,6 +124,7 @@ impl Inbox {
         ensures shut { self.old.closed ≡ true → (result ≡ Ok None) × Keeps (R.remaining reader.old) (R.remaining reader.new) }
         ensures gives { self.old.closed ≡ false → ReadsMessage self.old self.new (R.remaining reader.old) (R.remaining reader.new) result }
         ensures stream { Keeps (stream self.old (R.remaining reader.old)) (stream self.new (R.remaining reader.new)) }
+        ensures grown { (more : List ℕ) × (self.new.bytes ≡ self.old.bytes ++ more) }
         ensures unfinished { IfErr result (StopsAt self.new.bytes) }
         ensures held { IfOk result (λ o. IfSome o (λ s. Holds self.new s)) }
         ensures ended { result ≡ Ok None → self.new ≡ self.old }

@@ -1,6 +1,6 @@
 //! Reading a request.
 
-ghost use Rattle.std.specs.Prelude.{◌≡◌, true, false, Ok, None, IfErr, IsTrue};
+ghost use Rattle.std.specs.Prelude.{◌≡◌, ℕ, List, ◌++◌, true, false, Ok, None, IfErr, IsTrue};
 ghost use Rattle.std.specs.Io.KnownBytes.{Keeps};
 ghost use Rattle.permit_http.specs.Stream.{stream};
 ghost use Rattle.permit_http.specs.Spans.{Holds, message_at, view_of};
@@ -64,6 +64,7 @@ pub fn read_request<R: Read>(
     ensures reads { ReadsRequest inbox.old inbox.new (R.remaining reader.old) (R.remaining reader.new) result }
     ensures unread { IfErr result (λ fault. fault_of fault ≡ None
         → Keeps (stream inbox.old (R.remaining reader.old)) (stream inbox.new (R.remaining reader.new))) }
+    ensures grown { IfErr result (λ fault. fault_of fault ≡ None → (more : List ℕ) × (inbox.new.bytes ≡ inbox.old.bytes ++ more)) }
     ensures unfinished { IfErr result (StopsAt inbox.new.bytes) }
     ensures shut { inbox.old.closed ≡ true → (result ≡ Ok None) × Keeps (R.remaining reader.old) (R.remaining reader.new) }
     ensures nothing { result ≡ Ok None → inbox.new ≡ inbox.old }

@@ -1,6 +1,6 @@
 //! Serving one request of a connection.
 
-ghost use Rattle.std.specs.Prelude.{◌≡◌, ◌≢◌, ◌≤◌, ℕ, List, Some, true};
+ghost use Rattle.std.specs.Prelude.{◌≡◌, ◌≢◌, ◌≤◌, ◌++◌, ℕ, List, Some, true};
 ghost use Rattle.std.specs.Io.KnownBytes.{Keeps};
 ghost use Rattle.permit_http.specs.Message.{IsUnfinished};
 ghost use Rattle.permit_http.specs.Stream.{stream};
@@ -98,6 +98,7 @@ pub fn serve_one<S: Store + Drop, R: Read, W: Write>(
     ensures silent { is_silent result ≡ true → (office.new ≡ office.old) × (W.contents writer.new ≡ W.contents writer.old) }
     ensures unread { result ≡ Served.ReadFailed
         → IsUnfinished inbox.new.bytes × Keeps (stream inbox.old (R.remaining reader.old)) (stream inbox.new (R.remaining reader.new)) }
+    ensures grown { result ≡ Served.ReadFailed → (more : List ℕ) × (inbox.new.bytes ≡ inbox.old.bytes ++ more) }
     ensures ended { result ≡ Served.Ended → inbox.new ≡ inbox.old }
     ensures shut { result ≢ Served.Ended → inbox.new.closed ≡ is_shut result }
 {
