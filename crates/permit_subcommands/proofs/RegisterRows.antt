@@ -16,14 +16,14 @@ use Rattle.permit_model.specs.Machine as shown
 use Rattle.permit_office.specs.declared.showing.RowsEnd.{RowsEnd}
 use Rattle.permit_office.specs.declared.showing.RowsEnd.TheVariants as ended
 use Rattle.permit_office.specs.Opening.{rows_opened}
-use Rattle.permit_office.specs.Showing.{Shows, OpensAt}
+use Rattle.permit_office.specs.Showing.{IsListing, Shows, OpensAt}
 use Rattle.permit_import.specs.Refusals.{refused_by}
 use Rattle.permit_report.specs.declared.writer.RegisterWriter.{RegisterWriter}
 use Rattle.permit_report.specs.Outgoing.{WroteFront}
 use Rattle.permit_report.specs.Progress.{ending}
 use Rattle.permit_report.specs.Taken.{progress, IsSameOutput, TakesFile}
 use Rattle.permit_report.specs.Whole.{IsBegun, KeepsOutput, MakesText, CutsEnding, CutsLine, LacksEnding}
-use Rattle.permit_subcommands.specs.Listings.{Writes}
+use Rattle.permit_subcommands.specs.Listings.{IsRegisterOf, Writes}
 use Rattle.permit_subcommands.specs.declared.fault.Fault.{Fault}
 use Rattle.permit_subcommands.specs.declared.fault.Fault.TheVariants as fault
 
@@ -37,6 +37,15 @@ as_register kind (shown.ParcelShown parcel) = shown.ParcelShown parcel
 as_register kind (shown.FileShown file papers) = shown.FileShown file papers
 as_register kind (RegisterShown other files) = RegisterShown other files
 as_register kind (shown.Refused why) = shown.Refused why
+
+-- it is a register of the kind, or why that is refused
+pub register_of : (kind : RegisterKind) (reply : Reply) → IsListing reply → IsRegisterOf kind (as_register kind reply)
+register_of kind (Listed files) is = refl
+register_of kind (shown.Refused why) is = is
+register_of kind (shown.Done number) is = absurd is
+register_of kind (shown.ParcelShown parcel) is = absurd is
+register_of kind (shown.FileShown file papers) is = absurd is
+register_of kind (RegisterShown other files) is = absurd is
 
 module _ (policy : Policy) (h : History) (day : ℕ) (kind : RegisterKind) where
   by_clock : (caller : Party) (b : Bool)

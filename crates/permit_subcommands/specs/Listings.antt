@@ -1,6 +1,7 @@
 -- What the program asks of an office for a listing or a register, and what it prints of a listing.
 use Rattle.std.specs.Prelude.{◌≡◌, ◌⊎◌, ℕ, List, [], ◌∷◌, ◌++◌, Option, Result, Ok, Err, codes, decimal}
 use Rattle.std.specs.Io.KnownBytes.{Appends}
+use Rattle.permit_base.specs.declared.words.RegisterKind.{RegisterKind}
 use Rattle.permit_model.specs.Register.{register_text}
 use Rattle.permit_model.specs.Machine.{Reply as TheReply, RegisterShown}
 use Rattle.permit_model.specs.Machine as Shown
@@ -11,6 +12,7 @@ use Rattle.permit_office.specs.declared.reply.Reply.{Reply}
 use Rattle.permit_office.specs.declared.reply.Reply.TheVariants.{Done, Parcel, File, Listed, Register, Refused}
 use Rattle.permit_office.specs.declared.showing.RowsEnd.{RowsEnd}
 use Rattle.permit_office.specs.declared.showing.RowsEnd.TheVariants as ended
+use Rattle.permit_office.specs.Showing.{RefusesCaller}
 use Rattle.permit_import.specs.Refusals.{refused_by}
 use Rattle.permit_import.specs.declared.refused.RefusalWord.TheVariants.{Store}
 use Rattle.permit_subcommands.specs.Faults.{plain}
@@ -42,6 +44,12 @@ Tells (ended.All read) (Err why) = why ≡ Output
 Tells ended.Stopped result = result ≡ Err Output
 Tells (ended.Refused why) result = result ≡ Err (refused (refused_by why))
 
+-- a register of that kind, or why it is refused
+abbrev pub IsRegisterOf : RegisterKind → TheReply → Type 0
+IsRegisterOf kind (RegisterShown other files) = other ≡ kind
+IsRegisterOf kind (Shown.Refused why) = RefusesCaller why
+IsRegisterOf kind reply = ⊥
+
 -- The register of the machine's reply is written, or a beginning of it where the output failed or the store refused. Where
 -- the machine refuses, nothing is, and its refusal is told, or the store's.
 abbrev pub Writes : ℕ → Option (List ℕ) → Option (List ℕ) → TheReply → Result (Unit {0}) Fault → Type 0
@@ -49,3 +57,7 @@ Writes day before after (RegisterShown kind files) (Ok done) = Appends before af
 Writes day before after (RegisterShown kind files) (Err why) = ((why ≡ Output) ⊎ (why ≡ plain Store)) × WroteFront before after (register_text kind day files)
 Writes day before after (Shown.Refused why) result = ((result ≡ Err (refused (refused_by why))) ⊎ (result ≡ Err (plain Store))) × (after ≡ before)
 Writes day before after reply result = ⊥
+
+-- The text of some register of the kind is written so, or nothing, whichever tables there are.
+abbrev pub WritesSome : RegisterKind → ℕ → Option (List ℕ) → Option (List ℕ) → Result (Unit {0}) Fault → Type 0
+WritesSome kind day before after result = (reply : TheReply) × IsRegisterOf kind reply × Writes day before after reply result

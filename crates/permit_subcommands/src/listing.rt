@@ -11,7 +11,7 @@ ghost use Rattle.permit_office.specs.Opening.{rows_opened};
 ghost use Rattle.permit_office.specs.Showing.{IsShowing, OpensAt};
 ghost use Rattle.permit_office.specs.declared.reply.Reply.{Reply as TheReply};
 ghost use Rattle.permit_office.specs.declared.showing.RowsEnd.{RowsEnd as TheEnd};
-ghost use Rattle.permit_subcommands.specs.Listings.{listed, listing_text, Tells, Writes};
+ghost use Rattle.permit_subcommands.specs.Listings.{listed, listing_text, Tells, Writes, WritesSome};
 
 use crate::fault::Fault;
 use crate::refused::Refused;
@@ -64,6 +64,7 @@ pub fn write_register<S: Store + Drop, W: Write>(
 ) -> Result<(), Fault>
     ensures text { (S.view office.new.store).doubt ≡ 0 → (h : History) → IsHistory h → (S.view office.old.store).holds (tables h)
         → Writes day (W.contents out.old) (W.contents out.new) (step_as office.old.policy h (digest_of token) (Register kind) day).reply result }
+    ensures some { WritesSome kind day (W.contents out.old) (W.contents out.new) result }
     ensures ends { (end : TheEnd) × Tells end result × IsShowing (S.view office.old.store) (S.view office.new.store) end
         × ((S.view office.new.store).doubt ≡ 0 → (h : History) → IsHistory h → (S.view office.old.store).holds (tables h)
         → OpensAt (rows_opened office.old.policy h (digest_of token) (Register kind) day) end (S.view office.old.store).handed (S.view office.new.store).handed) }
