@@ -38,6 +38,8 @@ pub struct RequestReader<C: Clock + Drop> {
     answered: Arc<AtomicBool, Global>,
     /// When the first byte of the request came.
     since: Option<Instant>,
+    /// What the socket's time for a read was last set to.
+    wait: Option<Duration>,
 }
 
 impl<C: Clock + Drop> Read for RequestReader<C> {
@@ -49,7 +51,10 @@ impl<C: Clock + Drop> Read for RequestReader<C> {
             Some(since) => wait_within(since, Instant::now(&self.clock)?, REQUEST)?,
             None => Duration::from_secs(SILENCE),
         };
-        self.stream.set_read_timeout(Some(wait))?;
+        if self.wait != Some(wait) {
+            self.stream.set_read_timeout(Some(wait))?;
+            self.wait = Some(wait);
+        }
         let count = self.stream.read(buf)?;
         if self.since.is_none() {
             self.since = Some(Instant::now(&self.clock)?);
@@ -68,6 +73,7 @@ impl<C: Clock + Drop> Drop for RequestReader<C> {
             clock: _,
             answered: _,
             since: _,
+            wait: _,
         } = self;
     }
 }
@@ -97,6 +103,8 @@ pub struct AnswerWriter<C: Clock + Drop> {
     answered: Arc<AtomicBool, Global>,
     /// When the first byte of an answer was written that is not yet written whole.
     since: Option<Instant>,
+    /// What the socket's time for a write was last set to.
+    wait: Option<Duration>,
 }
 
 impl<C: Clock + Drop> Write for AnswerWriter<C> {
@@ -106,7 +114,10 @@ impl<C: Clock + Drop> Write for AnswerWriter<C> {
         let now = Instant::now(&self.clock)?;
         let since = self.since.unwrap_or(now);
         let wait = wait_within(since, now, ANSWER)?;
-        self.stream.set_write_timeout(Some(wait))?;
+        if self.wait != Some(wait) {
+            self.stream.set_write_timeout(Some(wait))?;
+            self.wait = Some(wait);
+        }
         let count = self.stream.write(buf)?;
         self.since = if count < buf.len() { Some(since) } else { None };
         Ok(count)
@@ -130,12 +141,14 @@ pub fn paced<C: Clock + Copy + Drop>(
         clock,
         answered: Arc::try_clone(&answered)?,
         since: None,
+        wait: None,
     };
     let reader = RequestReader {
         stream,
         clock,
         answered,
         since: None,
+        wait: None,
     };
     Ok((reader, writer))
 }
