@@ -5,8 +5,8 @@ use Rattle.std.specs.Fmt.{decimal}
 use Rattle.std.proofs.lemmas.Fmt.{length-decimal-le}
 use Rattle.permit_base.specs.declared.words.Action.{Action}
 use Rattle.permit_base.specs.declared.words.Action.TheVariants as action
-use Rattle.permit_base.specs.declared.outcome.Reason.{Reason}
-use Rattle.permit_base.specs.declared.outcome.Reason.TheVariants as reason
+use Rattle.permit_base.specs.declared.refusal.Reason.{Reason}
+use Rattle.permit_base.specs.declared.refusal.Reason.TheVariants as reason
 use Rattle.std.specs.Prelude.{IsTrue, nat_le, ◌&&◌}
 use Rattle.std.specs.List.{list_all}
 use Rattle.permit_base.specs.Texts.{is_rule_name, is_name_letter}

@@ -2,8 +2,8 @@
 use Rattle.std.specs.Prelude.{ℕ, Bool, ◌==◌, if◌then◌else◌, List, [], ◌∷◌, ◌++◌, length, codes, decimal, Option, None, Some}
 use Rattle.serde_json.specs.Written.{compact_text}
 use Rattle.permit_base.specs.declared.words.Action.{Action}
-use Rattle.permit_base.specs.declared.outcome.Refusal.{Refusal}
-use Rattle.permit_base.specs.declared.outcome.Refusal.TheVariants as refusal
+use Rattle.permit_base.specs.declared.refusal.Refusal.{Refusal}
+use Rattle.permit_base.specs.declared.refusal.Refusal.TheVariants as refusal
 use Rattle.permit_base.specs.Words.{action_word, reason_word}
 use Rattle.permit_model.specs.Machine.{Reply, Done, ParcelShown, FileShown, Listed, RegisterShown, Refused}
 use Rattle.permit_model.specs.Register.{register_text}

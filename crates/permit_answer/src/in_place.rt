@@ -9,7 +9,7 @@ use crate::answer::Fault;
 use crate::line::Line;
 use crate::status::phrase;
 use http::StatusCode;
-use permit_base::outcome::{Reason, Refusal};
+use permit_base::refusal::{Reason, Refusal};
 use permit_base::values::{Day, RuleName};
 use permit_base::words::{Action, Word};
 

@@ -5,7 +5,7 @@ ghost use Rattle.permit_answer.specs.AnswerText as text;
 
 use crate::answer::Fault;
 use http::StatusCode;
-use permit_base::outcome::Refusal;
+use permit_base::refusal::Refusal;
 
 /// The status of a refusal.
 pub fn refusal_status(why: &Refusal) -> StatusCode

@@ -21,8 +21,8 @@ use Rattle.permit_base.specs.declared.words.Effect.{Effect}
 use Rattle.permit_base.specs.declared.words.Effect.TheVariants as effect
 use Rattle.permit_base.specs.declared.words.RegisterKind.{RegisterKind}
 use Rattle.permit_base.specs.declared.words.RegisterKind.TheVariants as register
-use Rattle.permit_base.specs.declared.outcome.Reason.{Reason}
-use Rattle.permit_base.specs.declared.outcome.Reason.TheVariants as reason
+use Rattle.permit_base.specs.declared.refusal.Reason.{Reason}
+use Rattle.permit_base.specs.declared.refusal.Reason.TheVariants as reason
 
 -- the first of these words that is spelled so
 abbrev pub named : {A : Type 0} → (A → List ℕ) → List A → List ℕ → Option A

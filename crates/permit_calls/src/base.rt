@@ -6,7 +6,7 @@ ghost use Rattle.permit_base.specs.Digests.{digest_of};
 
 use permit_base::digests::digest;
 use permit_base::laws;
-use permit_base::outcome::Reason;
+use permit_base::refusal::Reason;
 use permit_base::request::{Command, FileStage, Filter, Request, action};
 use permit_base::values::{
     Cents, Day, Days, Digest, FileId, Lot, PaperNumber, ParcelId, PartyId, RuleName, Text, Token,

@@ -3,7 +3,7 @@
 ghost use Rattle.std.specs.Prelude.{◌≡◌, ◌≤◌, OnOk, OnErr};
 ghost use Rattle.permit_core.specs.RowAfter.{row_after};
 
-use permit_base::outcome::Reason;
+use permit_base::refusal::Reason;
 use permit_base::request::Command;
 use permit_base::values::{Cents, Day, Days, PartyId};
 use permit_base::words::{Kind, Role, Stage, Step, Timing};

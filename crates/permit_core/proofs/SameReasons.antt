@@ -4,7 +4,7 @@ use Rattle.std.specs.Prelude.{Option, None, Some, option_map, is_some, nat_lt, â
 use Rattle.std.proofs.lemmas.Bool.Decides.{nat_tests}
 use Rattle.permit_base.specs.declared.words.Role.{Role}
 use Rattle.permit_base.specs.declared.words.Role.TheVariants.{Reviewer, Inspector}
-use Rattle.permit_base.specs.declared.outcome.Reason.TheVariants as reason
+use Rattle.permit_base.specs.declared.refusal.Reason.TheVariants as reason
 use Rattle.permit_base.specs.declared.request.Command.{Command}
 use Rattle.permit_base.specs.declared.request.Command.TheVariants.{AssignReviewer, AssignInspector, NameContractor, RequestInspection, ClearNotice}
 use Rattle.permit_base.specs.declared.request.Request.TheVariants.{OnFile}

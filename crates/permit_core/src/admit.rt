@@ -17,7 +17,7 @@ ghost use Rattle.permit_core.specs.declared.people.People.{People};
 
 use crate::people::{NamedParty, People, is_party};
 use crate::state::FileState;
-use permit_base::outcome::Reason;
+use permit_base::refusal::Reason;
 use permit_base::request::Command;
 use permit_base::values::{Day, Days, PartyId};
 use permit_base::words::{Kind, Role, Stage, Step};

@@ -3,7 +3,7 @@
 use crate::streams::Narrow;
 use permit_answer::answer::{Answer, Fault};
 use permit_answer::{WriteFault, write_reply};
-use permit_base::outcome::{Reason, Refusal};
+use permit_base::refusal::{Reason, Refusal};
 use permit_base::values::{Cents, PaperNumber, RuleName};
 use permit_base::words::{Action, Kind, PaperSort, Stage, Timing};
 use permit_core::row::{FileRow, FileView};

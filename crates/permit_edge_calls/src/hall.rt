@@ -3,7 +3,7 @@
 use crate::memory_doors::{
     MemoryDoor, NO_TROUBLE, Shared, collected, connection, hall, new_record, written,
 };
-use permit_base::outcome::{Reason, Refusal};
+use permit_base::refusal::{Reason, Refusal};
 use permit_base::request::{Asked, Command, Request};
 use permit_base::values::{Cents, Day};
 use permit_base::words::{Kind, Step};

@@ -1,7 +1,7 @@
 -- What became of each record of a list, and how many came to what.
 use Rattle.std.specs.Prelude.{◌+◌, Bool, true, false, List, [], ◌∷◌, count_by, Option, None, Some}
-use Rattle.permit_base.specs.declared.outcome.Reason.TheVariants as reason
-use Rattle.permit_base.specs.declared.outcome.Refusal.TheVariants as refusal
+use Rattle.permit_base.specs.declared.refusal.Reason.TheVariants as reason
+use Rattle.permit_base.specs.declared.refusal.Refusal.TheVariants as refusal
 use Rattle.permit_base.specs.declared.request.Request.{Request}
 use Rattle.permit_office.specs.declared.reply.Reply.{Reply}
 use Rattle.permit_office.specs.declared.reply.Reply.TheVariants as given

@@ -1,8 +1,8 @@
 -- The line that is printed for a refusal.
 use Rattle.std.specs.Prelude.{ℕ, List, [], ◌∷◌, ◌++◌, codes}
 use Rattle.permit_base.specs.Words.{reason_word}
-use Rattle.permit_base.specs.declared.outcome.Refusal.{Refusal}
-use Rattle.permit_base.specs.declared.outcome.Refusal.TheVariants as refusal
+use Rattle.permit_base.specs.declared.refusal.Refusal.{Refusal}
+use Rattle.permit_base.specs.declared.refusal.Refusal.TheVariants as refusal
 use Rattle.permit_import.specs.declared.refused.RefusalWord.{RefusalWord}
 use Rattle.permit_import.specs.declared.refused.RefusalWord.TheVariants.{Syntax, Caller, Clock, Record, Store, Route, Large}
 use Rattle.permit_import.specs.declared.refused.Refused.{Refused}

@@ -5,7 +5,7 @@ ghost use Rattle.permit_import.specs.Lines.{outcome_text};
 ghost use Rattle.permit_import.specs.Outcomes.{outcome_of};
 
 use crate::refused::{RefusalWord, Refused};
-use permit_base::outcome::{Reason, Refusal};
+use permit_base::refusal::{Reason, Refusal};
 use permit_office::reply::Reply;
 use std::fmt;
 

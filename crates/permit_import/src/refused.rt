@@ -3,7 +3,7 @@
 ghost use Rattle.std.specs.Prelude.{◌≡◌, Some};
 ghost use Rattle.permit_import.specs.Refusals.{refused_line, refused_by};
 
-use permit_base::outcome::{Reason, Refusal};
+use permit_base::refusal::{Reason, Refusal};
 use permit_base::values::RuleName;
 use permit_base::words::Word;
 use std::fmt;

@@ -2,7 +2,7 @@
 use Rattle.std.proofs.Common.{◌≡◌, ◌≤◌, ℕ, Bool, true, false, cond, ◌==◌, List, [], ◌∷◌, refl, ap}
 use Rattle.std.specs.Prelude.{Option, None, Some, is_some, IsTrue, bytes_eq, find, nat_lt, option_map, unwrap_or, if◌then◌else◌}
 use Rattle.std.proofs.lemmas.Bool.{eq-eqb}
-use Rattle.permit_base.specs.declared.outcome.Reason.{Reason}
+use Rattle.permit_base.specs.declared.refusal.Reason.{Reason}
 use Rattle.permit_base.specs.declared.request.Request.{Request}
 use Rattle.permit_base.specs.declared.request.Request.TheVariants.{AddParty, AddParcel, Transfer, Declare, ReadParcel, File, ReadFile, ListFiles, Register, OnFile}
 use Rattle.permit_model.specs.History.{History, last_day}
@@ -16,7 +16,7 @@ use Rattle.permit_model.specs.Admission.{reason_against}
 use Rattle.permit_model.specs.Machine.{Object, TheOffice, OneParcel, OneFile, object_of, is_there, facts_on, facts_of, entry_of, outcome_by_reason, outcome_if_allowed, outcome_by_facts, outcome_by_request, outcome_by_caller, step_as, is_command, IsHistory, refused, step, history_after}
 use Rattle.permit_base.specs.declared.request.Asked.{Asked}
 use Rattle.permit_base.specs.Digests.{digest_of}
-use Rattle.permit_base.specs.declared.outcome.Refusal.TheVariants as refusal
+use Rattle.permit_base.specs.declared.refusal.Refusal.TheVariants as refusal
 use Rattle.permit_base.specs.Actions.{action_of}
 use Rattle.std.proofs.lemmas.Bool.{ltb-false as not_below}
 

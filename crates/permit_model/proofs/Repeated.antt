@@ -7,8 +7,8 @@ use Rattle.std.proofs.lemmas.List.{length-map}
 use Rattle.std.proofs.lemmas.Slice.Eq.{bytes_eq-Decides}
 use Rattle.permit_base.specs.Digests.{digest_of}
 use Rattle.permit_base.specs.Limits.{most_records}
-use Rattle.permit_base.specs.declared.outcome.Reason.TheVariants as reason
-use Rattle.permit_base.specs.declared.outcome.Refusal.TheVariants as refusal
+use Rattle.permit_base.specs.declared.refusal.Reason.TheVariants as reason
+use Rattle.permit_base.specs.declared.refusal.Refusal.TheVariants as refusal
 use Rattle.permit_base.specs.declared.words.Action.TheVariants as action
 use Rattle.permit_base.specs.declared.request.Asked.{Asked}
 use Rattle.permit_model.specs.Search.{in_order}

@@ -5,7 +5,7 @@ use Rattle.permit_base.specs.declared.words.Role.{Role}
 use Rattle.permit_base.specs.declared.words.Kind.TheVariants.{Construct, Alter, Repair}
 use Rattle.permit_base.specs.declared.words.Step.TheVariants.{Footing, Slab, Frame, Lath, Final}
 use Rattle.permit_base.specs.declared.words.Stage.TheVariants as stage
-use Rattle.permit_base.specs.declared.outcome.Refusal.TheVariants as refusal
+use Rattle.permit_base.specs.declared.refusal.Refusal.TheVariants as refusal
 use Rattle.permit_base.specs.declared.request.Filter.TheVariants.{All}
 use Rattle.permit_base.specs.declared.request.Command.{Command}
 use Rattle.permit_base.specs.declared.request.Command.TheVariants.{AssignReviewer, AssignInspector, NameContractor, StartReview, Return, Resubmit, ApprovePlans, Reject, Issue, AskExtension, GrantExtension, RefuseExtension, BeginWork, RequestInspection, ApproveStep, Notice, ClearNotice, Stop, Lift, Revoke, Temporary}
@@ -19,7 +19,7 @@ use Rattle.permit_base.specs.declared.words.Step.{Step}
 use Rattle.permit_base.specs.declared.words.Stage.{Stage}
 use Rattle.permit_base.specs.declared.words.Timing.{Timing}
 use Rattle.permit_base.specs.declared.words.Kind.{Kind}
-use Rattle.permit_base.specs.declared.outcome.Reason.{Reason}
+use Rattle.permit_base.specs.declared.refusal.Reason.{Reason}
 use Rattle.permit_model.specs.Tables.{State}
 use Rattle.permit_base.specs.declared.words.Relation.TheVariants as relation
 use Rattle.permit_base.specs.declared.words.Action.TheVariants as action

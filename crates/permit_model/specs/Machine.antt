@@ -4,9 +4,9 @@ use Rattle.permit_base.specs.declared.words.Stage.{Stage}
 use Rattle.permit_base.specs.declared.words.Stage.TheVariants.{New, Office}
 use Rattle.permit_base.specs.declared.words.Action.{Action}
 use Rattle.permit_base.specs.declared.words.RegisterKind.{RegisterKind}
-use Rattle.permit_base.specs.declared.outcome.Reason.{Reason}
-use Rattle.permit_base.specs.declared.outcome.Refusal.{Refusal}
-use Rattle.permit_base.specs.declared.outcome.Refusal.TheVariants as refusal
+use Rattle.permit_base.specs.declared.refusal.Reason.{Reason}
+use Rattle.permit_base.specs.declared.refusal.Refusal.{Refusal}
+use Rattle.permit_base.specs.declared.refusal.Refusal.TheVariants as refusal
 use Rattle.permit_base.specs.declared.request.Command.{Command}
 use Rattle.permit_base.specs.declared.request.Request.{Request}
 use Rattle.permit_base.specs.declared.request.Request.TheVariants.{AddParty, AddParcel, Transfer, Declare, ReadParcel, File, ReadFile, ListFiles, Register, OnFile}

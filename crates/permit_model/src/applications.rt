@@ -6,7 +6,7 @@ ghost use Rattle.permit_base.specs.declared.words.Step.TheVariants.{Footing};
 ghost use Rattle.permit_base.specs.declared.words.Stage.TheVariants as stage;
 ghost use Rattle.permit_base.specs.declared.words.Timing.TheVariants as timing;
 ghost use Rattle.permit_base.specs.declared.words.PaperSort.TheVariants as sort;
-ghost use Rattle.permit_base.specs.declared.outcome.Reason.TheVariants as reason;
+ghost use Rattle.permit_base.specs.declared.refusal.Reason.TheVariants as reason;
 ghost use Rattle.permit_base.specs.declared.request.Command.TheVariants.{ApprovePlans, AskExtension, GrantExtension, BeginWork, RequestInspection, Temporary};
 ghost use Rattle.permit_base.specs.declared.request.Request.TheVariants.{ReadFile};
 ghost use Rattle.permit_model.specs.Days.{timing_on};

@@ -1,7 +1,7 @@
 //! A worked run of the hall.
 
 ghost use Rattle.std.specs.Prelude.{◌≡◌, ◌∷◌, []};
-ghost use Rattle.permit_base.specs.declared.outcome.Reason.TheVariants as reason;
+ghost use Rattle.permit_base.specs.declared.refusal.Reason.TheVariants as reason;
 ghost use Rattle.permit_model.specs.HallRun.{hall_run};
 ghost use Rattle.permit_model.specs.StandardPolicy.{standard_policy};
 ghost use Rattle.permit_model.specs.Examples.{done, not_admitted, asked_by_official, asked_by_inspector, hall_events, pending_with_token, frame_approved};

@@ -5,7 +5,7 @@ ghost use Rattle.permit_base.specs.declared.words.Kind.TheVariants.{Construct, E
 ghost use Rattle.permit_base.specs.declared.words.Step.TheVariants.{Footing, Slab, Frame, Lath, Final};
 ghost use Rattle.permit_base.specs.declared.words.Stage.TheVariants as stage;
 ghost use Rattle.permit_base.specs.declared.words.Timing.TheVariants as timing;
-ghost use Rattle.permit_base.specs.declared.outcome.Reason.TheVariants as reason;
+ghost use Rattle.permit_base.specs.declared.refusal.Reason.TheVariants as reason;
 ghost use Rattle.permit_base.specs.declared.request.Command.TheVariants.{RequestInspection, Temporary, Certify};
 ghost use Rattle.permit_model.specs.Tables.{State, Paper, next_in_row, tables};
 ghost use Rattle.permit_model.specs.Examples.{opening, on_one, replies, after, last_reply, done, made, denied, not_admitted, read_after, state_after, begun_file, inspected, interest_turns, notice_given, notice_cleared, one_of_two_cleared, other_cleared, finaled_file, by_official, by_inspector, pending_repair};

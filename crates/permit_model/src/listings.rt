@@ -4,7 +4,7 @@ ghost use Rattle.std.specs.Prelude.{◌≡◌, ◌∷◌, [], ◌++◌, codes};
 ghost use Rattle.permit_base.specs.declared.words.RegisterKind.TheVariants.{Files};
 ghost use Rattle.permit_base.specs.declared.words.Role.TheVariants.{Public, Clerk, Reviewer, Official};
 ghost use Rattle.permit_base.specs.declared.words.Stage.TheVariants.{Filed, Review, Abandoned, Lapsed};
-ghost use Rattle.permit_base.specs.declared.outcome.Refusal.TheVariants as refusal;
+ghost use Rattle.permit_base.specs.declared.refusal.Refusal.TheVariants as refusal;
 ghost use Rattle.permit_base.specs.declared.request.Filter.TheVariants.{All, InStage, Due};
 ghost use Rattle.permit_base.specs.declared.request.Request.TheVariants.{ListFiles, Register};
 ghost use Rattle.permit_model.specs.Machine.{Listed, Refused};

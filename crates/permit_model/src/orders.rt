@@ -5,7 +5,7 @@ ghost use Rattle.permit_base.specs.declared.words.Kind.TheVariants.{Construct};
 ghost use Rattle.permit_base.specs.declared.words.Step.TheVariants.{Footing};
 ghost use Rattle.permit_base.specs.declared.words.Stage.TheVariants as stage;
 ghost use Rattle.permit_base.specs.declared.words.Timing.TheVariants as timing;
-ghost use Rattle.permit_base.specs.declared.outcome.Reason.TheVariants as reason;
+ghost use Rattle.permit_base.specs.declared.refusal.Reason.TheVariants as reason;
 ghost use Rattle.permit_base.specs.declared.request.Command.TheVariants.{RequestInspection, Revoke, Temporary};
 ghost use Rattle.permit_model.specs.Tables.{State};
 ghost use Rattle.permit_model.specs.Examples.{opening, on_one, replies, after, last_reply, made, not_admitted, read_after, state_after, begun_file, house_state, stopped_file, lifted_file, issued_file, temporary_turns, revoking_turns};

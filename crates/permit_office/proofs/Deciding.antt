@@ -4,8 +4,8 @@ use Rattle.std.specs.Prelude.{Option, None, Some, find, is_some, is_none, IsTrue
 use Rattle.std.specs.List.{list_any}
 use Rattle.std.proofs.lemmas.Bool.Decides.{nat_tests}
 use Rattle.permit_base.specs.declared.words.Role.{Role}
-use Rattle.permit_base.specs.declared.outcome.Reason.{Reason}
-use Rattle.permit_base.specs.declared.outcome.Refusal.TheVariants as refusal
+use Rattle.permit_base.specs.declared.refusal.Reason.{Reason}
+use Rattle.permit_base.specs.declared.refusal.Refusal.TheVariants as refusal
 use Rattle.permit_base.specs.declared.request.Request.{Request}
 use Rattle.permit_base.specs.declared.request.Request.TheVariants.{AddParty, AddParcel, File, Declare, Transfer}
 use Rattle.permit_base.specs.Digests.{digest_of}

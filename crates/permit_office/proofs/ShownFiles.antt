@@ -2,8 +2,8 @@
 use Rattle.std.proofs.Common.{◌≡◌, ◌≤◌, ℕ, Bool, true, false, List, refl, sym, subst, arith, length}
 use Rattle.std.proofs.lemmas.Bool.Decides.{nat_tests}
 use Rattle.std.specs.Prelude.{Option, None, Some, Result, Ok, Err, option_and_then, nat_lt, if◌then◌else◌}
-use Rattle.permit_base.specs.declared.outcome.Refusal.{Refusal}
-use Rattle.permit_base.specs.declared.outcome.Refusal.TheVariants as refusal
+use Rattle.permit_base.specs.declared.refusal.Refusal.{Refusal}
+use Rattle.permit_base.specs.declared.refusal.Refusal.TheVariants as refusal
 use Rattle.permit_base.specs.declared.request.Filter.{Filter}
 use Rattle.permit_base.specs.declared.request.Request.TheVariants as request
 use Rattle.permit_model.specs.History.{History, last_day}

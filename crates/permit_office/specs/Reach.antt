@@ -1,6 +1,6 @@
 -- How far a request reaches into the rows of files, and how the counts of handed rows and of failed calls then move.
 use Rattle.std.specs.Prelude.{◌≡◌, ◌⊎◌, ℕ, ◌%◌, ◌^◌, Bool, true, false, Result, Ok, Err, ⊤}
-use Rattle.permit_base.specs.declared.outcome.Refusal.TheVariants as refusal
+use Rattle.permit_base.specs.declared.refusal.Refusal.TheVariants as refusal
 use Rattle.permit_base.specs.declared.request.Request.{Request}
 use Rattle.permit_base.specs.declared.request.Request.TheVariants as request
 use Rattle.permit_store.specs.declared.store.StoreError.{StoreError}

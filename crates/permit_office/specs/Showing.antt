@@ -1,7 +1,7 @@
 -- A listing whose files are handed out one at a time.
 use Rattle.std.specs.Prelude.{◌≡◌, ◌⊎◌, ◌≤◌, ℕ, ◌%◌, ◌^◌, Bool, true, false, not, IsTrue, nat_lt, if◌then◌else◌, List, Option, None, Some, Result, Ok, Err, ⊤}
-use Rattle.permit_base.specs.declared.outcome.Refusal.{Refusal}
-use Rattle.permit_base.specs.declared.outcome.Refusal.TheVariants as refusal
+use Rattle.permit_base.specs.declared.refusal.Refusal.{Refusal}
+use Rattle.permit_base.specs.declared.refusal.Refusal.TheVariants as refusal
 use Rattle.permit_core.specs.Taking.{TookAll, StoppedIn, BeganOf}
 use Rattle.permit_model.specs.History.{History, last_day}
 use Rattle.permit_model.specs.Caller.{Party, who}

@@ -22,7 +22,7 @@ ghost use Rattle.permit_office.specs.Reach.{NoRow, OneRow};
 use crate::commit::carry_out;
 use crate::facts::{facts_on_file, owner_of};
 use crate::reply::Reply;
-use permit_base::outcome::Refusal;
+use permit_base::refusal::Refusal;
 use permit_base::request::Command;
 use permit_base::values::{Day, FileId, PaperNumber, ParcelId, PartyId};
 use permit_core::paper::{paper_sort, paper_terms, paper_text};

@@ -10,7 +10,7 @@ ghost use Rattle.permit_office.specs.Frames.{IsAttempt};
 ghost use Rattle.permit_office.specs.Reach.{NoRow};
 
 use crate::reply::Reply;
-use permit_base::outcome::{Reason, Refusal};
+use permit_base::refusal::{Reason, Refusal};
 use permit_base::values::Day;
 use permit_store::rows::Change;
 use permit_store::store::{Got, Store};

@@ -14,7 +14,7 @@ ghost use Rattle.permit_office.specs.Reach.{NoRow};
 use crate::commit::carry_out;
 use crate::facts::facts_on_parcel;
 use crate::reply::Reply;
-use permit_base::outcome::{Reason, Refusal};
+use permit_base::refusal::{Reason, Refusal};
 use permit_base::values::{Cents, Day, ParcelId, Text};
 use permit_base::words::{Action, Kind, Stage};
 use permit_core::state::FileState;

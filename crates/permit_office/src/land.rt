@@ -17,7 +17,7 @@ use crate::commit::carry_out;
 use crate::facts::facts_on_parcel;
 use crate::people::is_party;
 use crate::reply::Reply;
-use permit_base::outcome::{Reason, Refusal};
+use permit_base::refusal::{Reason, Refusal};
 use permit_base::values::{Day, Lot, ParcelId, PartyId, Text};
 use permit_base::words::{Action, Stage};
 use permit_policy::{Facts, Policy};

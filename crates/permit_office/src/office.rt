@@ -19,7 +19,7 @@ use crate::reply::Reply;
 use crate::serve::attempt;
 use crate::showing::{RowsEnd, show};
 use permit_base::digests::digest;
-use permit_base::outcome::Refusal;
+use permit_base::refusal::Refusal;
 use permit_base::request::{Asked, Filter, Request};
 use permit_base::values::{Day, Digest, Token};
 use permit_core::taker::Taker;

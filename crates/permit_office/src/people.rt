@@ -16,7 +16,7 @@ ghost use Rattle.permit_office.specs.Reach.{NoRow};
 use crate::commit::carry_out;
 use crate::reply::Reply;
 use permit_base::digests::digest;
-use permit_base::outcome::{Reason, Refusal};
+use permit_base::refusal::{Reason, Refusal};
 use permit_base::values::{Day, Digest, PartyId, Text, Token};
 use permit_base::words::{Action, Role};
 use permit_policy::{Facts, Policy};

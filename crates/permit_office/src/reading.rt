@@ -11,7 +11,7 @@ ghost use Rattle.permit_office.specs.Reach.{NoRow, OneRow};
 
 use crate::facts::{facts_on_file, facts_on_parcel};
 use crate::reply::Reply;
-use permit_base::outcome::Refusal;
+use permit_base::refusal::Refusal;
 use permit_base::values::{Day, FileId, ParcelId};
 use permit_base::words::{Action, Stage};
 use permit_policy::Policy;

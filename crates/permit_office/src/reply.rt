@@ -1,6 +1,6 @@
 //! What the office answers.
 
-use permit_base::outcome::Refusal;
+use permit_base::refusal::Refusal;
 use permit_base::words::RegisterKind;
 use permit_store::rows::{FileView, Paper, Parcel};
 

@@ -18,7 +18,7 @@ use crate::listing::{list_files, show_register};
 use crate::people::add_party;
 use crate::reading::{read_file, read_parcel};
 use crate::reply::Reply;
-use permit_base::outcome::Refusal;
+use permit_base::refusal::Refusal;
 use permit_base::request::Request;
 use permit_base::values::{Day, Digest};
 use permit_policy::Policy;

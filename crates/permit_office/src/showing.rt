@@ -15,7 +15,7 @@ ghost use Rattle.permit_office.specs.Stops.{StopsAt, StopsFor};
 
 use crate::listing::{list_by_routes, listing_routes};
 use crate::passing::pass_on;
-use permit_base::outcome::Refusal;
+use permit_base::refusal::Refusal;
 use permit_base::request::{FileStage, Filter};
 use permit_base::route::Route;
 use permit_base::values::{Day, Digest};

@@ -1,7 +1,7 @@
 //! What is printed for a request to an office over vectors, and why an answer says that it was refused.
 
 use crate::run::text;
-use permit_base::outcome::Reason;
+use permit_base::refusal::Reason;
 use permit_base::values::RuleName;
 use permit_office::office::Office;
 use permit_samples::ask::TOKENS;

@@ -1,7 +1,7 @@
 //! A clock that goes back, in a run.
 
 use crate::database::over_database;
-use permit_base::outcome::Refusal;
+use permit_base::refusal::Refusal;
 use permit_base::request::{Asked, Request};
 use permit_office::office::Office;
 use permit_office::reply::Reply;

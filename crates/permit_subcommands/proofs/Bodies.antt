@@ -2,7 +2,7 @@
 use Rattle.std.proofs.Common.{◌≡◌, ◌++◌, ℕ, List, ap, arith, codes, get_or, refl, sym}
 use Rattle.std.proofs.lemmas.List.{append_cancel_left, append_cancel_right}
 use Rattle.permit_base.specs.Words.{reason_word}
-use Rattle.permit_base.specs.declared.outcome.Reason.{Reason}
+use Rattle.permit_base.specs.declared.refusal.Reason.{Reason}
 use Rattle.permit_answer.specs.AnswerText.{denied_text, not_admitted_text, refused_text}
 use Rattle.permit_subcommands.specs.Refusals.{refused_body}
 use Rattle.permit_import.specs.Refusals.{refusal_word}

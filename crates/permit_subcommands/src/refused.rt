@@ -3,7 +3,7 @@
 ghost use Rattle.std.specs.Prelude.{◌≡◌, ◌++◌, List, ℕ, IfSome, Some, option_map};
 ghost use Rattle.permit_subcommands.specs.Refusals.{refused_body, IsNamed};
 
-use permit_base::outcome::Reason;
+use permit_base::refusal::Reason;
 use permit_base::values::RuleName;
 use permit_base::words::Word;
 pub use permit_import::refused::{RefusalWord, Refused};

@@ -3,7 +3,7 @@ use Rattle.std.specs.Prelude.{Ok, Err}
 use Rattle.permit_model.specs.Tables.{tables}
 use Rattle.permit_model.specs.Machine.{Listed}
 use Rattle.permit_base.specs.declared.request.Request.TheVariants as request
-use Rattle.permit_base.specs.declared.outcome.Refusal.TheVariants as refusal
+use Rattle.permit_base.specs.declared.refusal.Refusal.TheVariants as refusal
 use Rattle.permit_office.specs.declared.showing.RowsEnd.TheVariants as ended
 use Rattle.permit_office.specs.Opening.{rows_opened}
 use Rattle.permit_office.specs.Showing.{caller_on}
