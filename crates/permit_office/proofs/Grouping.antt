@@ -29,7 +29,7 @@ use Rattle.permit_model.proofs.Selecting.{bit, how_many-cons, how_many-map, how_
 use Rattle.permit_model.proofs.Members.{IsMember, all_members}
 use Rattle.permit_model.proofs.FoundFiles.{marks, fits}
 use Rattle.permit_store.specs.Handing.{is_found_by_any, found_by_any}
-use Rattle.permit_office.specs.Grouping.{same_relation_of, asks, asks_alike, group_of}
+use Rattle.permit_office.specs.Grouping.{same_relation_of, is_by_one, are_alike, group_of}
 
 -- ---- asking alike
 
@@ -56,38 +56,37 @@ same_relation a b e = sym (relation_back a) ∙ ap relation_coded (eqb-true (rel
 itself : (a : Relation) → is_relation a a ≡ true
 itself a = eq-eqb (relation_code a) (relation_code a) refl
 
-module _ (whole : Relations) where
-  -- a relation that is one with another is one with what that is one with
-  shift : (a b c : By) → same_relation_of whole a b ≡ true → same_relation_of whole a c ≡ same_relation_of whole b c
-  shift (by.One a) (by.One b) (by.One c) h = ap (λ r. is_relation r c && holds whole r) (same_relation a b (left_of (is_relation a b) (holds whole a) h))
-  shift (by.One a) (by.One b) c h = refl
-  shift a b c h = cc
+-- a relation that is one with another is one with what that is one with
+shift : (a b c : By) → same_relation_of a b ≡ true → same_relation_of a c ≡ same_relation_of b c
+shift (by.One a) (by.One b) (by.One c) h = ap (λ r. is_relation r c) (same_relation a b h)
+shift (by.One a) (by.One b) c h = refl
+shift a b c h = cc
 
-  flip : (a b : By) → same_relation_of whole a b ≡ true → same_relation_of whole b a ≡ true
-  flip (by.One a) (by.One b) h = sym (shift (by.One a) (by.One b) (by.One a) h) ∙ ap (λ x. x && holds whole a) (itself a) ∙ right_of (is_relation a b) (holds whole a) h
-  flip a b h = cc
+flip : (a b : By) → same_relation_of a b ≡ true → same_relation_of b a ≡ true
+flip (by.One a) (by.One b) h = sym (shift (by.One a) (by.One b) (by.One a) h) ∙ itself a
+flip a b h = cc
 
-  alike_shift : (q r s : Route) → asks_alike whole q r ≡ true → asks_alike whole q s ≡ asks_alike whole r s
-  alike_shift (route.Cell a x y z) (route.Cell b u v w) (route.Cell c k l m) h = shift a b c h
-  alike_shift (route.Cell a x y z) (route.Cell b u v w) route.Every h = refl
-  alike_shift q r s h = cc
+alike_shift : (q r s : Route) → are_alike q r ≡ true → are_alike q s ≡ are_alike r s
+alike_shift (route.Cell a x y z) (route.Cell b u v w) (route.Cell c k l m) h = shift a b c h
+alike_shift (route.Cell a x y z) (route.Cell b u v w) route.Every h = refl
+alike_shift q r s h = cc
 
-  alike_flip : (q r : Route) → asks_alike whole q r ≡ true → asks_alike whole r q ≡ true
-  alike_flip (route.Cell a x y z) (route.Cell b u v w) h = flip a b h
-  alike_flip q r h = cc
+alike_flip : (q r : Route) → are_alike q r ≡ true → are_alike r q ≡ true
+alike_flip (route.Cell a x y z) (route.Cell b u v w) h = flip a b h
+alike_flip q r h = cc
 
-  asks_by : (a b : By) (s : Stage) (t : Bool) (u : Timing) → same_relation_of whole a b ≡ true → asks whole (route.Cell a s t u) ≡ true
-  asks_by (by.One a) (by.One b) s t u h = right_of (is_relation a b) (holds whole a) h
-  asks_by a b s t u h = cc
+by_one_of : (a b : By) (s : Stage) (t : Bool) (u : Timing) → same_relation_of a b ≡ true → is_by_one (route.Cell a s t u) ≡ true
+by_one_of (by.One a) (by.One b) s t u h = refl
+by_one_of a b s t u h = cc
 
-  -- what asks alike with another asks
-  alike_asks : (q r : Route) → asks_alike whole q r ≡ true → asks whole q ≡ true
-  alike_asks (route.Cell a x y z) (route.Cell b u v w) h = asks_by a b x y z h
-  alike_asks q r h = cc
+-- what asks alike with another asks
+alike_by_one : (q r : Route) → are_alike q r ≡ true → is_by_one q ≡ true
+alike_by_one (route.Cell a x y z) (route.Cell b u v w) h = by_one_of a b x y z h
+alike_by_one q r h = cc
 
-  alike_itself : (r : Route) → asks whole r ≡ true → asks_alike whole r r ≡ true
-  alike_itself (route.Cell (by.One q) x y z) h = ap (λ x. x && holds whole q) (itself q) ∙ h
-  alike_itself r h = cc
+alike_itself : (r : Route) → is_by_one r ≡ true → are_alike r r ≡ true
+alike_itself (route.Cell (by.One q) x y z) h = itself q
+alike_itself r h = cc
 
 -- ---- counts
 
@@ -139,157 +138,156 @@ any_last p (y ∷ xs) x = ap (λ b. p y || b) (any_last p xs x) ∙ either (p y)
 
 -- ---- the groups of a beginning
 
-module _ (whole : Relations) where
-  -- whether one of these asks alike
-  abbrev pub seen : List Route → Route → Bool
-  seen earlier r = list_any (λ other. asks_alike whole other r) earlier
+-- whether one of these asks alike
+abbrev pub seen : List Route → Route → Bool
+seen earlier r = list_any (λ other. are_alike other r) earlier
 
-  seen_asks : (earlier : List Route) (r : Route) → seen earlier r ≡ true → asks whole r ≡ true
-  seen_asks [] r h = cc
-  seen_asks (e ∷ earlier) r h = either (asks_alike whole e r) refl h (seen_asks earlier r)
-    where
-      either : (b : Bool) → asks_alike whole e r ≡ b → (b || seen earlier r) ≡ true → (seen earlier r ≡ true → asks whole r ≡ true) → asks whole r ≡ true
-      either true same k ih = alike_asks whole r e (alike_flip whole e r same)
-      either false same k ih = ih k
+seen_by_one : (earlier : List Route) (r : Route) → seen earlier r ≡ true → is_by_one r ≡ true
+seen_by_one [] r h = cc
+seen_by_one (e ∷ earlier) r h = either (are_alike e r) refl h (seen_by_one earlier r)
+  where
+    either : (b : Bool) → are_alike e r ≡ b → (b || seen earlier r) ≡ true → (seen earlier r ≡ true → is_by_one r ≡ true) → is_by_one r ≡ true
+    either true same k ih = alike_by_one r e (alike_flip e r same)
+    either false same k ih = ih k
 
-  seen_itself : (r : Route) (routes : List Route) → IsMember r routes → asks whole r ≡ true → seen routes r ≡ true
-  seen_itself r [] m h = absurd m
-  seen_itself r (e ∷ routes) (inl same) h = let here : asks_alike whole e r ≡ true = ap (λ x. asks_alike whole x r) same ∙ alike_itself whole r h in rw here refl
-  seen_itself r (e ∷ routes) (inr m) h = either (asks_alike whole e r) (seen_itself r routes m h)
-    where
-      either : (b : Bool) → seen routes r ≡ true → (b || seen routes r) ≡ true
-      either true ih = refl
-      either false ih = ih
+seen_itself : (r : Route) (routes : List Route) → IsMember r routes → is_by_one r ≡ true → seen routes r ≡ true
+seen_itself r [] m h = absurd m
+seen_itself r (e ∷ routes) (inl same) h = let here : are_alike e r ≡ true = ap (λ x. are_alike x r) same ∙ alike_itself r h in rw here refl
+seen_itself r (e ∷ routes) (inr m) h = either (are_alike e r) (seen_itself r routes m h)
+  where
+    either : (b : Bool) → seen routes r ≡ true → (b || seen routes r) ≡ true
+    either true ih = refl
+    either false ih = ih
 
-  all_seen : (r : Route) (routes : List Route) → IsMember r routes → (b c : Bool) → asks whole r ≡ b → seen routes r ≡ c → seen routes r ≡ asks whole r
-  all_seen r routes m true c e f = seen_itself r routes m e ∙ sym e
-  all_seen r routes m false true e f = let bad : false ≡ true = sym e ∙ seen_asks routes r f in cc
-  all_seen r routes m false false e f = f ∙ sym e
+all_seen : (r : Route) (routes : List Route) → IsMember r routes → (b c : Bool) → is_by_one r ≡ b → seen routes r ≡ c → seen routes r ≡ is_by_one r
+all_seen r routes m true c e f = seen_itself r routes m e ∙ sym e
+all_seen r routes m false true e f = let bad : false ≡ true = sym e ∙ seen_by_one routes r f in cc
+all_seen r routes m false false e f = f ∙ sym e
 
-  -- one more of which the like was seen adds nothing
-  seen_same : (earlier : List Route) (r s : Route) → (asks_alike whole r s ≡ true → seen earlier s ≡ true) → seen (earlier ++ r ∷ []) s ≡ seen earlier s
-  seen_same earlier r s h = any_last (λ other. asks_alike whole other s) earlier r ∙ either (seen earlier s) (asks_alike whole r s) h
-    where
-      either : (a b : Bool) → (b ≡ true → a ≡ true) → (a || b) ≡ a
-      either true b h = refl
-      either false true h = sym (h refl)
-      either false false h = refl
+-- one more of which the like was seen adds nothing
+seen_same : (earlier : List Route) (r s : Route) → (are_alike r s ≡ true → seen earlier s ≡ true) → seen (earlier ++ r ∷ []) s ≡ seen earlier s
+seen_same earlier r s h = any_last (λ other. are_alike other s) earlier r ∙ either (seen earlier s) (are_alike r s) h
+  where
+    either : (a b : Bool) → (b ≡ true → a ≡ true) → (a || b) ≡ a
+    either true b h = refl
+    either false true h = sym (h refl)
+    either false false h = refl
 
-  seen_through : (earlier : List Route) (r s : Route) → seen earlier r ≡ true → asks_alike whole r s ≡ true → seen earlier s ≡ true
-  seen_through earlier r s h same = any_weaker (λ other. asks_alike whole other r) (λ other. asks_alike whole other s) (λ other e. alike_shift whole other r s e ∙ same) earlier h
+seen_through : (earlier : List Route) (r s : Route) → seen earlier r ≡ true → are_alike r s ≡ true → seen earlier s ≡ true
+seen_through earlier r s h same = any_weaker (λ other. are_alike other r) (λ other. are_alike other s) (λ other e. alike_shift other r s e ∙ same) earlier h
 
-  seen_back : (earlier : List Route) (r s : Route) → asks_alike whole r s ≡ true → seen earlier s ≡ true → seen earlier r ≡ true
-  seen_back earlier r s same h = any_weaker (λ other. asks_alike whole other s) (λ other. asks_alike whole other r) (λ other e. alike_shift whole other s r e ∙ alike_flip whole r s same) earlier h
+seen_back : (earlier : List Route) (r s : Route) → are_alike r s ≡ true → seen earlier s ≡ true → seen earlier r ≡ true
+seen_back earlier r s same h = any_weaker (λ other. are_alike other s) (λ other. are_alike other r) (λ other e. alike_shift other s r e ∙ alike_flip r s same) earlier h
 
-  -- at most one of the selections that ask alike finds the row
-  abbrev pub IsOnce : List Route → ℕ → ℕ → Found → Type 0
-  IsOnce all caller day x = (r : Route) → asks whole r ≡ true → how_many (λ s. asks_alike whole r s && is_found s caller day x) all ≤ 1
+-- at most one of the selections that ask alike finds the row
+abbrev pub IsOnce : List Route → ℕ → ℕ → Found → Type 0
+IsOnce all caller day x = (r : Route) → is_by_one r ≡ true → how_many (λ s. are_alike r s && is_found s caller day x) all ≤ 1
 
-  -- Of a beginning of the selections these are the groups: as many of them find a row as selections of the beginning that
-  -- ask nothing, and selections of all that ask like one of the beginning.
-  abbrev pub CountsGroups : List Route → List Route → List (List Route) → Type 0
-  CountsGroups all earlier groups = (caller day : ℕ) (x : Found) → IsOnce all caller day x
-      → how_many (λ g. is_found_by_any g caller day x) groups ≡ how_many (λ s. is_found s caller day x && not (asks whole s)) earlier + how_many (λ s. is_found s caller day x && seen earlier s) all
+-- Of a beginning of the selections these are the groups: as many of them find a row as selections of the beginning that
+-- ask nothing, and selections of all that ask like one of the beginning.
+abbrev pub CountsGroups : List Route → List Route → List (List Route) → Type 0
+CountsGroups all earlier groups = (caller day : ℕ) (x : Found) → IsOnce all caller day x
+    → how_many (λ g. is_found_by_any g caller day x) groups ≡ how_many (λ s. is_found s caller day x && not (is_by_one s)) earlier + how_many (λ s. is_found s caller day x && seen earlier s) all
 
-  and_false : (b : Bool) → (b && false) ≡ true → false ≡ true
-  and_false true h = h
-  and_false false h = h
+and_false : (b : Bool) → (b && false) ≡ true → false ≡ true
+and_false true h = h
+and_false false h = h
 
-  pub counts_none : (all : List Route) → CountsGroups all [] []
-  counts_none all = λ caller day x few.
-      let none : how_many (λ s. is_found s caller day x && false) all ≤ how_many (λ s. false) all = weaker (λ s. is_found s caller day x && false) (λ s. false) (λ s h. and_false (is_found s caller day x) h) all in
-      let zero : how_many {A = Route} (λ s. false) all ≡ 0 = how_many-none all in
-      let same : how_many (λ s. is_found s caller day x && false) all ≡ 0 = omega arith in
-      omega arith
+pub counts_none : (all : List Route) → CountsGroups all [] []
+counts_none all = λ caller day x few.
+    let none : how_many (λ s. is_found s caller day x && false) all ≤ how_many (λ s. false) all = weaker (λ s. is_found s caller day x && false) (λ s. false) (λ s h. and_false (is_found s caller day x) h) all in
+    let zero : how_many {A = Route} (λ s. false) all ≡ 0 = how_many-none all in
+    let same : how_many (λ s. is_found s caller day x && false) all ≡ 0 = omega arith in
+    omega arith
 
-  off : (a b : Bool) → b ≡ true → bit (a && not b) ≡ 0
-  off true b e = ap (λ c. bit (not c)) e
-  off false b e = refl
+off : (a b : Bool) → b ≡ true → bit (a && not b) ≡ 0
+off true b e = ap (λ c. bit (not c)) e
+off false b e = refl
 
-  on : (a b : Bool) → b ≡ false → bit (a && not b) ≡ bit a
-  on true b e = ap (λ c. bit (not c)) e
-  on false b e = refl
+on : (a b : Bool) → b ≡ false → bit (a && not b) ≡ bit a
+on true b e = ap (λ c. bit (not c)) e
+on false b e = refl
 
-  -- a selection whose group was looked up
-  pub counts_seen : (all earlier : List Route) (r : Route) (groups : List (List Route)) → seen earlier r ≡ true → CountsGroups all earlier groups → CountsGroups all (earlier ++ r ∷ []) groups
-  counts_seen all earlier r groups h counts = λ caller day x few.
-      let f : Route → Bool = λ s. is_found s caller day x in
-      let asked : bit (f r && not (asks whole r)) ≡ 0 = off (f r) (asks whole r) (seen_asks earlier r h) in
-      let first : how_many (λ s. f s && not (asks whole s)) (earlier ++ r ∷ []) ≡ how_many (λ s. f s && not (asks whole s)) earlier + how_many (λ s. f s && not (asks whole s)) (r ∷ []) = how_many-append (λ s. f s && not (asks whole s)) earlier (r ∷ []) in
-      let alone : how_many (λ s. f s && not (asks whole s)) (r ∷ []) ≡ bit (f r && not (asks whole r)) + 0 = how_many-cons (λ s. f s && not (asks whole s)) r [] in
-      let grouped : how_many (λ s. f s && seen (earlier ++ r ∷ []) s) all ≡ how_many (λ s. f s && seen earlier s) all =
-      ap length (filter_agree (λ s. f s && seen (earlier ++ r ∷ []) s) (λ s. f s && seen earlier s) (λ s. ap (λ b. f s && b) (seen_same earlier r s (seen_through earlier r s h))) all) in
-      omega (arith, counts caller day x few, first, alone, asked, grouped)
+-- a selection whose group was looked up
+pub counts_seen : (all earlier : List Route) (r : Route) (groups : List (List Route)) → seen earlier r ≡ true → CountsGroups all earlier groups → CountsGroups all (earlier ++ r ∷ []) groups
+counts_seen all earlier r groups h counts = λ caller day x few.
+    let f : Route → Bool = λ s. is_found s caller day x in
+    let asked : bit (f r && not (is_by_one r)) ≡ 0 = off (f r) (is_by_one r) (seen_by_one earlier r h) in
+    let first : how_many (λ s. f s && not (is_by_one s)) (earlier ++ r ∷ []) ≡ how_many (λ s. f s && not (is_by_one s)) earlier + how_many (λ s. f s && not (is_by_one s)) (r ∷ []) = how_many-append (λ s. f s && not (is_by_one s)) earlier (r ∷ []) in
+    let alone : how_many (λ s. f s && not (is_by_one s)) (r ∷ []) ≡ bit (f r && not (is_by_one r)) + 0 = how_many-cons (λ s. f s && not (is_by_one s)) r [] in
+    let grouped : how_many (λ s. f s && seen (earlier ++ r ∷ []) s) all ≡ how_many (λ s. f s && seen earlier s) all =
+    ap length (filter_agree (λ s. f s && seen (earlier ++ r ∷ []) s) (λ s. f s && seen earlier s) (λ s. ap (λ b. f s && b) (seen_same earlier r s (seen_through earlier r s h))) all) in
+    omega (arith, counts caller day x few, first, alone, asked, grouped)
 
-  bits : (a b c : Bool) → (c ≡ true → b ≡ true → ⊥) → bit (a && (b || c)) ≡ bit (a && b) + bit (c && a)
-  bits true true true h = absurd (h refl refl)
-  bits true true false h = refl
-  bits true false true h = refl
-  bits true false false h = refl
-  bits false b true h = refl
-  bits false b false h = refl
+bits : (a b c : Bool) → (c ≡ true → b ≡ true → ⊥) → bit (a && (b || c)) ≡ bit (a && b) + bit (c && a)
+bits true true true h = absurd (h refl refl)
+bits true true false h = refl
+bits true false true h = refl
+bits true false false h = refl
+bits false b true h = refl
+bits false b false h = refl
 
-  -- the group of a selection that asks, the like of which wasn't seen
-  new_asked : (all earlier : List Route) (r : Route) (groups : List (List Route)) → asks whole r ≡ true → seen earlier r ≡ false → CountsGroups all earlier groups → CountsGroups all (earlier ++ r ∷ []) (groups ++ filter (asks_alike whole r) all ∷ [])
-  new_asked all earlier r groups e h counts = λ caller day x few.
-      let f : Route → Bool = λ s. is_found s caller day x in
-      let any : List Route → Bool = λ g. is_found_by_any g caller day x in
-      let group : List Route = filter (asks_alike whole r) all in
-      let held : how_many f group ≡ how_many (λ s. asks_alike whole r s && f s) all = how_many-filter (asks_alike whole r) f all in
-      let hit : bit (any group) ≡ how_many f group = once f group (omega (arith, held, few r e)) in
-      let later : how_many any (groups ++ group ∷ []) ≡ how_many any groups + how_many any (group ∷ []) = how_many-append any groups (group ∷ []) in
-      let last : how_many any (group ∷ []) ≡ bit (any group) + 0 = how_many-cons any group [] in
-      let asked : bit (f r && not (asks whole r)) ≡ 0 = off (f r) (asks whole r) e in
-      let first : how_many (λ s. f s && not (asks whole s)) (earlier ++ r ∷ []) ≡ how_many (λ s. f s && not (asks whole s)) earlier + how_many (λ s. f s && not (asks whole s)) (r ∷ []) = how_many-append (λ s. f s && not (asks whole s)) earlier (r ∷ []) in
-      let alone : how_many (λ s. f s && not (asks whole s)) (r ∷ []) ≡ bit (f r && not (asks whole r)) + 0 = how_many-cons (λ s. f s && not (asks whole s)) r [] in
-      let grouped : how_many (λ s. f s && seen (earlier ++ r ∷ []) s) all ≡ how_many (λ s. f s && seen earlier s) all + how_many (λ s. asks_alike whole r s && f s) all =
-      parted (λ s. f s && seen (earlier ++ r ∷ []) s) (λ s. f s && seen earlier s) (λ s. asks_alike whole r s && f s)
-      (λ s. ap (λ b. bit (f s && b)) (any_last (λ other. asks_alike whole other s) earlier r) ∙ bits (f s) (seen earlier s) (asks_alike whole r s) (λ same there. clash (seen_back earlier r s same there))) all in
-      omega (arith, counts caller day x few, first, alone, asked, grouped, later, last, hit, held)
-    where
-      clash : seen earlier r ≡ true → ⊥
-      clash there = let bad : true ≡ false = sym there ∙ h in cc
+-- the group of a selection that asks, the like of which wasn't seen
+new_group : (all earlier : List Route) (r : Route) (groups : List (List Route)) → is_by_one r ≡ true → seen earlier r ≡ false → CountsGroups all earlier groups → CountsGroups all (earlier ++ r ∷ []) (groups ++ filter (are_alike r) all ∷ [])
+new_group all earlier r groups e h counts = λ caller day x few.
+    let f : Route → Bool = λ s. is_found s caller day x in
+    let any : List Route → Bool = λ g. is_found_by_any g caller day x in
+    let group : List Route = filter (are_alike r) all in
+    let held : how_many f group ≡ how_many (λ s. are_alike r s && f s) all = how_many-filter (are_alike r) f all in
+    let hit : bit (any group) ≡ how_many f group = once f group (omega (arith, held, few r e)) in
+    let later : how_many any (groups ++ group ∷ []) ≡ how_many any groups + how_many any (group ∷ []) = how_many-append any groups (group ∷ []) in
+    let last : how_many any (group ∷ []) ≡ bit (any group) + 0 = how_many-cons any group [] in
+    let asked : bit (f r && not (is_by_one r)) ≡ 0 = off (f r) (is_by_one r) e in
+    let first : how_many (λ s. f s && not (is_by_one s)) (earlier ++ r ∷ []) ≡ how_many (λ s. f s && not (is_by_one s)) earlier + how_many (λ s. f s && not (is_by_one s)) (r ∷ []) = how_many-append (λ s. f s && not (is_by_one s)) earlier (r ∷ []) in
+    let alone : how_many (λ s. f s && not (is_by_one s)) (r ∷ []) ≡ bit (f r && not (is_by_one r)) + 0 = how_many-cons (λ s. f s && not (is_by_one s)) r [] in
+    let grouped : how_many (λ s. f s && seen (earlier ++ r ∷ []) s) all ≡ how_many (λ s. f s && seen earlier s) all + how_many (λ s. are_alike r s && f s) all =
+    parted (λ s. f s && seen (earlier ++ r ∷ []) s) (λ s. f s && seen earlier s) (λ s. are_alike r s && f s)
+    (λ s. ap (λ b. bit (f s && b)) (any_last (λ other. are_alike other s) earlier r) ∙ bits (f s) (seen earlier s) (are_alike r s) (λ same there. clash (seen_back earlier r s same there))) all in
+    omega (arith, counts caller day x few, first, alone, asked, grouped, later, last, hit, held)
+  where
+    clash : seen earlier r ≡ true → ⊥
+    clash there = let bad : true ≡ false = sym there ∙ h in cc
 
-  -- a selection that asks nothing is a group of its own
-  new_alone : (all earlier : List Route) (r : Route) (groups : List (List Route)) → asks whole r ≡ false → CountsGroups all earlier groups → CountsGroups all (earlier ++ r ∷ []) (groups ++ (r ∷ []) ∷ [])
-  new_alone all earlier r groups e counts = λ caller day x few.
-      let f : Route → Bool = λ s. is_found s caller day x in
-      let any : List Route → Bool = λ g. is_found_by_any g caller day x in
-      let hit : bit (any (r ∷ [])) ≡ bit (f r) = ap bit (or_false (f r)) in
-      let later : how_many any (groups ++ (r ∷ []) ∷ []) ≡ how_many any groups + how_many any ((r ∷ []) ∷ []) = how_many-append any groups ((r ∷ []) ∷ []) in
-      let last : how_many any ((r ∷ []) ∷ []) ≡ bit (any (r ∷ [])) + 0 = how_many-cons any (r ∷ []) [] in
-      let asked : bit (f r && not (asks whole r)) ≡ bit (f r) = on (f r) (asks whole r) e in
-      let first : how_many (λ s. f s && not (asks whole s)) (earlier ++ r ∷ []) ≡ how_many (λ s. f s && not (asks whole s)) earlier + how_many (λ s. f s && not (asks whole s)) (r ∷ []) = how_many-append (λ s. f s && not (asks whole s)) earlier (r ∷ []) in
-      let alone : how_many (λ s. f s && not (asks whole s)) (r ∷ []) ≡ bit (f r && not (asks whole r)) + 0 = how_many-cons (λ s. f s && not (asks whole s)) r [] in
-      let grouped : how_many (λ s. f s && seen (earlier ++ r ∷ []) s) all ≡ how_many (λ s. f s && seen earlier s) all =
-      ap length (filter_agree (λ s. f s && seen (earlier ++ r ∷ []) s) (λ s. f s && seen earlier s) (λ s. ap (λ b. f s && b) (seen_same earlier r s (λ same. absurd (clash s same)))) all) in
-      omega (arith, counts caller day x few, first, alone, asked, grouped, later, last, hit)
-    where
-      clash : (s : Route) → asks_alike whole r s ≡ true → ⊥
-      clash s same = let bad : true ≡ false = sym (alike_asks whole r s same) ∙ e in cc
+-- a selection that asks nothing is a group of its own
+new_alone : (all earlier : List Route) (r : Route) (groups : List (List Route)) → is_by_one r ≡ false → CountsGroups all earlier groups → CountsGroups all (earlier ++ r ∷ []) (groups ++ (r ∷ []) ∷ [])
+new_alone all earlier r groups e counts = λ caller day x few.
+    let f : Route → Bool = λ s. is_found s caller day x in
+    let any : List Route → Bool = λ g. is_found_by_any g caller day x in
+    let hit : bit (any (r ∷ [])) ≡ bit (f r) = ap bit (or_false (f r)) in
+    let later : how_many any (groups ++ (r ∷ []) ∷ []) ≡ how_many any groups + how_many any ((r ∷ []) ∷ []) = how_many-append any groups ((r ∷ []) ∷ []) in
+    let last : how_many any ((r ∷ []) ∷ []) ≡ bit (any (r ∷ [])) + 0 = how_many-cons any (r ∷ []) [] in
+    let asked : bit (f r && not (is_by_one r)) ≡ bit (f r) = on (f r) (is_by_one r) e in
+    let first : how_many (λ s. f s && not (is_by_one s)) (earlier ++ r ∷ []) ≡ how_many (λ s. f s && not (is_by_one s)) earlier + how_many (λ s. f s && not (is_by_one s)) (r ∷ []) = how_many-append (λ s. f s && not (is_by_one s)) earlier (r ∷ []) in
+    let alone : how_many (λ s. f s && not (is_by_one s)) (r ∷ []) ≡ bit (f r && not (is_by_one r)) + 0 = how_many-cons (λ s. f s && not (is_by_one s)) r [] in
+    let grouped : how_many (λ s. f s && seen (earlier ++ r ∷ []) s) all ≡ how_many (λ s. f s && seen earlier s) all =
+    ap length (filter_agree (λ s. f s && seen (earlier ++ r ∷ []) s) (λ s. f s && seen earlier s) (λ s. ap (λ b. f s && b) (seen_same earlier r s (λ same. absurd (clash s same)))) all) in
+    omega (arith, counts caller day x few, first, alone, asked, grouped, later, last, hit)
+  where
+    clash : (s : Route) → are_alike r s ≡ true → ⊥
+    clash s same = let bad : true ≡ false = sym (alike_by_one r s same) ∙ e in cc
 
-  -- a selection the like of which wasn't seen
-  pub counts_new : (all earlier : List Route) (r : Route) (groups : List (List Route)) → seen earlier r ≡ false → CountsGroups all earlier groups → CountsGroups all (earlier ++ r ∷ []) (groups ++ group_of whole all r ∷ [])
-  counts_new all earlier r groups h counts = either (asks whole r) refl
-    where
-      either : (b : Bool) → asks whole r ≡ b → CountsGroups all (earlier ++ r ∷ []) (groups ++ (if b then filter (asks_alike whole r) all else r ∷ []) ∷ [])
-      either true e = new_asked all earlier r groups e h counts
-      either false e = new_alone all earlier r groups e counts
+-- a selection the like of which wasn't seen
+pub counts_new : (all earlier : List Route) (r : Route) (groups : List (List Route)) → seen earlier r ≡ false → CountsGroups all earlier groups → CountsGroups all (earlier ++ r ∷ []) (groups ++ group_of all r ∷ [])
+counts_new all earlier r groups h counts = either (is_by_one r) refl
+  where
+    either : (b : Bool) → is_by_one r ≡ b → CountsGroups all (earlier ++ r ∷ []) (groups ++ (if b then filter (are_alike r) all else r ∷ []) ∷ [])
+    either true e = new_group all earlier r groups e h counts
+    either false e = new_alone all earlier r groups e counts
 
-  halves : (a b : Bool) → bit a ≡ bit (a && not b) + bit (a && b)
-  halves true true = refl
-  halves true false = refl
-  halves false b = refl
+halves : (a b : Bool) → bit a ≡ bit (a && not b) + bit (a && b)
+halves true true = refl
+halves true false = refl
+halves false b = refl
 
-  -- as many groups find a row as selections
-  counts_all : (all : List Route) (groups : List (List Route)) → CountsGroups all all groups → (caller day : ℕ) (x : Found) → IsOnce all caller day x
-      → how_many (λ g. is_found_by_any g caller day x) groups ≡ how_many (λ s. is_found s caller day x) all
-  counts_all all groups counts caller day x few =
-      let f : Route → Bool = λ s. is_found s caller day x in
-      let grouped : how_many (λ s. f s && seen all s) all ≡ how_many (λ s. f s && asks whole s) all =
-      counted_same (λ s. f s && seen all s) (λ s. f s && asks whole s) all (all_members (λ s. (f s && seen all s) ≡ (f s && asks whole s)) all (λ s m. ap (λ b. f s && b) (all_seen s all m (asks whole s) (seen all s) refl refl))) in
-      let whole : how_many f all ≡ how_many (λ s. f s && not (asks whole s)) all + how_many (λ s. f s && asks whole s) all = parted f (λ s. f s && not (asks whole s)) (λ s. f s && asks whole s) (λ s. halves (f s) (asks whole s)) all in
-      omega (arith, counts caller day x few, grouped, whole)
+-- as many groups find a row as selections
+counts_all : (all : List Route) (groups : List (List Route)) → CountsGroups all all groups → (caller day : ℕ) (x : Found) → IsOnce all caller day x
+    → how_many (λ g. is_found_by_any g caller day x) groups ≡ how_many (λ s. is_found s caller day x) all
+counts_all all groups counts caller day x few =
+    let f : Route → Bool = λ s. is_found s caller day x in
+    let grouped : how_many (λ s. f s && seen all s) all ≡ how_many (λ s. f s && is_by_one s) all =
+    counted_same (λ s. f s && seen all s) (λ s. f s && is_by_one s) all (all_members (λ s. (f s && seen all s) ≡ (f s && is_by_one s)) all (λ s m. ap (λ b. f s && b) (all_seen s all m (is_by_one s) (seen all s) refl refl))) in
+    let whole : how_many f all ≡ how_many (λ s. f s && not (is_by_one s)) all + how_many (λ s. f s && is_by_one s) all = parted f (λ s. f s && not (is_by_one s)) (λ s. f s && is_by_one s) (λ s. halves (f s) (is_by_one s)) all in
+    omega (arith, counts caller day x few, grouped, whole)
 
 -- ---- a listing's selections
 
@@ -331,13 +329,13 @@ gated {R} same hold keep false xs few =
     let none : how_many {A = R} (λ y. false) (filter keep xs) ≡ 0 = how_many-none (filter keep xs) in
     omega (arith, fewer, none)
 
-module _ (whole : Relations) (caller day : ℕ) (x : Found) where
+module _ (caller day : ℕ) (x : Found) where
   -- the cell that the row lies in
   abbrev marked : Cell → Bool
   marked cell = marks x.row.state.stage x.row.state.stopped (timing_on day x.row.state.deadline) cell
 
   abbrev hits : Route → Route → Bool
-  hits r s = asks_alike whole r s && is_found s caller day x
+  hits r s = are_alike r s && is_found s caller day x
 
   in_one : (a : Relation) (s : Stage) (t : Bool) (u : Timing) (may : Relations → Bool) (cell : Cell) (b : Bool)
       → how_many (hits (route.Cell (by.One a) s t u)) (if b then route_by cell by.Whole ∷ []
@@ -349,14 +347,13 @@ module _ (whole : Relations) (caller day : ℕ) (x : Found) where
       let ones = filter (λ q. may (only q)) all_relations in
       let twos = filter (allowed_as_two may) all_pairs in
       let both = how_many-append (hits r) (map (λ q. route_by cell (by.One q)) ones) (map (λ (pair : Pair). route_by cell (by.Two pair.0 pair.1)) twos) in
-      let first : how_many (hits r) (map (λ q. route_by cell (by.One q)) ones) ≡ how_many (λ q. (is_relation a q && holds whole a) && (marked cell && holds set q)) ones = how_many-map (λ q. route_by cell (by.One q)) (hits r) ones in
-      let same : how_many (λ q. is_relation a q && holds whole a) all_relations ≤ how_many (is_relation a) all_relations = weaker (λ q. is_relation a q && holds whole a) (is_relation a) (λ q h. left_of (is_relation a q) (holds whole a) h) all_relations in
-      let few = gated (λ q. is_relation a q && holds whole a) (λ q. holds set q) (λ q. may (only q)) (marked cell) all_relations (omega (arith, same, one_relation a)) in
+      let first : how_many (hits r) (map (λ q. route_by cell (by.One q)) ones) ≡ how_many (λ q. is_relation a q && (marked cell && holds set q)) ones = how_many-map (λ q. route_by cell (by.One q)) (hits r) ones in
+      let few = gated (is_relation a) (λ q. holds set q) (λ q. may (only q)) (marked cell) all_relations (omega (arith, one_relation a)) in
       let second : how_many (hits r) (map (λ (pair : Pair). route_by cell (by.Two pair.0 pair.1)) twos) ≡ 0 = how_many-map (λ (pair : Pair). route_by cell (by.Two pair.0 pair.1)) (hits r) twos ∙ how_many-none twos in
       omega (arith, both, first, few, second)
 
   -- of the selections of a cell
-  in_cell : (allowed : Allowed) (r : Route) → asks whole r ≡ true → (cell : Cell) → how_many (hits r) (routes_in allowed cell) ≤ bit (marked cell)
+  in_cell : (allowed : Allowed) (r : Route) → is_by_one r ≡ true → (cell : Cell) → how_many (hits r) (routes_in allowed cell) ≤ bit (marked cell)
   in_cell allowed (route.Cell (by.One a) s t u) h cell = in_one a s t u (allowed (cell_on_day cell)) cell (allowed (cell_on_day cell) no_relations)
   in_cell allowed r h cell = cc
 
@@ -373,7 +370,7 @@ module _ (whole : Relations) (caller day : ℕ) (x : Found) where
   never_every route.Every = refl
   never_every (route.Cell a s t u) = refl
 
-  once_by : (allowed : Allowed) (wanted : Filter) (r : Route) → asks whole r ≡ true → (b : Bool)
+  once_by : (allowed : Allowed) (wanted : Filter) (r : Route) → is_by_one r ≡ true → (b : Bool)
       → how_many (hits r) (if b then route.Every ∷ [] else flat_map (routes_in allowed) (filter (cell_meets wanted) kept_cells)) ≤ 1
   once_by allowed wanted r h true = omega (arith, how_many-cons (hits r) route.Every [], ap bit (never_every r))
   once_by allowed wanted r h false =
@@ -385,14 +382,14 @@ module _ (whole : Relations) (caller day : ℕ) (x : Found) where
       omega (arith, same, few, one, bit_most (is_stored x.row.state.stage && fits x.row.state.stage (timing_on day x.row.state.deadline)))
 
   -- of a listing's selections that ask alike, one at most finds the row: it lies in one cell
-  found_once : (allowed : Allowed) (wanted : Filter) → IsOnce whole (routes_of allowed wanted) caller day x
+  found_once : (allowed : Allowed) (wanted : Filter) → IsOnce (routes_of allowed wanted) caller day x
   found_once allowed wanted = λ r h. once_by allowed wanted r h (is_all wanted && list_all (is_open_to_all allowed) kept_cells)
 
 -- the groups of a listing's selections find the rows that these find, as often
-pub groups_find : (whole : Relations) (allowed : Allowed) (wanted : Filter) (caller day : ℕ) (t : Tables) (groups : List (List Route)) → CountsGroups whole (routes_of allowed wanted) (routes_of allowed wanted) groups
+pub groups_find : (allowed : Allowed) (wanted : Filter) (caller day : ℕ) (t : Tables) (groups : List (List Route)) → CountsGroups (routes_of allowed wanted) (routes_of allowed wanted) groups
     → IsPermutation (flat_map (λ g. found_by_any g caller day t) groups) (flat_map (λ r. found_by r caller day t) (routes_of allowed wanted))
-groups_find whole allowed wanted caller day t groups counts =
+groups_find allowed wanted caller day t groups counts =
     let routes = routes_of allowed wanted in
     let rows = map (found_row t caller) t.files in
     same_selected (λ (g : List Route) (x : Found). is_found_by_any g caller day x) (λ (r : Route) (x : Found). is_found r caller day x) groups routes rows
-    (everywhere (λ x. how_many (λ g. is_found_by_any g caller day x) groups ≡ how_many (λ r. is_found r caller day x) routes) (λ x. counts_all whole routes groups counts caller day x (found_once whole caller day x allowed wanted)) rows)
+    (everywhere (λ x. how_many (λ g. is_found_by_any g caller day x) groups ≡ how_many (λ r. is_found r caller day x) routes) (λ x. counts_all routes groups counts caller day x (found_once caller day x allowed wanted)) rows)

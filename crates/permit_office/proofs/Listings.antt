@@ -107,21 +107,21 @@ alone (x ∷ []) d one = refl
 alone (x ∷ (y ∷ xs)) d one = absurd (omega (arith, one))
 
 -- Rows were handed out for a beginning of the selections, and they are those that the groups of the beginning find.
-pub record GathersOf (whole : Relations) (policy : Policy) (caller : Party) (day : ℕ) (routes earlier : List Route) (old new : StoreView) (views : List FileView) (count : ℕ) : Type 0 where
+pub record GathersOf (policy : Policy) (caller : Party) (day : ℕ) (routes earlier : List Route) (old new : StoreView) (views : List FileView) (count : ℕ) : Type 0 where
   pub given : List Found
   pub files : views ≡ views_found policy caller day given
   pub read : count ≡ length given % 2 ^ 32
   pub handed : HandedMore (length given) old.handed new.handed
   pub groups : List (List Route)
-  pub counts : CountsGroups whole routes earlier groups
+  pub counts : CountsGroups routes earlier groups
   pub found : new.doubt ≡ 0 → (h : History) → IsHistory h → old.holds (tables h) → IsPermutation given (flat_map (λ g. found_by_any g caller.id day (tables h)) groups)
 
 -- one group more
-gathers_more : (whole : Relations) (policy : Policy) (caller : Party) (day : ℕ) (routes earlier : List Route) (r : Route) (old mid new : StoreView) (before after : Lister) (given : List Found) → before.policy.now ≡ policy → before.caller.now ≡ caller → before.day ≡ day →
-    seen whole earlier r ≡ false → GathersOf whole policy caller day routes earlier old mid before.files.items before.read → Listed given before after → new.handed ≡ more_handed (length given) mid.handed → mid.doubt ≤ new.doubt →
-    (new.doubt ≡ 0 → (t : Tables) → old.holds t → IsPermutation given (found_by_any (group_of whole routes r) caller.id day t)) →
-    GathersOf whole policy caller day routes (earlier ++ r ∷ []) old new after.files.items after.read
-gathers_more whole policy caller day routes earlier r old mid new before after given ep ec ed unseen all one handed doubt found = record {
+gathers_more : (policy : Policy) (caller : Party) (day : ℕ) (routes earlier : List Route) (r : Route) (old mid new : StoreView) (before after : Lister) (given : List Found) → before.policy.now ≡ policy → before.caller.now ≡ caller → before.day ≡ day →
+    seen earlier r ≡ false → GathersOf policy caller day routes earlier old mid before.files.items before.read → Listed given before after → new.handed ≡ more_handed (length given) mid.handed → mid.doubt ≤ new.doubt →
+    (new.doubt ≡ 0 → (t : Tables) → old.holds t → IsPermutation given (found_by_any (group_of routes r) caller.id day t)) →
+    GathersOf policy caller day routes (earlier ++ r ∷ []) old new after.files.items after.read
+gathers_more policy caller day routes earlier r old mid new before after given ep ec ed unseen all one handed doubt found = record {
   given = all.given ++ given;
   files = one.files
       ∙ ap (λ p. before.files.items ++ views_found p before.caller.now before.day given) ep
@@ -131,24 +131,24 @@ gathers_more whole policy caller day routes earlier r old mid new before after g
       ∙ sym (views_append policy caller day all.given given);
   read = counted 0 before.read after.read (length all.given) (length given) (all.read ∙ from_none (length all.given)) one.read ∙ sym (from_none (length all.given + length given)) ∙ ap (λ n. n % 2 ^ 32) (sym (length-append all.given given));
   handed = subst (λ n. HandedMore n old.handed new.handed) (sym (length-append all.given given)) (handed_more old.handed mid.handed new.handed (length all.given) (length given) all.handed handed);
-  groups = all.groups ++ group_of whole routes r ∷ [];
-  counts = counts_new whole routes earlier r all.groups unseen all.counts;
+  groups = all.groups ++ group_of routes r ∷ [];
+  counts = counts_new routes earlier r all.groups unseen all.counts;
   found = λ sure h is held.
       let late : mid.doubt ≡ 0 = omega arith in
-      subst (IsPermutation (all.given ++ given)) (sym (flat_last (λ g. found_by_any g caller.id day (tables h)) all.groups (group_of whole routes r)))
-      (IsPermutation-append all.given (flat_map (λ g. found_by_any g caller.id day (tables h)) all.groups) given (found_by_any (group_of whole routes r) caller.id day (tables h)) (all.found late h is held) (found sure (tables h) held));
+      subst (IsPermutation (all.given ++ given)) (sym (flat_last (λ g. found_by_any g caller.id day (tables h)) all.groups (group_of routes r)))
+      (IsPermutation-append all.given (flat_map (λ g. found_by_any g caller.id day (tables h)) all.groups) given (found_by_any (group_of routes r) caller.id day (tables h)) (all.found late h is held) (found sure (tables h) held));
 }
 
 -- a selection whose group was looked up
-pub gathers_seen : (whole : Relations) (policy : Policy) (caller : Party) (day : ℕ) (routes earlier : List Route) (r : Route) (old new : StoreView) (views : List FileView) (count : ℕ) → seen whole earlier r ≡ true →
-    GathersOf whole policy caller day routes earlier old new views count → GathersOf whole policy caller day routes (earlier ++ r ∷ []) old new views count
-gathers_seen whole policy caller day routes earlier r old new views count there all = record {
+pub gathers_seen : (policy : Policy) (caller : Party) (day : ℕ) (routes earlier : List Route) (r : Route) (old new : StoreView) (views : List FileView) (count : ℕ) → seen earlier r ≡ true →
+    GathersOf policy caller day routes earlier old new views count → GathersOf policy caller day routes (earlier ++ r ∷ []) old new views count
+gathers_seen policy caller day routes earlier r old new views count there all = record {
   given = all.given;
   files = all.files;
   read = all.read;
   handed = all.handed;
   groups = all.groups;
-  counts = counts_seen whole routes earlier r all.groups there all.counts;
+  counts = counts_seen routes earlier r all.groups there all.counts;
   found = all.found;
 }
 
@@ -162,40 +162,40 @@ all_handed given found handed =
     subst (λ (xs : List Found). IsPermutation xs found) (ap (λ rest. given ++ rest) handed.1 ∙ nothing_more given) handed.2
 
 -- the lister after it
-pub record GoesOn (whole : Relations) (rules : Policy) (who : Party) (today : ℕ) (routes earlier : List Route) (old mid new : StoreView) (lister : Lister) : Type 0 where
+pub record GoesOn (rules : Policy) (who : Party) (today : ℕ) (routes earlier : List Route) (old mid new : StoreView) (lister : Lister) : Type 0 where
   pub policy : lister.policy.now ≡ rules
   pub caller : lister.caller.now ≡ who
   pub day : lister.day ≡ today
-  pub gathers : GathersOf whole rules who today routes earlier old new lister.files.items lister.read
+  pub gathers : GathersOf rules who today routes earlier old new lister.files.items lister.read
   pub read : (count : ℕ) × Reads {A = Bool} {E = StoreError} ⊤ count mid new (Ok true)
 
-pub goes_on : (whole : Relations) (policy : Policy) (caller : Party) (day : ℕ) (routes earlier : List Route) (r : Route) (old mid new : StoreView) (before after : Lister) → before.policy.now ≡ policy → before.caller.now ≡ caller → before.day ≡ day →
-    seen whole earlier r ≡ false → GathersOf whole policy caller day routes earlier old mid before.files.items before.read → ((t : Tables) → old.holds t → mid.holds t) → (b : Bool) → b ≡ true → (number : ℕ) → number ≡ caller.id →
-    (group : List Route) → group ≡ group_of whole routes r → HandedTo number day group mid new before after (Ok b) →
-    GoesOn whole policy caller day routes (earlier ++ r ∷ []) old mid new after
-goes_on whole policy caller day routes earlier r old mid new before after ep ec ed unseen all kept false on number same group is handed = cc
-goes_on whole policy caller day routes earlier r old mid new before after ep ec ed unseen all kept true on number same group is handed =
+pub goes_on : (policy : Policy) (caller : Party) (day : ℕ) (routes earlier : List Route) (r : Route) (old mid new : StoreView) (before after : Lister) → before.policy.now ≡ policy → before.caller.now ≡ caller → before.day ≡ day →
+    seen earlier r ≡ false → GathersOf policy caller day routes earlier old mid before.files.items before.read → ((t : Tables) → old.holds t → mid.holds t) → (b : Bool) → b ≡ true → (number : ℕ) → number ≡ caller.id →
+    (group : List Route) → group ≡ group_of routes r → HandedTo number day group mid new before after (Ok b) →
+    GoesOn policy caller day routes (earlier ++ r ∷ []) old mid new after
+goes_on policy caller day routes earlier r old mid new before after ep ec ed unseen all kept false on number same group is handed = cc
+goes_on policy caller day routes earlier r old mid new before after ep ec ed unseen all kept true on number same group is handed =
     let given = handed.0 in
     let one : Listed given before after = took_listed given before after (small before.read (length all.given) all.read) handed.1.taken in
     record {
       policy = ap (λ p. p.now) one.policy ∙ ep;
       caller = ap (λ p. p.now) one.caller ∙ ec;
       day = one.day ∙ ed;
-      gathers = gathers_more whole policy caller day routes earlier r old mid new before after given ep ec ed unseen all one handed.1.read.handed handed.1.read.doubt
+      gathers = gathers_more policy caller day routes earlier r old mid new before after given ep ec ed unseen all one handed.1.read.handed handed.1.read.doubt
           (λ sure t held. subst (λ (g : List Route). IsPermutation given (found_by_any g caller.id day t)) is
           (subst (λ (n : ℕ). IsPermutation given (found_by_any group n day t)) same (all_handed given (found_by_any group number day t) (handed.2 sure t (kept t held)))));
       read = (more_handed (length given) mid.handed, handed.1.read);
     }
 
 -- no selection yet
-pub gathers_none : (whole : Relations) (policy : Policy) (caller : Party) (day : ℕ) (routes : List Route) (s : StoreView) (views : List FileView) → views ≡ [] → GathersOf whole policy caller day routes [] s s views 0
-gathers_none whole policy caller day routes s views e =
-    record { given = []; files = e; read = refl; handed = omega arith; groups = []; counts = counts_none whole routes; found = λ sure h is held. IsPermutation-refl [] }
+pub gathers_none : (policy : Policy) (caller : Party) (day : ℕ) (routes : List Route) (s : StoreView) (views : List FileView) → views ≡ [] → GathersOf policy caller day routes [] s s views 0
+gathers_none policy caller day routes s views e =
+    record { given = []; files = e; read = refl; handed = omega arith; groups = []; counts = counts_none routes; found = λ sure h is held. IsPermutation-refl [] }
 
 -- all selections, where they are a listing's
-pub gathers_whole : (whole : Relations) (policy : Policy) (caller : Party) (day : ℕ) (routes : List Route) (old new : StoreView) (views : List FileView) (count : ℕ) → GathersOf whole policy caller day routes routes old new views count →
+pub gathers_whole : (policy : Policy) (caller : Party) (day : ℕ) (routes : List Route) (old new : StoreView) (views : List FileView) (count : ℕ) → GathersOf policy caller day routes routes old new views count →
     Gathers policy caller day routes old new views count
-gathers_whole whole policy caller day routes old new views count all = record {
+gathers_whole policy caller day routes old new views count all = record {
   given = all.given;
   files = all.files;
   read = all.read;
@@ -204,7 +204,7 @@ gathers_whole whole policy caller day routes old new views count all = record {
       let allowed = allowed_by policy caller.role action.List in
       subst (λ (rs : List Route). IsPermutation all.given (flat_map (λ r. found_by r caller.id day (tables h)) rs)) (sym e)
       (IsPermutation-trans all.given (flat_map (λ g. found_by_any g caller.id day (tables h)) all.groups) (flat_map (λ r. found_by r caller.id day (tables h)) (routes_of allowed wanted)) (all.found sure h is held)
-      (groups_find whole allowed wanted caller.id day (tables h) all.groups (subst (λ (rs : List Route). CountsGroups whole rs rs all.groups) e all.counts)));
+      (groups_find allowed wanted caller.id day (tables h) all.groups (subst (λ (rs : List Route). CountsGroups rs rs all.groups) e all.counts)));
 }
 
 -- ---- all selections

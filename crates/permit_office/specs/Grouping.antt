@@ -1,31 +1,28 @@
--- Which of a listing's selections are looked up together: those that find files by one relation of the caller, where it is
--- asked for in every cell. Of another relation the files of some cell are not to be fetched.
-use Rattle.std.specs.Prelude.{Bool, false, ◌&&◌, if◌then◌else◌, List, [], ◌∷◌, filter}
+-- Which of a listing's selections are looked up together: those that find files by the same relation of the caller alone.
+use Rattle.std.specs.Prelude.{Bool, true, false, if◌then◌else◌, List, [], ◌∷◌, filter}
 use Rattle.permit_base.specs.declared.route.By.{By}
 use Rattle.permit_base.specs.declared.route.By.TheVariants as by
 use Rattle.permit_base.specs.declared.route.Route.{Route}
 use Rattle.permit_base.specs.declared.route.Route.TheVariants as route
-use Rattle.permit_base.specs.declared.words.Relations.{Relations}
 use Rattle.permit_model.specs.Codes.{is_relation}
-use Rattle.permit_model.specs.Facts.{holds}
 
--- whether both are the same one of these relations
-abbrev pub same_relation_of : Relations → By → By → Bool
-same_relation_of whole (by.One a) (by.One b) = is_relation a b && holds whole a
-same_relation_of whole one other = false
+-- whether both are the same one relation
+abbrev pub same_relation_of : By → By → Bool
+same_relation_of (by.One a) (by.One b) = is_relation a b
+same_relation_of one other = false
 
--- whether the selection finds files by one of these relations
-abbrev pub asks : Relations → Route → Bool
-asks whole route.Every = false
-asks whole (route.Cell by.Whole s b t) = false
-asks whole (route.Cell (by.One r) s b t) = holds whole r
-asks whole (route.Cell (by.Two q r) s b t) = false
+-- whether the selection finds files by one relation alone
+abbrev pub is_by_one : Route → Bool
+is_by_one route.Every = false
+is_by_one (route.Cell by.Whole s b t) = false
+is_by_one (route.Cell (by.One r) s b t) = true
+is_by_one (route.Cell (by.Two q r) s b t) = false
 
--- whether both find files by the same one of these relations
-abbrev pub asks_alike : Relations → Route → Route → Bool
-asks_alike whole (route.Cell one s b t) (route.Cell other q d u) = same_relation_of whole one other
-asks_alike whole one other = false
+-- whether both find files by the same one relation
+abbrev pub are_alike : Route → Route → Bool
+are_alike (route.Cell one s b t) (route.Cell other q d u) = same_relation_of one other
+are_alike one other = false
 
--- the selections that are looked up with this one, among these; it alone where it finds files by none of the relations
-abbrev pub group_of : Relations → List Route → Route → List Route
-group_of whole routes r = if asks whole r then filter (asks_alike whole r) routes else r ∷ []
+-- the selections that are looked up with this one, among these; it alone where it doesn't find files by one relation
+abbrev pub group_of : List Route → Route → List Route
+group_of routes r = if is_by_one r then filter (are_alike r) routes else r ∷ []

@@ -1,51 +1,14 @@
-//! The selections of a listing that a store looks up together: those that find files by one relation of the caller, where
-//! it is asked for in every cell. Another relation is looked up cell by cell, since the files of some cell are then not
-//! to be fetched.
+//! The selections of a listing that a store looks up together: those that find files by the same relation of the caller,
+//! whatever their cells. A caller's files of one relation are so gone over once, and not once for each cell.
 
 ghost use Rattle.std.specs.Prelude.{◌≡◌, IfOk};
 ghost use Rattle.std.specs.List.{list_any};
 ghost use Rattle.permit_model.specs.Codes.{is_relation};
-ghost use Rattle.permit_office.specs.Grouping.{same_relation_of, asks, asks_alike, group_of};
+ghost use Rattle.permit_office.specs.Grouping.{same_relation_of, is_by_one, are_alike, group_of};
 
 use permit_base::route::{By, Route};
-use permit_base::words::{Relation, Relations};
-use permit_store::routes::has_relation;
+use permit_base::words::Relation;
 use std::alloc::{AllocError, Global};
-
-/// In so many cells of stage, stop order and timing can a file be kept.
-const KEPT_CELLS: usize = 44;
-
-/// Whether the selection finds files by the relation alone.
-fn is_by(route: Route, relation: Relation) -> bool {
-    match route {
-        Route::Every => false,
-        Route::Cell { by, .. } => match by {
-            By::One(one) => one == relation,
-            By::Whole | By::Two(_, _) => false,
-        },
-    }
-}
-
-/// Whether the selections find files by the relation in every cell.
-fn is_everywhere(routes: &[Route], relation: Relation) -> bool {
-    routes
-        .iter()
-        .filter(|route| is_by(**route, relation))
-        .count()
-        == KEPT_CELLS
-}
-
-/// The relations by which the selections find files in every cell.
-pub(crate) fn relations_everywhere(routes: &[Route]) -> Relations {
-    Relations {
-        applicant: is_everywhere(routes, Relation::Applicant),
-        contractor: is_everywhere(routes, Relation::Contractor),
-        owner: is_everywhere(routes, Relation::Owner),
-        assigned_reviewer: is_everywhere(routes, Relation::AssignedReviewer),
-        assigned_inspector: is_everywhere(routes, Relation::AssignedInspector),
-        conflict: is_everywhere(routes, Relation::Conflict),
-    }
-}
 
 fn same_relation(one: Relation, other: Relation) -> bool
     ensures { result ≡ is_relation one other }
@@ -53,64 +16,63 @@ fn same_relation(one: Relation, other: Relation) -> bool
     one == other
 }
 
-/// Whether both are the same one of these relations.
-fn same_relation_of(whole: Relations, one: By, other: By) -> bool
-    ensures { result ≡ same_relation_of whole one other }
+/// Whether both are the same one relation.
+fn same_relation_of(one: By, other: By) -> bool
+    ensures { result ≡ same_relation_of one other }
 {
     match (one, other) {
-        (By::One(a), By::One(b)) => same_relation(a, b) && has_relation(&whole, a),
+        (By::One(a), By::One(b)) => same_relation(a, b),
         _ => false,
     }
 }
 
-/// Whether the selection finds files by one of these relations.
-fn asks(whole: Relations, route: Route) -> bool
-    ensures { result ≡ asks whole route }
+/// Whether the selection finds files by one relation alone.
+fn is_by_one(route: Route) -> bool
+    ensures { result ≡ is_by_one route }
 {
     match route {
         Route::Every => false,
         Route::Cell { by, .. } => match by {
-            By::One(relation) => has_relation(&whole, relation),
+            By::One(_) => true,
             By::Whole | By::Two(_, _) => false,
         },
     }
 }
 
-/// Whether both selections find files by the same one of these relations.
-fn asks_alike(whole: Relations, one: Route, other: Route) -> bool
-    ensures { result ≡ asks_alike whole one other }
+/// Whether both selections find files by the same one relation.
+fn are_alike(one: Route, other: Route) -> bool
+    ensures { result ≡ are_alike one other }
 {
     match one {
         Route::Every => false,
         Route::Cell { by, .. } => match other {
             Route::Every => false,
-            Route::Cell { by: other, .. } => same_relation_of(whole, by, other),
+            Route::Cell { by: other, .. } => same_relation_of(by, other),
         },
     }
 }
 
 /// Whether one of these selections is of this one's group.
-pub(crate) fn has_alike(whole: Relations, routes: &[Route], route: &Route) -> bool
-    ensures { result ≡ list_any (λ other. asks_alike whole other route.now) routes.now }
+pub(crate) fn has_alike(routes: &[Route], route: &Route) -> bool
+    ensures { result ≡ list_any (λ other. are_alike other route.now) routes.now }
 {
-    routes.iter().any(|other| asks_alike(whole, *other, *route))
+    routes.iter().any(|other| are_alike(*other, *route))
 }
 
-/// The selections of this one's group; it alone where it finds files by none of the relations.
+/// The selections of this one's group; it alone where it doesn't find files by one relation.
 pub(crate) fn group_of(
     alloc: Global,
-    whole: Relations,
     routes: &[Route],
     route: &Route,
 ) -> Result<Vec<Route>, AllocError>
-    ensures { IfOk result (λ group. group.items ≡ group_of whole routes.now route.now) }
+    ensures { IfOk result (λ group. group.items ≡ group_of routes.now route.now) }
 {
-    if !asks(whole, *route) {
+    if !is_by_one(*route) {
         return Ok(vec![in alloc; *route]?);
     }
     let mut group = Vec::new(alloc);
     for other in routes {
-        if asks_alike(whole, *route, *other) {
+        if are_alike(*route, *other) {
             group.push(*other)?;
         }
     }

@@ -19,7 +19,7 @@ ghost use Rattle.permit_office.specs.Reach.{ManyRows, WereRead};
 ghost use Rattle.permit_office.specs.Stops.{routes_for};
 ghost use Rattle.permit_store.specs.Handing.{AreAmong, Hands, found_by_any};
 
-use crate::groups::{group_of, has_alike, relations_everywhere};
+use crate::groups::{group_of, has_alike};
 use crate::reply::{Listing, Reply};
 use crate::showing::register_filter;
 use permit_base::request::Filter;
@@ -128,12 +128,11 @@ fn gather<S: Store>(
         files: Vec::new(policy.allocator()),
         read: 0,
     };
-    let whole = relations_everywhere(routes);
     for (place, route) in routes.iter().enumerate() {
-        if has_alike(whole, &routes[..place], route) {
+        if has_alike(&routes[..place], route) {
             continue;
         }
-        let Ok(group) = group_of(policy.allocator(), whole, routes, route) else {
+        let Ok(group) = group_of(policy.allocator(), routes, route) else {
             return Err(StoreError);
         };
         if !hand_group(store, &group, caller.id, day, &mut lister)? {

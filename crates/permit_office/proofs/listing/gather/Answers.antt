@@ -18,7 +18,7 @@ loop-place-init g c = record {
   doubt = le_refl _;
   failed = refl;
   commits = refl;
-  gathers = gathers_none c.relations_everywhere-whole.result c.args.policy.now c.args.caller.now c.args.day c.args.routes.now (g.S.Store.view c.args.store.now) c.new.result.items c.new.ensures.items;
+  gathers = gathers_none c.args.policy.now c.args.caller.now c.args.day c.args.routes.now (g.S.Store.view c.args.store.now) c.new.result.items c.new.ensures.items;
 }
 
 pub loop-place-preserved-then-has_alike : goal.loop-place-preserved-then-has_alike
@@ -30,7 +30,7 @@ loop-place-preserved-then-has_alike g c =
     let xs = a.routes.now in
     let r : Route = get_or xs i Every in
     let more : take (i + 1) xs ≡ take i xs ++ r ∷ [] = take_more xs i Every c.loop-place-test.true in
-    let there : seen c.relations_everywhere-whole.result (take i xs) r ≡ true = sym c.has_alike.ensures ∙ c.if-has_alike.true in
+    let there : seen (take i xs) r ≡ true = sym c.has_alike.ensures ∙ c.if-has_alike.true in
     record {
       policy = l.invariant.policy;
       caller = l.invariant.caller;
@@ -40,8 +40,8 @@ loop-place-preserved-then-has_alike g c =
       doubt = l.invariant.doubt;
       failed = l.invariant.failed;
       commits = l.invariant.commits;
-      gathers = subst (λ (ys : List Route). GathersOf c.relations_everywhere-whole.result a.policy.now a.caller.now a.day xs ys (s a.store.now) (s l.store) l.lister.files.items l.lister.read) (sym more)
-          (gathers_seen c.relations_everywhere-whole.result a.policy.now a.caller.now a.day xs (take i xs) r (s a.store.now) (s l.store) l.lister.files.items l.lister.read there l.invariant.gathers);
+      gathers = subst (λ (ys : List Route). GathersOf a.policy.now a.caller.now a.day xs ys (s a.store.now) (s l.store) l.lister.files.items l.lister.read) (sym more)
+          (gathers_seen a.policy.now a.caller.now a.day xs (take i xs) r (s a.store.now) (s l.store) l.lister.files.items l.lister.read there l.invariant.gathers);
     }
 
 pub loop-place-preserved : goal.loop-place-preserved
@@ -53,9 +53,9 @@ loop-place-preserved g c =
     let xs = a.routes.now in
     let r : Route = get_or xs i Every in
     let more : take (i + 1) xs ≡ take i xs ++ r ∷ [] = take_more xs i Every c.loop-place-test.true in
-    let unseen : seen c.relations_everywhere-whole.result (take i xs) r ≡ false = sym c.has_alike.ensures ∙ c.if-has_alike.false in
-    let group : c.deref.result.now ≡ group_of c.relations_everywhere-whole.result xs r = c.deref.ensures.value ∙ c.in-Ok.ensures in
-    let on = goes_on c.relations_everywhere-whole.result a.policy.now a.caller.now a.day xs (take i xs) r (s a.store.now) (s l.store) (s c.hand_group.new.store) l.lister c.hand_group.new.lister
+    let unseen : seen (take i xs) r ≡ false = sym c.has_alike.ensures ∙ c.if-has_alike.false in
+    let group : c.deref.result.now ≡ group_of xs r = c.deref.ensures.value ∙ c.in-Ok.ensures in
+    let on = goes_on a.policy.now a.caller.now a.day xs (take i xs) r (s a.store.now) (s l.store) (s c.hand_group.new.store) l.lister c.hand_group.new.lister
     l.invariant.policy l.invariant.caller l.invariant.day unseen l.invariant.gathers l.invariant.kept c.in_ok-hand_group.field-0 c.if-not-branch.false
     _ (ap (λ (p : Party). p.id) c.caller.view_is) c.deref.result.now group c.in_ok-hand_group.ensures.handed in
     let later : (s l.store).doubt ≤ (s c.hand_group.new.store).doubt = on.read.1.doubt in
@@ -68,7 +68,7 @@ loop-place-preserved g c =
       doubt = omega arith;
       failed = on.read.1.failed ∙ l.invariant.failed;
       commits = on.read.1.commits ∙ l.invariant.commits;
-      gathers = subst (λ (ys : List Route). GathersOf c.relations_everywhere-whole.result a.policy.now a.caller.now a.day xs ys (s a.store.now) (s c.hand_group.new.store) c.hand_group.new.lister.files.items c.hand_group.new.lister.read) (sym more) on.gathers;
+      gathers = subst (λ (ys : List Route). GathersOf a.policy.now a.caller.now a.day xs ys (s a.store.now) (s c.hand_group.new.store) c.hand_group.new.lister.files.items c.hand_group.new.lister.read) (sym more) on.gathers;
     }
 
 pub returns-clause-gathered : goal.returns-clause-gathered
@@ -76,5 +76,5 @@ returns-clause-gathered g c =
     let a = c.args in
     let l = c.loop-place in
     let s = g.S.Store.view in
-    gathers_whole c.relations_everywhere-whole.result a.policy.now a.caller.now a.day a.routes.now (s a.store.now) (s l.store) l.lister.files.items l.lister.read
-    (subst (λ (ys : List Route). GathersOf c.relations_everywhere-whole.result a.policy.now a.caller.now a.day a.routes.now ys (s a.store.now) (s l.store) l.lister.files.items l.lister.read) (take_all l.place a.routes.now c.loop-place-test.false) l.invariant.gathers)
+    gathers_whole a.policy.now a.caller.now a.day a.routes.now (s a.store.now) (s l.store) l.lister.files.items l.lister.read
+    (subst (λ (ys : List Route). GathersOf a.policy.now a.caller.now a.day a.routes.now ys (s a.store.now) (s l.store) l.lister.files.items l.lister.read) (take_all l.place a.routes.now c.loop-place-test.false) l.invariant.gathers)
