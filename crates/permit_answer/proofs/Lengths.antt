@@ -1,4 +1,4 @@
--- No answer in place is longer than its line.
+-- No answer in place is longer than its buffer.
 use Rattle.std.proofs.lemmas.Bool.Decides.{nat_tests}
 use Rattle.std.proofs.Common.{lit<, lit≤, Bool, true, false, ◌==◌, if◌then◌else◌, ◌≡◌, ◌^◌, ℕ, ◌<◌, ◌≤◌, List, [], ◌∷◌, ◌++◌, length, Option, codes, arith, length-append, append_assoc}
 use Rattle.std.specs.Fmt.{decimal}

@@ -9,8 +9,8 @@ use Rattle.permit_model.specs.Machine.{Reply, Done, ParcelShown, FileShown, List
 use Rattle.permit_model.specs.Register.{register_text}
 use Rattle.permit_office.specs.Answers.{reply_of}
 use Rattle.permit_answer.specs.RowData.{parcel_data, file_data, listing_data}
-use Rattle.permit_answer.specs.declared.answer.Fault.{Fault}
-use Rattle.permit_answer.specs.declared.answer.Fault.TheVariants as fault
+use Rattle.permit_http.specs.declared.fault.Fault.{Fault}
+use Rattle.permit_http.specs.declared.fault.Fault.TheVariants as fault
 use Rattle.permit_answer.specs.declared.answer.Answer.{Answer}
 use Rattle.permit_answer.specs.declared.answer.Answer.TheVariants as given
 

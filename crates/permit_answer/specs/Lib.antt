@@ -1,5 +1,5 @@
 pub mod AnswerText
-pub mod Line
+pub mod Buffer
 pub mod Outgoing
 pub mod RowData
 pub mod Examples

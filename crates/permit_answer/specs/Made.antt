@@ -4,5 +4,5 @@ use Rattle.permit_answer.specs.declared.write.Made.{Made}
 use Rattle.permit_answer.specs.declared.write.Made.TheVariants.{InPlace, InMemory}
 
 abbrev pub made_bytes : Made → List ℕ
-made_bytes (InPlace line) = line
+made_bytes (InPlace text) = text
 made_bytes (InMemory bytes) = bytes.items

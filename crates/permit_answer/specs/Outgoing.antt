@@ -2,7 +2,7 @@
 use Rattle.std.specs.Prelude.{◌≡◌, ◌<◌, ◌⊎◌, ℕ, Bool, true, false, IsTrue, List, length, take, Option}
 use Rattle.std.specs.Io.KnownBytes.{Appends}
 use Rattle.permit_model.specs.Machine.{ParcelShown, FileShown, Listed, RegisterShown}
-use Rattle.permit_answer.specs.declared.answer.Fault.TheVariants.{Memory}
+use Rattle.permit_http.specs.declared.fault.Fault.TheVariants.{Memory}
 use Rattle.permit_answer.specs.AnswerText.{AnswerData, Replied, Faulted, answer_text}
 
 -- whether a record or files are read out, so that the answer takes memory

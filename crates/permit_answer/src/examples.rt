@@ -7,7 +7,7 @@ ghost use Rattle.permit_base.specs.declared.request.Filter.TheVariants.{All};
 ghost use Rattle.permit_model.specs.Examples.{asks, on_one, file_house, extended_house};
 ghost use Rattle.permit_answer.specs.AnswerText.{line, answer_text, body_text, Faulted};
 ghost use Rattle.permit_answer.specs.Examples.{text_after, body_after};
-ghost use Rattle.permit_answer.specs.declared.answer.Fault.TheVariants as fault;
+ghost use Rattle.permit_http.specs.declared.fault.Fault.TheVariants as fault;
 
 /// A worked example: a caller whom no party is.
 #[tactic(auto, unfolding(crate::proofs::Computing::text_on_literals))]

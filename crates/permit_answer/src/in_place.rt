@@ -2,18 +2,18 @@
 
 ghost use Rattle.std.specs.Prelude.{◌≡◌, ◌≤◌, ◌++◌, length, codes, take, decimal};
 ghost use Rattle.permit_base.specs.Words.{reason_word};
-ghost use Rattle.permit_answer.specs.Line.{room};
+ghost use Rattle.permit_answer.specs.Buffer.{room};
 ghost use Rattle.permit_answer.specs.AnswerText.{done_text, refusal_text, fault_text, refused_text, denied_text, not_admitted_text, number_text, challenge, closing, head_text, line};
 
-use crate::answer::Fault;
-use crate::line::Line;
+use crate::buffer::Buffer;
 use crate::status::phrase;
 use http::StatusCode;
 use permit_base::refusal::{Reason, Refusal};
 use permit_base::values::{Day, RuleName};
 use permit_base::words::{Action, Word};
+use permit_http::fault::Fault;
 
-impl Line {
+impl Buffer {
     fn push_number(&mut self, number: Option<u32>)
         ensures text { self.new ≡ take room (self.old ++ number_text number) }
         ensures short { length (number_text number) ≤ 10 }
@@ -46,60 +46,60 @@ impl Line {
 }
 
 /// The body of the answer to an accepted command.
-pub fn done_body(day: Day, action: Action, number: Option<u32>) -> Line
+pub fn done_body(day: Day, action: Action, number: Option<u32>) -> Buffer
     ensures text { result ≡ done_text day action number }
     ensures short { length result ≤ 128 }
 {
-    let mut line = Line::new();
-    line.push_bytes(b"{\"day\":");
-    line.push_decimal(u64::from(day.get()));
-    line.push_bytes(b",\"done\":\"");
-    line.push_bytes(action.word().as_bytes());
-    line.push_bytes(b"\",\"number\":");
-    line.push_number(number);
-    line.push_bytes(b"}");
-    line
+    let mut text = Buffer::new();
+    text.push_bytes(b"{\"day\":");
+    text.push_decimal(u64::from(day.get()));
+    text.push_bytes(b",\"done\":\"");
+    text.push_bytes(action.word().as_bytes());
+    text.push_bytes(b"\",\"number\":");
+    text.push_number(number);
+    text.push_bytes(b"}");
+    text
 }
 
 /// The body of a refusal that has its word alone.
-fn refused_body(word: &str) -> Line
+fn refused_body(word: &str) -> Buffer
     requires { length word.now ≤ 32 }
     ensures text { result ≡ refused_text word.now }
     ensures short { length result ≤ 128 }
 {
-    let mut line = Line::new();
-    line.push_bytes(b"{\"refused\":\"");
-    line.push_bytes(word.as_bytes());
-    line.push_bytes(b"\"}");
-    line
+    let mut text = Buffer::new();
+    text.push_bytes(b"{\"refused\":\"");
+    text.push_bytes(word.as_bytes());
+    text.push_bytes(b"\"}");
+    text
 }
 
 /// The body of a denial.
-fn denied_body(rule: &RuleName) -> Line
+fn denied_body(rule: &RuleName) -> Buffer
     ensures text { result ≡ denied_text rule.now }
     ensures short { length result ≤ 128 }
 {
-    let mut line = Line::new();
-    line.push_bytes(b"{\"refused\":\"denied\",\"rule\":\"");
-    line.push_bytes(rule.as_str().as_bytes());
-    line.push_bytes(b"\"}");
-    line
+    let mut text = Buffer::new();
+    text.push_bytes(b"{\"refused\":\"denied\",\"rule\":\"");
+    text.push_bytes(rule.as_str().as_bytes());
+    text.push_bytes(b"\"}");
+    text
 }
 
 /// The body of a refusal of a command that isn't admitted.
-fn not_admitted_body(reason: Reason) -> Line
+fn not_admitted_body(reason: Reason) -> Buffer
     ensures text { result ≡ not_admitted_text (reason_word reason) }
     ensures short { length result ≤ 128 }
 {
-    let mut line = Line::new();
-    line.push_bytes(b"{\"reason\":\"");
-    line.push_bytes(reason.word().as_bytes());
-    line.push_bytes(b"\",\"refused\":\"not-admitted\"}");
-    line
+    let mut text = Buffer::new();
+    text.push_bytes(b"{\"reason\":\"");
+    text.push_bytes(reason.word().as_bytes());
+    text.push_bytes(b"\",\"refused\":\"not-admitted\"}");
+    text
 }
 
 /// The body of a refusal.
-pub fn refusal_body(why: &Refusal) -> Line
+pub fn refusal_body(why: &Refusal) -> Buffer
     ensures text { result ≡ refusal_text why.now }
     ensures short { length result ≤ 128 }
 {
@@ -115,7 +115,7 @@ pub fn refusal_body(why: &Refusal) -> Line
 }
 
 /// The body for a fault.
-pub fn fault_body(fault: Fault) -> Line
+pub fn fault_body(fault: Fault) -> Buffer
     ensures text { result ≡ fault_text fault }
     ensures short { length result ≤ 128 }
 {
@@ -129,33 +129,33 @@ pub fn fault_body(fault: Fault) -> Line
 }
 
 /// The lines before the body: its status, the type of the body, and its length in bytes.
-pub fn head(status: StatusCode, content_type: &str, size: usize, close: bool) -> Line
+pub fn head(status: StatusCode, content_type: &str, size: usize, close: bool) -> Buffer
     requires { length content_type.now ≤ 32 }
     ensures text { result ≡ head_text status content_type.now size close }
     ensures short { length result ≤ 256 }
 {
-    let mut line = Line::new();
-    line.push_bytes(b"HTTP/1.1 ");
-    line.push_decimal(u64::from(status.as_u16()));
-    line.push_bytes(b" ");
-    line.push_bytes(phrase(status).as_bytes());
-    line.push_bytes(b"\r\nContent-Type: ");
-    line.push_bytes(content_type.as_bytes());
-    line.push_bytes(b"\r\nContent-Length: ");
-    line.push_decimal(size as u64);
-    line.push_bytes(b"\r\n");
-    line.push_challenge(status);
-    line.push_closing(close);
-    line.push_bytes(b"\r\n");
-    line
+    let mut text = Buffer::new();
+    text.push_bytes(b"HTTP/1.1 ");
+    text.push_decimal(u64::from(status.as_u16()));
+    text.push_bytes(b" ");
+    text.push_bytes(phrase(status).as_bytes());
+    text.push_bytes(b"\r\nContent-Type: ");
+    text.push_bytes(content_type.as_bytes());
+    text.push_bytes(b"\r\nContent-Length: ");
+    text.push_decimal(size as u64);
+    text.push_bytes(b"\r\n");
+    text.push_challenge(status);
+    text.push_closing(close);
+    text.push_bytes(b"\r\n");
+    text
 }
 
 /// A whole answer in place.
-pub fn in_place(status: StatusCode, body: &Line, close: bool) -> Line
+pub fn in_place(status: StatusCode, body: &Buffer, close: bool) -> Buffer
     requires { length body.now ≤ 128 }
     ensures { result ≡ head_text status (codes "application/json") (length body.now) close ++ body.now }
 {
-    let mut line = head(status, "application/json", body.len(), close);
-    line.push_bytes(body.as_slice());
-    line
+    let mut text = head(status, "application/json", body.len(), close);
+    text.push_bytes(body.as_slice());
+    text
 }

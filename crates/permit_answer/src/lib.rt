@@ -5,9 +5,9 @@
 #![tactic(auto)]
 
 pub mod answer;
+mod buffer;
 pub mod examples;
 mod in_place;
-mod line;
 mod member;
 mod rows;
 mod status;

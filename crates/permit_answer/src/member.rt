@@ -8,6 +8,7 @@ ghost use Rattle.permit_answer.specs.Sent.{SendsMember};
 use permit_base::words::{Step, Word};
 use serde::Serializer;
 
+/// Puts a truth value.
 pub fn put_flag<S: Serializer>(out: &mut S, key: &str, flag: bool) -> Result<(), S::Error>
     ensures { OnOk result (SendsMember key.now (boolean flag) (S.written out.old) (S.written out.new)) }
 {
@@ -15,6 +16,7 @@ pub fn put_flag<S: Serializer>(out: &mut S, key: &str, flag: bool) -> Result<(),
     out.bool(flag)
 }
 
+/// Puts a number that is always there.
 pub fn put_count<S: Serializer>(out: &mut S, key: &str, number: u64) -> Result<(), S::Error>
     ensures { OnOk result (SendsMember key.now (count number) (S.written out.old) (S.written out.new)) }
 {
@@ -22,6 +24,7 @@ pub fn put_count<S: Serializer>(out: &mut S, key: &str, number: u64) -> Result<(
     out.u64(number)
 }
 
+/// Puts a text.
 pub fn put_text<S: Serializer>(out: &mut S, key: &str, text: &str) -> Result<(), S::Error>
     ensures { OnOk result (SendsMember key.now (string text.now) (S.written out.old) (S.written out.new)) }
 {

@@ -3,9 +3,9 @@
 ghost use Rattle.std.specs.Prelude.{◌≡◌, ◌≤◌, length};
 ghost use Rattle.permit_answer.specs.AnswerText as text;
 
-use crate::answer::Fault;
 use http::StatusCode;
 use permit_base::refusal::Refusal;
+use permit_http::fault::Fault;
 
 /// The status of a refusal.
 pub fn refusal_status(why: &Refusal) -> StatusCode

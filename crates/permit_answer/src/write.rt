@@ -7,15 +7,16 @@ ghost use Rattle.permit_model.specs.Register.{register_text};
 ghost use Rattle.permit_answer.specs.Outgoing.{is_read_out, GoesOut, WroteFront, WroteAnswer, WroteFrontOfAnswer};
 ghost use Rattle.permit_answer.specs.Made.{made_bytes};
 
-use crate::answer::{Answer, Fault};
+use crate::answer::Answer;
+use crate::buffer::Buffer;
 use crate::in_place::{done_body, fault_body, head, in_place, refusal_body};
-use crate::line::Line;
 use crate::rows::{file_text, listing_text, parcel_text};
 use crate::status::{fault_status, refusal_status};
 use http::StatusCode;
 use permit_base::values::Day;
 use permit_base::words::RegisterKind;
 use permit_core::row::FileView;
+use permit_http::fault::Fault;
 use permit_office::reply::Reply;
 use permit_report::register;
 use std::alloc::{AllocError, Global};
@@ -44,7 +45,7 @@ fn write_whole<W: Write>(writer: &mut W, bytes: &[u8]) -> Result<(), WriteFault>
 /// The text of an answer: in place, or for a read in memory.
 #[derive(Drop)]
 pub enum Made {
-    InPlace(Line),
+    InPlace(Buffer),
     InMemory(Vec<u8>),
 }
 
@@ -53,7 +54,7 @@ impl Made {
         ensures { result.now ≡ made_bytes self.now }
     {
         match self {
-            Made::InPlace(line) => line.as_slice(),
+            Made::InPlace(text) => text.as_slice(),
             Made::InMemory(bytes) => bytes.as_slice(),
         }
     }
@@ -158,7 +159,7 @@ fn make(alloc: Global, answer: &Answer, close: bool) -> Result<Made, AllocError>
 }
 
 /// The answer where a read finds no memory: the store's refusal, which closes the connection.
-fn store_refusal() -> Line
+fn store_refusal() -> Buffer
     ensures { result ≡ answer_text (Faulted Fault.Memory) true }
 {
     let body = fault_body(Fault::Memory);

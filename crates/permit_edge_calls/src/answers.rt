@@ -1,13 +1,14 @@
 //! The worked answers' bytes, and writers that fail.
 
 use crate::streams::Narrow;
-use permit_answer::answer::{Answer, Fault};
+use permit_answer::answer::Answer;
 use permit_answer::{WriteFault, write_reply};
 use permit_base::refusal::{Reason, Refusal};
 use permit_base::values::{Cents, PaperNumber, RuleName};
 use permit_base::words::{Action, Kind, PaperSort, Stage, Timing};
 use permit_core::row::{FileRow, FileView};
 use permit_core::state::FileState;
+use permit_http::fault::Fault;
 use permit_office::reply::Reply;
 use permit_samples::makers::{day, file, lot, parcel, party, text};
 use permit_store::rows::{Paper, Parcel};

@@ -1,24 +1,26 @@
 //! When the first fault of a message's head comes, and what whole requests give.
 
 use crate::streams::Trickle;
-use permit_http::fault::MessageFault;
+use permit_http::error::WireError;
+use permit_http::fault::Fault;
 use permit_http::inbox::Inbox;
 use std::alloc::{AllocError, Global};
 
 /// What reading one message gives, `None` for the end.
-fn outcome(text: &[u8], fails: bool) -> Option<Result<(), MessageFault>> {
+fn outcome(text: &[u8], fails: bool) -> Option<Result<(), WireError>> {
     let mut inbox = Inbox::new();
     let mut reader = Trickle { rest: text, fails };
     match inbox.read_message(&mut reader) {
         Ok(None) => None,
         Ok(Some(_)) => Some(Ok(())),
-        Err(fault) => Some(Err(fault)),
+        Err(error) => Some(Err(error)),
     }
 }
 
 /// The outcome is the same whether the input ends or the reader fails behind these bytes.
-fn answers_at_once(text: &[u8], fault: MessageFault) -> bool {
-    outcome(text, false) == Some(Err(fault)) && outcome(text, true) == Some(Err(fault))
+fn answers_at_once(text: &[u8], fault: Fault) -> bool {
+    let told = Some(Err(WireError::Fault(fault)));
+    outcome(text, false) == told && outcome(text, true) == told
 }
 
 /// A request whose head has so many bytes.
@@ -51,58 +53,58 @@ fn heads_up_to_the_limits(rt: HostRuntime) {
         assert!(rt; outcome(text.as_slice(), false) == Some(Ok(())));
     }
     let text = padded(rt.alloc(), 8193).expect(&rt, "memory");
-    assert!(rt; answers_at_once(text.as_slice(), MessageFault::Head));
+    assert!(rt; answers_at_once(text.as_slice(), Fault::Head));
     let text = fields(rt.alloc(), 32).expect(&rt, "memory");
     assert!(rt; outcome(text.as_slice(), false) == Some(Ok(())));
     let text = fields(rt.alloc(), 33).expect(&rt, "memory");
-    assert!(rt; answers_at_once(text.as_slice(), MessageFault::Head));
+    assert!(rt; answers_at_once(text.as_slice(), Fault::Head));
 }
 
 #[test]
 fn faults_of_heads(rt: HostRuntime) {
-    assert!(rt; answers_at_once(b"G\x01T", MessageFault::Head));
-    assert!(rt; answers_at_once(b"GET / HTTP/1.0\r\nHost: a\r\n\r\n", MessageFault::Version));
-    assert!(rt; answers_at_once(b"GET / HTTP/1.1\r\n\r\n", MessageFault::Version));
+    assert!(rt; answers_at_once(b"G\x01T", Fault::Head));
+    assert!(rt; answers_at_once(b"GET / HTTP/1.0\r\nHost: a\r\n\r\n", Fault::Version));
+    assert!(rt; answers_at_once(b"GET / HTTP/1.1\r\n\r\n", Fault::Version));
     assert!(rt;
         answers_at_once(
             b"GET / HTTP/1.1\r\nHost: a\r\nhost: b\r\n\r\n",
-            MessageFault::Version
+            Fault::Version
         )
     );
     assert!(rt;
         answers_at_once(
             b"GET / HTTP/1.1\r\nHost: a\r\nExpect: 100-continue\r\n\r\n",
-            MessageFault::Version
+            Fault::Version
         )
     );
     assert!(rt;
         answers_at_once(
             b"GET / HTTP/1.1\r\nHost: a\r\nTransfer-Encoding: chunked\r\n\r\n",
-            MessageFault::Length
+            Fault::Length
         )
     );
     assert!(rt;
         answers_at_once(
             b"GET / HTTP/1.1\r\nHost: a\r\nContent-Length: 1\r\nContent-Length: 1\r\n\r\n",
-            MessageFault::Length
+            Fault::Length
         )
     );
     assert!(rt;
         answers_at_once(
             b"GET / HTTP/1.1\r\nHost: a\r\nContent-Length: 0000000005\r\n\r\n",
-            MessageFault::Length
+            Fault::Length
         )
     );
     assert!(rt;
         answers_at_once(
             b"GET / HTTP/1.1\r\nHost: a\r\nContent-Length: +5\r\n\r\n",
-            MessageFault::Length
+            Fault::Length
         )
     );
     assert!(rt;
         answers_at_once(
             b"GET / HTTP/1.1\r\nHost: a\r\nContent-Length: 16385\r\n\r\n",
-            MessageFault::Large
+            Fault::Large
         )
     );
 }
@@ -110,12 +112,12 @@ fn faults_of_heads(rt: HostRuntime) {
 #[test]
 fn ends_and_failures(rt: HostRuntime) {
     assert!(rt; outcome(b"", false) == None);
-    assert!(rt; outcome(b"", true) == Some(Err(MessageFault::ReadFailed)));
-    assert!(rt; outcome(b"\r\n", false) == Some(Err(MessageFault::Ended)));
+    assert!(rt; outcome(b"", true) == Some(Err(WireError::ReadFailed)));
+    assert!(rt; outcome(b"\r\n", false) == Some(Err(WireError::Ended)));
     let text = b"GET / HTTP/1.1\r\nHost: a\r\nContent-Length: 000000005\r\n\r\n12345";
     for at in 1..text.len() {
-        assert!(rt; outcome(&text[..at], false) == Some(Err(MessageFault::Ended)));
-        assert!(rt; outcome(&text[..at], true) == Some(Err(MessageFault::ReadFailed)));
+        assert!(rt; outcome(&text[..at], false) == Some(Err(WireError::Ended)));
+        assert!(rt; outcome(&text[..at], true) == Some(Err(WireError::ReadFailed)));
     }
     assert!(rt; outcome(text, true) == Some(Ok(())));
 }

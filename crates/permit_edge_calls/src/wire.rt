@@ -3,6 +3,7 @@
 use crate::streams::{Narrow, Trickle};
 use permit_base::request::Request;
 use permit_base::words::Kind;
+use permit_http::fault::Fault;
 use permit_http::inbox::Inbox;
 use permit_office::office::Office;
 use permit_samples::makers::day;
@@ -60,11 +61,11 @@ fn kept_faults_leave_the_next_request(rt: HostRuntime) {
     let mut reader: &[u8] =
         b"BREW /files HTTP/1.1\r\nHost: a\r\n\r\nGET /files/1 HTTP/1.1\r\nHost: a\r\nAuthorization: Bearer  0000000000000000\r\n\r\nGET /files/1 HTTP/1.1\r\nHost: a\r\nAuthorization: Bearer 0000000000000000\r\nContent-Length: 1\r\n\r\n!GET /files/1 HTTP/1.1\r\nHost: a\r\nAuthorization: Bearer 0000000000000000\r\nConnection: CLOSE\r\n\r\nmore";
     let route = read_request(rt.alloc(), &mut inbox, &mut reader);
-    assert!(rt; matches!(&route, Err(WireError::Route)));
+    assert!(rt; matches!(&route, Err(WireError::Fault(Fault::Route))));
     let caller = read_request(rt.alloc(), &mut inbox, &mut reader);
-    assert!(rt; matches!(&caller, Err(WireError::Caller)));
+    assert!(rt; matches!(&caller, Err(WireError::Fault(Fault::Caller))));
     let body = read_request(rt.alloc(), &mut inbox, &mut reader);
-    assert!(rt; matches!(&body, Err(WireError::Body)) && !inbox.is_closed());
+    assert!(rt; matches!(&body, Err(WireError::Fault(Fault::Body))) && !inbox.is_closed());
     let asked = read_request(rt.alloc(), &mut inbox, &mut reader);
     assert!(rt; matches!(&asked, Ok(Some(_))) && inbox.is_closed());
     assert!(rt; inbox.as_slice() == b"more".as_slice());

@@ -1,16 +1,14 @@
 -- What reading the body of a message that was found gives on the stream.
-use Rattle.std.proofs.Common.{◌≡◌, ℕ, ◌+◌, ◌-◌, ◌<◌, ◌≤◌, List, ◌++◌, length, drop, Option, Some, Err, refl, sym, ap, ◌∙◌, arith, subst, inr}
+use Rattle.std.proofs.Common.{◌≡◌, ℕ, ◌+◌, ◌-◌, ◌<◌, ◌≤◌, List, ◌++◌, length, drop, Option, Some, refl, sym, ap, ◌∙◌, arith, subst}
 use Rattle.std.proofs.lemmas.List.{take-append-le, drop-append-le, drop-drop, length-drop, length-append}
 use Rattle.std.specs.Io.KnownBytes.{prepend_known, IsAtEnd}
 use Rattle.httparse.specs.Grammar.{RequestHead}
 use Rattle.httparse.specs.Spans.{span_bytes}
 use Rattle.permit_http.specs.Stream.{InboxData, stream, Filled}
-use Rattle.permit_http.specs.Head.{HeadAt, IsHeadFault, judged, pairs_of}
+use Rattle.permit_http.specs.Head.{HeadAt}
 use Rattle.permit_http.specs.Message.{LacksBody, message_of}
-use Rattle.permit_http.specs.Spans.{Covers, AreOrdered, GivesMessage, Gives}
+use Rattle.permit_http.specs.Spans.{Covers, AreOrdered, GivesMessage}
 use Rattle.permit_http.specs.declared.message.MessageSpans.{MessageSpans}
-use Rattle.permit_http.specs.declared.fault.MessageFault.{MessageFault}
-use Rattle.permit_http.specs.declared.fault.MessageFault.TheVariants.{ReadFailed, Ended, Head, Version, Length, Large}
 use Rattle.permit_http.proofs.Streams.{split, same_stream, at_end, head-append}
 use Rattle.permit_http.proofs.Covered.{covers-append, head_fits}
 
@@ -62,13 +60,3 @@ module _ (i k : InboxData) (before after : Option (List ℕ)) (s : MessageSpans)
     -- the body isn't there whole
     pub lacks_body : length k.bytes < s.body.end → IsAtEnd after → LacksBody bytes
     lacks_body short end = subst LacksBody (sym (at_end k after bytes (same_stream i k before after bytes filled known) end)) (stops short)
-
--- a fault of the head is one of the stream
-pub faulty : (bytes after : List ℕ) (new : InboxData) (left : Option (List ℕ)) (h : RequestHead) (fault : MessageFault) → HeadAt bytes h after
-    → IsHeadFault fault → judged h.minor (pairs_of h) ≡ Err fault → Gives bytes new left (Err fault)
-faulty bytes after new left h ReadFailed x k e = absurd k
-faulty bytes after new left h Ended x k e = absurd k
-faulty bytes after new left h Head x k e = absurd k
-faulty bytes after new left h Version x k e = inr (h, after, x, e)
-faulty bytes after new left h Length x k e = inr (h, after, x, e)
-faulty bytes after new left h Large x k e = inr (h, after, x, e)

@@ -7,7 +7,7 @@ use Rattle.httparse.proofs.GrammarLemmas.{ReadsRequest-append}
 use Rattle.permit_http.specs.Stream.{InboxData, stream, Filled}
 use Rattle.permit_http.specs.Head.{HeadAt, NeverHasHead}
 use Rattle.permit_http.specs.Message.{MessageData, IsMessage, HasFault, message_of}
-use Rattle.permit_http.specs.declared.fault.MessageFault.{MessageFault}
+use Rattle.permit_http.specs.declared.fault.Fault.{Fault}
 
 pub head-append : (bytes more after : List ℕ) (h : RequestHead) → HeadAt bytes h after → HeadAt (bytes ++ more) h (after ++ more)
 head-append bytes more after h x = record { reads = ReadsRequest-append bytes h after more x.reads; short = x.short; few = x.few }
@@ -28,7 +28,7 @@ message-append bytes rest more m x = (
 )
 
 -- and so does a fault of its head
-pub fault-append : (bytes more : List ℕ) (fault : MessageFault) → HasFault bytes fault → HasFault (bytes ++ more) fault
+pub fault-append : (bytes more : List ℕ) (fault : Fault) → HasFault bytes fault → HasFault (bytes ++ more) fault
 fault-append bytes more fault x = (x.0, x.1 ++ more, head-append bytes more x.1 x.0 x.2, x.3)
 
 -- the stream is the bytes in the inbox, and then some

@@ -4,23 +4,23 @@ use Rattle.httparse.specs.Grammar.{RequestHead}
 use Rattle.httparse.proofs.GrammarLemmas.{request_unique}
 use Rattle.permit_http.specs.Head.{HeadAt, judged, pairs_of}
 use Rattle.permit_http.specs.Message.{MessageData, IsMessage, HasFault, LacksBody, IsUnfinished, message_of}
-use Rattle.permit_http.specs.declared.fault.MessageFault.{MessageFault}
+use Rattle.permit_http.specs.declared.fault.Fault.{Fault}
 
 -- one head, and one rest behind it
 one_head : (bytes after other : List ℕ) (h k : RequestHead) → HeadAt bytes h after → HeadAt bytes k other → (h ≡ k) × (after ≡ other)
 one_head bytes after other h k x y = request_unique bytes h k after other x.reads y.reads
 
 -- one judgement of it
-one_judgement : (h k : RequestHead) (r q : Result ℕ MessageFault) → h ≡ k → judged h.minor (pairs_of h) ≡ r → judged k.minor (pairs_of k) ≡ q → r ≡ q
+one_judgement : (h k : RequestHead) (r q : Result ℕ Fault) → h ≡ k → judged h.minor (pairs_of h) ≡ r → judged k.minor (pairs_of k) ≡ q → r ≡ q
 one_judgement h k r q e x y = sym x ∙ ap (λ z. judged z.minor (pairs_of z)) e ∙ y
 
-one_length : (n m : ℕ) → (let r : Result ℕ MessageFault = Ok n in let q : Result ℕ MessageFault = Ok m in r ≡ q) → n ≡ m
+one_length : (n m : ℕ) → (let r : Result ℕ Fault = Ok n in let q : Result ℕ Fault = Ok m in r ≡ q) → n ≡ m
 one_length n m e = cc
 
-one_fault_of : (f g : MessageFault) → (let r : Result ℕ MessageFault = Err f in let q : Result ℕ MessageFault = Err g in r ≡ q) → f ≡ g
+one_fault_of : (f g : Fault) → (let r : Result ℕ Fault = Err f in let q : Result ℕ Fault = Err g in r ≡ q) → f ≡ g
 one_fault_of f g e = cc
 
-not_both : (n : ℕ) (f : MessageFault) → (let r : Result ℕ MessageFault = Ok n in let q : Result ℕ MessageFault = Err f in r ≡ q) → ⊥
+not_both : (n : ℕ) (f : Fault) → (let r : Result ℕ Fault = Ok n in let q : Result ℕ Fault = Err f in r ≡ q) → ⊥
 not_both n f e = cc
 
 pub one_message : (bytes rest other_rest : List ℕ) (m other : MessageData) → IsMessage bytes m rest → IsMessage bytes other other_rest
@@ -32,12 +32,12 @@ one_message bytes rest other_rest m other x y =
       x.6 ∙ ap (λ n. drop n x.1) size ∙ ap (drop y.2) same.1 ∙ sym y.6,
     )
 
-pub one_fault : (bytes : List ℕ) (fault other : MessageFault) → HasFault bytes fault → HasFault bytes other → fault ≡ other
+pub one_fault : (bytes : List ℕ) (fault other : Fault) → HasFault bytes fault → HasFault bytes other → fault ≡ other
 one_fault bytes fault other x y =
     let same = one_head bytes x.1 y.1 x.0 y.0 x.2 y.2 in
     one_fault_of fault other (one_judgement x.0 y.0 _ _ same.0 x.3 y.3)
 
-pub message_or_fault : (bytes rest : List ℕ) (m : MessageData) (fault : MessageFault) → IsMessage bytes m rest → HasFault bytes fault → ⊥
+pub message_or_fault : (bytes rest : List ℕ) (m : MessageData) (fault : Fault) → IsMessage bytes m rest → HasFault bytes fault → ⊥
 message_or_fault bytes rest m fault x y =
     let same = one_head bytes x.1 y.1 x.0 y.0 x.3.head y.2 in
     not_both x.2 fault (one_judgement x.0 y.0 _ _ same.0 x.3.length y.3)
@@ -52,7 +52,7 @@ whole_or_short bytes rest m x y =
 pub message_or_unfinished : (bytes rest : List ℕ) (m : MessageData) → IsMessage bytes m rest → IsUnfinished bytes → ⊥
 message_or_unfinished bytes rest m x u = elim u [ inl none ↦ none x.0 x.1 x.3.head | inr short ↦ whole_or_short bytes rest m x short ]
 
-pub fault_or_unfinished : (bytes : List ℕ) (fault : MessageFault) → HasFault bytes fault → IsUnfinished bytes → ⊥
+pub fault_or_unfinished : (bytes : List ℕ) (fault : Fault) → HasFault bytes fault → IsUnfinished bytes → ⊥
 fault_or_unfinished bytes fault x u = elim u [ inl none ↦ none x.0 x.1 x.2 | inr short ↦ faulty_or_short short ]
   where
     faulty_or_short : LacksBody bytes → ⊥

@@ -6,8 +6,8 @@ use Rattle.std.specs.Str.{str_eq_ignore_ascii_case}
 use Rattle.std.specs.Str.Parse.{digits_value}
 use Rattle.httparse.specs.Grammar.{RequestHead, ReadsRequest, print_request}
 use Rattle.httparse.specs.Spans.{name_and_value}
-use Rattle.permit_http.specs.declared.fault.MessageFault.{MessageFault}
-use Rattle.permit_http.specs.declared.fault.MessageFault.TheVariants.{Version, Length, Large}
+use Rattle.permit_http.specs.declared.fault.Fault.{Fault}
+use Rattle.permit_http.specs.declared.fault.Fault.TheVariants.{Head, Version, Length, Large}
 
 -- the bytes of a head, its empty line among them, are at most this many
 abbrev pub head_limit : ℕ
@@ -71,27 +71,28 @@ is_served minor pairs =
     minor == 1 && (count_named (codes "host") pairs == 1) && (count_named (codes "expect") pairs == 0)
 
 -- a length that can be read, within the limit
-abbrev pub limited : Option ℕ → Result ℕ MessageFault
+abbrev pub limited : Option ℕ → Result ℕ Fault
 limited None = Err Length
 limited (Some n) = if nat_le n body_limit then Ok n else Err Large
 
 -- the length that the fields say: none is 0, and two are refused
-abbrev pub length_from : List (List ℕ) → Result ℕ MessageFault
+abbrev pub length_from : List (List ℕ) → Result ℕ Fault
 length_from [] = Ok 0
 length_from (value ∷ []) = limited (length_in value)
 length_from (value ∷ second ∷ more) = Err Length
 
 -- the number of bytes of the body, where no transfer coding is named
-abbrev pub body_length : List Pair → Result ℕ MessageFault
+abbrev pub body_length : List Pair → Result ℕ Fault
 body_length pairs =
     if count_named (codes "transfer-encoding") pairs == 0 then length_from (values_named (codes "content-length") pairs) else Err Length
 
 -- the first fault of a head, tested on the head alone, or the number of bytes of its body
-abbrev pub judged : ℕ → List Pair → Result ℕ MessageFault
+abbrev pub judged : ℕ → List Pair → Result ℕ Fault
 judged minor pairs = if is_served minor pairs then body_length pairs else Err Version
 
--- the faults of a head that is there
-abbrev pub IsHeadFault : MessageFault → Type 0
+-- the faults of a head, which none is or one that is there has
+abbrev pub IsHeadFault : Fault → Type 0
+IsHeadFault Head = Unit {0}
 IsHeadFault Version = Unit {0}
 IsHeadFault Length = Unit {0}
 IsHeadFault Large = Unit {0}

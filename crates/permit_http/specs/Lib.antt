@@ -2,3 +2,4 @@ pub mod Stream
 pub mod Head
 pub mod Message
 pub mod Spans
+pub mod Errors

@@ -2,8 +2,8 @@
 use Rattle.std.specs.Prelude.{◌≡◌, ℕ, ◌<◌, ◌≤◌, ◌⊎◌, Bool, List, [], length, take, drop, codes, Option, Ok, Err}
 use Rattle.httparse.specs.Grammar.{RequestHead}
 use Rattle.permit_http.specs.Head.{HeadAt, LacksHead, NeverHasHead, judged, pairs_of, values_named, only, closes}
-use Rattle.permit_http.specs.declared.fault.MessageFault.{MessageFault}
-use Rattle.permit_http.specs.declared.fault.MessageFault.TheVariants.{Head}
+use Rattle.permit_http.specs.declared.fault.Fault.{Fault}
+use Rattle.permit_http.specs.declared.fault.Fault.TheVariants.{Head}
 
 -- the parts of a request that the office reads
 pub record MessageData : Type 0 where
@@ -43,14 +43,14 @@ abbrev pub IsUnfinished : List ℕ → Type 0
 IsUnfinished bytes = LacksHead bytes ⊎ LacksBody bytes
 
 -- the bytes begin with a head that has this fault
-abbrev pub HasFault : List ℕ → MessageFault → Type 0
+abbrev pub HasFault : List ℕ → Fault → Type 0
 HasFault bytes fault = (h : RequestHead) × (after : List ℕ) × HeadAt bytes h after × (judged h.minor (pairs_of h) ≡ Err fault)
 
 -- what the beginning of a stream can give
 pub data Incoming : Type 0 where
   nothing : Incoming
   cut : Incoming
-  refused : MessageFault → Incoming
+  refused : Fault → Incoming
   message : MessageData → List ℕ → Incoming
 
 -- what it gives; where no head can come any more, both a refusal and a cut are allowed

@@ -8,9 +8,9 @@ use Rattle.httparse.specs.declared.spans.HeaderSpan.{HeaderSpan}
 use Rattle.httparse.specs.declared.spans.RequestSpans.{RequestSpans}
 use Rattle.permit_http.specs.Stream.{InboxData, stream}
 use Rattle.permit_http.specs.Head.{HeadAt, LacksHead, NeverHasHead, judged, pairs_of, head_limit, body_limit}
-use Rattle.permit_http.specs.Message.{MessageData, message_of, IsIncoming, IsMessage, IsUnfinished, nothing, cut, refused}
-use Rattle.permit_http.specs.declared.fault.MessageFault.{MessageFault}
-use Rattle.permit_http.specs.declared.fault.MessageFault.TheVariants.{ReadFailed, Ended}
+use Rattle.permit_http.specs.Message.{MessageData, message_of, IsIncoming, IsMessage, nothing, cut, refused}
+use Rattle.permit_http.specs.declared.error.WireError.{WireError}
+use Rattle.permit_http.specs.declared.error.WireError.TheVariants.{ReadFailed, Ended, Fault}
 use Rattle.permit_http.specs.declared.head.Look.{Look}
 use Rattle.permit_http.specs.declared.head.Look.TheVariants.{Found, Open, Never}
 use Rattle.permit_http.specs.declared.message.Sought.{Sought}
@@ -91,20 +91,14 @@ abbrev pub GivesMessage : List ℕ → InboxData → Option (List ℕ) → Messa
 GivesMessage bytes new left s =
     (rest : List ℕ) × IsMessage bytes (message_at new.bytes s) rest × (prepend_known (drop s.body.end new.bytes) left ≡ Some rest)
 
--- where the reader failed or ended, a message was still to come: a fault of its head is told whatever comes behind it
-abbrev pub StopsAt : List ℕ → MessageFault → Type 0
-StopsAt bytes ReadFailed = IsUnfinished bytes
-StopsAt bytes Ended = IsUnfinished bytes
-StopsAt bytes _ = Unit {0}
-
 -- what reading one message gave on a stream of these bytes
-abbrev pub Gives : List ℕ → InboxData → Option (List ℕ) → Result (Option MessageSpans) MessageFault → Type 0
+abbrev pub Gives : List ℕ → InboxData → Option (List ℕ) → Result (Option MessageSpans) WireError → Type 0
 Gives bytes new left (Ok (Some s)) = GivesMessage bytes new left s
 Gives bytes new left (Ok None) = IsIncoming bytes nothing
 Gives bytes new left (Err ReadFailed) = Unit {0}
 Gives bytes new left (Err Ended) = IsIncoming bytes cut
-Gives bytes new left (Err fault) = IsIncoming bytes (refused fault)
+Gives bytes new left (Err (Fault fault)) = IsIncoming bytes (refused fault)
 
 -- one message is read from an inbox and what its reader has left
-abbrev pub ReadsMessage : InboxData → InboxData → Option (List ℕ) → Option (List ℕ) → Result (Option MessageSpans) MessageFault → Type 0
+abbrev pub ReadsMessage : InboxData → InboxData → Option (List ℕ) → Option (List ℕ) → Result (Option MessageSpans) WireError → Type 0
 ReadsMessage old new before after r = (bytes : List ℕ) → stream old before ≡ Some bytes → Gives bytes new after r

@@ -9,7 +9,7 @@ ghost use Rattle.httparse.specs.Spans.{header_bytes, span_bytes, IsWithin, IsHea
 ghost use Rattle.permit_http.specs.Head.{IsHeadFault, values_named, count_named, only, is_length, length_in, limited, is_served, body_length, judged, closes, pairs_of};
 ghost use Rattle.permit_http.specs.Spans.{LooksAt, IsFound, AreOrdered, Covers};
 
-use crate::fault::MessageFault;
+use crate::fault::Fault;
 use crate::message::MessageSpans;
 use httparse::Status;
 use httparse::spans::{HeaderSpan, RequestSpans, Span, parse_request};
@@ -154,30 +154,30 @@ fn is_served(bytes: &[u8], headers: &[HeaderSpan], minor: u8) -> bool
 }
 
 /// The number of bytes that a value of Content-Length writes, within the limit.
-fn limited_length(value: &[u8]) -> Result<u32, MessageFault>
+fn limited_length(value: &[u8]) -> Result<u32, Fault>
     ensures value { result ≡ limited (length_in value.now) }
     ensures small { IfOk result (λ n. n ≤ 16384) }
     ensures kind { IfErr result IsHeadFault }
 {
     match length_value(value) {
-        None => Err(MessageFault::Length),
+        None => Err(Fault::Length),
         Some(length) if length <= BODY_LIMIT => Ok(length),
-        Some(_) => Err(MessageFault::Large),
+        Some(_) => Err(Fault::Large),
     }
 }
 
 /// The number of bytes of the body.
-fn body_length(bytes: &[u8], headers: &[HeaderSpan]) -> Result<u32, MessageFault>
+fn body_length(bytes: &[u8], headers: &[HeaderSpan]) -> Result<u32, Fault>
     requires { All (IsHeaderWithin (length bytes.now)) headers.now }
     ensures value { result ≡ body_length (map (header_bytes bytes.now) headers.now) }
     ensures small { IfOk result (λ n. n ≤ 16384) }
     ensures kind { IfErr result IsHeadFault }
 {
     if count_fields(bytes, headers, b"transfer-encoding") != 0 {
-        return Err(MessageFault::Length);
+        return Err(Fault::Length);
     }
     if 1 < count_fields(bytes, headers, b"content-length") {
-        return Err(MessageFault::Length);
+        return Err(Fault::Length);
     }
     match only_field(bytes, headers, b"content-length") {
         None => Ok(0),
@@ -186,7 +186,7 @@ fn body_length(bytes: &[u8], headers: &[HeaderSpan]) -> Result<u32, MessageFault
 }
 
 /// The first fault of a head, or the number of bytes of its body.
-fn judge(bytes: &[u8], headers: &[HeaderSpan], minor: u8) -> Result<u32, MessageFault>
+fn judge(bytes: &[u8], headers: &[HeaderSpan], minor: u8) -> Result<u32, Fault>
     requires { All (IsHeaderWithin (length bytes.now)) headers.now }
     ensures value { result ≡ judged minor (map (header_bytes bytes.now) headers.now) }
     ensures small { IfOk result (λ n. n ≤ 16384) }
@@ -195,7 +195,7 @@ fn judge(bytes: &[u8], headers: &[HeaderSpan], minor: u8) -> Result<u32, Message
     if is_served(bytes, headers, minor) {
         body_length(bytes, headers)
     } else {
-        Err(MessageFault::Version)
+        Err(Fault::Version)
     }
 }
 
@@ -204,7 +204,7 @@ pub fn parts_of(
     bytes: &[u8],
     headers: &[HeaderSpan; 32],
     found: RequestSpans,
-) -> Result<MessageSpans, MessageFault>
+) -> Result<MessageSpans, Fault>
     requires { IsRequestWithin (take 8192 bytes.now) headers.now found }
     ensures ordered { IfOk result (λ s. AreOrdered (length bytes.now) s) }
     ensures parts { IfOk result (λ s. (h : RequestHead) → IsFound bytes.now headers.now found h → Covers bytes.now s h) }

@@ -9,6 +9,7 @@
 //! `message_at inbox.bytes spans`; and after `let_go` the stream is that rest.
 #![tactic(auto)]
 
+pub mod error;
 pub mod fault;
 mod head;
 pub mod inbox;

@@ -3,10 +3,12 @@
 ghost use Rattle.std.specs.Prelude.{◌≡◌, ℕ, ◌+◌, ◌||◌, List, ◌++◌, drop, min, nat_le, true, false, ⊤, Ok, None, OnErr, OnOk, IfOk, IfErr, IfSome};
 ghost use Rattle.std.specs.Io.KnownBytes.{Keeps};
 ghost use Rattle.permit_http.specs.Stream.{Filled, stream};
-ghost use Rattle.permit_http.specs.Spans.{GivesHead, GivesMessage, Holds, ReadsMessage, StopsAt, message_at, view_of, IsFound};
+ghost use Rattle.permit_http.specs.Spans.{GivesHead, GivesMessage, Holds, ReadsMessage, message_at, view_of, IsFound};
+ghost use Rattle.permit_http.specs.Errors.{IsOfMessage, StopsAt};
 ghost use Rattle.httparse.specs.Grammar.{RequestHead};
 
-use crate::fault::MessageFault;
+use crate::error::WireError;
+use crate::fault::Fault;
 use crate::head::{Look, look_at, parts_of};
 use crate::inbox::Inbox;
 use httparse::spans::{EMPTY_HEADER_SPAN, HeaderSpan, RequestSpans, Span};
@@ -72,45 +74,47 @@ impl Inbox {
         reader: &mut R,
         headers: &[HeaderSpan; 32],
         found: RequestSpans,
-    ) -> Result<Option<MessageSpans>, MessageFault>
+    ) -> Result<Option<MessageSpans>, WireError>
         requires found { (h : RequestHead) × IsFound self.old.bytes headers.now found h }
         ensures filled { Filled self.old self.new (R.remaining reader.old) (R.remaining reader.new) }
         ensures gives { ReadsMessage self.old self.new (R.remaining reader.old) (R.remaining reader.new) result }
         ensures unfinished { IfErr result (StopsAt self.new.bytes) }
+        ensures kind { IfErr result IsOfMessage }
         ensures held { IfOk result (λ o. IfSome o (λ s. Holds self.new s)) }
         ensures some { result ≡ Ok None → ⊥ }
     {
         let parts = match parts_of(self.as_slice(), headers, found) {
             Ok(parts) => parts,
-            Err(fault) => return Err(fault),
+            Err(fault) => return Err(WireError::Fault(fault)),
         };
         match self.fill_to(reader, parts.body.end) {
             Ok(true) => Ok(Some(parts)),
-            Ok(false) => Err(MessageFault::Ended),
-            Err(_) => Err(MessageFault::ReadFailed),
+            Ok(false) => Err(WireError::Ended),
+            Err(_) => Err(WireError::ReadFailed),
         }
     }
 
     /// Reads the next message of a connection that is not closed.
-    fn read_open<R: Read>(&mut self, reader: &mut R) -> Result<Option<MessageSpans>, MessageFault>
+    fn read_open<R: Read>(&mut self, reader: &mut R) -> Result<Option<MessageSpans>, WireError>
         ensures filled { Filled self.old self.new (R.remaining reader.old) (R.remaining reader.new) }
         ensures gives { ReadsMessage self.old self.new (R.remaining reader.old) (R.remaining reader.new) result }
         ensures unfinished { IfErr result (StopsAt self.new.bytes) }
+        ensures kind { IfErr result IsOfMessage }
         ensures held { IfOk result (λ o. IfSome o (λ s. Holds self.new s)) }
         ensures ended { result ≡ Ok None → self.new ≡ self.old }
     {
         let mut headers = [EMPTY_HEADER_SPAN; 32];
         match self.head(reader, &mut headers) {
             Sought::Head(found) => self.read_found(reader, &headers, found),
-            Sought::Refused => Err(MessageFault::Head),
+            Sought::Refused => Err(WireError::Fault(Fault::Head)),
             Sought::Ended => {
                 if self.as_slice().is_empty() {
                     Ok(None)
                 } else {
-                    Err(MessageFault::Ended)
+                    Err(WireError::Ended)
                 }
             }
-            Sought::Failed => Err(MessageFault::ReadFailed),
+            Sought::Failed => Err(WireError::ReadFailed),
         }
     }
 
@@ -120,12 +124,13 @@ impl Inbox {
     pub fn read_message<R: Read>(
         &mut self,
         reader: &mut R,
-    ) -> Result<Option<MessageSpans>, MessageFault>
+    ) -> Result<Option<MessageSpans>, WireError>
         ensures shut { self.old.closed ≡ true → (result ≡ Ok None) × Keeps (R.remaining reader.old) (R.remaining reader.new) }
         ensures gives { self.old.closed ≡ false → ReadsMessage self.old self.new (R.remaining reader.old) (R.remaining reader.new) result }
         ensures stream { Keeps (stream self.old (R.remaining reader.old)) (stream self.new (R.remaining reader.new)) }
         ensures grown { (more : List ℕ) × (self.new.bytes ≡ self.old.bytes ++ more) }
         ensures unfinished { IfErr result (StopsAt self.new.bytes) }
+        ensures kind { IfErr result IsOfMessage }
         ensures held { IfOk result (λ o. IfSome o (λ s. Holds self.new s)) }
         ensures ended { result ≡ Ok None → self.new ≡ self.old }
         ensures stays { OnOk result (self.new.closed ≡ self.old.closed) }

@@ -7,16 +7,16 @@ use Rattle.permit_http.specs.Spans.{GivesMessage, message_at}
 use Rattle.permit_http.specs.declared.message.MessageSpans.{MessageSpans}
 use Rattle.permit_wire.specs.Asked.{asked_in}
 use Rattle.permit_wire.specs.Reading.{Reading, Request, Kept, Asks, AskedFrom, LetGo, FaultRead, RequestRead, MeansAsked, ReadsOut, closes_after}
-use Rattle.permit_wire.specs.declared.error.WireError.{WireError}
-use Rattle.permit_wire.specs.declared.error.WireError.TheVariants.{ReadFailed, Ended, Head, Version, Length, Large, Route, Caller, Body, Memory}
+use Rattle.permit_http.specs.declared.fault.Fault.{Fault}
+use Rattle.permit_http.specs.declared.fault.Fault.TheVariants.{Head, Version, Length, Large, Route, Caller, Body, Memory}
 
 -- the reading of a whole message that has this meaning
-pub reading_of : Result Asked WireError → Bool → List ℕ → Reading
+pub reading_of : Result Asked Fault → Bool → List ℕ → Reading
 reading_of (Ok asked) closes rest = Request asked closes rest
 reading_of (Err fault) closes rest = Kept fault closes rest
 
 -- a whole message was read, and its bytes were let go
-abbrev pub WholeRead : List ℕ → InboxData → InboxData → Option (List ℕ) → Result Asked WireError → Type 0
+abbrev pub WholeRead : List ℕ → InboxData → InboxData → Option (List ℕ) → Result Asked Fault → Type 0
 WholeRead bytes old new left meaning =
     (closes : Bool) × (rest : List ℕ) × AskedFrom old.closed bytes (reading_of meaning closes rest) × LetGo old new left closes rest
 
@@ -28,11 +28,11 @@ never : false ≡ true → ⊥
 never e = cc
 
 -- a request or a fault of a message that came whole
-abbrev pub OutRead : List ℕ → InboxData → InboxData → Option (List ℕ) → Result Asked WireError → Type 0
+abbrev pub OutRead : List ℕ → InboxData → InboxData → Option (List ℕ) → Result Asked Fault → Type 0
 OutRead bytes old new left (Ok asked) = RequestRead bytes old new left (Ok (Some asked))
 OutRead bytes old new left (Err fault) = FaultRead bytes old new left fault
 
-asks_from : (closed : Bool) (bytes rest : List ℕ) (closes : Bool) (meaning : Result Asked WireError) → (closed ≡ true → ⊥)
+asks_from : (closed : Bool) (bytes rest : List ℕ) (closes : Bool) (meaning : Result Asked Fault) → (closed ≡ true → ⊥)
     → Asks bytes meaning closes rest → AskedFrom closed bytes (reading_of meaning closes rest)
 unfolding reading_of
 asks_from true bytes rest closes meaning serving h = absurd (serving refl)
@@ -46,7 +46,7 @@ module _ (bytes : List ℕ) (old mid new : InboxData) (left : Option (List ℕ))
   given true e = absurd (serving (sym e))
   given false e = gives (sym e)
 
-  pub whole_read : (meaning : Result Asked WireError) → asked_in (message_at mid.bytes s) ≡ meaning
+  pub whole_read : (meaning : Result Asked Fault) → asked_in (message_at mid.bytes s) ≡ meaning
       → ((new.bytes ≡ drop s.body.end mid.bytes) × (new.count ≡ min 100 (mid.count + 1)) × (new.closed ≡ closes_after mid s.closes))
       → WholeRead bytes old new left meaning
   whole_read meaning said out =
@@ -62,7 +62,7 @@ module _ (bytes : List ℕ) (old mid new : InboxData) (left : Option (List ℕ))
       )
 
   -- what reading a whole message out gives on the stream
-  pub out_read : (r : Result Asked WireError) → MeansAsked r (asked_in (message_at mid.bytes s)) → ReadsOut mid new s r
+  pub out_read : (r : Result Asked Fault) → MeansAsked r (asked_in (message_at mid.bytes s)) → ReadsOut mid new s r
       → OutRead bytes old new left r
   unfolding reading_of
   out_read (Ok asked) means out = whole_read (Ok asked) means out
@@ -70,8 +70,6 @@ module _ (bytes : List ℕ) (old mid new : InboxData) (left : Option (List ℕ))
   out_read (Err Route) means out = whole_read (Err Route) means.0 out
   out_read (Err Caller) means out = whole_read (Err Caller) means.0 out
   out_read (Err Body) means out = whole_read (Err Body) means.0 out
-  out_read (Err ReadFailed) means out = tt
-  out_read (Err Ended) means out = let no : ⊥ = never means.1 in absurd no
   out_read (Err Head) means out = let no : ⊥ = never means.1 in absurd no
   out_read (Err Version) means out = let no : ⊥ = never means.1 in absurd no
   out_read (Err Length) means out = let no : ⊥ = never means.1 in absurd no

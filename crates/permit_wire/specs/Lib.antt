@@ -1,4 +1,3 @@
-pub mod Errors
 pub mod Asked
 pub mod Reading
 pub mod Serving

@@ -2,13 +2,13 @@
 use Rattle.std.specs.Prelude.{◌≡◌, ℕ, ◌+◌, Bool, true, false, ◌||◌, nat_le, min, List, Option, Some, None, Result, Ok, Err, drop}
 use Rattle.permit_base.specs.declared.request.Asked.{Asked}
 use Rattle.permit_http.specs.Stream.{InboxData, stream}
-use Rattle.permit_http.specs.Message.{MessageData, IsIncoming, IsMessage, IsUnfinished, nothing, cut, refused}
-use Rattle.permit_http.specs.declared.fault.MessageFault.{MessageFault}
-use Rattle.permit_http.specs.declared.fault.MessageFault.TheVariants as message_fault
+use Rattle.permit_http.specs.Message.{MessageData, IsIncoming, IsMessage, nothing, cut, refused}
+use Rattle.permit_http.specs.declared.error.WireError.{WireError}
+use Rattle.permit_http.specs.declared.error.WireError.TheVariants as error
+use Rattle.permit_http.specs.declared.fault.Fault.{Fault}
+use Rattle.permit_http.specs.declared.fault.Fault.TheVariants.{Head, Version, Length, Large, Route, Caller, Body, Memory}
 use Rattle.permit_http.specs.declared.message.MessageSpans.{MessageSpans}
 use Rattle.permit_wire.specs.Asked.{asked_in}
-use Rattle.permit_wire.specs.declared.error.WireError.{WireError}
-use Rattle.permit_wire.specs.declared.error.WireError.TheVariants.{ReadFailed, Ended, Head, Version, Length, Large, Route, Caller, Body, Memory}
 
 -- what a stream's beginning can ask
 pub data Reading : Type 0 where
@@ -17,14 +17,14 @@ pub data Reading : Type 0 where
   -- the end, inside a request
   Cut : Reading
   -- a fault of the head, which closes the connection
-  Refused : (fault : MessageFault) → Reading
+  Refused : (fault : Fault) → Reading
   -- a fault of a whole message, which keeps it, whether its head closes, and the rest
-  Kept : (fault : WireError) (closes : Bool) (rest : List ℕ) → Reading
+  Kept : (fault : Fault) (closes : Bool) (rest : List ℕ) → Reading
   -- a request, whether its head closes, and the rest
   Request : (asked : Asked) (closes : Bool) (rest : List ℕ) → Reading
 
 -- a whole message of this meaning stands in front of the rest
-abbrev pub Asks : List ℕ → Result Asked WireError → Bool → List ℕ → Type 0
+abbrev pub Asks : List ℕ → Result Asked Fault → Bool → List ℕ → Type 0
 Asks bytes meaning closes rest =
     (m : MessageData) × IsMessage bytes m rest × (asked_in m ≡ meaning) × (m.closes ≡ closes)
 
@@ -52,13 +52,11 @@ pub record LetGo (old new : InboxData) (left : Option (List ℕ)) (closes : Bool
   pub closed : new.closed ≡ closes_after old closes
 
 -- what was read where there is a fault; memory is wanted only for a whole message
-abbrev pub FaultRead : List ℕ → InboxData → InboxData → Option (List ℕ) → WireError → Type 0
-FaultRead bytes old new left ReadFailed = Unit {0}
-FaultRead bytes old new left Ended = AskedFrom old.closed bytes Cut
-FaultRead bytes old new left Head = AskedFrom old.closed bytes (Refused message_fault.Head)
-FaultRead bytes old new left Version = AskedFrom old.closed bytes (Refused message_fault.Version)
-FaultRead bytes old new left Length = AskedFrom old.closed bytes (Refused message_fault.Length)
-FaultRead bytes old new left Large = AskedFrom old.closed bytes (Refused message_fault.Large)
+abbrev pub FaultRead : List ℕ → InboxData → InboxData → Option (List ℕ) → Fault → Type 0
+FaultRead bytes old new left Head = AskedFrom old.closed bytes (Refused Head)
+FaultRead bytes old new left Version = AskedFrom old.closed bytes (Refused Version)
+FaultRead bytes old new left Length = AskedFrom old.closed bytes (Refused Length)
+FaultRead bytes old new left Large = AskedFrom old.closed bytes (Refused Large)
 FaultRead bytes old new left Memory = (m : MessageData) × (rest : List ℕ) × (old.closed ≡ false) × IsMessage bytes m rest
 FaultRead bytes old new left fault =
     (closes : Bool) × (rest : List ℕ) × AskedFrom old.closed bytes (Kept fault closes rest) × LetGo old new left closes rest
@@ -68,33 +66,34 @@ abbrev pub RequestRead : List ℕ → InboxData → InboxData → Option (List �
 RequestRead bytes old new left (Ok None) = AskedFrom old.closed bytes Nothing
 RequestRead bytes old new left (Ok (Some asked)) =
     (closes : Bool) × (rest : List ℕ) × AskedFrom old.closed bytes (Request asked closes rest) × LetGo old new left closes rest
-RequestRead bytes old new left (Err fault) = FaultRead bytes old new left fault
+RequestRead bytes old new left (Err error.ReadFailed) = Unit {0}
+RequestRead bytes old new left (Err error.Ended) = AskedFrom old.closed bytes Cut
+RequestRead bytes old new left (Err (error.Fault fault)) = FaultRead bytes old new left fault
 
 -- one request is read from an inbox and what its reader has left
 abbrev pub ReadsRequest : InboxData → InboxData → Option (List ℕ) → Option (List ℕ) → Result (Option Asked) WireError → Type 0
 ReadsRequest old new before after r = (bytes : List ℕ) → stream old before ≡ Some bytes → RequestRead bytes old new after r
 
--- where the reader failed or ended, a message was still to come
-abbrev pub StopsAt : List ℕ → WireError → Type 0
-StopsAt bytes ReadFailed = IsUnfinished bytes
-StopsAt bytes Ended = IsUnfinished bytes
-StopsAt bytes _ = Unit {0}
-
 -- whether the connection stays open behind a fault
-abbrev pub is_kept : WireError → Bool
+abbrev pub is_kept : Fault → Bool
 is_kept Route = true
 is_kept Caller = true
 is_kept Body = true
 is_kept _ = false
 
+-- the same of what stood against reading: where it is no fault, nothing more can be read
+abbrev pub stays_open : WireError → Bool
+stays_open (error.Fault fault) = is_kept fault
+stays_open _ = false
+
 -- the result is this meaning; want of memory says nothing of it
-abbrev pub MeansAsked : Result Asked WireError → Result Asked WireError → Type 0
+abbrev pub MeansAsked : Result Asked Fault → Result Asked Fault → Type 0
 MeansAsked (Ok asked) meaning = meaning ≡ Ok asked
 MeansAsked (Err Memory) meaning = Unit {0}
 MeansAsked (Err fault) meaning = (meaning ≡ Err fault) × (is_kept fault ≡ true)
 
 -- a message was read out: unless memory is wanted, its bytes are gone and one answer more is counted
-abbrev pub ReadsOut : InboxData → InboxData → MessageSpans → Result Asked WireError → Type 0
+abbrev pub ReadsOut : InboxData → InboxData → MessageSpans → Result Asked Fault → Type 0
 ReadsOut old new s (Err Memory) = new.closed ≡ true
 ReadsOut old new s r =
     (new.bytes ≡ drop s.body.end old.bytes) × (new.count ≡ min 100 (old.count + 1)) × (new.closed ≡ closes_after old s.closes)

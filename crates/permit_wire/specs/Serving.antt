@@ -12,28 +12,12 @@ use Rattle.permit_office.specs.Frames.{IsStep}
 use Rattle.permit_office.specs.Office.{OfficeView}
 use Rattle.permit_office.specs.declared.reply.Reply.{Reply}
 use Rattle.permit_http.specs.Stream.{InboxData}
-use Rattle.permit_answer.specs.declared.answer.Fault.{Fault}
-use Rattle.permit_answer.specs.declared.answer.Fault.TheVariants as fault
+use Rattle.permit_http.specs.declared.fault.Fault.{Fault}
 use Rattle.permit_answer.specs.AnswerText.{AnswerData, Replied, Faulted}
 use Rattle.permit_answer.specs.Outgoing.{WroteAnswer, WroteFrontOfAnswer}
 use Rattle.permit_wire.specs.Reading.{AskedFrom, Nothing, RequestRead, FaultRead, is_kept}
-use Rattle.permit_wire.specs.declared.error.WireError.{WireError}
-use Rattle.permit_wire.specs.declared.error.WireError.TheVariants as error
 use Rattle.permit_wire.specs.declared.serve.Served.{Served}
 use Rattle.permit_wire.specs.declared.serve.Served.TheVariants.{Kept, Closed, Ended, ReadFailed, WriteFailed}
-
--- the fault that is answered, where one is
-abbrev pub fault_of : WireError → Option Fault
-fault_of error.ReadFailed = None
-fault_of error.Ended = None
-fault_of error.Head = Some fault.Head
-fault_of error.Version = Some fault.Version
-fault_of error.Length = Some fault.Length
-fault_of error.Large = Some fault.Large
-fault_of error.Route = Some fault.Route
-fault_of error.Caller = Some fault.Caller
-fault_of error.Body = Some fault.Body
-fault_of error.Memory = Some fault.Memory
 
 -- what went out for an answer: its whole text, which keeps or closes the connection, or a beginning of it
 abbrev pub GoesOutAs : AnswerData → Bool → Option (List ℕ) → Option (List ℕ) → Served → Type 0
@@ -67,13 +51,11 @@ pub record ServesRequest {S : Type 0} (view : S → StoreView) (day : ℕ) (offi
 
 -- a fault was read, and its text went out; one that isn't kept closes the connection
 pub record ServesFault (bytes : List ℕ) (old new : InboxData) (left before after : Option (List ℕ)) (served : Served) : Type 0 where
-  pub why : WireError
-  pub told : Fault
-  pub is_told : fault_of why ≡ Some told
+  pub fault : Fault
   pub between : InboxData
-  pub comes_in : FaultRead bytes old between left why
-  pub closes : is_kept why ≡ false → between.closed ≡ true
-  pub goes_out : GoesOutAs (Faulted told) between.closed before after served
+  pub comes_in : FaultRead bytes old between left fault
+  pub closes : is_kept fault ≡ false → between.closed ≡ true
+  pub goes_out : GoesOutAs (Faulted fault) between.closed before after served
   pub shut : new ≡ record between { closed = is_shut served }
 
 -- a request was served, or a fault, which leaves the office

@@ -6,14 +6,14 @@
 //! request that the stream asks, and its reply's text goes out.
 #![tactic(auto)]
 
-pub mod error;
 pub mod laws;
 pub mod read;
 pub mod serve;
 
-pub use error::WireError;
-pub use permit_answer::answer::{Answer, Fault};
+pub use permit_answer::answer::Answer;
 pub use permit_answer::{WriteFault, write_reply};
+pub use permit_http::error::{self, WireError};
+pub use permit_http::fault::Fault;
 pub use permit_http::inbox::Inbox;
 pub use read::read_request;
 pub use serve::{Served, answer_with, serve_one};

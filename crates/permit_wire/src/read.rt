@@ -2,48 +2,53 @@
 
 ghost use Rattle.std.specs.Prelude.{◌≡◌, ℕ, List, ◌++◌, true, false, Ok, None, IfErr, IsTrue};
 ghost use Rattle.std.specs.Io.KnownBytes.{Keeps};
+ghost use Rattle.permit_http.specs.Errors.{StopsAt, fault_of};
 ghost use Rattle.permit_http.specs.Stream.{stream};
 ghost use Rattle.permit_http.specs.Spans.{Holds, message_at, view_of};
 ghost use Rattle.permit_wire.specs.Asked.{asked_in};
-ghost use Rattle.permit_wire.specs.Reading.{MeansAsked, ReadsOut, ReadsRequest, StopsAt, is_kept};
-ghost use Rattle.permit_wire.specs.Serving.{fault_of};
+ghost use Rattle.permit_wire.specs.Reading.{MeansAsked, ReadsOut, ReadsRequest, stays_open};
 
-use crate::error::WireError;
 use permit_base::request::Asked;
+use permit_http::error::WireError;
+use permit_http::fault::Fault;
 use permit_http::inbox::Inbox;
 use permit_http::message::{Message, MessageSpans};
 use permit_routes::bearer::read_token;
+use permit_routes::fault::BodyFault;
 use permit_routes::requests::read_body;
 use permit_routes::routing::route;
 use std::alloc::Global;
 use std::io::Read;
 
 /// What a whole message asks: its route, then its token, then its body.
-fn asked_by(alloc: Global, message: &Message<'_>) -> Result<Asked, WireError>
+fn asked_by(alloc: Global, message: &Message<'_>) -> Result<Asked, Fault>
     ensures { MeansAsked result (asked_in (view_of message.now)) }
 {
     let Some(target) = route(alloc, message.method, message.path)? else {
-        return Err(WireError::Route);
+        return Err(Fault::Route);
     };
     let Some(value) = message.authorization else {
-        return Err(WireError::Caller);
+        return Err(Fault::Caller);
     };
     let Some(token) = read_token(alloc, value)? else {
-        return Err(WireError::Caller);
+        return Err(Fault::Caller);
     };
-    let request = read_body(alloc, target, message.body)?;
-    Ok(Asked { token, request })
+    match read_body(alloc, target, message.body) {
+        Ok(request) => Ok(Asked { token, request }),
+        Err(BodyFault::Refused) => Err(Fault::Body),
+        Err(BodyFault::Memory) => Err(Fault::Memory),
+    }
 }
 
 /// What the message that stands in the inbox asks. Its bytes are let go; want of memory closes the connection.
-fn read_out(alloc: Global, inbox: &mut Inbox, spans: &MessageSpans) -> Result<Asked, WireError>
+fn read_out(alloc: Global, inbox: &mut Inbox, spans: &MessageSpans) -> Result<Asked, Fault>
     requires { Holds inbox.old spans.now }
     ensures asked { MeansAsked result (asked_in (message_at inbox.old.bytes spans.now)) }
     ensures out { ReadsOut inbox.old inbox.new spans.now result }
 {
     let asked = asked_by(alloc, &inbox.message(spans));
     inbox.let_go(spans);
-    if let Err(WireError::Memory) = asked {
+    if let Err(Fault::Memory) = asked {
         inbox.close();
     }
     asked
@@ -52,8 +57,8 @@ fn read_out(alloc: Global, inbox: &mut Inbox, spans: &MessageSpans) -> Result<As
 /// Reads the next request of a connection, `None` where the input ends with no byte after the last one, or the
 /// connection is closed.
 ///
-/// The faults are those of `WireError`, tested in its order: those of the head on the head alone, the last three
-/// after the whole body came. A request that was read whole, also one with such a fault, lets its bytes go and counts
+/// The faults are tested in the order of `Fault`: those of the head on the head alone, the others after the whole body
+/// came. A request that was read whole, also one with such a fault, lets its bytes go and counts
 /// among the 100 answers of the connection, which closes with the 100th or where the head asks for it. After another
 /// fault the connection is closed. Memory is taken for the request's texts and the table of the routes alone.
 pub fn read_request<R: Read>(
@@ -62,20 +67,20 @@ pub fn read_request<R: Read>(
     reader: &mut R,
 ) -> Result<Option<Asked>, WireError>
     ensures reads { ReadsRequest inbox.old inbox.new (R.remaining reader.old) (R.remaining reader.new) result }
-    ensures unread { IfErr result (λ fault. fault_of fault ≡ None
+    ensures unread { IfErr result (λ error. fault_of error ≡ None
         → Keeps (stream inbox.old (R.remaining reader.old)) (stream inbox.new (R.remaining reader.new))) }
-    ensures grown { IfErr result (λ fault. fault_of fault ≡ None → (more : List ℕ) × (inbox.new.bytes ≡ inbox.old.bytes ++ more)) }
+    ensures grown { IfErr result (λ error. fault_of error ≡ None → (more : List ℕ) × (inbox.new.bytes ≡ inbox.old.bytes ++ more)) }
     ensures unfinished { IfErr result (StopsAt inbox.new.bytes) }
     ensures shut { inbox.old.closed ≡ true → (result ≡ Ok None) × Keeps (R.remaining reader.old) (R.remaining reader.new) }
     ensures nothing { result ≡ Ok None → inbox.new ≡ inbox.old }
-    ensures closes { IfErr result (λ fault. is_kept fault ≡ false → inbox.new.closed ≡ true) }
+    ensures closes { IfErr result (λ error. stays_open error ≡ false → inbox.new.closed ≡ true) }
 {
     match inbox.read_message(reader) {
         Ok(Some(spans)) => match read_out(alloc, inbox, &spans) {
             Ok(asked) => Ok(Some(asked)),
-            Err(fault) => Err(fault),
+            Err(fault) => Err(WireError::Fault(fault)),
         },
         Ok(None) => Ok(None),
-        Err(fault) => Err(WireError::from(fault)),
+        Err(error) => Err(error),
     }
 }

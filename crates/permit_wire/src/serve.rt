@@ -5,14 +5,14 @@ ghost use Rattle.std.specs.Io.KnownBytes.{Keeps};
 ghost use Rattle.permit_http.specs.Message.{IsUnfinished};
 ghost use Rattle.permit_http.specs.Stream.{stream};
 ghost use Rattle.permit_answer.specs.AnswerText.{answer_data};
-ghost use Rattle.permit_wire.specs.Serving.{GoesOutAs, Moves, Serves, fault_of, is_shut, is_silent};
+ghost use Rattle.permit_wire.specs.Serving.{GoesOutAs, Moves, Serves, is_shut, is_silent};
 
-use crate::error::WireError;
 use crate::read::read_request;
-use permit_answer::answer::{Answer, Fault};
+use permit_answer::answer::Answer;
 use permit_answer::write_reply;
 use permit_base::request::action;
 use permit_base::values::Day;
+use permit_http::error::WireError;
 use permit_http::inbox::Inbox;
 use permit_office::office::Office;
 use permit_store::store::Store;
@@ -32,25 +32,6 @@ pub enum Served {
     ReadFailed,
     /// The writer failed. A beginning of the answer is out; what the office accepted stands.
     WriteFailed,
-}
-
-impl WireError {
-    /// The fault that is answered. To a reader that failed, and to an input that ended, nothing is.
-    pub fn fault(self) -> Option<Fault>
-        ensures { result ≡ fault_of self }
-    {
-        match self {
-            WireError::ReadFailed | WireError::Ended => None,
-            WireError::Head => Some(Fault::Head),
-            WireError::Version => Some(Fault::Version),
-            WireError::Length => Some(Fault::Length),
-            WireError::Large => Some(Fault::Large),
-            WireError::Route => Some(Fault::Route),
-            WireError::Caller => Some(Fault::Caller),
-            WireError::Body => Some(Fault::Body),
-            WireError::Memory => Some(Fault::Memory),
-        }
-    }
 }
 
 /// Writes the answer to the request that was read last from the connection, or to its fault, and closes the connection
@@ -114,9 +95,7 @@ pub fn serve_one<S: Store + Drop, R: Read, W: Write>(
             served
         }
         Ok(None) => Served::Ended,
-        Err(error) => match error.fault() {
-            Some(fault) => answer_with(alloc, inbox, &Answer::Fault(fault), writer),
-            None => Served::ReadFailed,
-        },
+        Err(WireError::Fault(fault)) => answer_with(alloc, inbox, &Answer::Fault(fault), writer),
+        Err(WireError::ReadFailed | WireError::Ended) => Served::ReadFailed,
     }
 }

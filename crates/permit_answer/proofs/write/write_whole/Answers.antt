@@ -1,6 +1,6 @@
 use Rattle.std.proofs.Common.{◌≡◌, ◌-◌, arith, length, take, drop}
 use Rattle.std.proofs.lemmas.List.{take_all, length-drop}
-use Rattle.permit_answer.proofs.Lines.{appends_more}
+use Rattle.permit_answer.proofs.Buffers.{appends_more}
 use Rattle.permit_answer.proofs.write.write_whole.Goals as goal
 
 pub loop-at-preserved : goal.loop-at-preserved

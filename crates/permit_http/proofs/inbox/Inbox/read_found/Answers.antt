@@ -1,13 +1,13 @@
 use Rattle.std.proofs.Common.{inr}
 use Rattle.permit_http.proofs.Streams.{on_stream}
-use Rattle.permit_http.proofs.Given.{stops, whole, lacks_body, faulty}
+use Rattle.permit_http.proofs.Given.{stops, whole, lacks_body}
 use Rattle.permit_http.proofs.inbox.Inbox.read_found.Goals as goal
 
 pub returns-in-Err-clause-gives : goal.returns-in-Err-clause-gives
 returns-in-Err-clause-gives g c = λ bytes e.
     let x = c.requires.found in
     let at = on_stream c.args.self.now (g.R.Read.remaining c.args.reader.now) bytes _ x.0 e x.1.head in
-    faulty bytes at.0 c.args.self.now (g.R.Read.remaining c.args.reader.now) x.0 c.in-Err.fault at.1 c.in-Err.ensures.kind (c.in-Err.ensures.fault x.0 (rw c.as_slice.ensures x.1))
+    inr (x.0, at.0, at.1, c.in-Err.ensures.fault x.0 (rw c.as_slice.ensures x.1))
 
 pub returns-in-Ok-true-clause-gives : goal.returns-in-Ok-true-clause-gives
 returns-in-Ok-true-clause-gives g c = λ bytes e.

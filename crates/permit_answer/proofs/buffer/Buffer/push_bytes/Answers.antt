@@ -1,6 +1,6 @@
 use Rattle.std.proofs.Common.{arith, ◌∙◌}
-use Rattle.permit_answer.proofs.Lines.{pushed_more, whole_line}
-use Rattle.permit_answer.proofs.line.Line.push_bytes.Goals as goal
+use Rattle.permit_answer.proofs.Buffers.{pushed_more, whole_line}
+use Rattle.permit_answer.proofs.buffer.Buffer.push_bytes.Goals as goal
 
 pub loop-byte-preserved : goal.loop-byte-preserved
 loop-byte-preserved c =

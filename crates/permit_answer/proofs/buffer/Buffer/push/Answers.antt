@@ -1,5 +1,5 @@
-use Rattle.permit_answer.proofs.Lines.{pushed, kept}
-use Rattle.permit_answer.proofs.line.Line.push.Goals as goal
+use Rattle.permit_answer.proofs.Buffers.{pushed, kept}
+use Rattle.permit_answer.proofs.buffer.Buffer.push.Goals as goal
 
 pub returns-then-self-lt-ROOM : goal.returns-then-self-lt-ROOM
 returns-then-self-lt-ROOM c =

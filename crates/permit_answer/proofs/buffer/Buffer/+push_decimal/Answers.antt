@@ -1,8 +1,8 @@
 use Rattle.std.proofs.Common.{arith, ap, ◌∙◌, ◌++◌, ◌∷◌, [], take, ◌+◌, ◌%◌, ◌<◌, ◌^◌}
-use Rattle.permit_answer.specs.Line.{room}
-use Rattle.permit_answer.proofs.Lines.{decimal_pushed, digit_pushed}
-use Rattle.permit_answer.proofs.line.Line.+push_decimal.Goals as goal
-use Rattle.permit_answer.proofs.line.Line.+push_decimal.Goals.{then-n-ge10, else-n-ge10}
+use Rattle.permit_answer.specs.Buffer.{room}
+use Rattle.permit_answer.proofs.Buffers.{decimal_pushed, digit_pushed}
+use Rattle.permit_answer.proofs.buffer.Buffer.+push_decimal.Goals as goal
+use Rattle.permit_answer.proofs.buffer.Buffer.+push_decimal.Goals.{then-n-ge10, else-n-ge10}
 
 pub returns : goal.returns
 returns t c =

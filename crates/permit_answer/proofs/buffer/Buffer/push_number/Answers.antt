@@ -1,6 +1,6 @@
 use Rattle.std.proofs.Common.{arith, ◌<◌, ◌^◌}
 use Rattle.permit_answer.proofs.Lengths.{number_short}
-use Rattle.permit_answer.proofs.line.Line.push_number.Goals as goal
+use Rattle.permit_answer.proofs.buffer.Buffer.push_number.Goals as goal
 
 pub returns-in-Some-clause-short : goal.returns-in-Some-clause-short
 returns-in-Some-clause-short c =

@@ -1,4 +1,4 @@
-use Rattle.permit_answer.proofs.line.Line.+push_decimal.Given as goal
+use Rattle.permit_answer.proofs.buffer.Buffer.+push_decimal.Given as goal
 
 abbrev pub decreases-push_decimal : goal.decreases-push_decimal
 decreases-push_decimal l = l.n

@@ -1,11 +1,11 @@
--- Laws of the bytes that a line holds, and of what a writer was given.
+-- Laws of the bytes that a buffer holds, and of what a writer was given.
 use Rattle.std.proofs.lemmas.Fmt.{decimal_step, decimal_digit}
 use Rattle.std.specs.Fmt.{decimal}
 use Rattle.std.proofs.Common.{lit<, lit≤, IfSome, Bool, true, false, ◌≡◌, ◌⊎◌, ◌^◌, ◌/◌, ◌%◌, append-nil, ℕ, suc, ◌+◌, ◌<◌, ◌≤◌, List, [], ◌∷◌, ◌++◌, length, get_or, take, drop, Option, Some, None, refl, sym, ap, ◌∙◌, arith, append_assoc, add-one, length-append, inl, inr}
 use Rattle.std.proofs.Math.Seq.{take-add, take-suc}
 use Rattle.std.proofs.lemmas.List.{take-append-le, take_all, length-take-le, take_more_set}
 use Rattle.std.specs.Io.KnownBytes.{Appends}
-use Rattle.permit_answer.specs.Line.{room}
+use Rattle.permit_answer.specs.Buffer.{room}
 
 pub le_total : (m n : ℕ) → (m ≤ n) ⊎ (n ≤ m)
 le_total m n = grind arith
