@@ -25,12 +25,15 @@ use std::io::{Read, Write};
 use std::sync::Wait;
 use std::thread::Threads;
 
-/// Where the connections of a session come from, one after the other. Each implementation names when it is spent.
+/// Where the connections of a session come from, one after the other.
 pub trait Door: Send {
+    /// What a connection's requests are read from.
     type In: Read;
 
+    /// What its answers are written to.
     type Out: Write;
 
+    /// When no more connections come.
     ghost spent: { Self → Type 0 };
 
     /// The next connection's reader and writer, or `None` where no more comes.

@@ -80,8 +80,11 @@ impl<A> Join<IntakeNote<A>> for Sessions {
     ghost spent = { nobody };
 }
 
+/// A session's end of the intake.
 pub type IntakeSender<A> = RuledSender<Message<A>, IntakeNote<A>, Intake>;
 
+/// The owner's end of the intake.
 pub type IntakeReceiver<A> = RuledReceiver<Message<A>, IntakeNote<A>, Intake>;
 
+/// What its holder knows of the intake: the owner has one, and each session.
 pub type IntakePass<A> = Pass<Message<A>, IntakeNote<A>>;

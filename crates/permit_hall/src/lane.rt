@@ -69,8 +69,11 @@ impl<Y> Join<LaneNote<Y>> for Ends {
     ghost spent = { lane_note false false [] [] };
 }
 
+/// The owner's end of a lane.
 pub type LaneSender<Y> = RuledSender<Y, LaneNote<Y>, Lane>;
 
+/// The session's end of its lane.
 pub type LaneReceiver<Y> = RuledReceiver<Y, LaneNote<Y>, Lane>;
 
+/// What its holder knows of a lane: the owner and the session have one each.
 pub type LanePass<Y> = Pass<Y, LaneNote<Y>>;

@@ -10,14 +10,16 @@ use permit_store::store::Store;
 
 /// What serves one request after the other. Its clauses name one step.
 pub trait Machine: Drop {
+    /// What is asked in one step.
     type Request: Drop;
 
+    /// What one step answers.
     type Reply: Drop;
 
     /// What one step may do: of the machine, the request, the day, the reply, and the machine after it.
     ghost step: { Self → Self.Request → ℕ → Self.Reply → Self → Type 0 };
 
-    /// Serves a request on a day.
+    /// Makes one step for the request, on the day.
     fn serve(&mut self, request: &Self::Request, day: Day) -> Self::Reply
         ensures { step self.old request.now day result self.new };
 }

@@ -61,7 +61,7 @@ fn collect<Y: Drop, R: Wait>(rt: &R, lane: &LaneReceiver<Y>, mine: &mut LanePass
 }
 
 impl<A: Drop, Y: Drop> Session<A, Y> {
-    /// Puts a request and collects its answer.
+    /// Puts a request and collects its answer. It waits for room in the intake and then for the owner, without a bound.
     pub fn ask<R: Wait>(&mut self, rt: &R, request: A) -> Y
         requires { IsSession self.old }
         ensures has { Has self.new (put_by self.old ++ request ∷ []) (got_by self.old ++ result ∷ []) }
@@ -79,7 +79,7 @@ impl<A: Drop, Y: Drop> Session<A, Y> {
         collect(rt, &self.lane, &mut self.lane_pass)
     }
 
-    /// Puts the end mark.
+    /// Puts the end mark, behind which the owner expects nothing of the session.
     pub fn end<R: Wait>(&mut self, rt: &R)
         requires { IsSession self.old }
         ensures has { Has self.new (put_by self.old) (got_by self.old) }

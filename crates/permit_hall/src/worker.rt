@@ -16,6 +16,7 @@ pub trait Task<A: Drop, Y: Drop, O>: Drop {
     /// With what was put and what was got, and what is given back.
     ghost did: { Self → List A → List Y → O → Type 0 };
 
+    /// Works in a session that has put nothing yet. It puts no end mark: that comes after it.
     fn run<R: Wait>(self, rt: &R, session: &mut Session<A, Y>) -> O
         requires { Has session.old [] [] }
         ensures session { IsSession session.new × IsSamePlace session.old session.new
@@ -57,6 +58,7 @@ pub enum State<A: Drop, Y: Drop, O: Drop, T: Task<A, Y, O>> {
     Left(Done<A, Y, O>),
 }
 
+/// A worker that was started or left out, with what it was told, by which the answer to `join` is judged.
 #[derive(Drop)]
 pub struct Worker<A: Drop, Y: Drop, O: Drop, T: Task<A, Y, O>> {
     pub place: Snapshot<Session<A, Y>>,
@@ -64,6 +66,7 @@ pub struct Worker<A: Drop, Y: Drop, O: Drop, T: Task<A, Y, O>> {
     pub state: State<A, Y, O, T>,
 }
 
+/// Makes the flag that a task's worker and its starter share, so that a start takes no memory of ours.
 pub fn prepare<T: Drop>(alloc: Global, task: T) -> Result<Prepared<T>, AllocError>
     ensures { IfOk result (λ t. t.task ≡ task) }
 {
@@ -72,7 +75,7 @@ pub fn prepare<T: Drop>(alloc: Global, task: T) -> Result<Prepared<T>, AllocErro
     Ok(Prepared { task, go, starter })
 }
 
-// Runs the task, and then puts the end mark.
+/// Runs the task, and then puts the end mark.
 fn work<A: Drop, Y: Drop, O: Drop, T: Task<A, Y, O>, R: Wait + Drop>(
     rt: R,
     session: Session<A, Y>,
