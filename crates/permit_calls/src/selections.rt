@@ -1,115 +1,21 @@
 //! The rows that a store over vectors selects, and those that it hands to a taker.
 
-ghost use Rattle.std.specs.Prelude.{⊤};
-
 use permit_base::route::{By, Route};
-use permit_base::values::{Cents, PartyId};
-use permit_base::words::{Kind, Relation, Role, Stage, Timing};
-use permit_core::state::FileState;
-use permit_core::taker::Taker;
-use permit_samples::ask::TOKENS;
-use permit_samples::makers::{day, digest_of, lot, parcel, party, text};
+use permit_base::values::PartyId;
+use permit_base::words::{Relation, Timing};
+use permit_samples::found::{Numbers, add_files, filed};
+use permit_samples::makers::{day, party};
 use permit_samples::offices::founder;
 use permit_store::plain::PlainStore;
-use permit_store::rows::{Change, Found};
 use permit_store::store::Store;
 use std::alloc::Global;
 use std::test::Fail;
 
-/// Takes the numbers of files, until it has the most that it wants.
-#[derive(Drop)]
-struct Numbers {
-    taken: Vec<u32>,
-    most: usize,
-}
-
-impl Taker<Found> for Numbers {
-    ghost took = { λ _ _ _ _. ⊤ };
-
-    fn take(&mut self, found: &Found) -> bool {
-        self.taken.push(found.row.id.get()).is_ok() && self.taken.len() < self.most
-    }
-}
-
-fn commit<S: Store>(store: &mut S, change: &Change<'_>, number: u32) -> Result<(), Fail> {
-    Ok(store.commit(change, day(number)?)?)
-}
-
-/// A party more, of the public.
-fn add_party<S: Store>(store: &mut S, alloc: Global, token: &str) -> Result<(), Fail> {
-    let name = text(alloc, "Owner")?;
-    let digest = digest_of(alloc, token)?;
-    let change = Change::NewParty {
-        name: &name,
-        role: Role::Public,
-        digest: &digest,
-    };
-    commit(store, &change, 19700)
-}
-
-/// A parcel more.
-fn add_parcel<S: Store>(
-    store: &mut S,
-    alloc: Global,
-    letters: &str,
-    owner: u32,
-) -> Result<(), Fail> {
-    let address = text(alloc, "Main Street")?;
-    let lot = lot(alloc, letters)?;
-    let change = Change::NewParcel {
-        lot: &lot,
-        address: &address,
-        owner: party(owner)?,
-    };
-    commit(store, &change, 19700)
-}
-
-/// An interest of the third party in the first parcel.
-fn add_interest<S: Store>(store: &mut S) -> Result<(), Fail> {
-    let (parcel, party) = (parcel(1)?, party(3)?);
-    commit(store, &Change::NewInterest { parcel, party }, 19700)
-}
-
-/// A file more, with a deadline 180 days after its filing.
-fn add_file<S: Store>(
-    store: &mut S,
-    alloc: Global,
-    applicant: u32,
-    on: u32,
-    filed: u32,
-) -> Result<(), Fail> {
-    let description = text(alloc, "House")?;
-    let change = Change::NewFile {
-        state: FileState::file(party(applicant)?, parcel(on)?, Kind::Construct, day(filed)?),
-        valuation: Cents::new(25_000_000).ok_or("an amount")?,
-        description: &description,
-    };
-    commit(store, &change, filed)
-}
-
-/// A store with three files. The second party files on its own first parcel, the third party on the same, and the second
-/// again on the second parcel, which is the third party's. The third has an interest in the first parcel.
+/// A store over vectors with three files.
 fn with_files(alloc: Global) -> Result<PlainStore, Fail> {
     let mut store = PlainStore::create(alloc, &founder(alloc)?)?;
-    add_party(&mut store, alloc, TOKENS[1])?;
-    add_party(&mut store, alloc, TOKENS[2])?;
-    add_parcel(&mut store, alloc, "A-1", 2)?;
-    add_parcel(&mut store, alloc, "A-2", 3)?;
-    add_interest(&mut store)?;
-    add_file(&mut store, alloc, 2, 1, 19700)?;
-    add_file(&mut store, alloc, 3, 1, 19700)?;
-    add_file(&mut store, alloc, 2, 2, 19720)?;
+    add_files(&mut store, alloc)?;
     Ok(store)
-}
-
-/// The filed rows without a stop order, of this timing.
-fn filed(by: By, timing: Timing) -> Route {
-    Route::Cell {
-        by,
-        stage: Stage::Filed,
-        stopped: false,
-        timing,
-    }
 }
 
 /// The numbers that a selection gives the caller on day 19860, when 20 days are left for the first two files, and 40 for

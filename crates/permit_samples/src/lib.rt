@@ -5,6 +5,7 @@
 pub mod ask;
 pub mod exchange;
 pub mod filing;
+pub mod found;
 mod listings;
 pub mod makers;
 pub mod offices;
