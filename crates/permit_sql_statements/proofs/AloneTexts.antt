@@ -1,5 +1,5 @@
 -- What the texts by one relation alone mean.
-use Rattle.std.proofs.Common.{◌≡◌, refl, [], ◌∷◌, ℕ, false}
+use Rattle.std.proofs.Common.{◌≡◌, refl, [], ◌∷◌, ℕ, true, false}
 use Rattle.sqlite_tied.specs.Compute.{everything}
 use Rattle.sqlite.specs.Listing.{understood, reads_listing}
 use Rattle.sqlite_sql.specs.Term.{col}
@@ -13,7 +13,7 @@ use Rattle.permit_sql_statements.specs.RouteTexts.{select_as_applicant, select_a
 use Rattle.permit_sql_statements.specs.Selected.{text_alone}
 use Rattle.permit_sql_statements.proofs.Lookups.{plain_query, equals}
 use Rattle.permit_sql_statements.proofs.QueryTexts.{alone, names_of}
-use Rattle.permit_sql_statements.proofs.RouteTexts.{shows, its_parcel, counts_one, counts_two, Means}
+use Rattle.permit_sql_statements.proofs.RouteTexts.{declared, shows, its_parcel, counts_one, led_by_interest, shown_collations, Means}
 
 -- by a column of the file
 abbrev pub column_alone : ℕ → Query
@@ -23,7 +23,7 @@ abbrev pub owner_alone : Query
 owner_alone = plain_query (inner 3 (inner 7 (counts_one 2 3))) (equals (col 2 2) (col 1 0) ∷ equals (col 1 4) (col 0 0) ∷ []) (shows 2 1 3) []
 
 abbrev pub conflict_alone : Query
-conflict_alone = plain_query (inner 7 (left 3 its_parcel (counts_two 1 3 4))) (col 4 0 ∷ []) (shows 1 2 3) []
+conflict_alone = record (plain_query led_by_interest (declared 2 1) (shows 2 3 4) []) { distinct = true; collations = shown_collations }
 
 abbrev pub query_alone : Relation → Query
 query_alone Applicant = column_alone 3

@@ -1,4 +1,5 @@
 pub mod Permuted
+pub mod Distinct
 pub mod Lookups
 pub mod QueryTexts
 pub mod RouteTexts

@@ -1,17 +1,25 @@
 -- What each text of a selection shows of the tables.
-use Rattle.std.proofs.Common.{◌≡◌, refl, sym, ap, ap₂, subst, ◌∙◌, ℕ, suc, ◌<◌, ◌≤◌, Bool, true, false, cond, eqb, length, List, [], ◌∷◌, ◌++◌, map, filter, find, slice_get, drop, Option, Some, None, option_map, arith, append-nil, IsPermutation, IsSorted}
-use Rattle.std.specs.Prelude.{◌&&◌}
-use Rattle.std.specs.List.{flat_map, list_all}
-use Rattle.std.specs.Ordering.{on}
+use Rattle.std.proofs.Common.{◌≡◌, refl, sym, ap, ap₂, subst, ◌∙◌, true≢false, not, Ordering, Less, Equal, Greater, is_eq, ℕ, suc, ◌<◌, ◌≤◌, Bool, true, false, cond, eqb, length, List, [], ◌∷◌, ◌++◌, map, filter, find, slice_get, drop, Option, Some, None, option_map, arith, append-nil, IsPermutation, IsSorted}
+use Rattle.std.specs.Prelude.{◌&&◌, ◌||◌}
+use Rattle.std.specs.List.{flat_map, list_all, list_any}
+use Rattle.std.specs.Ordering.{on, ordering_then}
+use Rattle.std.proofs.lemmas.Bool.Decides.{nat_tests}
+use Rattle.std.proofs.lemmas.Cmp.{on_total}
 use Rattle.std.proofs.lemmas.List.Sorted.{IsPermutation-trans}
 use Rattle.sqlite.specs.declared.types.Value.{Value}
 use Rattle.sqlite_value.specs.Order.{Row, column}
 use Rattle.sqlite_value.specs.declared.keys.Key.{Key}
+use Rattle.sqlite_value.specs.declared.keys.Collation.TheVariants.{Binary}
+use Rattle.sqlite_value.specs.Keys.{collated_cmp}
+use Rattle.sqlite_value.proofs.KeyLemmas.{collated_cmp_total}
+use Rattle.sqlite_sql.specs.declared.ops.BinaryOp.TheVariants.{Compare}
+use Rattle.sqlite_sql.specs.declared.ops.CompareOp.TheVariants.{Eq}
+use Rattle.sqlite_sql.specs.Group.{IsPartition}
 use Rattle.sqlite_sql.specs.Term.{Term, Env, col, holds, eval_all}
-use Rattle.sqlite_sql.specs.Ops.{is_true}
+use Rattle.sqlite_sql.specs.Ops.{binary, is_true}
 use Rattle.sqlite_sql.specs.Query.{Query, Join, inner, left, IsAnswer, Output, output, key_cmp, matches}
-use Rattle.sqlite_trees.specs.Tree.{Trees}
-use Rattle.sqlite_keyed.proofs.ListLemmas.{IsPermutation-flat_map, flat_map-map, flat_map_same_on, map-flat_map, filter-map, filter_same, slice_get-filter}
+use Rattle.sqlite_trees.specs.Tree.{Trees, IsAscending}
+use Rattle.sqlite_keyed.proofs.ListLemmas.{IsPermutation-flat_map, flat_map-map, flat_map_same_on, map-flat_map, filter-map, filter_same, slice_get-filter, none_from_any, none_counted, ascending_weaker}
 use Rattle.permit_base.specs.declared.words.Stage.{Stage}
 use Rattle.permit_base.specs.declared.words.Timing.{Timing}
 use Rattle.permit_base.specs.declared.words.Relation.{Relation}
@@ -30,11 +38,12 @@ use Rattle.permit_sql_rows.specs.Kept.{AreKeyed}
 use Rattle.permit_sql_rows.specs.Rows.{int, or_null, flag, shown_found, parcel_row, file_row, shown_interest, shown_file}
 use Rattle.permit_sql_statements.specs.Selected.{first_deadline, next_deadline, leader, follower, cell_params, params_by, params_for, ShowWhere, ShowFound}
 use Rattle.permit_sql_statements.proofs.Lookups.{plain_query, equals, answers, put_all_out, eq_is}
-use Rattle.permit_sql_statements.proofs.Permuted.{one_order}
-use Rattle.permit_sql_statements.proofs.RouteTexts.{second, within, within_plus, shows, in_order, its_parcel, counts_one, counts_two, every_query, whole_query, direct_query, owner_query, conflict_query, query_by, query_for}
+use Rattle.permit_sql_statements.proofs.Permuted.{one_order, has_is}
+use Rattle.permit_sql_statements.proofs.Distinct.{copies_of, once_each}
+use Rattle.permit_sql_statements.proofs.RouteTexts.{declared, shown_collations, led_by_interest, second, within, within_plus, shows, in_order, its_parcel, counts_one, counts_two, every_query, whole_query, direct_query, owner_query, conflict_query, query_by, query_for}
 use Rattle.permit_sql_statements.proofs.AloneTexts.{column_alone, owner_alone, conflict_alone, query_alone}
-use Rattle.permit_sql_statements.proofs.Truths.{beside_row, kept_is, led_is, party_is, owner_is, flag_is, has_second, second_is, and_false, and_all, same_number, led, led_alone, led_as_two}
-use Rattle.permit_sql_statements.proofs.Selecting.{counted_is, parcel_found, turned, of_one, out, unkeyed, plain_unkeyed, shows_among, shows_found}
+use Rattle.permit_sql_statements.proofs.Truths.{beside_row, kept_is, kept_plus, led_is, party_is, owner_is, flag_is, has_second, second_is, and_false, and_all, same_number, led, led_alone, led_as_two}
+use Rattle.permit_sql_statements.proofs.Selecting.{declares, any_declares, counted_is, parcel_found, turned, of_one, out, unkeyed, plain_unkeyed, shows_among, shows_found}
 
 -- ---- lists of at most one value
 
@@ -53,6 +62,51 @@ at_most_one false x = omega arith
 nested : {A : Type 0} (a b : Bool) (x : A) → cond (a && b) (x ∷ []) [] ≡ cond a (cond b (x ∷ []) []) []
 nested true b x = refl
 nested false b x = refl
+
+-- ---- tests of values
+
+any_and : {A : Type 0} (p : A → Bool) (b : Bool) (xs : List A) → list_any (λ x. p x && b) xs ≡ (b && list_any p xs)
+any_and p b [] = sym (and_false b)
+any_and p b (x ∷ xs) = ap (λ k. (p x && b) || k) (any_and p b xs) ∙ shared (p x) b (list_any p xs)
+  where
+    shared : (a b c : Bool) → ((a && b) || (b && c)) ≡ (b && (a || c))
+    shared true true c = refl
+    shared true false c = refl
+    shared false true c = refl
+    shared false false c = refl
+
+first_decides : (o rest : Ordering) → is_eq o ≡ false → is_eq (ordering_then o rest) ≡ false
+first_decides Less rest e = refl
+first_decides Equal rest e = absurd (true≢false e)
+first_decides Greater rest e = refl
+
+after_both : (a b k : Bool) → (a && (b && k)) ≡ ((a && (b && true)) && k)
+after_both true true k = refl
+after_both true false k = refl
+after_both false b k = refl
+
+-- no number stands twice
+files_apart : (fs : List FileRow) → ((id : ℕ) → length (filter (λ f. eqb f.id id) fs) ≤ 1) → IsAscending (λ f g. eqb g.id f.id ≡ false) fs
+files_apart [] once = tt
+files_apart (f ∷ fs) once = (none_from_any (λ g. eqb g.id f.id) fs (none (list_any (λ g. eqb g.id f.id) fs) refl), files_apart fs (λ id. fewer _ (eqb f.id id) (once id)))
+  where
+    fewer : (xs : List FileRow) (b : Bool) → length (cond b (f ∷ xs) xs) ≤ 1 → length xs ≤ 1
+    fewer xs true h = omega (arith, h)
+    fewer xs false h = h
+
+    itself : eqb f.id f.id ≡ true
+    itself = grind (arith, nat_tests)
+
+    few : length (filter (λ g. eqb g.id f.id) fs) ≤ 0
+    few = let h : length (cond (eqb f.id f.id) (f ∷ filter (λ g. eqb g.id f.id) fs) (filter (λ g. eqb g.id f.id) fs)) ≤ 1 = once f.id in
+        let k : length (f ∷ filter (λ g. eqb g.id f.id) fs) ≤ 1 = subst (λ b. length (cond b (f ∷ filter (λ g. eqb g.id f.id) fs) (filter (λ g. eqb g.id f.id) fs)) ≤ 1) itself h in
+        omega (arith, k)
+
+    none : (b : Bool) → list_any (λ g. eqb g.id f.id) fs ≡ b → list_any (λ g. eqb g.id f.id) fs ≡ false
+    none false e = e
+    none true e =
+        let empty : length (filter (λ g. eqb g.id f.id) fs) ≡ 0 = omega (arith, few) in
+        absurd (true≢false (ap (λ n. eqb n 0) (sym empty) ∙ none_counted (λ g. eqb g.id f.id) fs ∙ ap not e))
 
 -- these rows are shown of what is put out, in an order that ORDER BY allows
 pub record IsPut (order : List (Term × Key)) (all : List Output) (rows : List Row) : Type 0 where
@@ -147,7 +201,19 @@ module _ (caller : ℕ) (there : 0 < caller) (t : Tables) (db : Trees) (keyed : 
           map-flat_map (output file_query) (λ r. matches db terms (left 3 its_parcel rest) (params ∷ r ∷ [])) (db 7) in
           record { ordered = got.0; same = IsPermutation-trans _ _ _ all (subst (λ l. IsPermutation l got.0) over got.1); sorted = got.2; shown = got.3 }
 
-    -- what a query over another table and then the files puts out, where each file is met by at most one row of that table
+    -- what a query over another table and then the files puts out, file by file
+    pairs_met : (q : Query) (lead : ℕ) (rest : Join) (terms : List Term)
+        → IsPermutation (flat_map (λ f. flat_map (λ p. map (output q) (matches db terms rest (params ∷ p ∷ file_row f ∷ []))) (db lead)) t.files) (map (output q) (matches db terms (inner lead (inner 7 rest)) (params ∷ [])))
+    pairs_met q lead rest terms =
+        let put : Row → Row → List Output = λ p r. map (output q) (matches db terms rest (params ∷ p ∷ r ∷ [])) in
+        let put_out : Row → List Output = λ r. flat_map (λ p. put p r) (db lead) in
+        let all = subst (λ l. IsPermutation l (flat_map put_out (db 7))) (flat_map-map put_out file_row t.files) (IsPermutation-flat_map put_out _ _ files) in
+        let over : map (output q) (matches db terms (inner lead (inner 7 rest)) (params ∷ [])) ≡ flat_map (λ p. flat_map (put p) (db 7)) (db lead) =
+        map-flat_map (output q) (λ p. matches db terms (inner 7 rest) (params ∷ p ∷ [])) (db lead)
+        ∙ flat_map_same_on _ _ (λ p. map-flat_map (output q) (λ r. matches db terms rest (params ∷ p ∷ r ∷ [])) (db 7)) (db lead) in
+        subst (IsPermutation (flat_map (λ f. put_out (file_row f)) t.files)) (sym over) (IsPermutation-trans _ _ _ all (turned put (db lead) (db 7)))
+
+    -- where each file is met by at most one row of that table
     module _ (lead : ℕ) (rest : Join) (terms project : List Term) (order : List (Term × Key)) where
       abbrev pair_query : Query
       pair_query = plain_query (inner lead (inner 7 rest)) terms project order
@@ -159,12 +225,59 @@ module _ (caller : ℕ) (there : 0 < caller) (t : Tables) (db : Trees) (keyed : 
       by_pairs puts test met rows a =
           let got = answers pair_query.from terms project order db params rows a in
           let put_out : Row → List Output = λ r. flat_map (λ p. put_pair p r) (db lead) in
-          let all = subst (λ l. IsPermutation l (flat_map put_out (db 7))) (put_all_out put_out file_row test puts met t.files) (IsPermutation-flat_map put_out _ _ files) in
-          let over : map (output pair_query) (matches db terms pair_query.from (params ∷ [])) ≡ flat_map (λ p. flat_map (put_pair p) (db 7)) (db lead) =
-          map-flat_map (output pair_query) (λ p. matches db terms (inner 7 rest) (params ∷ p ∷ [])) (db lead)
-          ∙ flat_map_same_on _ _ (λ p. map-flat_map (output pair_query) (λ r. matches db terms rest (params ∷ p ∷ r ∷ [])) (db 7)) (db lead) in
-          let same = IsPermutation-trans _ _ _ (IsPermutation-trans _ _ _ all (turned put_pair (db lead) (db 7))) (subst (λ l. IsPermutation l got.0) over got.1) in
-          record { ordered = got.0; same = same; sorted = got.2; shown = got.3 }
+          let all : flat_map (λ f. put_out (file_row f)) t.files ≡ map puts (filter test t.files) = sym (flat_map-map put_out file_row t.files) ∙ put_all_out put_out file_row test puts met t.files in
+          let same = subst (λ l. IsPermutation l (map (output pair_query) (matches db terms pair_query.from (params ∷ [])))) all (pairs_met pair_query lead rest terms) in
+          record { ordered = got.0; same = IsPermutation-trans _ _ _ same got.1; sorted = got.2; shown = got.3 }
+
+    -- ---- by the interests, of which any number may lead to a file
+
+    abbrev beside_interest : FileRow → Row → Env
+    beside_interest f i = params ∷ i ∷ file_row f ∷ beside_row (parcel_of f) ∷ (flag (conflict f) ∷ []) ∷ []
+
+    interest_end : (terms : List Term) (f : FileRow) (i : Row) → matches db terms (left 3 (equals (col 3 0) (col 2 2) ∷ []) (counts_one 2 4)) (params ∷ i ∷ file_row f ∷ []) ≡ cond (list_all (holds (beside_interest f i)) terms) (beside_interest f i ∷ []) [] ++ []
+    interest_end terms f i =
+        let end = λ (v : Value). cond (list_all (holds (params ∷ i ∷ file_row f ∷ beside_row (parcel_of f) ∷ (v ∷ []) ∷ [])) terms) ((params ∷ i ∷ file_row f ∷ beside_row (parcel_of f) ∷ (v ∷ []) ∷ []) ∷ []) [] in
+        ap (flat_map (λ r. matches db terms (counts_one 2 4) (params ∷ i ∷ file_row f ∷ r ∷ []))) (parcel_found f.state.parcel t.parcels (db 3) parcels (keyed.parcels f.state.parcel))
+        ∙ ap (λ v. end v ++ []) (counted_is f.state.parcel caller (λ r. params ∷ i ∷ file_row f ∷ beside_row (parcel_of f) ∷ r ∷ []) t.interests (db 5) interests)
+
+    module _ (terms : List Term) (order : List (Term × Key)) (puts : FileRow → Output) (put : (f : FileRow) (i : Row) → (eval_all (map (λ k. k.0) order) (beside_interest f i), eval_all (shows 2 3 4) (beside_interest f i)) ≡ puts f)
+        (shows_it : (f : FileRow) → (puts f).1 ≡ shown_found (found_row t caller f)) (pass : FileRow → Bool) (tests : (f : FileRow) (i : Row) → list_all (holds (beside_interest f i)) terms ≡ (declares f.state.parcel caller i && pass f)) where
+      abbrev once_query : Query
+      once_query = record (plain_query led_by_interest terms (shows 2 3 4) order) { distinct = true; collations = shown_collations }
+
+      abbrev rest_of : Join
+      rest_of = left 3 (equals (col 3 0) (col 2 2) ∷ []) (counts_one 2 4)
+
+      abbrev apart_by : Output → Output → Ordering
+      apart_by = on (λ (o : Output). o.1) (collated_cmp shown_collations)
+
+      abbrev meets : FileRow → Row → Bool
+      meets f i = declares f.state.parcel caller i && pass f
+
+      put_is : (f : FileRow) (i : Row) → map (output once_query) (matches db terms rest_of (params ∷ i ∷ file_row f ∷ [])) ≡ cond (meets f i) (puts f ∷ []) []
+      put_is f i =
+          let b = list_all (holds (beside_interest f i)) terms in
+          ap (map (output once_query)) (interest_end terms f i ∙ nil_after b (beside_interest f i)) ∙ map_one (output once_query) b (beside_interest f i) ∙ ap₂ (λ b o. cond b (o ∷ []) []) (tests f i) (put f i)
+
+      puts_apart : (f g : FileRow) → eqb g.id f.id ≡ false → is_eq (apart_by (puts g) (puts f)) ≡ false
+      puts_apart f g other = ap is_eq (ap₂ (collated_cmp shown_collations) (shows_it g) (shows_it f)) ∙ first_decides _ _ (has_is g.id f.id ∙ other)
+
+      met_is : (f : FileRow) → list_any (meets f) (db 5) ≡ (pass f && conflict f)
+      met_is f = any_and (declares f.state.parcel caller) (pass f) (db 5) ∙ ap (λ c. pass f && c) (any_declares f.state.parcel caller t.interests (db 5) interests)
+
+      pub by_interest : (rows : List Row) → IsAnswer once_query db params rows → IsPut order (map puts (filter (λ f. pass f && conflict f) t.files)) rows
+      by_interest rows a =
+          let each = flat_map_same_on _ _ (λ f. flat_map_same_on _ _ (put_is f) (db 5)) t.files in
+          let met = subst (λ l. IsPermutation l (map (output once_query) (matches db terms led_by_interest (params ∷ [])))) each (pairs_met once_query 5 rest_of terms) in
+          let split = a.distinct.1 in
+          let part : IsPartition apart_by (flat_map (copies_of puts meets (db 5)) t.files) a.distinct.0 = record {
+            same = IsPermutation-trans _ _ _ (subst (λ l. IsPermutation (flat_map (copies_of puts meets (db 5)) t.files) (map (output once_query) l)) (sym a.grouped) met) split.same;
+            alike = split.alike;
+            apart = split.apart;
+          } in
+          let once = once_each apart_by (on_total (λ (o : Output). o.1) (collated_cmp_total shown_collations)) puts meets (db 5) t.files (ascending_weaker _ _ puts_apart t.files (files_apart t.files keyed.files)) a.distinct.0 part in
+          let tested = ap (map puts) (filter_same (λ f. list_any (meets f) (db 5)) (λ f. pass f && conflict f) met_is t.files) in
+          record { ordered = a.ordered; same = IsPermutation-trans _ _ _ (subst (λ l. IsPermutation l a.kept) tested (subst (IsPermutation (map puts (filter (λ f. list_any (meets f) (db 5)) t.files))) (sym a.distinct.2) once)) a.same; sorted = a.sorted; shown = a.shown }
 
     abbrev w_one : FileRow → Env
     w_one f = beside_one f (beside_row (parcel_of f)) (flag (conflict f))
@@ -196,8 +309,10 @@ module _ (caller : ℕ) (there : 0 < caller) (t : Tables) (db : Trees) (keyed : 
     whole_shown = by_one_count cell (within 1) (λ f. kept f && true) (λ f. kept_is s b timing day f.state true)
 
     pub conflict_shown : (rows : List Row) → IsAnswer conflict_query db (cell_params caller day s b timing) rows → ShowFound t rows (map (found_row t caller) (filter (λ f. kept f && conflict f) t.files))
-    conflict_shown = by_two_counts cell (within 1 ++ col 4 0 ∷ []) (λ f. kept f && conflict f)
-        (λ f. kept_is s b timing day f.state (is_true (flag (conflict f)) && true) ∙ ap (λ c. kept f && c) (and_all _ ∙ flag_is (conflict f)))
+    conflict_shown rows a =
+        as_shown 2 (λ f. kept f && conflict f) rows (by_interest cell (declared 2 1 ++ within_plus 2) (in_order 2) (out t caller) (λ f i. shown_as cell f) (λ f. refl) kept
+        (λ f i. ap (λ k. is_true (binary (Compare Eq Binary) (column i 1) (int f.state.parcel)) && (is_true (binary (Compare Eq Binary) (column i 2) (int caller)) && k)) (kept_plus s b timing day f.state true ∙ and_all _)
+        ∙ after_both _ _ (kept f)) rows a)
 
     -- by a relation that stands in a column of the file
     pub direct_shown : (place : ℕ) (r : Relation) → ((f : FileRow) → holds (params [] ∷ file_row f ∷ []) (equals (col 1 place) (col 0 0)) ≡ has (set_of f) r) → (code : ℕ) (rows : List Row)
@@ -296,8 +411,7 @@ module _ (caller : ℕ) (there : 0 < caller) (t : Tables) (db : Trees) (keyed : 
       as_tested test rows (by_files [] (counts_one 1 3) terms [] (w_one []) (λ f. one_end [] terms f (beside_row (parcel_of f))) (unkeyed t caller) unkeyed_as test (λ f. and_all _ ∙ tests f) rows a)
 
   interest_shown : (rows : List Row) → IsAnswer conflict_alone db (params []) rows → ShowTested conflict rows
-  interest_shown rows a =
-      as_tested conflict rows (by_files [] (counts_two 1 3 4) (col 4 0 ∷ []) [] (w_two []) (λ f. two_end [] (col 4 0 ∷ []) f (beside_row (parcel_of f))) (unkeyed t caller) unkeyed_as conflict (λ f. and_all _ ∙ flag_is (conflict f)) rows a)
+  interest_shown rows a = as_tested conflict rows (by_interest [] (declared 2 1) [] (unkeyed t caller) (λ f i. unkeyed_as f) (λ f. refl) (λ f. true) (λ f i. sym (and_all _)) rows a)
 
   -- by the owner of the parcel
   module _ (f : FileRow) where

@@ -1,9 +1,10 @@
 -- What the texts of the selections mean.
-use Rattle.std.proofs.Common.{◌≡◌, refl, sym, subst, List, [], ◌∷◌, ◌++◌, ℕ, pos, false}
+use Rattle.std.proofs.Common.{◌≡◌, refl, sym, subst, List, [], ◌∷◌, ◌++◌, ℕ, pos, map, true, false}
 use Rattle.sqlite_tied.specs.Compute.{everything}
 use Rattle.sqlite.specs.Listing.{understood, reads_listing}
 use Rattle.sqlite.specs.declared.types.Value.TheVariants.{Null, Int}
 use Rattle.sqlite_value.specs.declared.keys.Key.{Key}
+use Rattle.sqlite_value.specs.declared.keys.Collation.{Collation}
 use Rattle.sqlite_value.specs.declared.keys.Collation.TheVariants.{Binary}
 use Rattle.sqlite_value.specs.Keys.{ascending}
 use Rattle.sqlite_sql.specs.declared.ops.BinaryOp.TheVariants.{Compare, And, Or, Coalesce}
@@ -21,7 +22,7 @@ use Rattle.permit_sql_rows.specs.Schema.{office_schema}
 use Rattle.permit_sql_statements.specs.RouteTexts.{select_every, select_whole, select_applicant, select_contractor, select_owner, select_reviewer, select_inspector, select_conflict}
 use Rattle.permit_sql_statements.specs.Selected.{text_by, text_for, leader}
 use Rattle.permit_sql_statements.proofs.Lookups.{plain_query, equals}
-use Rattle.permit_sql_statements.proofs.QueryTexts.{alone, names_of, columns_of}
+use Rattle.permit_sql_statements.proofs.QueryTexts.{alone, names_of}
 
 -- ---- terms, by the slots of the rows that they read
 
@@ -56,6 +57,10 @@ abbrev pub shows : ℕ → ℕ → ℕ → List Term
 shows file parcel count =
     col file 0 ∷ col file 2 ∷ col file 3 ∷ col file 4 ∷ col file 5 ∷ col file 6 ∷ col file 7 ∷ col file 8 ∷ col file 9 ∷ col file 10 ∷ col file 11 ∷ col file 12 ∷ col file 13 ∷ col file 14 ∷ col file 15 ∷ col file 16
     ∷ col file 17 ∷ col file 18 ∷ col file 19 ∷ col file 20 ∷ col parcel 4 ∷ col count 0 ∷ []
+
+-- a collation for each of these
+abbrev pub shown_collations : List Collation
+shown_collations = map (λ _. Binary) (shows 0 0 0)
 
 abbrev pub in_order : ℕ → List (Term × Key)
 in_order file = (col file 0, ascending Binary) ∷ []
@@ -93,8 +98,12 @@ direct_query place = plain_query (inner 7 (left 3 its_parcel (counts_two 1 3 4))
 abbrev pub owner_query : Query
 owner_query = plain_query (inner 3 (inner 7 (counts_two 2 3 4))) (equals (col 2 2) (col 1 0) ∷ equals (col 1 4) (col 0 0) ∷ (within_plus 2 ++ second 2 1 4 ∷ [])) (shows 2 1 3) (in_order 2)
 
+-- by the interests of the caller, each of which leads to the files of its parcel
+abbrev pub led_by_interest : Join
+led_by_interest = inner 5 (inner 7 (left 3 (equals (col 3 0) (col 2 2) ∷ []) (counts_one 2 4)))
+
 abbrev pub conflict_query : Query
-conflict_query = plain_query (inner 7 (left 3 its_parcel (counts_two 1 3 4))) (within 1 ++ col 4 0 ∷ []) (shows 1 2 3) (in_order 1)
+conflict_query = record (plain_query led_by_interest (declared 2 1 ++ within_plus 2) (shows 2 3 4) (in_order 2)) { distinct = true; collations = shown_collations }
 
 -- by each relation, and for each selection
 abbrev pub query_by : Relation → Query

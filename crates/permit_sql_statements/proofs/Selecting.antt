@@ -1,10 +1,10 @@
 -- What the texts of the selections show of the tables.
 use Rattle.std.proofs.Common.{◌≡◌, ◌⊎◌, inl, inr, refl, sym, ap, ap₂, subst, ◌∙◌, ℕ, zero, suc, ◌<◌, ◌≤◌, Bool, true, false, cond, not, eqb, min, length, List, [], ◌∷◌, ◌++◌, map, filter, find, drop, slice_get, arith, append_assoc, true≢false, IsPermutation, IsSorted, Less}
-use Rattle.std.specs.Prelude.{◌&&◌}
+use Rattle.std.specs.Prelude.{◌&&◌, ◌||◌}
 use Rattle.std.specs.List.{flat_map, list_any, AllByRecursion}
 use Rattle.std.proofs.lemmas.Bool.{cases_lt}
 use Rattle.std.proofs.lemmas.Bool.Decides.{nat_tests}
-use Rattle.std.proofs.lemmas.List.Sorted.{IsPermutation-map, IsPermutation-trans, IsPermutation-sym, IsPermutation-refl, IsPermutation-append, IsPermutation-append_comm, IsPermutation-cons, IsPermutation-middle, length_permutation, All-permutation}
+use Rattle.std.proofs.lemmas.List.Sorted.{IsPermutation-map, IsPermutation-trans, IsPermutation-sym, IsPermutation-refl, IsPermutation-append, IsPermutation-append_comm, IsPermutation-cons, IsPermutation-middle, length_permutation, All-permutation, list_any-IsPermutation}
 use Rattle.std.proofs.lemmas.List.Elements.{recursion_from_All, All-from_recursion}
 use Rattle.sqlite.specs.declared.types.Value.TheVariants.{Null}
 use Rattle.sqlite_value.specs.Order.{Row, column, value_cmp}
@@ -76,6 +76,16 @@ module _ (parcel caller : ℕ) where
       let moved : length (filter part (map (drop 1) rows)) ≡ length (filter part (map shown_interest interests)) = length_permutation _ _ (IsPermutation-filter part _ _ same) in
       let many : length (flat_map (λ r. cond (declares parcel caller r) (env r ∷ []) []) rows) ≡ length (filter test interests) = long_matches env rows ∙ sym left ∙ moved ∙ right in
       ap (λ n. int (min 1 n)) many ∙ at_most_one (length (filter test interests)) (list_any test interests) (none_counted test interests)
+
+  any_of : {A : Type 0} (f : A → Row) (p : Row → Bool) (q : A → Bool) → ((x : A) → q x ≡ p (f x)) → (xs : List A) → list_any q xs ≡ list_any p (map f xs)
+  any_of f p q same [] = refl
+  any_of f p q same (x ∷ xs) = ap₂ ◌||◌ (same x) (any_of f p q same xs)
+
+  -- a row of the tree declares it where an interest does
+  pub any_declares : (interests : List Interest) (rows : List Row) → IsPermutation (map shown_interest interests) (map (drop 1) rows) → list_any (declares parcel caller) rows ≡ list_any (λ i. eqb i.parcel parcel && eqb i.party caller) interests
+  any_declares interests rows same =
+      let part : Row → Bool = λ s. declares parcel caller (Null ∷ s) in
+      any_of (drop 1) part (declares parcel caller) cut rows ∙ sym (list_any-IsPermutation part _ _ same) ∙ sym (any_of shown_interest part (λ i. eqb i.parcel parcel && eqb i.party caller) (λ i. sym (declared_is i)) interests)
 
 -- ---- the parcel of a file
 

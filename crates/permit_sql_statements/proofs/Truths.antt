@@ -1,5 +1,5 @@
 -- The truth of the tests of a selection.
-use Rattle.std.proofs.Common.{◌≡◌, refl, sym, ap, ap₂, ◌∙◌, ℕ, zero, suc, ◌+◌, ◌<◌, ℤ, pos, negsuc, Bool, true, false, cond, not, eqb, ltb, leb, Option, Some, None, option_map, unwrap_or, [], ◌∷◌, arith, is_ge, is_lt, int_cmp}
+use Rattle.std.proofs.Common.{◌≡◌, refl, sym, ap, ap₂, ◌∙◌, ℕ, suc, ◌+◌, ◌<◌, ℤ, pos, negsuc, Bool, true, false, cond, not, eqb, ltb, leb, Option, Some, None, option_map, unwrap_or, [], arith, is_ge, is_lt, int_cmp}
 use Rattle.std.specs.Prelude.{◌&&◌, ◌||◌}
 use Rattle.std.proofs.lemmas.Bool.Decides.{nat_tests}
 use Rattle.sqlite.specs.declared.types.Value.{Value}
@@ -16,7 +16,7 @@ use Rattle.permit_base.specs.declared.words.Timing.TheVariants.{Untimed, Past, N
 use Rattle.permit_base.specs.declared.words.Relation.{Relation}
 use Rattle.permit_base.specs.declared.words.Relation.TheVariants as relation
 use Rattle.permit_base.specs.declared.words.Relations.{Relations}
-use Rattle.permit_model.specs.Codes.{stage_code, relation_code, is_stage, is_timing}
+use Rattle.permit_model.specs.Codes.{stage_code, relation_code, is_timing}
 use Rattle.permit_model.specs.Days.{timing_on}
 use Rattle.permit_model.specs.Facts.{holds}
 use Rattle.permit_model.specs.Search.{is_the_party}

@@ -4,8 +4,15 @@
 use Rattle.std.specs.Prelude.{codes, List, ℕ, ◌++◌}
 
 -- what is shown of a file, with its parcel's owner and whether the caller has an interest
+abbrev pub columns : List ℕ
+columns = codes "file.id, file.parcel, applicant, contractor, reviewer, inspector, kind, valuation, description, filed, stage, deadline, done, request, requested, ask, stopped, notices, papers, temporary, parcel.owner, EXISTS (SELECT 1 FROM interest WHERE interest.parcel = file.parcel AND interest.party = ?1)"
+
 abbrev pub shown_columns : List ℕ
-shown_columns = codes "SELECT file.id, file.parcel, applicant, contractor, reviewer, inspector, kind, valuation, description, filed, stage, deadline, done, request, requested, ask, stopped, notices, papers, temporary, parcel.owner, EXISTS (SELECT 1 FROM interest WHERE interest.parcel = file.parcel AND interest.party = ?1)"
+shown_columns = codes "SELECT " ++ columns
+
+-- Each row once. An interest leads to a file as often as it is kept.
+abbrev pub shown_once : List ℕ
+shown_once = codes "SELECT DISTINCT " ++ (columns ++ codes " FROM interest JOIN file ON interest.parcel = file.parcel LEFT JOIN parcel ON parcel.id = file.parcel WHERE interest.party = ?1")
 
 -- the second relation, if there is one
 abbrev pub second_relation : List ℕ
@@ -39,9 +46,8 @@ select_reviewer = shown_columns ++ (codes " FROM file LEFT JOIN parcel ON parcel
 abbrev pub select_inspector : List ℕ
 select_inspector = shown_columns ++ (codes " FROM file LEFT JOIN parcel ON parcel.id = file.parcel WHERE inspector = ?1" ++ (in_cell ++ (second_relation ++ by_number)))
 
--- an interest has no index that leads to the files once each, so that of the cell does
 abbrev pub select_conflict : List ℕ
-select_conflict = shown_columns ++ (codes " FROM file LEFT JOIN parcel ON parcel.id = file.parcel WHERE stage = ?2 AND stopped = ?3 AND deadline >= ?4 AND deadline < ?5 AND EXISTS (SELECT 1 FROM interest WHERE interest.parcel = file.parcel AND interest.party = ?1)" ++ by_number)
+select_conflict = shown_once ++ (in_cell ++ by_number)
 
 -- ---- by one relation alone, whatever the cell: the one parameter is the caller, and the rows come in any order
 
@@ -61,4 +67,4 @@ abbrev pub select_as_inspector : List ℕ
 select_as_inspector = shown_columns ++ codes " FROM file LEFT JOIN parcel ON parcel.id = file.parcel WHERE inspector = ?1"
 
 abbrev pub select_as_conflict : List ℕ
-select_as_conflict = shown_columns ++ codes " FROM file LEFT JOIN parcel ON parcel.id = file.parcel WHERE EXISTS (SELECT 1 FROM interest WHERE interest.parcel = file.parcel AND interest.party = ?1)"
+select_as_conflict = shown_once

@@ -1,9 +1,5 @@
-use Rattle.std.proofs.Common.{subst, ap}
 use Rattle.std.proofs.lemmas.Result.{IfOk-weaker}
-use Rattle.sqlite.specs.Given.{IsPlain}
 use Rattle.sqlite.specs.Held.{state}
-use Rattle.sqlite.specs.Listing.{understood}
-use Rattle.permit_sql_rows.specs.Schema.{office_schema}
 use Rattle.permit_sql_statements.proofs.KeptLemmas.{shown_open}
 use Rattle.permit_sql_statements.proofs.RouteTexts.{plain_for}
 use Rattle.permit_sql_statements.proofs.RouteAnswers.{asked, route_shown}
