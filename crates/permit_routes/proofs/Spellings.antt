@@ -7,7 +7,7 @@ use Rattle.std.specs.Str.Parse.{digits_value}
 use Rattle.std.proofs.lemmas.Fmt.{decimal_nonempty, first_decimal, digits_decimal, digits_value-decimal, decimal-digits_value}
 use Rattle.std.proofs.lemmas.Bool.{and_parts, leb-true, le-leb}
 use Rattle.std.proofs.lemmas.Bool.Decides.{nat_tests}
-use Rattle.permit_base.specs.Limits.{only_if, is_object_number}
+use Rattle.permit_base.specs.Limits.{most_records, only_if, is_object_number}
 use Rattle.permit_routes.specs.Ids.{is_plain_number, starts_with_zero, id_in}
 use Rattle.permit_routes.proofs.Numbers.{own}
 
@@ -19,10 +19,10 @@ zero_not_first : (word : List ℕ) → 48 < get_or word 0 0 → not (starts_with
 zero_not_first [] h = absurd (omega arith)
 zero_not_first (c ∷ rest) h = grind (arith, nat_tests)
 
-below : (n : ℕ) → is_object_number n ≡ true → (1 ≤ n) × (n ≤ 99999)
-below n h = let parts = and_parts (nat_le 1 n) (nat_le n 99999) h in (leb-true 1 n parts.0, leb-true n 99999 parts.1)
+below : (n : ℕ) → is_object_number n ≡ true → (1 ≤ n) × (n ≤ most_records)
+below n h = let parts = and_parts (nat_le 1 n) (nat_le n most_records) h in (leb-true 1 n parts.0, leb-true n most_records parts.1)
 
-plain_spelled : (word : List ℕ) → is_plain_number word ≡ true → digits_value 10 word ≤ 99999 → decimal (digits_value 10 word) ≡ word
+plain_spelled : (word : List ℕ) → is_plain_number word ≡ true → digits_value 10 word ≤ most_records → decimal (digits_value 10 word) ≡ word
 plain_spelled word h small =
     let outer = and_parts (nat_le 1 (length word) && list_all is_ascii_digit word) (not (starts_with_zero word)) h in
     let inner = and_parts (nat_le 1 (length word)) (list_all is_ascii_digit word) outer.0 in
@@ -44,7 +44,7 @@ spelled_by word n false h e = let f : None ≡ Some n = rw h at e in cc
 pub id_spelled : (word : List ℕ) (n : ℕ) → id_in word ≡ Some n → (is_object_number n ≡ true) × (decimal n ≡ word)
 id_spelled word n e = spelled_by word n _ refl e
 
-plain_decimal : (n : ℕ) → 1 ≤ n → n ≤ 99999 → is_plain_number (decimal n) ≡ true
+plain_decimal : (n : ℕ) → 1 ≤ n → n ≤ most_records → is_plain_number (decimal n) ≡ true
 plain_decimal n low high =
     let size : n < 2 ^ 64 = omega arith in
     let first = zero_not_first (decimal n) (first_decimal n low size) in

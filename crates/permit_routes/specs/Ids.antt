@@ -18,6 +18,6 @@ is_plain_number word = nat_le 1 (length word) && list_all is_ascii_digit word &&
 abbrev pub number_in : List ℕ → Option ℕ
 number_in word = if is_plain_number word then Some (digits_value 10 word) else None
 
--- an id is 1 to 99999 without leading zeros
+-- an id is a record's number without leading zeros
 abbrev pub id_in : List ℕ → Option ℕ
 id_in word = option_and_then (only_if is_object_number) (number_in word)

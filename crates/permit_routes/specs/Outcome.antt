@@ -4,10 +4,10 @@ use Rattle.permit_routes.specs.declared.fault.BodyFault.{BodyFault}
 use Rattle.permit_routes.specs.declared.fault.BodyFault.TheVariants.{Refused, Memory}
 
 -- the result is this meaning, seen by the view; want of memory says nothing of it
-abbrev pub Means : {A B : Type 0} → (A → B) → Result A BodyFault → Option B → Type 0
-Means view (Ok x) meaning = meaning ≡ Some (view x)
-Means view (Err Refused) meaning = meaning ≡ None
-Means view (Err Memory) meaning = Unit {0}
+abbrev pub ReadsAs : {A B : Type 0} → (A → B) → Result A BodyFault → Option B → Type 0
+ReadsAs view (Ok x) meaning = meaning ≡ Some (view x)
+ReadsAs view (Err Refused) meaning = meaning ≡ None
+ReadsAs view (Err Memory) meaning = Unit {0}
 
 -- the view of a value that is its own meaning
 abbrev pub same : {A : Type 0} → A → A

@@ -42,11 +42,11 @@ transfer_of parcel d = option_map (request.Transfer parcel) (number_at is_object
 
 -- a request that needs no more said: an object without keys, or nothing
 abbrev pub without_keys : Request → List ℕ → Option Request
-without_keys asked body = object_of 0 body >>= λ d. Some asked
+without_keys request body = object_of 0 body >>= λ d. Some request
 
 -- a request that reads has no body
 abbrev pub without_body : Request → List ℕ → Option Request
-without_body asked body = if length body == 0 then Some asked else None
+without_body request body = if length body == 0 then Some request else None
 
 -- the request of a target and a body
 abbrev pub request_of : Target → List ℕ → Option Request

@@ -1,7 +1,7 @@
 //! The command on a file that an action and a body make.
 
 ghost use Rattle.std.specs.Prelude.{◌≡◌};
-ghost use Rattle.permit_routes.specs.Outcome.{Means, same};
+ghost use Rattle.permit_routes.specs.Outcome.{ReadsAs, same};
 ghost use Rattle.permit_routes.specs.Commands.{party_in, text_alone, step_in, paper_in, days_and_text, text_and_conditions, bare_command, text_command, command_of};
 
 use crate::document::{days_at, object, paper_at, party_at, text_at, word_at};
@@ -13,7 +13,7 @@ use std::alloc::Global;
 
 /// A body whose only key is `party`.
 fn party_in(alloc: Global, body: &[u8]) -> Result<PartyId, BodyFault>
-    ensures { Means same result (party_in body.now) }
+    ensures { ReadsAs same result (party_in body.now) }
 {
     let value = object(alloc, body, 1)?;
     party_at(&value, "party")
@@ -21,7 +21,7 @@ fn party_in(alloc: Global, body: &[u8]) -> Result<PartyId, BodyFault>
 
 /// A body whose only key is `text`.
 fn text_alone(alloc: Global, body: &[u8]) -> Result<Text, BodyFault>
-    ensures { Means same result (text_alone body.now) }
+    ensures { ReadsAs same result (text_alone body.now) }
 {
     let value = object(alloc, body, 1)?;
     text_at(alloc, &value, "text")
@@ -29,7 +29,7 @@ fn text_alone(alloc: Global, body: &[u8]) -> Result<Text, BodyFault>
 
 /// A body whose only key is `step`.
 fn step_in(alloc: Global, body: &[u8]) -> Result<Step, BodyFault>
-    ensures { Means same result (step_in body.now) }
+    ensures { ReadsAs same result (step_in body.now) }
 {
     let value = object(alloc, body, 1)?;
     word_at(&value, "step")
@@ -37,7 +37,7 @@ fn step_in(alloc: Global, body: &[u8]) -> Result<Step, BodyFault>
 
 /// A body whose only key is `paper`.
 fn paper_in(alloc: Global, body: &[u8]) -> Result<PaperNumber, BodyFault>
-    ensures { Means same result (paper_in body.now) }
+    ensures { ReadsAs same result (paper_in body.now) }
 {
     let value = object(alloc, body, 1)?;
     paper_at(&value, "paper")
@@ -45,7 +45,7 @@ fn paper_in(alloc: Global, body: &[u8]) -> Result<PaperNumber, BodyFault>
 
 /// A body of the keys `days` and `text`.
 fn days_and_text(alloc: Global, body: &[u8]) -> Result<(Days, Text), BodyFault>
-    ensures { Means same result (days_and_text body.now) }
+    ensures { ReadsAs same result (days_and_text body.now) }
 {
     let value = object(alloc, body, 2)?;
     let days = days_at(&value, "days")?;
@@ -55,7 +55,7 @@ fn days_and_text(alloc: Global, body: &[u8]) -> Result<(Days, Text), BodyFault>
 
 /// A body of the keys `text` and `conditions`.
 fn text_and_conditions(alloc: Global, body: &[u8]) -> Result<(Text, Text), BodyFault>
-    ensures { Means same result (text_and_conditions body.now) }
+    ensures { ReadsAs same result (text_and_conditions body.now) }
 {
     let value = object(alloc, body, 2)?;
     let text = text_at(alloc, &value, "text")?;
@@ -81,7 +81,7 @@ fn bare_command(action: Action) -> Option<Command>
 
 /// The command of an action whose body has the key `text` alone, or no key.
 fn text_command(alloc: Global, action: Action, body: &[u8]) -> Result<Command, BodyFault>
-    ensures { Means same result (text_command action body.now) }
+    ensures { ReadsAs same result (text_command action body.now) }
 {
     match action {
         Action::Return => Ok(Command::Return {
@@ -111,7 +111,7 @@ fn text_command(alloc: Global, action: Action, body: &[u8]) -> Result<Command, B
 
 /// The command that an action and a body make. An action that is no command on a file has none.
 pub fn command(alloc: Global, action: Action, body: &[u8]) -> Result<Command, BodyFault>
-    ensures { Means same result (command_of action body.now) }
+    ensures { ReadsAs same result (command_of action body.now) }
 {
     match action {
         Action::AssignReviewer => Ok(Command::AssignReviewer {

@@ -6,9 +6,10 @@ ghost use Rattle.serde_json.specs.Read.{read};
 ghost use Rattle.permit_base.specs.Limits.{is_between, is_object_number, is_days, is_paper_number, is_cents};
 ghost use Rattle.permit_base.specs.Texts.{is_printable, is_lot, is_token};
 ghost use Rattle.permit_routes.specs.Bodies.{text_in, said, has_members, object_of, number_at, string_at, text_at, word_at};
-ghost use Rattle.permit_routes.specs.Outcome.{Means, same};
+ghost use Rattle.permit_routes.specs.Outcome.{ReadsAs, same};
 
 use crate::fault::BodyFault;
+use permit_base::limits::{MOST_CENTS, MOST_PAPERS, MOST_RECORDS};
 use permit_base::values::{Cents, Days, Lot, PaperNumber, ParcelId, PartyId, Text, Token};
 use permit_base::words::Word;
 use serde_json::Value;
@@ -29,7 +30,7 @@ fn body_text(body: &[u8]) -> Option<&str>
 
 /// What a text says as JSON.
 fn value_of(alloc: Global, text: &str) -> Result<Value, BodyFault>
-    ensures { Means view result (read text.now) }
+    ensures { ReadsAs view result (read text.now) }
 {
     match Value::from_str(alloc, text) {
         Ok(value) => Ok(value),
@@ -45,7 +46,7 @@ fn value_of(alloc: Global, text: &str) -> Result<Value, BodyFault>
 
 /// What a body says as JSON.
 fn document(alloc: Global, body: &[u8]) -> Result<Value, BodyFault>
-    ensures { Means view result (said body.now) }
+    ensures { ReadsAs view result (said body.now) }
 {
     match body_text(body) {
         Some(text) => value_of(alloc, text),
@@ -65,7 +66,7 @@ fn has_members(value: &Value, members: usize) -> bool
 
 /// What a body says, where it is an object of so many members.
 pub fn object(alloc: Global, body: &[u8], members: usize) -> Result<Value, BodyFault>
-    ensures { Means view result (object_of members body.now) }
+    ensures { ReadsAs view result (object_of members body.now) }
 {
     let value = document(alloc, body)?;
     if has_members(&value, members) {
@@ -90,31 +91,31 @@ fn number_at(value: &Value, key: &str, low: u64, high: u64) -> Option<u64>
 
 /// The party whose number stands at a key.
 pub fn party_at(value: &Value, key: &str) -> Result<PartyId, BodyFault>
-    ensures { Means same result (number_at is_object_number key.now (view value.now)) }
+    ensures { ReadsAs same result (number_at is_object_number key.now (view value.now)) }
 {
-    let number = number_at(value, key, 1, 99999).ok_or(BodyFault::Refused)?;
+    let number = number_at(value, key, 1, u64::from(MOST_RECORDS)).ok_or(BodyFault::Refused)?;
     PartyId::new(number as u32).ok_or(BodyFault::Refused)
 }
 
 /// The parcel whose number stands at a key.
 pub fn parcel_at(value: &Value, key: &str) -> Result<ParcelId, BodyFault>
-    ensures { Means same result (number_at is_object_number key.now (view value.now)) }
+    ensures { ReadsAs same result (number_at is_object_number key.now (view value.now)) }
 {
-    let number = number_at(value, key, 1, 99999).ok_or(BodyFault::Refused)?;
+    let number = number_at(value, key, 1, u64::from(MOST_RECORDS)).ok_or(BodyFault::Refused)?;
     ParcelId::new(number as u32).ok_or(BodyFault::Refused)
 }
 
 /// The amount of cents at a key.
 pub fn cents_at(value: &Value, key: &str) -> Result<Cents, BodyFault>
-    ensures { Means same result (number_at is_cents key.now (view value.now)) }
+    ensures { ReadsAs same result (number_at is_cents key.now (view value.now)) }
 {
-    let number = number_at(value, key, 0, 9999999999999).ok_or(BodyFault::Refused)?;
+    let number = number_at(value, key, 0, MOST_CENTS).ok_or(BodyFault::Refused)?;
     Cents::new(number).ok_or(BodyFault::Refused)
 }
 
 /// The count of days at a key.
 pub fn days_at(value: &Value, key: &str) -> Result<Days, BodyFault>
-    ensures { Means same result (number_at is_days key.now (view value.now)) }
+    ensures { ReadsAs same result (number_at is_days key.now (view value.now)) }
 {
     let number = number_at(value, key, 1, 365).ok_or(BodyFault::Refused)?;
     Days::new(number as u32).ok_or(BodyFault::Refused)
@@ -122,9 +123,9 @@ pub fn days_at(value: &Value, key: &str) -> Result<Days, BodyFault>
 
 /// The number of a paper, at a key.
 pub fn paper_at(value: &Value, key: &str) -> Result<PaperNumber, BodyFault>
-    ensures { Means same result (number_at is_paper_number key.now (view value.now)) }
+    ensures { ReadsAs same result (number_at is_paper_number key.now (view value.now)) }
 {
-    let number = number_at(value, key, 1, 9999).ok_or(BodyFault::Refused)?;
+    let number = number_at(value, key, 1, u64::from(MOST_PAPERS)).ok_or(BodyFault::Refused)?;
     PaperNumber::new(number as u32).ok_or(BodyFault::Refused)
 }
 
@@ -140,7 +141,7 @@ fn string_at<'v>(value: &'v Value, key: &str) -> Option<&'v str>
 
 /// The word at a key.
 pub fn word_at<W: Word>(value: &Value, key: &str) -> Result<W, BodyFault>
-    ensures { Means same result (word_at W.spelling W.every key.now (view value.now)) }
+    ensures { ReadsAs same result (word_at W.spelling W.every key.now (view value.now)) }
 {
     let word = string_at(value, key).ok_or(BodyFault::Refused)?;
     W::read(word).ok_or(BodyFault::Refused)
@@ -148,7 +149,7 @@ pub fn word_at<W: Word>(value: &Value, key: &str) -> Result<W, BodyFault>
 
 /// The text at a key.
 pub fn text_at(alloc: Global, value: &Value, key: &str) -> Result<Text, BodyFault>
-    ensures { Means same result (text_at is_printable key.now (view value.now)) }
+    ensures { ReadsAs same result (text_at is_printable key.now (view value.now)) }
 {
     let text = string_at(value, key).ok_or(BodyFault::Refused)?;
     Text::new(String::from_str(alloc, text)?).ok_or(BodyFault::Refused)
@@ -156,7 +157,7 @@ pub fn text_at(alloc: Global, value: &Value, key: &str) -> Result<Text, BodyFaul
 
 /// The number of a lot, at a key.
 pub fn lot_at(alloc: Global, value: &Value, key: &str) -> Result<Lot, BodyFault>
-    ensures { Means same result (text_at is_lot key.now (view value.now)) }
+    ensures { ReadsAs same result (text_at is_lot key.now (view value.now)) }
 {
     let text = string_at(value, key).ok_or(BodyFault::Refused)?;
     Lot::new(String::from_str(alloc, text)?).ok_or(BodyFault::Refused)
@@ -164,7 +165,7 @@ pub fn lot_at(alloc: Global, value: &Value, key: &str) -> Result<Lot, BodyFault>
 
 /// The token at a key.
 pub fn token_at(alloc: Global, value: &Value, key: &str) -> Result<Token, BodyFault>
-    ensures { Means same result (text_at is_token key.now (view value.now)) }
+    ensures { ReadsAs same result (text_at is_token key.now (view value.now)) }
 {
     let text = string_at(value, key).ok_or(BodyFault::Refused)?;
     Token::new(String::from_str(alloc, text)?).ok_or(BodyFault::Refused)

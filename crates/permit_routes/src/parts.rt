@@ -1,14 +1,16 @@
 //! The parts that the parameters of a path took: the number of a parcel or a file, and the word of an action, a stage or
 //! a register.
 
-ghost use Rattle.std.specs.Prelude.{◌≡◌, ◌<◌, IfSome, option_map, IsAscii};
+ghost use Rattle.std.specs.Prelude.{◌≡◌, ◌<◌, ◌≤◌, IfSome, option_map, IsAscii};
 ghost use Rattle.std.specs.List.{list_all};
 ghost use Rattle.std.specs.Char.{is_ascii_digit};
 ghost use Rattle.matchit.specs.Params.{walk, named};
+ghost use Rattle.permit_base.specs.Limits.{most_records};
 ghost use Rattle.permit_routes.specs.Ids.{is_plain_number, id_in, starts_with_zero};
 ghost use Rattle.permit_routes.specs.Targets.{id_of, action_of, stage_of, register_of, is_command};
 
 use matchit::Params;
+use permit_base::limits::MOST_RECORDS;
 use permit_base::request::FileStage;
 use permit_base::values::{FileId, ParcelId};
 use permit_base::words::{Action, RegisterKind, Stage, Word};
@@ -41,16 +43,16 @@ fn is_plain_number(word: &str) -> bool
     !word.is_empty() && are_digits(word.as_bytes()) && !starts_with_zero(word.as_bytes())
 }
 
-/// The number from 1 to 99999 that a word spells without leading zeros.
+/// The number of a record that a word spells without leading zeros.
 pub fn id(word: &str) -> Option<u32>
     ensures number { result ≡ id_in word.now }
-    ensures within { IfSome result (λ n. (0 < n) × (n < 100000)) }
+    ensures within { IfSome result (λ n. (0 < n) × (n ≤ most_records)) }
 {
     if !is_plain_number(word) {
         return None;
     }
     match word.parse::<u32>() {
-        Ok(number) if 1 <= number && number <= 99999 => Some(number),
+        Ok(number) if 1 <= number && number <= MOST_RECORDS => Some(number),
         _ => None,
     }
 }

@@ -2,7 +2,7 @@
 
 ghost use Rattle.std.specs.Prelude.{codes};
 ghost use Rattle.serde_json.specs.View.{view};
-ghost use Rattle.permit_routes.specs.Outcome.{Means, same};
+ghost use Rattle.permit_routes.specs.Outcome.{ReadsAs, same};
 ghost use Rattle.permit_routes.specs.Requests.{party_of, parcel_of, filing_of, transfer_of, without_keys, without_body, request_of};
 
 use crate::commands::command;
@@ -17,7 +17,7 @@ use std::alloc::Global;
 
 /// A new party.
 fn party(alloc: Global, value: &Value) -> Result<Request, BodyFault>
-    ensures { Means same result (party_of (view value.now)) }
+    ensures { ReadsAs same result (party_of (view value.now)) }
 {
     let name = text_at(alloc, value, "name")?;
     let role = word_at::<Role>(value, "role")?;
@@ -27,7 +27,7 @@ fn party(alloc: Global, value: &Value) -> Result<Request, BodyFault>
 
 /// A new parcel.
 fn parcel(alloc: Global, value: &Value) -> Result<Request, BodyFault>
-    ensures { Means same result (parcel_of (view value.now)) }
+    ensures { ReadsAs same result (parcel_of (view value.now)) }
 {
     let lot = lot_at(alloc, value, "lot")?;
     let address = text_at(alloc, value, "address")?;
@@ -41,7 +41,7 @@ fn parcel(alloc: Global, value: &Value) -> Result<Request, BodyFault>
 
 /// A filing.
 fn filing(alloc: Global, value: &Value) -> Result<Request, BodyFault>
-    ensures { Means same result (filing_of (view value.now)) }
+    ensures { ReadsAs same result (filing_of (view value.now)) }
 {
     let parcel = parcel_at(value, "parcel")?;
     let kind = word_at::<Kind>(value, "kind")?;
@@ -57,7 +57,7 @@ fn filing(alloc: Global, value: &Value) -> Result<Request, BodyFault>
 
 /// A transfer of a parcel.
 fn transfer(parcel: ParcelId, value: &Value) -> Result<Request, BodyFault>
-    ensures { Means same result (transfer_of parcel (view value.now)) }
+    ensures { ReadsAs same result (transfer_of parcel (view value.now)) }
 {
     let to = party_at(value, "to")?;
     Ok(Request::Transfer { parcel, to })
@@ -65,7 +65,7 @@ fn transfer(parcel: ParcelId, value: &Value) -> Result<Request, BodyFault>
 
 /// The request that a body without keys makes.
 fn without_keys(alloc: Global, request: Request, body: &[u8]) -> Result<Request, BodyFault>
-    ensures { Means same result (without_keys request body.now) }
+    ensures { ReadsAs same result (without_keys request body.now) }
 {
     object(alloc, body, 0)?;
     Ok(request)
@@ -73,7 +73,7 @@ fn without_keys(alloc: Global, request: Request, body: &[u8]) -> Result<Request,
 
 /// The request that reads, which has no body.
 fn without_body(request: Request, body: &[u8]) -> Result<Request, BodyFault>
-    ensures { Means same result (without_body request body.now) }
+    ensures { ReadsAs same result (without_body request body.now) }
 {
     if body.is_empty() {
         Ok(request)
@@ -87,7 +87,7 @@ fn without_body(request: Request, body: &[u8]) -> Result<Request, BodyFault>
 /// The body is an object with exactly the keys of its request; an empty body counts as `{}`. A target that
 /// only reads has no body. Where a key stands twice, its last value counts.
 pub fn read_body(alloc: Global, target: Target, body: &[u8]) -> Result<Request, BodyFault>
-    ensures { Means same result (request_of target body.now) }
+    ensures { ReadsAs same result (request_of target body.now) }
 {
     match target {
         Target::Parties => party(alloc, &object(alloc, body, 3)?),
