@@ -1,3 +1,4 @@
+mod Added
 pub mod Matched
 pub mod Simple
 pub mod SixParts

@@ -158,14 +158,22 @@ pub record IsCountOf (greatest : ℕ) (text : Text) (n : ℕ) : Type 0 where
   pub least : 1 ≤ n
   pub most : n ≤ greatest
 
--- 1 to 8 workers, and without the option 4
-abbrev pub IsWorkersOf : List Row → ℕ → Type 0
-IsWorkersOf rows workers = MatchOption (first_of (codes "workers") rows) (workers ≡ 4) (λ text. IsCountOf 8 text workers)
+-- the most workers that serve at once
+abbrev pub most_workers : ℕ
+most_workers = 8
 
--- a worker ends after 1 to 99999 connections, and without the option never
+-- the most connections after which a worker ends
+abbrev pub most_connections : ℕ
+most_connections = 99999
+
+-- workers as many as are given, and without the option 4
+abbrev pub IsWorkersOf : List Row → ℕ → Type 0
+IsWorkersOf rows workers = MatchOption (first_of (codes "workers") rows) (workers ≡ 4) (λ text. IsCountOf most_workers text workers)
+
+-- a worker ends after the connections that are given, and without the option never
 abbrev pub IsConnectionsOf : List Row → Option ℕ → Type 0
 IsConnectionsOf rows None = first_of (codes "connections") rows ≡ None
-IsConnectionsOf rows (Some n) = IsSomeAnd (first_of (codes "connections") rows) (λ text. IsCountOf 99999 text n)
+IsConnectionsOf rows (Some n) = IsSomeAnd (first_of (codes "connections") rows) (λ text. IsCountOf most_connections text n)
 
 -- the serving that was found
 pub record IsServeOf (rows : List Row) (words : ServeWords) : Type 0 where

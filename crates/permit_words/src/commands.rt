@@ -1,7 +1,7 @@
 //! The subcommands, as the command line library is told of them.
 
-ghost use Rattle.std.specs.Prelude.{◌≡◌, IfOk};
-ghost use Rattle.clap.specs.Words.{app_of, new_app, with_rule};
+ghost use Rattle.std.specs.Prelude.{◌≡◌, IfOk, codes, false};
+ghost use Rattle.clap.specs.Words.{app_of, new_app, rule_of};
 ghost use Rattle.permit_words.specs.Plans.{act_app, check_policy_app, flag, import_app, init_app, list_app, optional_option, optional_word, register_app, required_option, required_word, serve_app, with_days, with_office};
 
 use clap::{Arg, ArgAction, Command};
@@ -21,121 +21,97 @@ fn subcommand<'a>(
     Ok(command.about(about).after_help(example))
 }
 
-/// The subcommand with one option more, `--NAME VALUE`, which has to be there.
-fn with_required<'a>(
-    alloc: Global,
-    command: Command<'a>,
-    name: &'a str,
-    value: &'a str,
-    help: &'a str,
-) -> Result<Command<'a>, AllocError>
-    ensures { IfOk result (λ c. app_of c ≡ with_rule (app_of command.entry) (required_option name.now)) }
+/// A word by its place, which may be left out.
+fn word<'a>(alloc: Global, name: &'a str, value: &'a str, help: &'a str) -> Arg<'a>
+    ensures rule { rule_of result ≡ optional_word name.now }
+    ensures own { result.global ≡ false }
 {
-    let option = Arg::new(alloc, name)
-        .long(name)
+    Arg::new(alloc, name)
         .value_name(value)
         .help(help)
-        .required(true)
-        .action(ArgAction::Set);
-    command.arg(option)
+        .action(ArgAction::Set)
 }
 
-/// The subcommand with one option more, which may be left out.
-fn with_option<'a>(
-    alloc: Global,
-    command: Command<'a>,
-    name: &'a str,
-    value: &'a str,
-    help: &'a str,
-) -> Result<Command<'a>, AllocError>
-    ensures { IfOk result (λ c. app_of c ≡ with_rule (app_of command.entry) (optional_option name.now)) }
+/// A word by its place, which has to be there.
+fn required_word<'a>(alloc: Global, name: &'a str, value: &'a str, help: &'a str) -> Arg<'a>
+    ensures rule { rule_of result ≡ required_word name.now }
+    ensures own { result.global ≡ false }
 {
-    let option = Arg::new(alloc, name)
-        .long(name)
-        .value_name(value)
-        .help(help)
-        .action(ArgAction::Set);
-    command.arg(option)
+    word(alloc, name, value, help).required(true)
 }
 
-/// The subcommand with one option more that takes no value.
-fn with_flag<'a>(
-    alloc: Global,
-    command: Command<'a>,
-    name: &'a str,
-    help: &'a str,
-) -> Result<Command<'a>, AllocError>
-    ensures { IfOk result (λ c. app_of c ≡ with_rule (app_of command.entry) (flag name.now)) }
+/// An option, `--NAME VALUE`, which may be left out.
+fn option<'a>(alloc: Global, name: &'a str, value: &'a str, help: &'a str) -> Arg<'a>
+    ensures rule { rule_of result ≡ optional_option name.now }
+    ensures own { result.global ≡ false }
 {
-    let option = Arg::new(alloc, name)
+    word(alloc, name, value, help).long(name)
+}
+
+/// An option, `--NAME VALUE`, which has to be there.
+fn required_option<'a>(alloc: Global, name: &'a str, value: &'a str, help: &'a str) -> Arg<'a>
+    ensures rule { rule_of result ≡ required_option name.now }
+    ensures own { result.global ≡ false }
+{
+    option(alloc, name, value, help).required(true)
+}
+
+/// An option that takes no value.
+fn flag<'a>(alloc: Global, name: &'a str, help: &'a str) -> Arg<'a>
+    ensures rule { rule_of result ≡ flag name.now }
+    ensures own { result.global ≡ false }
+{
+    Arg::new(alloc, name)
         .long(name)
         .help(help)
-        .action(ArgAction::SetTrue);
-    command.arg(option)
+        .action(ArgAction::SetTrue)
 }
 
-/// The subcommand with one word more, which has to be there.
-fn with_word<'a>(
-    alloc: Global,
-    command: Command<'a>,
-    name: &'a str,
-    value: &'a str,
-    help: &'a str,
-) -> Result<Command<'a>, AllocError>
-    ensures { IfOk result (λ c. app_of c ≡ with_rule (app_of command.entry) (required_word name.now)) }
+/// The option for the database's path.
+fn database<'a>(alloc: Global) -> Arg<'a>
+    ensures rule { rule_of result ≡ required_option (codes "db") }
+    ensures own { result.global ≡ false }
 {
-    let word = Arg::new(alloc, name)
-        .value_name(value)
-        .help(help)
-        .required(true)
-        .action(ArgAction::Set);
-    command.arg(word)
+    required_option(alloc, "db", "DB", "The database's path")
 }
 
-/// The subcommand with one word more, which may be left out.
-fn with_optional_word<'a>(
-    alloc: Global,
-    command: Command<'a>,
-    name: &'a str,
-    value: &'a str,
-    help: &'a str,
-) -> Result<Command<'a>, AllocError>
-    ensures { IfOk result (λ c. app_of c ≡ with_rule (app_of command.entry) (optional_word name.now)) }
+/// The option for the policy's path.
+fn policy<'a>(alloc: Global) -> Arg<'a>
+    ensures rule { rule_of result ≡ required_option (codes "policy") }
+    ensures own { result.global ≡ false }
 {
-    let word = Arg::new(alloc, name)
-        .value_name(value)
-        .help(help)
-        .action(ArgAction::Set);
-    command.arg(word)
+    required_option(alloc, "policy", "POLICY", "The policy's path")
 }
 
 /// The subcommand with the words for the day.
 fn with_days<'a>(alloc: Global, command: Command<'a>) -> Result<Command<'a>, AllocError>
     ensures { IfOk result (λ c. app_of c ≡ with_days (app_of command.entry)) }
 {
-    let command = with_option(
-        alloc,
-        command,
-        "day",
-        "DAY",
-        "The day, as YYYY-MM-DD, in place of the clock's",
-    )?;
-    with_option(
-        alloc,
-        command,
-        "zone",
-        "ZONE",
-        "The clock's zone, as a POSIX rule; UTC0 without it",
-    )
+    command
+        .arg(option(
+            alloc,
+            "day",
+            "DAY",
+            "The day, as YYYY-MM-DD, in place of the clock's",
+        ))?
+        .arg(option(
+            alloc,
+            "zone",
+            "ZONE",
+            "The clock's zone, as a POSIX rule; UTC0 without it",
+        ))
 }
 
 /// The subcommand with the options for the office that is asked.
 fn with_office<'a>(alloc: Global, command: Command<'a>) -> Result<Command<'a>, AllocError>
     ensures { IfOk result (λ c. app_of c ≡ with_office (app_of command.entry)) }
 {
-    let command = with_required(alloc, command, "db", "DB", "The database's path")?;
-    let command = with_required(alloc, command, "policy", "POLICY", "The policy's path")?;
-    let command = with_required(alloc, command, "token", "TOKEN", "The caller's token")?;
+    let command = command.arg(database(alloc))?.arg(policy(alloc))?.arg(required_option(
+        alloc,
+        "token",
+        "TOKEN",
+        "The caller's token",
+    ))?;
     with_days(alloc, command)
 }
 
@@ -143,27 +119,25 @@ fn with_office<'a>(alloc: Global, command: Command<'a>) -> Result<Command<'a>, A
 pub(crate) fn check_policy<'a>(alloc: Global) -> Result<Command<'a>, AllocError>
     ensures { IfOk result (λ command. app_of command ≡ check_policy_app) }
 {
-    let command = subcommand(
+    subcommand(
         alloc,
         "check-policy",
         "permit check-policy",
         "Reads a policy and says how many rules it has, which of them are dead, or how it decides",
         "Example: permit check-policy --policy policy.toml --facts clerk,-,list,filed,no,near",
-    )?;
-    let command = with_required(alloc, command, "policy", "POLICY", "The policy's path")?;
-    let command = with_flag(
+    )?
+    .arg(policy(alloc))?
+    .arg(flag(
         alloc,
-        command,
         "dead",
         "Names the rules that decide for no facts, in their order",
-    )?;
-    with_option(
+    ))?
+    .arg(option(
         alloc,
-        command,
         "facts",
         "FACTS",
         "Tells how the policy decides: ROLE,RELATIONS,ACTION,STAGE,STOPPED,TIMING, where RELATIONS are joined by + or - for none, and STOPPED is yes or no",
-    )
+    ))
 }
 
 /// The subcommand that founds an office.
@@ -176,16 +150,10 @@ pub(crate) fn init<'a>(alloc: Global) -> Result<Command<'a>, AllocError>
         "permit init",
         "Founds an office in a database",
         "Example: permit init --db office.db --name Chief --token abcdefghijklmnop",
-    )?;
-    let command = with_required(alloc, command, "db", "DB", "The database's path")?;
-    let command = with_required(alloc, command, "name", "NAME", "The first official's name")?;
-    let command = with_required(
-        alloc,
-        command,
-        "token",
-        "TOKEN",
-        "The first official's token",
-    )?;
+    )?
+    .arg(database(alloc))?
+    .arg(required_option(alloc, "name", "NAME", "The first official's name"))?
+    .arg(required_option(alloc, "token", "TOKEN", "The first official's token"))?;
     with_days(alloc, command)
 }
 
@@ -200,16 +168,10 @@ pub(crate) fn act<'a>(alloc: Global) -> Result<Command<'a>, AllocError>
         "Has the office serve one request, and prints the answer's body",
         "Example: permit act GET /files/1 --db office.db --policy policy.toml --token abcdefghijklmnop",
     )?;
-    let command = with_office(alloc, command)?;
-    let command = with_word(alloc, command, "method", "METHOD", "The request's method")?;
-    let command = with_word(alloc, command, "path", "PATH", "The request's path")?;
-    with_optional_word(
-        alloc,
-        command,
-        "body",
-        "BODY",
-        "The request's body, in JSON",
-    )
+    with_office(alloc, command)?
+        .arg(required_word(alloc, "method", "METHOD", "The request's method"))?
+        .arg(required_word(alloc, "path", "PATH", "The request's path"))?
+        .arg(word(alloc, "body", "BODY", "The request's body, in JSON"))
 }
 
 /// The subcommand that lists files.
@@ -223,14 +185,12 @@ pub(crate) fn list<'a>(alloc: Global) -> Result<Command<'a>, AllocError>
         "Prints the numbers of the files that the caller may list, one a line, and how many rows were read for them",
         "Example: permit list --stage review --db office.db --policy policy.toml --token abcdefghijklmnop",
     )?;
-    let command = with_office(alloc, command)?;
-    with_option(
+    with_office(alloc, command)?.arg(option(
         alloc,
-        command,
         "stage",
         "STAGE",
         "Only the files in this stage: filed, review, returned, approved, rejected, issued, working, revoked, finaled, certified, abandoned or lapsed",
-    )
+    ))
 }
 
 /// The subcommand that writes a register.
@@ -244,14 +204,12 @@ pub(crate) fn register<'a>(alloc: Global) -> Result<Command<'a>, AllocError>
         "Prints a register of the files that the caller may list",
         "Example: permit register deadlines --db office.db --policy policy.toml --token abcdefghijklmnop",
     )?;
-    let command = with_office(alloc, command)?;
-    with_word(
+    with_office(alloc, command)?.arg(required_word(
         alloc,
-        command,
         "name",
         "NAME",
         "The register: files, deadlines or inspections",
-    )
+    ))
 }
 
 /// The subcommand that imports parcels.
@@ -265,14 +223,12 @@ pub(crate) fn import<'a>(alloc: Global) -> Result<Command<'a>, AllocError>
         "Adds the parcels of a file of comma-separated records, and says of each record what became of it",
         "Example: permit import parcels.csv --db office.db --policy policy.toml --token abcdefghijklmnop",
     )?;
-    let command = with_office(alloc, command)?;
-    with_word(
+    with_office(alloc, command)?.arg(required_word(
         alloc,
-        command,
         "file",
         "FILE",
         "The records' path; the first record is lot,address,owner",
-    )
+    ))
 }
 
 /// The subcommand that serves the office.
@@ -285,31 +241,28 @@ pub(crate) fn serve<'a>(alloc: Global) -> Result<Command<'a>, AllocError>
         "permit serve",
         "Serves the office's HTTP requests on an address, until it is stopped",
         "Example: permit serve --listen 127.0.0.1:8080 --db office.db --policy policy.toml",
-    )?;
-    let command = with_required(alloc, command, "db", "DB", "The database's path")?;
-    let command = with_required(alloc, command, "policy", "POLICY", "The policy's path")?;
-    let command = with_days(alloc, command)?;
-    let command = with_required(
-        alloc,
-        command,
-        "listen",
-        "LISTEN",
-        "The address to listen on, as 127.0.0.1:8080; port 0 takes a free one",
-    )?;
-    let command = with_option(
-        alloc,
-        command,
-        "workers",
-        "WORKERS",
-        "How many connections are served at once, 1 to 8; 4 without it",
-    )?;
-    with_option(
-        alloc,
-        command,
-        "connections",
-        "CONNECTIONS",
-        "After how many connections a worker ends, 1 to 99999; never without it",
-    )
+    )?
+    .arg(database(alloc))?
+    .arg(policy(alloc))?;
+    with_days(alloc, command)?
+        .arg(required_option(
+            alloc,
+            "listen",
+            "LISTEN",
+            "The address to listen on, as 127.0.0.1:8080; port 0 takes a free one",
+        ))?
+        .arg(option(
+            alloc,
+            "workers",
+            "WORKERS",
+            "How many connections are served at once, 1 to 8; 4 without it",
+        ))?
+        .arg(option(
+            alloc,
+            "connections",
+            "CONNECTIONS",
+            "After how many connections a worker ends, 1 to 99999; never without it",
+        ))
 }
 
 /// The program with all its subcommands, for help and for words that begin with none of them.

@@ -18,6 +18,12 @@ use permit_base::words::{RegisterKind, Stage, Word};
 use std::alloc::Global;
 use std::{env, io};
 
+/// The most workers that serve at once.
+const MOST_WORKERS: u32 = 8;
+
+/// The most connections after which a worker ends.
+const MOST_CONNECTIONS: u32 = 99999;
+
 /// Bad words, with the line that says why.
 fn bad(alloc: Global, line: &str) -> PlanFault {
     match String::from_str(alloc, line) {
@@ -161,7 +167,7 @@ fn workers(alloc: Global, matches: &ArgMatches<'_>) -> Result<u32, PlanFault>
     ensures { IfOk result (IsWorkersOf (rows_of (found_of matches.now))) }
 {
     match value(matches, "workers") {
-        Some(text) => count(alloc, text, 8, "--workers <WORKERS>"),
+        Some(text) => count(alloc, text, MOST_WORKERS, "--workers <WORKERS>"),
         None => Ok(4),
     }
 }
@@ -171,7 +177,12 @@ fn connections(alloc: Global, matches: &ArgMatches<'_>) -> Result<Option<u32>, P
     ensures { IfOk result (IsConnectionsOf (rows_of (found_of matches.now))) }
 {
     match value(matches, "connections") {
-        Some(text) => Ok(Some(count(alloc, text, 99999, "--connections <CONNECTIONS>")?)),
+        Some(text) => Ok(Some(count(
+            alloc,
+            text,
+            MOST_CONNECTIONS,
+            "--connections <CONNECTIONS>",
+        )?)),
         None => Ok(None),
     }
 }

@@ -1,12 +1,11 @@
-use Rattle.std.proofs.Common.{ap, codes, ◌∙◌}
 use Rattle.std.proofs.lemmas.Result.{IfOk-weaker}
-use Rattle.clap.specs.Words.{with_rule}
-use Rattle.permit_words.specs.Plans.{check_policy_app, flag, optional_option, required_option}
+use Rattle.permit_words.specs.Plans.{check_policy_app}
+use Rattle.permit_words.proofs.Added.{added}
 use Rattle.permit_words.proofs.commands.check_policy.Goals as goal
 
 pub returns : goal.returns
 unfolding check_policy_app
 returns c =
-    let policy = c.in_ok-command-2.ensures ∙ ap (λ a. with_rule a (required_option (codes "policy"))) c.in_ok-command.ensures in
-    let dead = c.in_ok-command-3.ensures ∙ ap (λ a. with_rule a (flag (codes "dead"))) policy in
-    IfOk-weaker c.with_option.result _ _ (λ r h. h ∙ ap (λ a. with_rule a (optional_option (codes "facts"))) dead) c.with_option.ensures
+    let policy = added c.in_ok-arg.ensures c.policy.ensures.own c.policy.ensures.rule c.in_ok-subcommand.ensures in
+    let dead = added c.in_ok-arg-2.ensures c.flag.ensures.own c.flag.ensures.rule policy in
+    IfOk-weaker c.arg-3.result _ _ (λ r h. added h c.option.ensures.own c.option.ensures.rule dead) c.arg-3.ensures
