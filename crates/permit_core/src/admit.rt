@@ -15,8 +15,9 @@ ghost use Rattle.permit_core.specs.RowTests;
 ghost use Rattle.permit_core.specs.RowTests.{row_tests, Answers};
 ghost use Rattle.permit_core.specs.declared.people.People.{People};
 
-use crate::people::{NamedParty, People, is_party};
+use crate::people::{NamedParty, People};
 use crate::state::FileState;
+use permit_base::limits::MOST_PAPERS;
 use permit_base::refusal::Reason;
 use permit_base::request::Command;
 use permit_base::values::{Day, Days, PartyId};
@@ -49,9 +50,6 @@ const STOPPABLE: [Stage; 5] = [
 
 /// The stages in which a permit is revoked.
 const REVOCABLE: [Stage; 3] = [Stage::Issued, Stage::Working, Stage::Lapsed];
-
-/// The most papers of a file.
-const MOST_PAPERS: u16 = 9999;
 
 /// The greatest number that a deadline may be.
 const LAST_DEADLINE: u32 = 200000;
@@ -168,9 +166,9 @@ impl FileState {
     fn interested(&self, party: PartyId, people: &People) -> Test
         ensures { result ≡ RowTests.interested self.now party people.now }
     {
-        let is_interested = self.applicant().get() == party.get()
-            || is_party(self.contractor(), party)
-            || is_party(people.owner, party)
+        let is_interested = self.applicant() == party
+            || self.contractor() == Some(party)
+            || people.owner == Some(party)
             || is_with_interest(people.named);
         (is_interested, Reason::Interested)
     }

@@ -17,13 +17,10 @@ ghost use Rattle.permit_core.specs.RowAfter.{row_after, file_after, FitsGrant, F
 
 use crate::paper::paper_sort;
 use crate::restore::StateFields;
-use crate::state::FileState;
+use crate::state::{FileState, TERM};
 use permit_base::request::Command;
 use permit_base::values::{Day, Days, PartyId};
 use permit_base::words::{Stage, Step};
-
-/// The days that a filing, an issue and each activity give (IBC 2018, sections 105.3.2 and 105.5).
-const TERM: u32 = 180;
 
 /// The contractor after a command.
 fn contractor_after(contractor: Option<PartyId>, command: &Command) -> Option<PartyId>
@@ -428,8 +425,8 @@ impl FileState {
         requires admitted { IsAdmitted day self.now command.now }
         ensures { self.now.notices ≤ self.now.papers → result ≡ row_after day command.now self.now }
     {
-        let before = self.fields();
-        FileState::with_fields(StateFields {
+        let before = self.0;
+        FileState(StateFields {
             contractor: contractor_after(before.contractor, command),
             reviewer: reviewer_after(before.reviewer, command),
             inspector: inspector_after(before.inspector, command),

@@ -1,7 +1,6 @@
 //! The people about a command, which a file's row does not say.
 
 ghost use Rattle.std.specs.Prelude.{◌≡◌};
-ghost use Rattle.permit_model.specs.Search.{is_the_party};
 ghost use Rattle.permit_core.specs.Naming;
 
 use permit_base::request::Command;
@@ -86,15 +85,5 @@ pub fn named_paper(command: &Command) -> Option<PaperNumber>
         | Command::Revoke { .. }
         | Command::Temporary { .. }
         | Command::Certify => None,
-    }
-}
-
-/// Whether there is a party and it is this one.
-pub(crate) fn is_party(named: Option<PartyId>, party: PartyId) -> bool
-    ensures { result ≡ is_the_party named party }
-{
-    match named {
-        Some(other) => other.get() == party.get(),
-        None => false,
     }
 }

@@ -169,7 +169,7 @@ impl FileState {
         ensures same { IfSome result (λ state. state ≡ fields) }
     {
         if fields.is_sound() {
-            Some(FileState::with_fields(fields))
+            Some(FileState(fields))
         } else {
             None
         }

@@ -16,12 +16,17 @@ ghost use Rattle.permit_model.specs.SoundState;
 ghost use Rattle.permit_model.specs.SoundState.{IsSoundState};
 ghost use Rattle.permit_core.specs.Views.{filed_by, row_stage, row_timing, row_relations};
 
-use crate::people::is_party;
 use crate::restore::StateFields;
 use crate::steps::step_at;
 use permit_base::values::{Day, Days, ParcelId, PartyId};
 use permit_base::words::{Kind, Relations, Stage, Step, Timing};
 use std::marker::Model;
+
+/// The days that a filing, an issue and each activity give (IBC 2018, sections 105.3.2 and 105.5).
+pub(crate) const TERM: u32 = 180;
+
+/// The most days left before a deadline that is near.
+const NEAR: u32 = 30;
 
 /// The row of a file without its number, valuation and description.
 ///
@@ -30,39 +35,19 @@ use std::marker::Model;
 /// its day and is for the next step; a finaled or certified file has all steps approved and no open notice; a
 /// certified file has no standing stop order.
 #[derive(Clone, Copy)]
-pub struct FileState {
-    parcel: ParcelId,
-    applicant: PartyId,
-    contractor: Option<PartyId>,
-    reviewer: Option<PartyId>,
-    inspector: Option<PartyId>,
-    kind: Kind,
-    filed: Day,
-    stage: Stage,
-    deadline: Option<u32>,
-    done: u8,
-    request: Option<Step>,
-    requested: Option<Day>,
-    ask: Option<Days>,
-    stopped: bool,
-    notices: u16,
-    papers: u16,
-    temporary: Option<u32>,
-}
+pub struct FileState(pub(crate) StateFields);
 
 impl Model for FileState {
     ghost use Rattle.permit_model.specs.Tables.{State};
+    ghost use Rattle.permit_model.specs.SoundState.{IsSoundState};
 
     ghost Value = { State };
 
-    ghost view = { λ s. record { parcel = s.parcel; applicant = s.applicant; contractor = s.contractor; reviewer = s.reviewer; inspector = s.inspector; kind = s.kind; filed = s.filed; stage = s.stage; deadline = s.deadline; done = s.done; request = s.request; requested = s.requested; ask = s.ask; stopped = s.stopped; notices = s.notices; papers = s.papers; temporary = s.temporary } };
+    ghost view = { λ s. s.0 };
 
-    ghost use Rattle.std.specs.Prelude.{IsTrue};
-    ghost use Rattle.permit_model.specs.SoundState.{is_sound_state};
+    ghost invariant = { λ s. IsSoundState s.0 };
 
-    ghost invariant = { λ s. IsTrue (is_sound_state (record { parcel = s.parcel; applicant = s.applicant; contractor = s.contractor; reviewer = s.reviewer; inspector = s.inspector; kind = s.kind; filed = s.filed; stage = s.stage; deadline = s.deadline; done = s.done; request = s.request; requested = s.requested; ask = s.ask; stopped = s.stopped; notices = s.notices; papers = s.papers; temporary = s.temporary })) };
-
-    ghost inverse = { λ s. record { parcel = s.parcel; applicant = s.applicant; contractor = s.contractor; reviewer = s.reviewer; inspector = s.inspector; kind = s.kind; filed = s.filed; stage = s.stage; deadline = s.deadline; done = s.done; request = s.request; requested = s.requested; ask = s.ask; stopped = s.stopped; notices = s.notices; papers = s.papers; temporary = s.temporary } };
+    ghost inverse = { λ fields. record { 0 = fields } };
 }
 
 /// The stage once the deadline is past.
@@ -91,7 +76,7 @@ impl FileState {
         ensures recorded { (h : History) (valuation : ℕ) (description : List ℕ) → IsHistory h
             → option_map state_of (case_numbered (entry_of h day applicant (File parcel kind valuation description) ∷ h) (length (filings h) + 1)) ≡ Some result }
     {
-        FileState {
+        FileState(StateFields {
             parcel,
             applicant,
             contractor: None,
@@ -100,7 +85,7 @@ impl FileState {
             kind,
             filed: day,
             stage: Stage::Filed,
-            deadline: Some(day.get() + 180),
+            deadline: Some(day.get() + TERM),
             done: 0,
             request: None,
             requested: None,
@@ -109,7 +94,7 @@ impl FileState {
             notices: 0,
             papers: 0,
             temporary: None,
-        }
+        })
     }
 
     /// The stage on a day: abandoned or lapsed from the day after the deadline on, else the stored one.
@@ -117,9 +102,9 @@ impl FileState {
         ensures row { result ≡ row_stage day self.now }
         ensures model { (file : CaseFile) → self.now ≡ state_of file → result ≡ stage_on day file }
     {
-        match self.deadline {
-            Some(deadline) if deadline < day.get() => past_stage(self.stage),
-            _ => self.stage,
+        match self.0.deadline {
+            Some(deadline) if deadline < day.get() => past_stage(self.0.stage),
+            _ => self.0.stage,
         }
     }
 
@@ -128,12 +113,12 @@ impl FileState {
         ensures row { result ≡ row_timing day self.now }
         ensures model { (file : CaseFile) → self.now ≡ state_of file → result ≡ timing_of day file }
     {
-        match self.deadline {
+        match self.0.deadline {
             None => Timing::Untimed,
             Some(deadline) => {
                 if deadline < day.get() {
                     Timing::Past
-                } else if deadline <= day.get() + 30 {
+                } else if deadline <= day.get() + NEAR {
                     Timing::Near
                 } else {
                     Timing::Ahead
@@ -147,7 +132,7 @@ impl FileState {
         ensures row { result ≡ self.now.deadline }
         ensures model { (file : CaseFile) → self.now ≡ state_of file → result ≡ deadline file }
     {
-        self.deadline
+        self.0.deadline
     }
 
     /// The first required step that isn't approved.
@@ -155,7 +140,7 @@ impl FileState {
         ensures row { result ≡ next_in_row self.now }
         ensures model { (h : History) (id : ℕ) (file : CaseFile) → IsHistory h → case_numbered h id ≡ Some file → self.now ≡ state_of file → result ≡ next_of file }
     {
-        step_at(self.kind, self.done)
+        step_at(self.0.kind, self.0.done)
     }
 
     /// Whether the certificate of occupancy was given (IBC 2018, section 111): then every required step is approved in
@@ -168,7 +153,7 @@ impl FileState {
         ensures model { (h : History) (id : ℕ) (file : CaseFile) → IsHistory h → case_numbered h id ≡ Some file → self.now ≡ state_of file
             → IsTrue result → (approved_steps file.acts ≡ required_steps file.filing.kind) × (open_notices file.acts ≡ []) × (is_stopped file.acts ≡ false) }
     {
-        self.stage == Stage::Certified
+        self.0.stage == Stage::Certified
     }
 
     /// What the caller is to the file, by the parcel's owner and whether the caller has an interest in it.
@@ -179,11 +164,11 @@ impl FileState {
             → result ≡ relations_to_file h caller file }
     {
         Relations {
-            applicant: self.applicant.get() == caller.get(),
-            contractor: is_party(self.contractor, caller),
-            owner: is_party(owner, caller),
-            assigned_reviewer: is_party(self.reviewer, caller),
-            assigned_inspector: is_party(self.inspector, caller),
+            applicant: self.0.applicant == caller,
+            contractor: self.0.contractor == Some(caller),
+            owner: owner == Some(caller),
+            assigned_reviewer: self.0.reviewer == Some(caller),
+            assigned_inspector: self.0.inspector == Some(caller),
             conflict,
         }
     }
@@ -192,112 +177,112 @@ impl FileState {
     pub fn parcel(&self) -> ParcelId
         ensures { result ≡ self.now.parcel }
     {
-        self.parcel
+        self.0.parcel
     }
 
     /// Who filed the application.
     pub fn applicant(&self) -> PartyId
         ensures { result ≡ self.now.applicant }
     {
-        self.applicant
+        self.0.applicant
     }
 
     /// The contractor last named.
     pub fn contractor(&self) -> Option<PartyId>
         ensures { result ≡ self.now.contractor }
     {
-        self.contractor
+        self.0.contractor
     }
 
     /// The reviewer last assigned.
     pub fn reviewer(&self) -> Option<PartyId>
         ensures { result ≡ self.now.reviewer }
     {
-        self.reviewer
+        self.0.reviewer
     }
 
     /// The inspector last assigned.
     pub fn inspector(&self) -> Option<PartyId>
         ensures { result ≡ self.now.inspector }
     {
-        self.inspector
+        self.0.inspector
     }
 
     /// The kind of work.
     pub fn kind(&self) -> Kind
         ensures { result ≡ self.now.kind }
     {
-        self.kind
+        self.0.kind
     }
 
     /// The day of the filing.
     pub fn filed(&self) -> Day
         ensures { result ≡ self.now.filed }
     {
-        self.filed
+        self.0.filed
     }
 
     /// The stored stage, which no day moves: never abandoned or lapsed. [`FileState::stage`] gives the stage on a day.
     pub fn stored_stage(&self) -> Stage
         ensures { result ≡ self.now.stage }
     {
-        self.stage
+        self.0.stage
     }
 
     /// How many steps are approved: the first so many of those that the kind requires.
     pub fn done(&self) -> u8
         ensures { result ≡ self.now.done }
     {
-        self.done
+        self.0.done
     }
 
     /// The step whose inspection is requested and neither approved nor answered by a notice.
     pub fn request(&self) -> Option<Step>
         ensures { result ≡ self.now.request }
     {
-        self.request
+        self.0.request
     }
 
     /// The day of the pending request.
     pub fn requested(&self) -> Option<Day>
         ensures { result ≡ self.now.requested }
     {
-        self.requested
+        self.0.requested
     }
 
     /// The days of the pending ask for an extension.
     pub fn ask(&self) -> Option<Days>
         ensures { result ≡ self.now.ask }
     {
-        self.ask
+        self.0.ask
     }
 
     /// Whether a stop work order stands (IBC 2018, section 115).
     pub fn is_stopped(&self) -> bool
         ensures { result ≡ self.now.stopped }
     {
-        self.stopped
+        self.0.stopped
     }
 
     /// How many correction notices are open.
     pub fn notices(&self) -> u16
         ensures { result ≡ self.now.notices }
     {
-        self.notices
+        self.0.notices
     }
 
     /// How many papers the file has, which is the number of the last one.
     pub fn papers(&self) -> u16
         ensures { result ≡ self.now.papers }
     {
-        self.papers
+        self.0.papers
     }
 
     /// The day until which the last temporary certificate runs.
     pub fn temporary(&self) -> Option<u32>
         ensures { result ≡ self.now.temporary }
     {
-        self.temporary
+        self.0.temporary
     }
 
     /// The fields of the row.
@@ -305,50 +290,6 @@ impl FileState {
         ensures same { result ≡ self.now }
         ensures sound { IsSoundState result }
     {
-        StateFields {
-            parcel: self.parcel,
-            applicant: self.applicant,
-            contractor: self.contractor,
-            reviewer: self.reviewer,
-            inspector: self.inspector,
-            kind: self.kind,
-            filed: self.filed,
-            stage: self.stage,
-            deadline: self.deadline,
-            done: self.done,
-            request: self.request,
-            requested: self.requested,
-            ask: self.ask,
-            stopped: self.stopped,
-            notices: self.notices,
-            papers: self.papers,
-            temporary: self.temporary,
-        }
-    }
-
-    /// The state with the fields, which keep to the facts of the type.
-    pub(crate) fn with_fields(fields: StateFields) -> FileState
-        requires { IsSoundState fields }
-        ensures { result ≡ fields }
-    {
-        FileState {
-            parcel: fields.parcel,
-            applicant: fields.applicant,
-            contractor: fields.contractor,
-            reviewer: fields.reviewer,
-            inspector: fields.inspector,
-            kind: fields.kind,
-            filed: fields.filed,
-            stage: fields.stage,
-            deadline: fields.deadline,
-            done: fields.done,
-            request: fields.request,
-            requested: fields.requested,
-            ask: fields.ask,
-            stopped: fields.stopped,
-            notices: fields.notices,
-            papers: fields.papers,
-            temporary: fields.temporary,
-        }
+        self.0
     }
 }
