@@ -1,6 +1,6 @@
 //! One rule of a policy, and when it matches.
 
-ghost use Rattle.std.specs.Prelude.{◌≡◌, Some, option_map};
+ghost use Rattle.std.specs.Prelude.{◌≡◌, Bool, Some, option_map};
 ghost use Rattle.permit_model.specs.Facts.{holds};
 ghost use Rattle.permit_model.specs.Codes.{is_role, is_action, is_stage, is_timing};
 ghost use Rattle.permit_model.specs.Policy.{matches, matches_list, matches_relations, matches_truth};
@@ -57,16 +57,57 @@ impl Model for Rule {
     ghost view = { λ r. record { name = r.name; effect = r.effect; role = option_map (λ v. v.items) r.role; relation = relation_view r.relation; action = option_map (λ v. v.items) r.action; stage = option_map (λ v. v.items) r.stage; timing = option_map (λ v. v.items) r.timing; stopped = r.stopped } };
 }
 
+/// A word that a key lists: contracts name the equality of its type.
+trait Listed: Copy {
+    ghost same: { Self → Self → Bool };
+
+    /// Whether the two are one word.
+    fn is(self, other: Self) -> bool
+        ensures { result ≡ same self other };
+}
+
+impl Listed for Role {
+    ghost same = { is_role };
+
+    fn is(self, other: Role) -> bool {
+        self == other
+    }
+}
+
+impl Listed for Action {
+    ghost same = { is_action };
+
+    fn is(self, other: Action) -> bool {
+        self == other
+    }
+}
+
+impl Listed for Stage {
+    ghost same = { is_stage };
+
+    fn is(self, other: Stage) -> bool {
+        self == other
+    }
+}
+
+impl Listed for Timing {
+    ghost same = { is_timing };
+
+    fn is(self, other: Timing) -> bool {
+        self == other
+    }
+}
+
 impl Rule {
     /// Whether each condition of the rule holds.
     pub fn matches(&self, facts: &Facts) -> bool
         ensures { result ≡ matches self.now facts.now }
     {
-        role_matches(&self.role, facts.role)
+        word_matches(&self.role, facts.role)
             && relation_matches(&self.relation, &facts.relations)
-            && action_matches(&self.action, facts.action)
-            && stage_matches(&self.stage, facts.stage)
-            && timing_matches(&self.timing, facts.timing)
+            && word_matches(&self.action, facts.action)
+            && word_matches(&self.stage, facts.stage)
+            && word_matches(&self.timing, facts.timing)
             && truth_matches(self.stopped, facts.stopped)
     }
 
@@ -74,19 +115,19 @@ impl Rule {
     pub(crate) fn failing_key(&self, facts: &Facts) -> Option<Key>
         ensures { result ≡ failing_key self.now facts.now }
     {
-        if !role_matches(&self.role, facts.role) {
+        if !word_matches(&self.role, facts.role) {
             return Some(Key::Role);
         }
         if !relation_matches(&self.relation, &facts.relations) {
             return Some(relation_key(&self.relation));
         }
-        if !action_matches(&self.action, facts.action) {
+        if !word_matches(&self.action, facts.action) {
             return Some(Key::Action);
         }
-        if !stage_matches(&self.stage, facts.stage) {
+        if !word_matches(&self.stage, facts.stage) {
             return Some(Key::Stage);
         }
-        if !timing_matches(&self.timing, facts.timing) {
+        if !word_matches(&self.timing, facts.timing) {
             return Some(Key::Timing);
         }
         if !truth_matches(self.stopped, facts.stopped) {
@@ -99,15 +140,15 @@ impl Rule {
     pub(crate) fn is_for(&self, role: Role, action: Action) -> bool
         ensures { result ≡ is_for self.now role action }
     {
-        role_matches(&self.role, role) && action_matches(&self.action, action)
+        word_matches(&self.role, role) && word_matches(&self.action, action)
     }
 
     /// Whether the rule's conditions on the stage, the timing and the stop order hold.
     pub(crate) fn covers(&self, cell: Cell) -> bool
         ensures { result ≡ covers self.now cell }
     {
-        stage_matches(&self.stage, cell.stage)
-            && timing_matches(&self.timing, cell.timing)
+        word_matches(&self.stage, cell.stage)
+            && word_matches(&self.timing, cell.timing)
             && truth_matches(self.stopped, cell.stopped)
     }
 }
@@ -125,48 +166,25 @@ fn has_relation(set: &Relations, relation: Relation) -> bool
     }
 }
 
-fn same_action(a: Action, b: Action) -> bool
-    ensures { result ≡ is_action a b }
-{
-    a == b
-}
-
-fn role_in(words: &[Role], role: Role) -> bool
-    ensures { result ≡ matches_list (Some words.now) (is_role role) }
-{
-    words.iter().any(|word| role == *word)
-}
-
 fn relation_in(words: &[Relation], set: &Relations) -> bool
     ensures { result ≡ matches_list (Some words.now) (holds set.now) }
 {
     words.iter().any(|word| has_relation(set, *word))
 }
 
-fn action_in(words: &[Action], action: Action) -> bool
-    ensures { result ≡ matches_list (Some words.now) (is_action action) }
+fn has_word<W: Listed>(words: &[W], word: W) -> bool
+    ensures { result ≡ matches_list (Some words.now) (W.same word) }
 {
-    words.iter().any(|word| same_action(action, *word))
+    words.iter().any(|one| word.is(*one))
 }
 
-fn stage_in(words: &[Stage], stage: Stage) -> bool
-    ensures { result ≡ matches_list (Some words.now) (is_stage stage) }
-{
-    words.iter().any(|word| stage == *word)
-}
-
-fn timing_in(words: &[Timing], timing: Timing) -> bool
-    ensures { result ≡ matches_list (Some words.now) (is_timing timing) }
-{
-    words.iter().any(|word| timing == *word)
-}
-
-fn role_matches(key: &Option<Vec<Role>>, role: Role) -> bool
-    ensures { result ≡ matches_list (option_map (λ v. v.items) key.now) (is_role role) }
+/// Whether the key isn't there, or has the word.
+fn word_matches<W: Listed>(key: &Option<Vec<W>>, word: W) -> bool
+    ensures { result ≡ matches_list (option_map (λ v. v.items) key.now) (W.same word) }
 {
     match key {
         None => true,
-        Some(words) => role_in(words, role),
+        Some(words) => has_word(words, word),
     }
 }
 
@@ -189,33 +207,6 @@ fn relation_matches(test: &RelationTest, set: &Relations) -> bool
         RelationTest::Both(first, second) => {
             has_relation(set, *first) && has_relation(set, *second)
         }
-    }
-}
-
-fn action_matches(key: &Option<Vec<Action>>, action: Action) -> bool
-    ensures { result ≡ matches_list (option_map (λ v. v.items) key.now) (is_action action) }
-{
-    match key {
-        None => true,
-        Some(words) => action_in(words, action),
-    }
-}
-
-fn stage_matches(key: &Option<Vec<Stage>>, stage: Stage) -> bool
-    ensures { result ≡ matches_list (option_map (λ v. v.items) key.now) (is_stage stage) }
-{
-    match key {
-        None => true,
-        Some(words) => stage_in(words, stage),
-    }
-}
-
-fn timing_matches(key: &Option<Vec<Timing>>, timing: Timing) -> bool
-    ensures { result ≡ matches_list (option_map (λ v. v.items) key.now) (is_timing timing) }
-{
-    match key {
-        None => true,
-        Some(words) => timing_in(words, timing),
     }
 }
 
