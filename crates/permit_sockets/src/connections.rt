@@ -1,6 +1,6 @@
 //! The connections that a worker takes for itself, one after the other, from a listener that all workers share.
 
-ghost use Rattle.std.specs.Prelude.{◌≡◌, IfOk, Some, length};
+ghost use Rattle.std.specs.Prelude.{◌≡◌, All, IfOk, Some, length};
 
 use crate::limits::PAUSE;
 use crate::pace::{AnswerWriter, RequestReader, paced};
@@ -54,7 +54,8 @@ pub fn doors<C: Clock + Copy + Drop + Send>(
     workers: u32,
     connections: Option<u32>,
 ) -> io::Result<Vec<Connections<C>>>
-    ensures { IfOk result (λ doors. length doors.items ≡ workers) }
+    ensures count { IfOk result (λ doors. length doors.items ≡ workers) }
+    ensures left { IfOk result (λ doors. All (λ d. d.left ≡ connections) doors.items) }
 {
     let mut doors = Vec::new(alloc);
     for worker in 0..workers {

@@ -1,6 +1,6 @@
 //! Serving an office over TCP: each worker takes connections for itself.
 
-ghost use Rattle.std.specs.Prelude.{◌≡◌, IfOk, length, List, OnErr};
+ghost use Rattle.std.specs.Prelude.{◌≡◌, All, IfOk, length, List, OnErr};
 ghost use Rattle.permit_base.specs.declared.request.Asked.{Asked};
 ghost use Rattle.permit_hall.specs.declared.dated.Dated.{Dated};
 ghost use Rattle.permit_hall.specs.Runs.{Entry};
@@ -23,7 +23,8 @@ fn doors_at(
     rt: &HostRuntime,
     words: &ServeWords<'_>,
 ) -> io::Result<(Vec<Connections<HostRuntime>>, SocketAddr)>
-    ensures { IfOk result (λ taken. length taken.0.items ≡ words.now.workers) }
+    ensures count { IfOk result (λ taken. length taken.0.items ≡ words.now.workers) }
+    ensures left { IfOk result (λ taken. All (λ d. d.left ≡ words.now.connections) taken.0.items) }
 {
     let listener = TcpListener::bind(rt, words.listen)?;
     let address = listener.local_addr()?;
@@ -48,7 +49,8 @@ fn listen<O: Write>(
     words: &ServeWords<'_>,
     out: &mut O,
 ) -> Result<Vec<Connections<HostRuntime>>, Fault>
-    ensures { IfOk result (λ doors. length doors.items ≡ words.now.workers) }
+    ensures count { IfOk result (λ doors. length doors.items ≡ words.now.workers) }
+    ensures left { IfOk result (λ doors. All (λ d. d.left ≡ words.now.connections) doors.items) }
 {
     let Ok((doors, address)) = doors_at(rt, words) else {
         return Err(Fault::unheard(rt.alloc(), words.listen));
