@@ -1,6 +1,6 @@
 -- What a denial makes of the outcome, and what an admitted command has.
-use Rattle.std.proofs.Common.{◌≡◌, ◌<◌, ◌+◌, ◌%◌, ℕ, ◌==◌, Bool, true, false, not, List, [], ◌∷◌, length, refl, sym, ◌∙◌, ap, arith}
-use Rattle.std.specs.Prelude.{Option, None, Some, find, is_some, is_none, IsTrue, nat_le, nat_lt, bytes_eq, ◌&&◌, if◌then◌else◌}
+use Rattle.std.proofs.Common.{◌≡◌, ℕ, ◌==◌, Bool, true, false, not, List, [], ◌∷◌, length, refl, sym, ◌∙◌, ap, arith}
+use Rattle.std.specs.Prelude.{Option, None, Some, Result, Ok, Err, IfOk, find, is_some, is_none, IsTrue, nat_le, nat_lt, bytes_eq, ◌&&◌, if◌then◌else◌}
 use Rattle.std.specs.List.{list_any}
 use Rattle.std.proofs.lemmas.Bool.Decides.{nat_tests}
 use Rattle.permit_base.specs.declared.words.Role.{Role}
@@ -9,6 +9,7 @@ use Rattle.permit_base.specs.declared.refusal.Refusal.TheVariants as refusal
 use Rattle.permit_base.specs.declared.request.Request.{Request}
 use Rattle.permit_base.specs.declared.request.Request.TheVariants.{AddParty, AddParcel, File, Declare, Transfer}
 use Rattle.permit_base.specs.Digests.{digest_of}
+use Rattle.permit_base.specs.Limits.{most_records}
 use Rattle.permit_model.specs.History.{History}
 use Rattle.permit_model.specs.Caller.{Party, parties, is_party}
 use Rattle.permit_model.specs.Parcels.{Parcel, parcels, parcel_numbered, has_interest}
@@ -19,6 +20,7 @@ use Rattle.permit_model.specs.Policy.{Policy, Decision, is_allow}
 use Rattle.permit_model.specs.Admission.{first_failing, reason_against}
 use Rattle.permit_model.specs.Machine.{Outcome, outcome_by_decision, outcome_if_allowed, refused}
 use Rattle.permit_policy.specs.Denial.{denied}
+use Rattle.permit_office.specs.Answers.{reason_in}
 use Rattle.permit_office.proofs.Lists.{any_found}
 
 denied_by : (allowed : Outcome) (h : History) (name rule : List ℕ) (b : Bool) → Some name ≡ (if b then None else Some rule) → (if b then allowed else refused h (refusal.Denied rule)) ≡ refused h (refusal.Denied name)
@@ -37,11 +39,8 @@ allowed_by allowed other rule false e = cc
 pub allowed_outcome : (policy : Policy) (h : History) (day : ℕ) (caller : Party) (request : Request) (d : Decision) → None ≡ denied d → outcome_by_decision policy h day caller request d ≡ outcome_if_allowed policy h day caller request
 allowed_outcome policy h day caller request d e = allowed_by (outcome_if_allowed policy h day caller request) (refused h (refusal.Denied d.rule)) d.rule (is_allow d.effect) e
 
-room : (n : ℕ) → nat_le 99999 n ≡ false → nat_lt n 99999 ≡ true
-room n e = grind (arith, nat_tests)
-
-pub small : (n : ℕ) → nat_le 99999 n ≡ false → n < 99999
-small n e = grind (arith, nat_tests)
+room : (most n : ℕ) → nat_le most n ≡ false → nat_lt n most ≡ true
+room most n e = grind (arith, nat_tests)
 
 none_found : {A : Type 0} (o : Option A) → is_some o ≡ false → is_none o ≡ true
 none_found None e = refl
@@ -75,29 +74,36 @@ all_two true false d e = cc
 
 -- an admitted parcel suits the tables
 pub parcel_suits : (h : History) (day caller : ℕ) (lot address : List ℕ) (owner : ℕ) → reason_against h day caller (AddParcel lot address owner) ≡ None →
-    IsTrue (nat_lt (length (parcels h)) 99999 && is_none (find (λ p. bytes_eq p.lot lot) (parcels h)) && is_some (find (λ p. p.id == owner) (parties h))) × (length (parcels h) < 99999)
+    IsTrue (nat_lt (length (parcels h)) most_records && is_none (find (λ p. bytes_eq p.lot lot) (parcels h)) && is_some (find (λ p. p.id == owner) (parties h)))
 parcel_suits h day caller lot address owner e =
-    let t = three_pass (is_some (find (λ (p : Party). p.id == owner) (parties h))) (list_any (λ (p : Parcel). bytes_eq p.lot lot) (parcels h)) (nat_le 99999 (length (parcels h))) _ _ _ e in
-    (all_three _ _ _ (room _ t.2) (none_found (find (λ (p : Parcel). bytes_eq p.lot lot) (parcels h)) (sym (any_found (λ (p : Parcel). bytes_eq p.lot lot) (parcels h)) ∙ t.1)) t.0, small _ t.2)
+    let t = three_pass (is_some (find (λ (p : Party). p.id == owner) (parties h))) (list_any (λ (p : Parcel). bytes_eq p.lot lot) (parcels h)) (nat_le most_records (length (parcels h))) _ _ _ e in
+    all_three _ _ _ (room _ _ t.2) (none_found (find (λ (p : Parcel). bytes_eq p.lot lot) (parcels h)) (sym (any_found (λ (p : Parcel). bytes_eq p.lot lot) (parcels h)) ∙ t.1)) t.0
 
 -- an admitted party suits the tables
 pub party_suits : (h : History) (day caller : ℕ) (name : List ℕ) (role : Role) (token digest : List ℕ) → digest ≡ digest_of token → reason_against h day caller (AddParty name role token) ≡ None →
-    IsTrue (nat_lt (length (parties h)) 99999 && is_none (find (λ p. bytes_eq p.digest digest) (parties h))) × (length (parties h) < 99999)
+    IsTrue (nat_lt (length (parties h)) most_records && is_none (find (λ p. bytes_eq p.digest digest) (parties h)))
 party_suits h day caller name role token digest d e =
-    let t = two_pass (is_some (find (λ (p : Party). bytes_eq p.digest (digest_of token)) (parties h))) (nat_le 99999 (length (parties h))) _ _ e in
-    (all_two _ _ (room _ t.1) (ap (λ x. is_none (find (λ (p : Party). bytes_eq p.digest x) (parties h))) d ∙ none_found (find (λ (p : Party). bytes_eq p.digest (digest_of token)) (parties h)) t.0), small _ t.1)
+    let t = two_pass (is_some (find (λ (p : Party). bytes_eq p.digest (digest_of token)) (parties h))) (nat_le most_records (length (parties h))) _ _ e in
+    all_two _ _ (room _ _ t.1) (ap (λ x. is_none (find (λ (p : Party). bytes_eq p.digest x) (parties h))) d ∙ none_found (find (λ (p : Party). bytes_eq p.digest (digest_of token)) (parties h)) t.0)
 
--- a number that is small doesn't go round
-pub wrapped : (n m : ℕ) → n ≡ m → m < 99999 → Some ((n + 1) % 4294967296) ≡ Some (m + 1)
-wrapped n m e small = let k : (n + 1) % 4294967296 ≡ m + 1 = omega arith in ap (λ x. Some x) k
+-- ---- what is admitted
+
+-- nothing stands against what is admitted
+pub none_against : (r : Result (Option ℕ) Reason) (number : Option ℕ) → r ≡ Ok number → reason_in r ≡ None
+none_against r number e = ap reason_in e
+
+-- and the number is the one that it is said to have
+pub number_is : (r : Result (Option ℕ) Reason) (number same : Option ℕ) → IfOk r (λ n. n ≡ same) → r ≡ Ok number → number ≡ same
+number_is (Ok n) number same is e = cc
+number_is (Err why) number same is e = cc
 
 -- an admitted file suits the tables
 pub file_suits : (h : History) (day caller parcel : ℕ) (kind : Kind) (valuation : ℕ) (description : List ℕ) (land : Parcel) → parcel_numbered h parcel ≡ Some land → IsTrue (is_party h caller) → reason_against h day caller (File parcel kind valuation description) ≡ None →
-    IsTrue (nat_lt (length (case_files h)) 99999 && is_some (parcel_numbered h parcel) && is_party h caller) × (length (case_files h) < 99999)
+    IsTrue (nat_lt (length (case_files h)) most_records && is_some (parcel_numbered h parcel) && is_party h caller)
 file_suits h day caller parcel kind valuation description land there party e =
-    let c : nat_le 99999 (length (filings h)) ≡ false = one_pass (nat_le 99999 (length (filings h))) _ e in
-    let s : nat_le 99999 (length (case_files h)) ≡ false = ap (λ n. nat_le 99999 n) (length-map (filings h) (case_file h)) ∙ c in
-    (all_three _ _ _ (room _ s) (ap (λ o. is_some o) there) party, small _ s)
+    let c : nat_le most_records (length (filings h)) ≡ false = one_pass (nat_le most_records (length (filings h))) _ e in
+    let s : nat_le most_records (length (case_files h)) ≡ false = ap (λ n. nat_le most_records n) (length-map (filings h) (case_file h)) ∙ c in
+    all_three _ _ _ (room _ _ s) (ap (λ o. is_some o) there) party
 
 first_two : (a b : Bool) (r s : Reason) → first_failing ((not a, r) ∷ (b, s) ∷ []) ≡ None → a ≡ true
 first_two true b r s e = refl

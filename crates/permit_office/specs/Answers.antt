@@ -1,5 +1,6 @@
 -- What an answer of the office says of the machine.
-use Rattle.std.specs.Prelude.{◌≡◌, ◌⊎◌, ℕ, Bool, true, false, Result, Ok, Err, if◌then◌else◌, not, IsTrue}
+use Rattle.std.specs.Prelude.{◌≡◌, ◌⊎◌, ℕ, Bool, true, false, Option, None, Some, Result, Ok, Err, if◌then◌else◌, not, IsTrue}
+use Rattle.permit_base.specs.declared.refusal.Reason.{Reason}
 use Rattle.permit_base.specs.declared.refusal.Refusal.TheVariants as refusal
 use Rattle.permit_model.specs.History.{History}
 use Rattle.permit_model.specs.Tables.{Tables, tables}
@@ -32,6 +33,11 @@ Answers holds reply outcome before =
 abbrev pub Attempts : (Tables → Type 0) → Result Given StoreError → Outcome → History → Type 0
 Attempts holds (Ok reply) outcome before = Answers holds reply outcome before
 Attempts holds (Err e) outcome before = holds (tables before)
+
+-- the reason against a request, where there is one
+abbrev pub reason_in : {A : Type 0} → Result A Reason → Option Reason
+reason_in (Ok a) = None
+reason_in (Err reason) = Some reason
 
 -- the count of commits after a reply: a command that is done makes one
 abbrev pub commits_after : Given → ℕ → ℕ

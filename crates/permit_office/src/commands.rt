@@ -5,6 +5,7 @@ ghost use Rattle.std.specs.List.{list_any};
 ghost use Rattle.permit_base.specs.declared.request.Request.TheVariants as request;
 ghost use Rattle.permit_model.specs.Caller;
 ghost use Rattle.permit_model.specs.History.{History, last_day};
+ghost use Rattle.permit_model.specs.Parcels;
 ghost use Rattle.permit_model.specs.Files.{CaseFile, case_numbered};
 ghost use Rattle.permit_model.specs.Work;
 ghost use Rattle.permit_model.specs.Admission.{reason_against};
@@ -20,7 +21,7 @@ ghost use Rattle.permit_office.specs.Frames.{OnlyReads, IsAttempt};
 ghost use Rattle.permit_office.specs.Reach.{NoRow, OneRow};
 
 use crate::commit::carry_out;
-use crate::facts::{facts_on_file, owner_of};
+use crate::facts::{facts_on_file, owner_on};
 use crate::reply::Reply;
 use permit_base::refusal::Refusal;
 use permit_base::request::Command;
@@ -75,16 +76,19 @@ fn is_open_notice<S: Store>(store: &mut S, file: FileId, command: &Command) -> G
     Ok(has_open_notice(&papers, number))
 }
 
-/// The people about a command on a file.
-fn people_about<S: Store>(store: &mut S, row: &FileRow, command: &Command) -> Got<People>
+/// The people about a command on a file whose parcel has this owner.
+fn people_about<S: Store>(
+    store: &mut S,
+    row: &FileRow,
+    owner: Option<PartyId>,
+    command: &Command,
+) -> Got<People>
     ensures people { (S.view store.new).doubt ≡ 0 → (h : History) (one : CaseFile) → IsHistory h → (S.view store.old).holds (tables h)
-        → case_numbered h row.now.id ≡ Some one → row.now ≡ file_row one
+        → case_numbered h row.now.id ≡ Some one → row.now ≡ file_row one → owner ≡ Parcels.owner h one.filing.parcel
         → IfOk result (λ p. p ≡ Naming.people_of h one command.now) }
     ensures read { OnlyReads (S.view store.old) (S.view store.new) result }
 {
-    let parcel = row.state.parcel();
-    let named = named(store, parcel, command)?;
-    let owner = owner_of(store, parcel)?;
+    let named = named(store, row.state.parcel(), command)?;
     let is_open_notice = is_open_notice(store, row.id, command)?;
     Ok(People {
         named,
@@ -117,16 +121,17 @@ fn effect_of<'a>(state: &FileState, author: PartyId, command: &'a Command) -> Ro
     }
 }
 
-/// Admits an allowed command on a file, and makes its change.
+/// Admits an allowed command on a file whose parcel has this owner, and makes its change.
 fn perform<S: Store>(
     store: &mut S,
     caller: PartyId,
     row: &FileRow,
+    owner: Option<PartyId>,
     command: &Command,
     day: Day,
 ) -> Got<Reply>
     ensures model { (S.view store.new).doubt ≡ 0 → (h : History) (one : CaseFile) → IsHistory h → (S.view store.old).holds (tables h)
-        → case_numbered h row.now.id ≡ Some one → row.now ≡ file_row one
+        → case_numbered h row.now.id ≡ Some one → row.now ≡ file_row one → owner ≡ Parcels.owner h one.filing.parcel
         → last_day h ≤ day → IsTrue (Caller.is_party h caller)
         → Attempts (S.view store.new).holds result
         (outcome_by_reason h (entry_of h day caller (request.OnFile row.now.id command.now)) (reason_against h day caller (request.OnFile row.now.id command.now))) h }
@@ -134,7 +139,7 @@ fn perform<S: Store>(
     ensures decided { IfOk result IsDecided }
     ensures own { IfOk result IsOwn }
 {
-    let people = people_about(store, row, command)?;
+    let people = people_about(store, row, owner, command)?;
     if let Err(reason) = row.state.admit(day, command, &people) {
         return Ok(Reply::Refused(Refusal::NotAdmitted(reason)));
     }
@@ -144,8 +149,7 @@ fn perform<S: Store>(
     state.apply(day, command, caller);
     carry_out(
         store,
-        None,
-        number,
+        Ok(number),
         &Change::NewRow {
             file: row.id,
             state,
@@ -173,9 +177,10 @@ pub(crate) fn on_file<S: Store>(
     let Some(row) = store.file(file)? else {
         return Ok(Reply::Refused(Refusal::Record));
     };
-    let facts = facts_on_file(store, caller, &row, command.action(), day)?;
+    let owner = owner_on(store, &row)?;
+    let facts = facts_on_file(store, caller, &row, &owner, command.action(), day)?;
     if let Some(name) = policy.denial(&facts) {
         return Ok(Reply::Refused(Refusal::Denied(name)));
     }
-    perform(store, caller.id, &row, command, day)
+    perform(store, caller.id, &row, owner, command, day)
 }

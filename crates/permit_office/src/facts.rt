@@ -2,7 +2,8 @@
 
 ghost use Rattle.std.specs.Prelude.{◌≡◌, Option, Some, None, IfOk};
 ghost use Rattle.permit_model.specs.History.{History};
-ghost use Rattle.permit_model.specs.Parcels.{parcel_numbered, owner};
+ghost use Rattle.permit_model.specs.Parcels;
+ghost use Rattle.permit_model.specs.Parcels.{parcel_numbered};
 ghost use Rattle.permit_model.specs.Files.{CaseFile};
 ghost use Rattle.permit_model.specs.Facts.{file_facts, parcel_facts};
 ghost use Rattle.permit_model.specs.Tables.{Tables, tables, file_row};
@@ -45,8 +46,8 @@ pub(crate) fn facts_on_parcel<S: Store>(
 }
 
 /// The owner of a parcel, if it is there.
-pub(crate) fn owner_of<S: Store>(store: &mut S, parcel: ParcelId) -> Got<Option<PartyId>>
-    ensures owner { (S.view store.new).doubt ≡ 0 → (h : History) → (S.view store.old).holds (tables h) → IfOk result (λ o. o ≡ owner h parcel) }
+fn owner_of<S: Store>(store: &mut S, parcel: ParcelId) -> Got<Option<PartyId>>
+    ensures owner { (S.view store.new).doubt ≡ 0 → (h : History) → (S.view store.old).holds (tables h) → IfOk result (λ o. o ≡ Parcels.owner h parcel) }
     ensures read { OnlyReads (S.view store.old) (S.view store.new) result }
 {
     match store.parcel(parcel)? {
@@ -55,24 +56,33 @@ pub(crate) fn owner_of<S: Store>(store: &mut S, parcel: ParcelId) -> Got<Option<
     }
 }
 
-/// The facts of a request on a file.
+/// The owner of the parcel of a file.
+pub(crate) fn owner_on<S: Store>(store: &mut S, row: &FileRow) -> Got<Option<PartyId>>
+    ensures owner { (S.view store.new).doubt ≡ 0 → (h : History) (file : CaseFile) → (S.view store.old).holds (tables h) → row.now ≡ file_row file
+        → IfOk result (λ o. o ≡ Parcels.owner h file.filing.parcel) }
+    ensures read { OnlyReads (S.view store.old) (S.view store.new) result }
+{
+    owner_of(store, row.state.parcel())
+}
+
+/// The facts of a request on a file whose parcel has this owner.
 pub(crate) fn facts_on_file<S: Store>(
     store: &mut S,
     caller: &Party,
     row: &FileRow,
+    owner: &Option<PartyId>,
     action: Action,
     day: Day,
 ) -> Got<Facts>
     ensures facts { (S.view store.new).doubt ≡ 0 → (h : History) (file : CaseFile) → (S.view store.old).holds (tables h) → row.now ≡ file_row file
+        → owner.now ≡ Parcels.owner h file.filing.parcel
         → IfOk result (λ f. f ≡ file_facts h day caller.now file action) }
     ensures read { OnlyReads (S.view store.old) (S.view store.new) result }
 {
-    let parcel = row.state.parcel();
-    let owner = owner_of(store, parcel)?;
-    let conflict = store.interest(parcel, caller.id)?;
+    let conflict = store.interest(row.state.parcel(), caller.id)?;
     Ok(Facts {
         role: caller.role,
-        relations: row.state.relations(caller.id, owner, conflict),
+        relations: row.state.relations(caller.id, *owner, conflict),
         action,
         stage: row.state.stage(day),
         stopped: row.state.is_stopped(),

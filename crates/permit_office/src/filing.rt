@@ -1,37 +1,25 @@
 //! New files.
 
-ghost use Rattle.std.specs.Prelude.{◌≡◌, ◌≤◌, ℕ, Option, Some, None, List, IsTrue, IfOk, false};
+ghost use Rattle.std.specs.Prelude.{◌≡◌, ◌≤◌, IsTrue, IfOk};
 ghost use Rattle.permit_base.specs.declared.request.Request.TheVariants as request;
 ghost use Rattle.permit_model.specs.Caller;
 ghost use Rattle.permit_model.specs.History.{History, last_day};
-ghost use Rattle.permit_model.specs.Admission.{reason_against};
 ghost use Rattle.permit_model.specs.Tables.{tables, desk_of};
 ghost use Rattle.permit_model.specs.Machine.{IsHistory, outcome_by_request};
 ghost use Rattle.permit_office.specs.Answers.{Attempts, IsOwn};
 ghost use Rattle.permit_office.specs.Frames.{IsAttempt};
 ghost use Rattle.permit_office.specs.Reach.{NoRow};
 
-use crate::commit::carry_out;
+use crate::commit::{carry_out, next_number};
 use crate::facts::facts_on_parcel;
 use crate::reply::Reply;
-use permit_base::refusal::{Reason, Refusal};
+use permit_base::refusal::Refusal;
 use permit_base::values::{Cents, Day, ParcelId, Text};
 use permit_base::words::{Action, Kind, Stage};
 use permit_core::state::FileState;
 use permit_policy::Policy;
 use permit_store::rows::{Change, Desk, Party};
 use permit_store::store::{Got, Store};
-
-/// What stands against a new file.
-fn against_file(desk: &Desk) -> Option<Reason>
-    ensures { (h : History) (day caller parcel : ℕ) (kind : Kind) (valuation : ℕ) (description : List ℕ) → desk.now ≡ desk_of h
-        → result ≡ reason_against h day caller (request.File parcel kind valuation description) }
-{
-    if desk.files >= 99999 {
-        return Some(Reason::Full);
-    }
-    None
-}
 
 /// Files an application.
 pub(crate) fn file<S: Store>(
@@ -58,13 +46,11 @@ pub(crate) fn file<S: Store>(
     if let Some(name) = policy.denial(&facts) {
         return Ok(Reply::Refused(Refusal::Denied(name)));
     }
-    let reason = against_file(desk);
-    let number = desk.files.wrapping_add(1);
+    let admitted = next_number(desk.files);
     let state = FileState::file(caller.id, parcel, kind, day);
     carry_out(
         store,
-        reason,
-        Some(number),
+        admitted,
         &Change::NewFile {
             state,
             valuation,

@@ -1,19 +1,20 @@
 //! Parcels: new ones, their owners, and the interests declared in them.
 
-ghost use Rattle.std.specs.Prelude.{◌≡◌, ◌≤◌, ℕ, Option, Some, None, List, IsTrue, IfOk, bytes_eq, false};
+ghost use Rattle.std.specs.Prelude.{◌≡◌, ◌≤◌, ◌+◌, ◌∷◌, [], ℕ, Option, Some, None, List, IsTrue, IfOk, bytes_eq, false};
 ghost use Rattle.std.specs.List.{list_any};
 ghost use Rattle.permit_base.specs.declared.request.Request.TheVariants as request;
 ghost use Rattle.permit_model.specs.Caller;
 ghost use Rattle.permit_model.specs.History.{History, last_day};
 ghost use Rattle.permit_model.specs.Parcels.{parcel_numbered, parcels};
-ghost use Rattle.permit_model.specs.Admission.{reason_against};
+ghost use Rattle.permit_base.specs.declared.refusal.Reason.TheVariants.{Taken};
+ghost use Rattle.permit_model.specs.Admission.{first_failing, reason_against};
 ghost use Rattle.permit_model.specs.Tables.{Tables, tables, desk_of};
 ghost use Rattle.permit_model.specs.Machine.{IsHistory, outcome_by_request};
-ghost use Rattle.permit_office.specs.Answers.{Attempts, IsOwn};
+ghost use Rattle.permit_office.specs.Answers.{Attempts, IsOwn, reason_in};
 ghost use Rattle.permit_office.specs.Frames.{OnlyReads, IsAttempt};
 ghost use Rattle.permit_office.specs.Reach.{NoRow};
 
-use crate::commit::carry_out;
+use crate::commit::{Admitted, carry_out, next_number};
 use crate::facts::facts_on_parcel;
 use crate::people::is_party;
 use crate::reply::Reply;
@@ -35,28 +36,21 @@ fn is_lot<S: Store>(store: &mut S, lot: &Lot) -> Got<bool>
     Ok(found.is_some())
 }
 
-/// What stands against a new parcel.
-fn against_parcel<S: Store>(
-    store: &mut S,
-    desk: &Desk,
-    lot: &Lot,
-    owner: PartyId,
-) -> Got<Option<Reason>>
+/// The number of a new parcel, or what stands against it.
+fn admit_parcel<S: Store>(store: &mut S, desk: &Desk, lot: &Lot, owner: PartyId) -> Got<Admitted>
     ensures reason { (S.view store.new).doubt ≡ 0 → (h : History) (day caller : ℕ) (address : List ℕ) → (S.view store.old).holds (tables h)
         → desk.now ≡ desk_of h
-        → IfOk result (λ r. r ≡ reason_against h day caller (request.AddParcel lot.now address owner)) }
+        → IfOk result (λ r. reason_in r ≡ reason_against h day caller (request.AddParcel lot.now address owner)) }
+    ensures number { IfOk result (λ r. IfOk r (λ number. number ≡ Some (desk.now.parcels + 1))) }
     ensures read { OnlyReads (S.view store.old) (S.view store.new) result }
 {
     if !is_party(store, owner)? {
-        return Ok(Some(Reason::Person));
+        return Ok(Err(Reason::Person));
     }
     if is_lot(store, lot)? {
-        return Ok(Some(Reason::Taken));
+        return Ok(Err(Reason::Taken));
     }
-    if desk.parcels >= 99999 {
-        return Ok(Some(Reason::Full));
-    }
-    Ok(None)
+    Ok(next_number(desk.parcels))
 }
 
 /// Adds a parcel.
@@ -78,12 +72,10 @@ pub(crate) fn add_parcel<S: Store>(
     if let Some(name) = policy.denial(&Facts::office(caller.role, Action::AddParcel)) {
         return Ok(Reply::Refused(Refusal::Denied(name)));
     }
-    let reason = against_parcel(store, desk, lot, owner)?;
-    let number = desk.parcels.wrapping_add(1);
+    let admitted = admit_parcel(store, desk, lot, owner)?;
     carry_out(
         store,
-        reason,
-        Some(number),
+        admitted,
         &Change::NewParcel {
             lot,
             address,
@@ -93,18 +85,13 @@ pub(crate) fn add_parcel<S: Store>(
     )
 }
 
-/// What stands against a declaration.
-fn against_declaration<S: Store>(
-    store: &mut S,
-    parcel: ParcelId,
-    caller: PartyId,
-) -> Got<Option<Reason>>
-    ensures reason { (S.view store.new).doubt ≡ 0 → (h : History) (day : ℕ) → (S.view store.old).holds (tables h)
-        → IfOk result (λ r. r ≡ reason_against h day caller (request.Declare parcel)) }
-    ensures read { OnlyReads (S.view store.old) (S.view store.new) result }
+/// Nobody declares an interest twice, and a declaration makes no record with a number.
+fn admit_declaration(has_interest: bool) -> Admitted
+    ensures reason { reason_in result ≡ first_failing ((has_interest, Taken) ∷ []) }
+    ensures number { IfOk result (λ number. number ≡ None) }
 {
-    if store.interest(parcel, caller)? {
-        return Ok(Some(Reason::Taken));
+    if has_interest {
+        return Err(Reason::Taken);
     }
     Ok(None)
 }
@@ -130,31 +117,26 @@ pub(crate) fn declare<S: Store>(
     if let Some(name) = policy.denial(&facts) {
         return Ok(Reply::Refused(Refusal::Denied(name)));
     }
+    let admitted = admit_declaration(facts.relations.conflict);
     let party = caller.id;
-    let reason = against_declaration(store, parcel, party)?;
-    carry_out(
-        store,
-        reason,
-        None,
-        &Change::NewInterest { parcel, party },
-        day,
-    )
+    carry_out(store, admitted, &Change::NewInterest { parcel, party }, day)
 }
 
-/// What stands against a transfer.
-fn against_transfer<S: Store>(store: &mut S, land: &Parcel, to: PartyId) -> Got<Option<Reason>>
+/// What stands against a transfer, which makes no record with a number.
+fn admit_transfer<S: Store>(store: &mut S, land: &Parcel, to: PartyId) -> Got<Admitted>
     ensures reason { (S.view store.new).doubt ≡ 0 → (h : History) (day caller : ℕ) → (S.view store.old).holds (tables h)
         → parcel_numbered h land.now.id ≡ Some land.now
-        → IfOk result (λ r. r ≡ reason_against h day caller (request.Transfer land.now.id to)) }
+        → IfOk result (λ r. reason_in r ≡ reason_against h day caller (request.Transfer land.now.id to)) }
+    ensures number { IfOk result (λ r. IfOk r (λ number. number ≡ None)) }
     ensures read { OnlyReads (S.view store.old) (S.view store.new) result }
 {
     if !is_party(store, to)? {
-        return Ok(Some(Reason::Person));
+        return Ok(Err(Reason::Person));
     }
     if land.owner.get() == to.get() {
-        return Ok(Some(Reason::Taken));
+        return Ok(Err(Reason::Taken));
     }
-    Ok(None)
+    Ok(Ok(None))
 }
 
 /// Transfers a parcel.
@@ -178,11 +160,10 @@ pub(crate) fn transfer<S: Store>(
     if let Some(name) = policy.denial(&facts) {
         return Ok(Reply::Refused(Refusal::Denied(name)));
     }
-    let reason = against_transfer(store, &land, to)?;
+    let admitted = admit_transfer(store, &land, to)?;
     carry_out(
         store,
-        reason,
-        None,
+        admitted,
         &Change::NewOwner { parcel, owner: to },
         day,
     )

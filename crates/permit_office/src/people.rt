@@ -1,6 +1,6 @@
 //! New parties.
 
-ghost use Rattle.std.specs.Prelude.{◌≡◌, ◌≤◌, ℕ, Option, Some, None, List, IfOk, false};
+ghost use Rattle.std.specs.Prelude.{◌≡◌, ◌≤◌, ◌+◌, ℕ, Option, Some, None, List, IfOk, false};
 ghost use Rattle.permit_base.specs.Actions.{adding_action};
 ghost use Rattle.permit_base.specs.Digests.{digest_of};
 ghost use Rattle.permit_base.specs.declared.request.Request.TheVariants as request;
@@ -9,11 +9,11 @@ ghost use Rattle.permit_model.specs.History.{History, last_day};
 ghost use Rattle.permit_model.specs.Admission.{reason_against};
 ghost use Rattle.permit_model.specs.Tables.{Tables, tables, desk_of};
 ghost use Rattle.permit_model.specs.Machine.{IsHistory, outcome_by_request};
-ghost use Rattle.permit_office.specs.Answers.{Attempts, IsOwn};
+ghost use Rattle.permit_office.specs.Answers.{Attempts, IsOwn, reason_in};
 ghost use Rattle.permit_office.specs.Frames.{OnlyReads, IsAttempt};
 ghost use Rattle.permit_office.specs.Reach.{NoRow};
 
-use crate::commit::carry_out;
+use crate::commit::{Admitted, carry_out, next_number};
 use crate::reply::Reply;
 use permit_base::digests::digest;
 use permit_base::refusal::{Reason, Refusal};
@@ -21,7 +21,7 @@ use permit_base::values::{Day, Digest, PartyId, Text, Token};
 use permit_base::words::{Action, Role};
 use permit_policy::{Facts, Policy};
 use permit_store::rows::{Change, Desk, Party};
-use permit_store::store::{Got, Store};
+use permit_store::store::{Got, Store, StoreError};
 
 /// The action by which a party of the role is added.
 fn adding(role: Role) -> Action
@@ -42,21 +42,19 @@ pub(crate) fn is_party<S: Store>(store: &mut S, party: PartyId) -> Got<bool>
     Ok(found.is_some())
 }
 
-/// What stands against a new party.
-fn against_party<S: Store>(store: &mut S, desk: &Desk, digest: &Digest) -> Got<Option<Reason>>
+/// The number of a new party, or what stands against it.
+fn admit_party<S: Store>(store: &mut S, desk: &Desk, digest: &Digest) -> Got<Admitted>
     ensures reason { (S.view store.new).doubt ≡ 0 → (h : History) (day caller : ℕ) (name : List ℕ) (role : Role) (token : List ℕ)
         → (S.view store.old).holds (tables h) → desk.now ≡ desk_of h
         → digest.now ≡ digest_of token
-        → IfOk result (λ r. r ≡ reason_against h day caller (request.AddParty name role token)) }
+        → IfOk result (λ r. reason_in r ≡ reason_against h day caller (request.AddParty name role token)) }
+    ensures number { IfOk result (λ r. IfOk r (λ number. number ≡ Some (desk.now.parties + 1))) }
     ensures read { OnlyReads (S.view store.old) (S.view store.new) result }
 {
     if store.party_by_token(digest)?.is_some() {
-        return Ok(Some(Reason::Taken));
+        return Ok(Err(Reason::Taken));
     }
-    if desk.parties >= 99999 {
-        return Ok(Some(Reason::Full));
-    }
-    Ok(None)
+    Ok(next_number(desk.parties))
 }
 
 /// Adds a party.
@@ -79,14 +77,12 @@ pub(crate) fn add_party<S: Store>(
         return Ok(Reply::Refused(Refusal::Denied(rule)));
     }
     let Ok(digest) = digest(token) else {
-        return Ok(Reply::Refused(Refusal::Store));
+        return Err(StoreError);
     };
-    let reason = against_party(store, desk, &digest)?;
-    let number = desk.parties.wrapping_add(1);
+    let admitted = admit_party(store, desk, &digest)?;
     carry_out(
         store,
-        reason,
-        Some(number),
+        admitted,
         &Change::NewParty {
             name,
             role,

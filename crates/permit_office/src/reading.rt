@@ -9,7 +9,7 @@ ghost use Rattle.permit_office.specs.Answers.{Attempts, IsOwn};
 ghost use Rattle.permit_office.specs.Frames.{IsAttempt};
 ghost use Rattle.permit_office.specs.Reach.{NoRow, OneRow};
 
-use crate::facts::{facts_on_file, facts_on_parcel};
+use crate::facts::{facts_on_file, facts_on_parcel, owner_on};
 use crate::reply::Reply;
 use permit_base::refusal::Refusal;
 use permit_base::values::{Day, FileId, ParcelId};
@@ -34,7 +34,8 @@ pub(crate) fn read_file<S: Store>(
     let Some(row) = store.file(file)? else {
         return Ok(Reply::Refused(Refusal::Record));
     };
-    let facts = facts_on_file(store, caller, &row, Action::Read, day)?;
+    let owner = owner_on(store, &row)?;
+    let facts = facts_on_file(store, caller, &row, &owner, Action::Read, day)?;
     if let Some(name) = policy.denial(&facts) {
         return Ok(Reply::Refused(Refusal::Denied(name)));
     }

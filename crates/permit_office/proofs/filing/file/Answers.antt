@@ -11,7 +11,7 @@ use Rattle.permit_model.specs.Tables.{Desk, tables}
 use Rattle.permit_model.specs.Facts.{parcel_facts}
 use Rattle.permit_model.specs.Policy.{decision}
 use Rattle.permit_model.specs.Machine.{entry_of}
-use Rattle.permit_office.proofs.Deciding.{denied_outcome, allowed_outcome, file_suits, wrapped}
+use Rattle.permit_office.proofs.Deciding.{denied_outcome, allowed_outcome, file_suits, none_against, number_is}
 use Rattle.permit_office.proofs.Finding.{found_number, file_judged}
 use Rattle.permit_office.proofs.Tables.{file_more}
 use Rattle.permit_office.proofs.filing.file.Goals as goal
@@ -41,14 +41,14 @@ returns-clause-model g c = λ doubt h is held e t party.
     let there : parcel_numbered h c.in-Some.land.id ≡ Some c.in-Some.land = ap (parcel_numbered h) named ∙ sym found in
     let facts = rw named at (c.in_ok-facts.ensures.facts later h kept there) in
     let allowed = rw facts at (sym c.in_default-denial.is ∙ c.denial.ensures) in
-    let reason = c.against_file-reason.ensures h a.day a.caller.now.id a.parcel a.kind a.valuation a.description.now e in
-    let desk = ap (λ (d : Desk). d.files) (c.desk.view_is ∙ e) in
+    let n : length (case_files h) ≡ length (filings h) = length-map (filings h) (case_file h) in
+    let count : c.desk.inside.files ≡ length (filings h) = ap (λ (d : Desk). d.files) (c.desk.view_is ∙ e) ∙ n in
+    let reason = rw count at c.next_number-admitted.ensures.reason in
     let caller = ap (λ (p : Party). p.id) c.caller.view_is in
     let state = rw caller at (c.file-state.ensures.row (length (filings h) + 1) a.valuation a.description.now) in
     let done = c.carry_out.ensures.model h (entry_of h a.day a.caller.now.id (File a.parcel a.kind a.valuation a.description.now)) (c.facts_on_parcel.ensures.read.kept (tables h) kept)
-    (λ none. let s = file_suits h a.day a.caller.now.id a.parcel a.kind a.valuation a.description.now c.in-Some.land (sym found) party (sym reason ∙ none) in
-    let n : length (case_files h) ≡ length (filings h) = length-map (filings h) (case_file h) in
-    (rw (← n) (wrapped c.desk.inside.files _ desk s.1), record { suits = rw state s.0; in_time = t }, rw state (file_more h a.day a.caller.now.id a.parcel a.kind a.valuation a.description.now is))) in
+    (λ number is_ok. let s = file_suits h a.day a.caller.now.id a.parcel a.kind a.valuation a.description.now c.in-Some.land (sym found) party (sym reason ∙ none_against _ number is_ok) in
+    (number_is _ number _ c.next_number-admitted.ensures.number is_ok ∙ ap (λ m. Some (m + 1)) count, record { suits = rw state s; in_time = t }, rw state (file_more h a.day a.caller.now.id a.parcel a.kind a.valuation a.description.now is))) in
     rw (file_judged a.policy.now h a.day a.caller.now a.parcel a.kind a.valuation a.description.now c.in-Some.land (sym found)
     ∙ allowed_outcome a.policy.now h a.day a.caller.now (File a.parcel a.kind a.valuation a.description.now) (decision a.policy.now (parcel_facts h a.caller.now a.parcel New action.File)) allowed)
     (rw reason at done)

@@ -1,4 +1,5 @@
-use Rattle.std.proofs.Common.{◌≡◌, ap, ◌∙◌, sym, refl, inl, arith}
+use Rattle.std.proofs.Common.{◌≡◌, ◌+◌, ap, ◌∙◌, sym, refl, inl, arith}
+use Rattle.std.specs.Prelude.{Some}
 use Rattle.permit_base.specs.declared.request.Request.TheVariants.{AddParcel}
 use Rattle.permit_base.specs.declared.words.Action.TheVariants as action
 use Rattle.permit_model.specs.Caller.{Party}
@@ -6,7 +7,7 @@ use Rattle.permit_model.specs.Tables.{Desk, tables}
 use Rattle.permit_model.specs.Facts.{office_facts}
 use Rattle.permit_model.specs.Policy.{decision}
 use Rattle.permit_model.specs.Machine.{entry_of}
-use Rattle.permit_office.proofs.Deciding.{denied_outcome, allowed_outcome, parcel_suits, wrapped}
+use Rattle.permit_office.proofs.Deciding.{denied_outcome, allowed_outcome, parcel_suits, none_against, number_is}
 use Rattle.permit_office.proofs.Tables.{parcel_more}
 use Rattle.permit_office.proofs.land.add_parcel.Goals as goal
 
@@ -20,14 +21,14 @@ returns-in-Some-clause-model g c = λ doubt h is held e t.
 
 pub returns-clause-model : goal.returns-clause-model
 returns-clause-model g c = λ doubt h is held e t.
-    let late : (g.S.Store.view c.against_parcel.new.store).doubt ≡ 0 = omega arith in
+    let late : (g.S.Store.view c.admit_parcel.new.store).doubt ≡ 0 = omega arith in
     let role = ap (λ (p : Party). p.role) c.caller.view_is in
     let a = c.args in
     let allowed = rw (c.office.ensures, role) at (sym c.in_default.is ∙ c.denial.ensures) in
-    let reason = c.in_ok-reason.ensures.reason late h a.day a.caller.now.id a.address.now held e in
-    let desk = ap (λ (d : Desk). d.parcels) (c.desk.view_is ∙ e) in
-    let done = c.carry_out.ensures.model h (entry_of h a.day a.caller.now.id (AddParcel a.lot.now a.address.now a.owner)) (c.against_parcel.ensures.read.kept (tables h) held)
-    (λ none. let s = parcel_suits h a.day a.caller.now.id a.lot.now a.address.now a.owner (sym reason ∙ none) in
-    (wrapped c.desk.inside.parcels _ desk s.1, record { suits = s.0; in_time = t }, parcel_more h a.day a.caller.now.id a.lot.now a.address.now a.owner is)) in
+    let reason = c.in_ok-admitted.ensures.reason late h a.day a.caller.now.id a.address.now held e in
+    let count = ap (λ (d : Desk). Some (d.parcels + 1)) e in
+    let done = c.carry_out.ensures.model h (entry_of h a.day a.caller.now.id (AddParcel a.lot.now a.address.now a.owner)) (c.admit_parcel.ensures.read.kept (tables h) held)
+    (λ number is_ok. let s = parcel_suits h a.day a.caller.now.id a.lot.now a.address.now a.owner (sym reason ∙ none_against _ number is_ok) in
+    (number_is _ number _ c.in_ok-admitted.ensures.number is_ok ∙ count, record { suits = s; in_time = t }, parcel_more h a.day a.caller.now.id a.lot.now a.address.now a.owner is)) in
     rw (allowed_outcome a.policy.now h a.day a.caller.now (AddParcel a.lot.now a.address.now a.owner) (decision a.policy.now (office_facts a.caller.now.role action.AddParcel)) allowed)
     (rw reason at done)

@@ -8,7 +8,7 @@ use Rattle.permit_model.specs.Tables.{tables}
 use Rattle.permit_model.specs.Facts.{parcel_facts}
 use Rattle.permit_model.specs.Policy.{decision}
 use Rattle.permit_model.specs.Machine.{entry_of}
-use Rattle.permit_office.proofs.Deciding.{denied_outcome, allowed_outcome, transfer_suits}
+use Rattle.permit_office.proofs.Deciding.{denied_outcome, allowed_outcome, transfer_suits, none_against, number_is}
 use Rattle.permit_office.proofs.Finding.{found_number, transfer_judged}
 use Rattle.permit_office.proofs.Tables.{transfer_more}
 use Rattle.permit_office.proofs.land.transfer.Goals as goal
@@ -31,7 +31,7 @@ pub returns-clause-model : goal.returns-clause-model
 returns-clause-model g c = λ doubt h held t.
     let late : (g.S.Store.view c.parcel.new.self).doubt ≡ 0 = omega arith in
     let later : (g.S.Store.view c.facts_on_parcel.new.store).doubt ≡ 0 = omega arith in
-    let latest : (g.S.Store.view c.against_transfer.new.store).doubt ≡ 0 = omega arith in
+    let latest : (g.S.Store.view c.admit_transfer.new.store).doubt ≡ 0 = omega arith in
     let a = c.args in
     let found = sym c.in-Some.is ∙ c.in_ok-land.ensures.found late (tables h) held in
     let named = found_number (λ (p : Parcel). p.id) a.parcel (parcels h) c.in-Some.land (sym found) in
@@ -40,10 +40,10 @@ returns-clause-model g c = λ doubt h held t.
     let facts = rw named at (c.in_ok-facts.ensures.facts later h kept there) in
     let allowed = rw facts at (sym c.in_default-denial.is ∙ c.denial.ensures) in
     let kept_2 = c.facts_on_parcel.ensures.read.kept (tables h) kept in
-    let reason = rw named at (c.in_ok-reason.ensures.reason latest h a.day a.caller.now.id kept_2 there) in
-    let done = c.carry_out.ensures.model h (entry_of h a.day a.caller.now.id (Transfer a.parcel a.to)) (c.against_transfer.ensures.read.kept (tables h) kept_2)
-    (λ none. let s = transfer_suits h a.day a.caller.now.id a.parcel a.to c.in-Some.land (sym found) (sym reason ∙ none) in
-    (refl, record { suits = s; in_time = t }, transfer_more h a.day a.caller.now.id a.parcel a.to)) in
+    let reason = rw named at (c.in_ok-admitted.ensures.reason latest h a.day a.caller.now.id kept_2 there) in
+    let done = c.carry_out.ensures.model h (entry_of h a.day a.caller.now.id (Transfer a.parcel a.to)) (c.admit_transfer.ensures.read.kept (tables h) kept_2)
+    (λ number is_ok. let s = transfer_suits h a.day a.caller.now.id a.parcel a.to c.in-Some.land (sym found) (sym reason ∙ none_against _ number is_ok) in
+    (number_is _ number _ c.in_ok-admitted.ensures.number is_ok, record { suits = s; in_time = t }, transfer_more h a.day a.caller.now.id a.parcel a.to)) in
     rw (transfer_judged a.policy.now h a.day a.caller.now a.parcel a.to c.in-Some.land (sym found)
     ∙ allowed_outcome a.policy.now h a.day a.caller.now (Transfer a.parcel a.to) (decision a.policy.now (parcel_facts h a.caller.now a.parcel Office action.Transfer)) allowed)
     (rw reason at done)

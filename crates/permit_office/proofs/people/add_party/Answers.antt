@@ -1,13 +1,13 @@
-use Rattle.std.proofs.Common.{◌≡◌, ap, ◌∙◌, sym, refl, inl, arith}
+use Rattle.std.proofs.Common.{◌≡◌, ◌+◌, ap, ◌∙◌, sym, refl, inl, arith}
 use Rattle.permit_base.specs.declared.request.Request.TheVariants.{AddParty}
-use Rattle.std.specs.Prelude.{Result, Ok}
+use Rattle.std.specs.Prelude.{Some, Result, Ok}
 use Rattle.permit_base.specs.Actions.{adding_action}
 use Rattle.permit_model.specs.Caller.{Party}
 use Rattle.permit_model.specs.Tables.{Desk, tables}
 use Rattle.permit_model.specs.Facts.{office_facts}
 use Rattle.permit_model.specs.Policy.{decision}
 use Rattle.permit_model.specs.Machine.{entry_of}
-use Rattle.permit_office.proofs.Deciding.{denied_outcome, allowed_outcome, party_suits, wrapped}
+use Rattle.permit_office.proofs.Deciding.{denied_outcome, allowed_outcome, party_suits, none_against, number_is}
 use Rattle.permit_office.proofs.Tables.{party_more}
 use Rattle.permit_office.proofs.people.add_party.Goals as goal
 
@@ -24,15 +24,15 @@ returns-in-Some-clause-model g c = λ doubt h is held e t.
 
 pub returns-clause-model : goal.returns-clause-model
 returns-clause-model g c = λ doubt h is held e t.
-    let late : (g.S.Store.view c.against_party.new.store).doubt ≡ 0 = omega arith in
+    let late : (g.S.Store.view c.admit_party.new.store).doubt ≡ 0 = omega arith in
     let role = ap (λ (p : Party). p.role) c.caller.view_is in
     let a = c.args in
     let allowed = rw (c.office.ensures, role, c.adding.ensures) at (sym c.in_default.is ∙ c.denial.ensures) in
     let digest = same_ok c.digest.result _ _ c.in-Ok.is c.digest.ensures in
-    let reason = c.in_ok-reason.ensures.reason late h a.day a.caller.now.id a.name.now a.role a.token.now held e digest in
-    let desk = ap (λ (d : Desk). d.parties) (c.desk.view_is ∙ e) in
-    let done = c.carry_out.ensures.model h (entry_of h a.day a.caller.now.id (AddParty a.name.now a.role a.token.now)) (c.against_party.ensures.read.kept (tables h) held)
-    (λ none. let s = party_suits h a.day a.caller.now.id a.name.now a.role a.token.now _ digest (sym reason ∙ none) in
-    (wrapped c.desk.inside.parties _ desk s.1, record { suits = s.0; in_time = t }, party_more h a.day a.caller.now.id a.name.now a.role a.token.now _ digest)) in
+    let reason = c.in_ok-admitted.ensures.reason late h a.day a.caller.now.id a.name.now a.role a.token.now held e digest in
+    let count = ap (λ (d : Desk). Some (d.parties + 1)) e in
+    let done = c.carry_out.ensures.model h (entry_of h a.day a.caller.now.id (AddParty a.name.now a.role a.token.now)) (c.admit_party.ensures.read.kept (tables h) held)
+    (λ number is_ok. let s = party_suits h a.day a.caller.now.id a.name.now a.role a.token.now _ digest (sym reason ∙ none_against _ number is_ok) in
+    (number_is _ number _ c.in_ok-admitted.ensures.number is_ok ∙ count, record { suits = s; in_time = t }, party_more h a.day a.caller.now.id a.name.now a.role a.token.now _ digest)) in
     rw (allowed_outcome a.policy.now h a.day a.caller.now (AddParty a.name.now a.role a.token.now) (decision a.policy.now (office_facts a.caller.now.role (adding_action a.role))) allowed)
     (rw reason at done)
