@@ -22,7 +22,7 @@ use Rattle.permit_sql_rows.specs.Schema.{office_schema}
 use Rattle.permit_sql_rows.specs.Rows.{int, shown_party, shown_parcel, shown_file, shown_interest, shown_paper}
 use Rattle.permit_sql_rows.specs.Kept.{Keeps, IsNamed}
 use Rattle.permit_sql_rows.specs.Typed.{IsParty, IsParcel, IsInterest, IsFile, IsPaper}
-use Rattle.permit_sql.specs.Taken.{TookAll, Handed}
+use Rattle.permit_sql.specs.Taken.{TookAll, TookRows}
 use Rattle.permit_sql.specs.Found.{IsNumbered, IsRising, IsGoodFile, counted_in, AreTyped}
 use Rattle.permit_sql.specs.declared.check.Parties.{Parties}
 use Rattle.permit_sql.specs.declared.check.Parcels.{Parcels}
@@ -78,7 +78,7 @@ module _ {S X T : Type 0} (g : Ghosts S) (old new : Held S) (t : Tables) (k : Ke
     (next : (a b : T) (x : X) (xs : List X) → Fits a (x ∷ xs) → took a (shown x) b true → Fits b xs)
     (stop : (a b : T) (x : X) (xs : List X) → Fits a (x ∷ xs) → took a (shown x) b false → IsExcused b) where
   pub all_or_excused : (a b : T) (all : Bool) → ((was late : State) → Keeps t was.now → (rows : List Row) → Shown sql [] was late rows → (xs : List X) × (rows ≡ map shown xs) × Fits a xs)
-      → Handed took g sql [] old new a b all → (IsTrue all × Fits b []) ⊎ IsExcused b
+      → TookRows took g sql [] old new a b all → (IsTrue all × Fits b []) ⊎ IsExcused b
   all_or_excused a b true answer h =
       let kept = subst (λ (db : Database). Keeps t db) (sym h.2.0.now_is) k in
       let it = answer (state g h.1) (state g new) kept h.0 h.3 in
@@ -102,7 +102,7 @@ took_with (inr lacks) none = absurd (true≢false (sym lacks ∙ none))
 -- ---- the six tables
 
 module _ {S : Type 0} (g : Ghosts S) (old new : Held S) (t : Tables) (typed : AreTyped t) (k : Keeps t (state g old).now) where
-  pub parties_taken : (a b : Parties) (all : Bool) → a.count ≡ 0 → Handed party_took g each_party [] old new a b all → (IsTrue all × (b.count ≡ t.desk.parties)) ⊎ IsTrue b.lacks_memory
+  pub parties_taken : (a b : Parties) (all : Bool) → a.count ≡ 0 → TookRows party_took g each_party [] old new a b all → (IsTrue all × (b.count ≡ t.desk.parties)) ⊎ IsTrue b.lacks_memory
   parties_taken a b all none h =
       after (all_or_excused g old new t k each_party _ each_party_is shown_party party_took Fits (λ d. IsTrue d.lacks_memory) next (λ a b p ps fits refuses. refuses p fits.0.0 refl fits.1.0) a b all answer h)
     where
@@ -124,7 +124,7 @@ module _ {S : Type 0} (g : Ghosts S) (old new : Held S) (t : Tables) (typed : Ar
       after (inl it) = let e : b.count + 0 ≡ t.desk.parties = it.1.2 in inl (it.0, omega (arith, e))
       after (inr lacks) = inr lacks
 
-  pub parcels_taken : (a b : Parcels) (all : Bool) → a.count ≡ 0 → Handed parcel_took g each_parcel [] old new a b all → (IsTrue all × (b.count ≡ t.desk.parcels)) ⊎ IsTrue b.lacks_memory
+  pub parcels_taken : (a b : Parcels) (all : Bool) → a.count ≡ 0 → TookRows parcel_took g each_parcel [] old new a b all → (IsTrue all × (b.count ≡ t.desk.parcels)) ⊎ IsTrue b.lacks_memory
   parcels_taken a b all none h =
       after (all_or_excused g old new t k each_parcel _ each_parcel_is shown_parcel parcel_took Fits (λ d. IsTrue d.lacks_memory) next (λ a b p ps fits refuses. refuses p fits.0.0 refl fits.1.0) a b all answer h)
     where
@@ -146,7 +146,7 @@ module _ {S : Type 0} (g : Ghosts S) (old new : Held S) (t : Tables) (typed : Ar
       after (inl it) = let e : b.count + 0 ≡ t.desk.parcels = it.1.2 in inl (it.0, omega (arith, e))
       after (inr lacks) = inr lacks
 
-  pub interests_taken : (a b : Interests) (all : Bool) → Handed interest_took g each_interest [] old new a b all → IsTrue all
+  pub interests_taken : (a b : Interests) (all : Bool) → TookRows interest_took g each_interest [] old new a b all → IsTrue all
   interests_taken a b all h =
       after (all_or_excused g old new t k each_interest _ each_interest_is shown_interest interest_took (λ d is. AllByRecursion IsInterest is) (λ d. ⊥) (λ a b i is fits h. fits.1) (λ a b i is fits refuses. refuses i fits.0 refl) a b all
       (λ was late kept rows h. interests_shown was late t typed kept rows h) h)
@@ -158,7 +158,7 @@ module _ {S : Type 0} (g : Ghosts S) (old new : Held S) (t : Tables) (typed : Ar
   abbrev papers_of : List FileRow → List ℕ
   papers_of = map (λ f. f.state.papers)
 
-  pub files_taken : (a b : Files) (all : Bool) → a.counts.items ≡ [] → Handed file_took g each_file [] old new a b all → (IsTrue all × (b.counts.items ≡ papers_of t.files)) ⊎ IsTrue b.lacks_memory
+  pub files_taken : (a b : Files) (all : Bool) → a.counts.items ≡ [] → TookRows file_took g each_file [] old new a b all → (IsTrue all × (b.counts.items ≡ papers_of t.files)) ⊎ IsTrue b.lacks_memory
   files_taken a b all none h =
       after (all_or_excused g old new t k each_file _ each_file_is shown_file file_took Fits (λ d. IsTrue d.lacks_memory) next (λ a b f fs fits refuses. refuses f fits.0.0 refl fits.1.0) a b all answer h)
     where
@@ -195,7 +195,7 @@ module _ {S : Type 0} (g : Ghosts S) (old new : Held S) (t : Tables) (typed : Ar
       after (inl it) = inl (it.0, sym (append-nil b.counts.items) ∙ it.1.2)
       after (inr lacks) = inr lacks
 
-  pub papers_taken : (a b : Papers) (all : Bool) → a.file ≡ 0 → a.number ≡ 0 → a.counts.items ≡ papers_of t.files → Handed paper_took g each_paper [] old new a b all → IsTrue all ⊎ IsTrue b.lacks_memory
+  pub papers_taken : (a b : Papers) (all : Bool) → a.file ≡ 0 → a.number ≡ 0 → a.counts.items ≡ papers_of t.files → TookRows paper_took g each_paper [] old new a b all → IsTrue all ⊎ IsTrue b.lacks_memory
   papers_taken a b all no_file no_number has h =
       after (all_or_excused g old new t k each_paper _ each_paper_is shown_paper paper_took Fits (λ d. IsTrue d.lacks_memory) next stop a b all answer h)
     where
@@ -223,7 +223,7 @@ module _ {S : Type 0} (g : Ghosts S) (old new : Held S) (t : Tables) (typed : Ar
       after (inl it) = inl it.0
       after (inr lacks) = inr lacks
 
-  pub rowids_taken : (a b : Rowids) (all : Bool) → a.last ≡ None → Handed rowid_took g each_rowid [] old new a b all → IsTrue all ⊎ IsTrue b.is_strange
+  pub rowids_taken : (a b : Rowids) (all : Bool) → a.last ≡ None → TookRows rowid_took g each_rowid [] old new a b all → IsTrue all ⊎ IsTrue b.is_strange
   rowids_taken a b all none h =
       after (all_or_excused g old new t k each_rowid _ each_rowid_is (λ v. v ∷ []) rowid_took Fits (λ d. IsTrue d.is_strange) next stop a b all answer h)
     where

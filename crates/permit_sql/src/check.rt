@@ -8,7 +8,7 @@ ghost use Rattle.sqlite.specs.Held.{state};
 ghost use Rattle.permit_sql_rows.specs.Schema.{office_schema};
 ghost use Rattle.permit_model.specs.Tables.{Tables};
 ghost use Rattle.permit_sql_rows.specs.Kept.{IsFine, Keeps};
-ghost use Rattle.permit_sql.specs.Taken.{Handed};
+ghost use Rattle.permit_sql.specs.Taken.{TookRows};
 ghost use Rattle.permit_sql.specs.Found.{TookTable, TakesParty, TakesParcel, TakesInterest, RefusesParty, RefusesParcel, RefusesInterest, HasParties, HasParcels, HasInterests, AreTyped};
 
 use crate::each::{Taker, each_row};
@@ -28,7 +28,7 @@ pub(crate) fn takes_all<S: Alter, T: Taker>(
     requires calm { conn.old.in_transaction ≡ false }
     requires plain { IsPlain (understood office_schema sql.now) }
     ensures all { HasCleanDisk (state S.Store conn.new) → IfOk result (λ all. IsTrue all → ((state S.Store conn.old).now.schema ≡ office_schema) × TookTable T.Taker.took S.Store sql.now conn.old conn.new taker.old taker.new) }
-    ensures handed { HasCleanDisk (state S.Store conn.new) → IfOk result (λ all. Handed T.Taker.took S.Store sql.now [] conn.old conn.new taker.old taker.new all) }
+    ensures handed { HasCleanDisk (state S.Store conn.new) → IfOk result (λ all. TookRows T.Taker.took S.Store sql.now [] conn.old conn.new taker.old taker.new all) }
     ensures left { IsFine (state S.Store conn.new) → IsFine (state S.Store conn.old) × ((state S.Store conn.new).now ≡ (state S.Store conn.old).now) }
     ensures crash { Survives (state S.Store conn.old) (state S.Store conn.new) (λ _. ⊥) }
     ensures calm { conn.new.in_transaction ≡ false }

@@ -8,7 +8,7 @@ ghost use Rattle.sqlite.specs.Held.{state};
 ghost use Rattle.sqlite.specs.Given.{IsPlain};
 ghost use Rattle.sqlite.specs.Listing.{understood};
 ghost use Rattle.permit_sql_rows.specs.Kept.{IsFine};
-ghost use Rattle.permit_sql.specs.Taken.{Handed};
+ghost use Rattle.permit_sql.specs.Taken.{TookRows};
 
 use sqlite::{Alter, Connection, Error, ErrorCode, Row};
 use sqlite_value::value::ValueRef;
@@ -30,7 +30,7 @@ pub fn each_row<S: Alter, T: Taker>(
 ) -> Result<bool, Error>
     requires calm { conn.old.in_transaction ≡ false }
     requires plain { IsPlain (understood conn.old.schema sql.now) }
-    ensures ok { HasCleanDisk (state S.Store conn.new) → IfOk result (λ all. Handed T.Taker.took S.Store sql.now (bound params.now) conn.old conn.new taker.old taker.new all) }
+    ensures ok { HasCleanDisk (state S.Store conn.new) → IfOk result (λ all. TookRows T.Taker.took S.Store sql.now (bound params.now) conn.old conn.new taker.old taker.new all) }
     ensures left { IsFine (state S.Store conn.new) → IsFine (state S.Store conn.old) × ((state S.Store conn.new).now ≡ (state S.Store conn.old).now) }
     ensures crash { Survives (state S.Store conn.old) (state S.Store conn.new) (λ _. ⊥) }
     ensures calm { conn.new.in_transaction ≡ false }

@@ -17,20 +17,20 @@ use crate::check::{check_interests, check_parcels, check_parties};
 use crate::check_files::{check_files, check_papers, check_rowids};
 use permit_sql_rows::decode::desk_in;
 use permit_sql_rows::fields::whole_number;
-use permit_sql_rows::schema::{has_desk, is_office};
+use permit_sql_rows::schema::{VERSION, has_desk, is_office};
 use permit_sql_statements::query::read_all;
 use permit_store::rows::Desk;
 use permit_store::store::{Got, OpenError, StoreError};
 use sqlite::{Alter, Connection, Row};
 use std::alloc::Global;
 
-/// Whether a field is a number, and another than 1.
+/// Whether a field is a number, and another than the version.
 fn is_other(row: &Row, at: usize) -> bool
     ensures other { IsTrue result → IsOther (column row.now at) }
     ensures told { IsOther (column row.now at) → IsTrue result }
 {
     match whole_number(row, at) {
-        Some(number) => number != 1,
+        Some(number) => number != i64::from(VERSION),
         None => false,
     }
 }
@@ -55,7 +55,7 @@ fn desk_seen<S: Alter>(conn: &mut Connection<S>) -> Got<Vec<Row>>
     }
 }
 
-/// Whether the desk's one row says another version than 1.
+/// Whether the desk's one row says another version than this one.
 fn has_other_version<S: Alter>(conn: &mut Connection<S>) -> Got<bool>
     requires calm { conn.old.in_transaction ≡ false }
     requires desk { slice_get (state S.Store conn.old).now.schema.tables 0 ≡ Some desk_table }
@@ -73,7 +73,7 @@ fn has_other_version<S: Alter>(conn: &mut Connection<S>) -> Got<bool>
     }
 }
 
-/// The desk of an answer of one row, of number 1 and version 1, within its limits.
+/// The desk of an answer of one row, of number 1 and this version, within its limits.
 fn only_desk(rows: &[Row]) -> Option<Desk>
     ensures back { IfSome result (λ d. (q : _) × (rows.now ≡ q ∷ []) × (firsts 6 0 q ≡ shown_desk d)) }
     ensures typed { IfSome result IsDesk }
@@ -85,18 +85,18 @@ fn only_desk(rows: &[Row]) -> Option<Desk>
     }
 }
 
-/// The desk, where it has one row, of number 1 and version 1, within its limits. With another schema it fails.
+/// The desk, where it has one row, of number 1 and this version, within its limits.
 fn find_desk<S: Alter>(conn: &mut Connection<S>) -> Got<Option<Desk>>
     requires calm { conn.old.in_transaction ≡ false }
-    ensures good { IsFine (state S.Store conn.new) → IfOk result (λ o. IfSome o (λ d. HasDesk d ((state S.Store conn.old).now.trees 0))) }
+    requires desk { slice_get (state S.Store conn.old).now.schema.tables 0 ≡ Some desk_table }
+    ensures good { IsFine (state S.Store conn.new) → (state S.Store conn.old).now.schema ≡ office_schema → IfOk result (λ o. IfSome o (λ d. HasDesk d ((state S.Store conn.old).now.trees 0))) }
     ensures kept { IsFine (state S.Store conn.new) → (t : Tables) → AreTyped t → Keeps t (state S.Store conn.old).now → IfOk result (λ o. o ≡ Some t.desk) }
     ensures left { IsFine (state S.Store conn.new) → IsFine (state S.Store conn.old) × ((state S.Store conn.new).now ≡ (state S.Store conn.old).now) }
     ensures crash { Survives (state S.Store conn.old) (state S.Store conn.new) (λ _. ⊥) }
     ensures calm { conn.new.in_transaction ≡ false }
 {
-    if !is_office(conn.schema()) {
-        return Err(StoreError);
-    }
+    // Its contract says that the database obeys the schema.
+    let _schema = conn.schema();
     let rows = desk_seen(conn)?;
     Ok(only_desk(rows.as_slice()))
 }
@@ -140,6 +140,7 @@ fn has_sound_files<S: Alter>(conn: &mut Connection<S>, alloc: Global, desk: Desk
 /// Whether the rows are typed tables.
 fn has_sound_rows<S: Alter>(conn: &mut Connection<S>, alloc: Global) -> Got<bool>
     requires calm { conn.old.in_transaction ≡ false }
+    requires desk { slice_get (state S.Store conn.old).now.schema.tables 0 ≡ Some desk_table }
     ensures good { IsFine (state S.Store conn.new) → (state S.Store conn.old).now.schema ≡ office_schema → IfOk result (λ good. IsTrue good → KeepsTyped (state S.Store conn.old).now) }
     ensures kept { IsFine (state S.Store conn.new) → KeepsTyped (state S.Store conn.old).now → IfOk result IsTrue }
     ensures left { IsFine (state S.Store conn.new) → IsFine (state S.Store conn.old) × ((state S.Store conn.new).now ≡ (state S.Store conn.old).now) }

@@ -22,9 +22,9 @@ or_zero None = int 0
 or_zero (Some n) = int n
 
 -- a day; -1 stands for none
-abbrev pub or_less : Option ℕ → Value
-or_less None = Int (negsuc 0)
-or_less (Some n) = int n
+abbrev pub or_minus_one : Option ℕ → Value
+or_minus_one None = Int (negsuc 0)
+or_minus_one (Some n) = int n
 
 -- a party that another table may not name; Null stands for none
 abbrev pub or_null : Option ℕ → Value
@@ -33,7 +33,7 @@ or_null (Some n) = int n
 
 -- a step by its code; -1 stands for none
 abbrev pub step_value : Option Step → Value
-step_value step = or_less (option_map step_code step)
+step_value step = or_minus_one (option_map step_code step)
 
 -- 1 or 0
 abbrev pub flag : Bool → Value
@@ -54,8 +54,8 @@ shown_parcel p = int p.id ∷ Text p.lot ∷ Text p.address ∷ int p.owner ∷ 
 abbrev pub shown_file : FileRow → Row
 shown_file f =
     int f.id ∷ int f.state.parcel ∷ int f.state.applicant ∷ or_zero f.state.contractor ∷ or_zero f.state.reviewer ∷ or_zero f.state.inspector ∷ int (kind_code f.state.kind)
-    ∷ int f.valuation ∷ Text f.description ∷ int f.state.filed ∷ int (stage_code f.state.stage) ∷ or_less f.state.deadline ∷ int f.state.done ∷ step_value f.state.request
-    ∷ or_less f.state.requested ∷ or_zero f.state.ask ∷ flag f.state.stopped ∷ int f.state.notices ∷ int f.state.papers ∷ or_less f.state.temporary ∷ []
+    ∷ int f.valuation ∷ Text f.description ∷ int f.state.filed ∷ int (stage_code f.state.stage) ∷ or_minus_one f.state.deadline ∷ int f.state.done ∷ step_value f.state.request
+    ∷ or_minus_one f.state.requested ∷ or_zero f.state.ask ∷ flag f.state.stopped ∷ int f.state.notices ∷ int f.state.papers ∷ or_minus_one f.state.temporary ∷ []
 
 -- of a file as a selection finds it
 abbrev pub shown_found : Found → Row
@@ -69,21 +69,25 @@ shown_paper p = int p.file ∷ int p.number ∷ int p.day ∷ int p.author ∷ i
 abbrev pub shown_interest : Interest → Row
 shown_interest i = int i.parcel ∷ int i.party ∷ []
 
--- of the desk, whose version is 1
+-- the version of the schema
+abbrev pub version : ℕ
+version = 1
+
+-- of the desk, which keeps the version
 abbrev pub shown_desk : Desk → Row
-shown_desk d = int 1 ∷ int 1 ∷ int d.last ∷ int d.parties ∷ int d.parcels ∷ int d.files ∷ []
+shown_desk d = int 1 ∷ int version ∷ int d.last ∷ int d.parties ∷ int d.parcels ∷ int d.files ∷ []
 
 -- what sets a file's row: its number, and what may change in it
 abbrev pub row_params : ℕ → FileState → Row
 row_params id s =
-    int id ∷ or_zero s.contractor ∷ or_zero s.reviewer ∷ or_zero s.inspector ∷ int (kind_code s.kind) ∷ int s.filed ∷ int (stage_code s.stage) ∷ or_less s.deadline ∷ int s.done ∷ step_value s.request
-    ∷ or_less s.requested ∷ or_zero s.ask ∷ flag s.stopped ∷ int s.notices ∷ int s.papers ∷ or_less s.temporary ∷ []
+    int id ∷ or_zero s.contractor ∷ or_zero s.reviewer ∷ or_zero s.inspector ∷ int (kind_code s.kind) ∷ int s.filed ∷ int (stage_code s.stage) ∷ or_minus_one s.deadline ∷ int s.done ∷ step_value s.request
+    ∷ or_minus_one s.requested ∷ or_zero s.ask ∷ flag s.stopped ∷ int s.notices ∷ int s.papers ∷ or_minus_one s.temporary ∷ []
 
 -- ---- the rows in the trees: a number that is the rowid comes before the columns, and Null stands in its column
 
 -- the desk's one row
 abbrev pub desk_row : Desk → Row
-desk_row d = int 1 ∷ Null ∷ int 1 ∷ int d.last ∷ int d.parties ∷ int d.parcels ∷ int d.files ∷ []
+desk_row d = int 1 ∷ Null ∷ int version ∷ int d.last ∷ int d.parties ∷ int d.parcels ∷ int d.files ∷ []
 
 -- the row of a party
 abbrev pub party_row : Party → Row
@@ -97,5 +101,5 @@ parcel_row p = int p.id ∷ Null ∷ Text p.lot ∷ Text p.address ∷ int p.own
 abbrev pub file_row : FileRow → Row
 file_row f =
     int f.id ∷ Null ∷ int f.state.parcel ∷ int f.state.applicant ∷ or_zero f.state.contractor ∷ or_zero f.state.reviewer ∷ or_zero f.state.inspector ∷ int (kind_code f.state.kind)
-    ∷ int f.valuation ∷ Text f.description ∷ int f.state.filed ∷ int (stage_code f.state.stage) ∷ or_less f.state.deadline ∷ int f.state.done ∷ step_value f.state.request
-    ∷ or_less f.state.requested ∷ or_zero f.state.ask ∷ flag f.state.stopped ∷ int f.state.notices ∷ int f.state.papers ∷ or_less f.state.temporary ∷ []
+    ∷ int f.valuation ∷ Text f.description ∷ int f.state.filed ∷ int (stage_code f.state.stage) ∷ or_minus_one f.state.deadline ∷ int f.state.done ∷ step_value f.state.request
+    ∷ or_minus_one f.state.requested ∷ or_zero f.state.ask ∷ flag f.state.stopped ∷ int f.state.notices ∷ int f.state.papers ∷ or_minus_one f.state.temporary ∷ []

@@ -123,7 +123,7 @@ key_indexes = automatic (codes "sqlite_autoindex_party_1") 2 1 (4 ∷ []) ∷ au
 abbrev pub search_indexes : List Index
 search_indexes = cell_index ∷ applicant_index ∷ contractor_index ∷ reviewer_index ∷ inspector_index ∷ parcel_index ∷ owner_index ∷ interested_index ∷ []
 
--- the schema of the office, version 1
+-- the schema of the office
 abbrev pub office_schema : Schema
 office_schema = record { tables = all_tables; indexes = key_indexes ++ search_indexes; views = [] }
 

@@ -1,13 +1,14 @@
 -- Rows within the limits of the program's types.
 use Rattle.std.specs.Prelude.{◌≡◌, ℕ, zero, suc, ◌<◌, ◌≤◌, ◌^◌, IsTrue, IfSome, IsUtf8, [], ◌∷◌}
 use Rattle.sqlite_value.specs.Order.{Row, column}
+use Rattle.permit_base.specs.Limits.{most_records, most_papers}
 use Rattle.permit_base.specs.Texts.{is_printable, is_lot, is_digest}
 use Rattle.permit_model.specs.Codes.{kind_code, stage_code}
 use Rattle.permit_model.specs.Caller.{Party}
 use Rattle.permit_model.specs.Parcels.{Parcel, Interest}
 use Rattle.permit_model.specs.SoundState.{IsSoundState}
 use Rattle.permit_model.specs.Tables.{Desk, FileRow, State, Paper}
-use Rattle.permit_sql_rows.specs.Rows.{int, or_zero, or_less, step_value, flag}
+use Rattle.permit_sql_rows.specs.Rows.{int, or_zero, or_minus_one, step_value, flag}
 
 -- so many values of a row, from a place on
 abbrev pub firsts : ℕ → ℕ → Row → Row
@@ -16,7 +17,7 @@ firsts (suc n) at row = column row at ∷ firsts n (suc at) row
 
 -- the number of a party, a parcel or a file
 abbrev pub IsObject : ℕ → Type 0
-IsObject n = (0 < n) × (n < 100000)
+IsObject n = (0 < n) × (n ≤ most_records)
 
 -- a count of 32 bits
 abbrev pub IsCount : ℕ → Type 0
@@ -71,7 +72,7 @@ pub record IsFile (f : FileRow) : Type 0 where
 
 pub record IsPaper (p : Paper) : Type 0 where
   pub file : IsObject p.file
-  pub number : (0 < p.number) × (p.number ≤ 9999)
+  pub number : (0 < p.number) × (p.number ≤ most_papers)
   pub day : p.day ≤ 100000
   pub author : IsObject p.author
   pub days : IsCount p.days
@@ -88,12 +89,12 @@ pub record ShowsState (row : Row) (s : State) : Type 0 where
   pub kind : column row 6 ≡ int (kind_code s.kind)
   pub filed : column row 9 ≡ int s.filed
   pub stage : column row 10 ≡ int (stage_code s.stage)
-  pub deadline : column row 11 ≡ or_less s.deadline
+  pub deadline : column row 11 ≡ or_minus_one s.deadline
   pub done : column row 12 ≡ int s.done
   pub request : column row 13 ≡ step_value s.request
-  pub requested : column row 14 ≡ or_less s.requested
+  pub requested : column row 14 ≡ or_minus_one s.requested
   pub ask : column row 15 ≡ or_zero s.ask
   pub stopped : column row 16 ≡ flag s.stopped
   pub notices : column row 17 ≡ int s.notices
   pub papers : column row 18 ≡ int s.papers
-  pub temporary : column row 19 ≡ or_less s.temporary
+  pub temporary : column row 19 ≡ or_minus_one s.temporary

@@ -12,17 +12,19 @@ ghost use Rattle.permit_sql_rows.specs.Kept.{IsNamed};
 ghost use Rattle.permit_sql_rows.specs.Typed.{firsts, IsObject, IsDesk, IsParty, IsParcel, IsInterest, IsPaper, IsState, IsFile, ShowsState};
 
 use crate::fields::{
-    Read, RowFault, cents, day, day_or_less, days_or_zero, digest, file_number, kind, lot, number,
-    number_or_less, paper_number, parcel_number, party_number, party_or_null, party_or_zero,
-    readable, role, short_number, small_number, sort, stage, step_or_less, string, text, truth,
+    Read, RowFault, cents, day, day_or_minus_one, days_or_zero, digest, file_number, kind, lot,
+    number, number_or_minus_one, paper_number, parcel_number, party_number, party_or_null,
+    party_or_zero, readable, role, short_number, small_number, sort, stage, step_or_minus_one,
+    string, text, truth,
 };
+use crate::schema::VERSION;
 use permit_base::values::{ParcelId, PartyId};
 use permit_core::restore::StateFields;
 use permit_core::state::FileState;
 use permit_store::rows::{Desk, FileRow, Found, Paper, Parcel, Party};
 use sqlite::Row;
 
-/// The desk's row, which is number 1 and of version 1.
+/// The desk's row, which is number 1 and of this version.
 pub fn desk_in(row: &Row) -> Option<Desk>
     ensures read { (is : TheDesk) → row.now ≡ shown_desk is → IfSome result (λ d. d ≡ is) }
     ensures back { IfSome result (λ d. firsts 6 0 row.now ≡ shown_desk d) }
@@ -32,7 +34,7 @@ pub fn desk_in(row: &Row) -> Option<Desk>
     if number(row, 0)? != 1 {
         return None;
     }
-    if number(row, 1)? != 1 {
+    if number(row, 1)? != VERSION {
         return None;
     }
     Some(Desk {
@@ -142,15 +144,15 @@ fn fields_in(row: &Row) -> Option<StateFields>
         kind: kind(row, 6)?,
         filed: day(row, 9)?,
         stage: stage(row, 10)?,
-        deadline: number_or_less(row, 11)?,
+        deadline: number_or_minus_one(row, 11)?,
         done: small_number(row, 12)?,
-        request: step_or_less(row, 13)?,
-        requested: day_or_less(row, 14)?,
+        request: step_or_minus_one(row, 13)?,
+        requested: day_or_minus_one(row, 14)?,
         ask: days_or_zero(row, 15)?,
         stopped: truth(row, 16)?,
         notices: short_number(row, 17)?,
         papers: short_number(row, 18)?,
-        temporary: number_or_less(row, 19)?,
+        temporary: number_or_minus_one(row, 19)?,
     })
 }
 

@@ -3,9 +3,10 @@
 ghost use Rattle.std.specs.Prelude.{◌≡◌, ◌≢◌, ◌<◌, ◌≤◌, ◌^◌, ℕ, ℤ, IsUtf8, List, IfOk, IsSome, IsTrue, IfErr, Bool, Option, Some, None, IfSome, string_bytes, slice_get, option_map};
 ghost use Rattle.sqlite.specs.declared.types.Value.TheVariants.{Int, Text as TextValue};
 ghost use Rattle.sqlite_value.specs.Order.{column};
+ghost use Rattle.permit_base.specs.Limits.{most_papers};
 ghost use Rattle.permit_base.specs.Texts.{is_printable, is_lot, is_digest};
 ghost use Rattle.permit_base.specs.declared.words.Step.{Step as TheStep};
-ghost use Rattle.permit_sql_rows.specs.Rows.{int, or_zero, or_less, or_null, step_value, flag};
+ghost use Rattle.permit_sql_rows.specs.Rows.{int, or_zero, or_minus_one, or_null, step_value, flag};
 ghost use Rattle.permit_sql_rows.specs.Typed.{IsObject};
 ghost use Rattle.permit_model.specs.Codes.{role_code, kind_code, stage_code, sort_code, step_code};
 
@@ -58,10 +59,10 @@ pub(crate) fn long_number(row: &Row, at: usize) -> Option<u64>
 }
 
 /// A number where -1 stands for none.
-pub(crate) fn number_or_less(row: &Row, at: usize) -> Option<Option<u32>>
-    ensures read { (o : Option ℕ) → column row.now at ≡ or_less o → IfSome result (λ x. x ≡ o) }
-    ensures back { IfSome result (λ x. column row.now at ≡ or_less x) }
-    ensures some { (o : Option ℕ) → IfSome o (λ n. n < 2 ^ 32) → column row.now at ≡ or_less o → IsSome result }
+pub(crate) fn number_or_minus_one(row: &Row, at: usize) -> Option<Option<u32>>
+    ensures read { (o : Option ℕ) → column row.now at ≡ or_minus_one o → IfSome result (λ x. x ≡ o) }
+    ensures back { IfSome result (λ x. column row.now at ≡ or_minus_one x) }
+    ensures some { (o : Option ℕ) → IfSome o (λ n. n < 2 ^ 32) → column row.now at ≡ or_minus_one o → IsSome result }
 {
     let code = whole_number(row, at)?;
     if code == -1 {
@@ -132,7 +133,7 @@ pub(crate) fn file_number(row: &Row, at: usize) -> Option<FileId>
 pub(crate) fn paper_number(row: &Row, at: usize) -> Option<PaperNumber>
     ensures read { (n : ℕ) → column row.now at ≡ int n → IfSome result (λ x. x ≡ n) }
     ensures back { IfSome result (λ x. column row.now at ≡ int x) }
-    ensures some { (n : ℕ) → (0 < n) × (n ≤ 9999) → column row.now at ≡ int n → IsSome result }
+    ensures some { (n : ℕ) → (0 < n) × (n ≤ most_papers) → column row.now at ≡ int n → IsSome result }
 {
     PaperNumber::new(number(row, at)?)
 }
@@ -190,12 +191,12 @@ pub(crate) fn days_or_zero(row: &Row, at: usize) -> Option<Option<Days>>
 }
 
 /// A day, where -1 stands for none.
-pub(crate) fn day_or_less(row: &Row, at: usize) -> Option<Option<Day>>
-    ensures read { (o : Option ℕ) → column row.now at ≡ or_less o → IfSome result (λ x. x ≡ o) }
-    ensures back { IfSome result (λ x. column row.now at ≡ or_less x) }
-    ensures some { (o : Option ℕ) → IfSome o (λ n. n ≤ 100000) → column row.now at ≡ or_less o → IsSome result }
+pub(crate) fn day_or_minus_one(row: &Row, at: usize) -> Option<Option<Day>>
+    ensures read { (o : Option ℕ) → column row.now at ≡ or_minus_one o → IfSome result (λ x. x ≡ o) }
+    ensures back { IfSome result (λ x. column row.now at ≡ or_minus_one x) }
+    ensures some { (o : Option ℕ) → IfSome o (λ n. n ≤ 100000) → column row.now at ≡ or_minus_one o → IsSome result }
 {
-    match number_or_less(row, at)? {
+    match number_or_minus_one(row, at)? {
         None => Some(None),
         Some(number) => Some(Some(Day::new(number)?)),
     }
@@ -335,10 +336,10 @@ fn step_with(code: Option<u32>) -> Option<Option<Step>>
 }
 
 /// A step by its code, where -1 stands for none.
-pub(crate) fn step_or_less(row: &Row, at: usize) -> Option<Option<Step>>
+pub(crate) fn step_or_minus_one(row: &Row, at: usize) -> Option<Option<Step>>
     ensures read { (o : Option TheStep) → column row.now at ≡ step_value o → IfSome result (λ x. x ≡ o) }
     ensures back { IfSome result (λ x. column row.now at ≡ step_value x) }
     ensures some { (o : Option TheStep) → column row.now at ≡ step_value o → IsSome result }
 {
-    step_with(number_or_less(row, at)?)
+    step_with(number_or_minus_one(row, at)?)
 }

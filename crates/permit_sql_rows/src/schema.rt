@@ -27,6 +27,9 @@ use sqlite_schema::schema::{Action, Column, Index, Kind, Reference, Schema, Stam
 use sqlite_value::keys::{Collation, Order};
 use sqlite_value::value::{Bytes, Value};
 
+/// The version of the schema, which the desk keeps.
+pub const VERSION: u32 = 1;
+
 /// A column: its name, its type, and whether it has to hold a value.
 #[derive(Clone, Copy)]
 struct Field<'a> {

@@ -8,7 +8,7 @@ ghost use Rattle.sqlite_value.specs.Value.{owned};
 ghost use Rattle.permit_model.specs.Codes.{role_code as code_of_role};
 ghost use Rattle.permit_model.specs.Tables.{FileRow as TheRow, Paper as ThePaper};
 ghost use Rattle.permit_store.specs.Changes.{paper_of};
-ghost use Rattle.permit_sql_rows.specs.Rows.{int, or_zero, or_less, step_value, flag, shown_file, shown_paper, row_params};
+ghost use Rattle.permit_sql_rows.specs.Rows.{int, or_zero, or_minus_one, step_value, flag, shown_file, shown_paper, row_params};
 
 use crate::codes::{kind_code, role_code, sort_code, stage_code, step_code};
 use permit_base::values::{Cents, Day, Days, Digest, FileId, Lot, ParcelId, PartyId, Text};
@@ -69,8 +69,8 @@ fn days_or_zero<'a>(days: Option<Days>) -> ValueRef<'a>
 }
 
 /// A number, where -1 stands for none.
-fn number_or_less<'a>(n: Option<u32>) -> ValueRef<'a>
-    ensures { bound_value (owned result) ≡ or_less n }
+fn number_or_minus_one<'a>(n: Option<u32>) -> ValueRef<'a>
+    ensures { bound_value (owned result) ≡ or_minus_one n }
 {
     match n {
         None => ValueRef::Int(-1),
@@ -79,8 +79,8 @@ fn number_or_less<'a>(n: Option<u32>) -> ValueRef<'a>
 }
 
 /// A day, where -1 stands for none.
-fn day_or_less<'a>(day: Option<Day>) -> ValueRef<'a>
-    ensures { bound_value (owned result) ≡ or_less day }
+fn day_or_minus_one<'a>(day: Option<Day>) -> ValueRef<'a>
+    ensures { bound_value (owned result) ≡ or_minus_one day }
 {
     match day {
         None => ValueRef::Int(-1),
@@ -89,7 +89,7 @@ fn day_or_less<'a>(day: Option<Day>) -> ValueRef<'a>
 }
 
 /// A step by its code, where -1 stands for none.
-fn step_or_less<'a>(step: Option<Step>) -> ValueRef<'a>
+fn step_or_minus_one<'a>(step: Option<Step>) -> ValueRef<'a>
     ensures { bound_value (owned result) ≡ step_value step }
 {
     match step {
@@ -179,15 +179,15 @@ pub fn file_values<'a>(
         text(description.as_str()),
         number(file.filed.get()),
         number(stage_code(file.stage)),
-        number_or_less(file.deadline),
+        number_or_minus_one(file.deadline),
         number(u32::from(file.done)),
-        step_or_less(file.request),
-        day_or_less(file.requested),
+        step_or_minus_one(file.request),
+        day_or_minus_one(file.requested),
         days_or_zero(file.ask),
         truth(file.stopped),
         number(u32::from(file.notices)),
         number(u32::from(file.papers)),
-        number_or_less(file.temporary),
+        number_or_minus_one(file.temporary),
     ]
 }
 
@@ -203,15 +203,15 @@ pub fn row_values<'a>(id: FileId, file: &StateFields) -> [ValueRef<'a>; 16]
         number(kind_code(file.kind)),
         number(file.filed.get()),
         number(stage_code(file.stage)),
-        number_or_less(file.deadline),
+        number_or_minus_one(file.deadline),
         number(u32::from(file.done)),
-        step_or_less(file.request),
-        day_or_less(file.requested),
+        step_or_minus_one(file.request),
+        day_or_minus_one(file.requested),
         days_or_zero(file.ask),
         truth(file.stopped),
         number(u32::from(file.notices)),
         number(u32::from(file.papers)),
-        number_or_less(file.temporary),
+        number_or_minus_one(file.temporary),
     ]
 }
 

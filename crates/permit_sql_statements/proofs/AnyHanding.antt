@@ -23,7 +23,7 @@ use Rattle.permit_store.specs.Handing.{AreAmong, found_by_any, is_found_by_any}
 use Rattle.permit_sql_rows.specs.Schema.{office_schema}
 use Rattle.permit_sql_rows.specs.Kept.{Keeps, Shows}
 use Rattle.permit_sql_rows.specs.Rows.{int}
-use Rattle.permit_sql_statements.specs.Handed.{Gave}
+use Rattle.permit_sql_statements.specs.Gave.{Gave}
 use Rattle.permit_sql_statements.specs.RouteTexts.{select_every}
 use Rattle.permit_sql_statements.specs.Selected.{ShowWhere, ShowsEach, leader, relation_of, text_alone}
 use Rattle.permit_sql_statements.proofs.AloneTexts.{query_alone, means_alone}

@@ -1,5 +1,5 @@
 -- What the statements of a creation make of an empty database.
-use Rattle.std.proofs.Common.{◌≡◌, ℕ, arith, IsPermutation, true, false, List, [], ◌∷◌, ◌++◌, map, drop, None, Ok, Result, refl, sym, ap, subst, ◌∙◌}
+use Rattle.std.proofs.Common.{◌≡◌, ℕ, arith, IsPermutation, true, false, List, [], ◌∷◌, ◌++◌, map, drop, take, slice_get, Some, None, Ok, Result, refl, sym, ap, subst, ◌∙◌}
 use Rattle.sqlite_tied.specs.Compute.{everything}
 use Rattle.sqlite.specs.Listing.{understood}
 use Rattle.sqlite_resolve.specs.Compile.{table_defined_by, index_defined_by}
@@ -13,17 +13,17 @@ use Rattle.sqlite_trees.specs.Tree.{Trees, put_row}
 use Rattle.sqlite_trees.specs.declared.store.Store.{Ghosts}
 use Rattle.sqlite_keyed.proofs.ListLemmas.{IsPermutation-same}
 use Rattle.sqlite.specs.Effect.{Database}
-use Rattle.sqlite.specs.Does.{Tally, Does, lacks_sequence}
+use Rattle.sqlite.specs.Does.{Tally, Does, AtPlace, Defines, MakesIndex, lacks_sequence}
 use Rattle.sqlite.specs.State.{State, Writes, Executes, mode_of}
 use Rattle.sqlite.specs.Held.{Held, state}
 use Rattle.sqlite.proofs.Callers.{runs_as, command_of, statement_of, IsPlain}
 use Rattle.permit_model.specs.Caller.{Party}
 use Rattle.permit_model.specs.Tables.{Desk, Tables}
-use Rattle.permit_sql_rows.specs.Schema.{desk_table, party_table, parcel_table, interest_table, file_table, paper_table, all_tables, key_indexes, cell_index, applicant_index, contractor_index, reviewer_index, inspector_index, parcel_index, owner_index, interested_index, office_schema, empty_schema, table_schema}
+use Rattle.permit_sql_rows.specs.Schema.{desk_table, party_table, parcel_table, interest_table, file_table, paper_table, all_tables, key_indexes, search_indexes, cell_index, applicant_index, contractor_index, reviewer_index, inspector_index, parcel_index, owner_index, interested_index, office_schema, empty_schema, table_schema}
 use Rattle.permit_sql_rows.specs.Rows.{int, desk_row, party_row, shown_party}
 use Rattle.permit_sql_rows.specs.Kept.{AreKeyed, AreInTrees, Keeps}
-use Rattle.permit_sql_statements.specs.Steps.{RanAll}
-use Rattle.permit_sql_statements.specs.Founding.{founding_steps}
+use Rattle.permit_sql_statements.specs.Statements.{RanAll}
+use Rattle.permit_sql_statements.specs.Founding.{founding_statements}
 use Rattle.permit_sql_statements.specs.Texts.{create_desk, create_party, create_parcel, create_interest, create_file, create_paper, index_cell, index_applicant, index_contractor, index_reviewer, index_inspector, index_parcel, index_owner, index_interested}
 use Rattle.permit_sql_statements.proofs.Permuted.{put_more}
 use Rattle.permit_sql_statements.proofs.Writes.{founds_desk, adds_party}
@@ -127,306 +127,68 @@ more s text table m old new count was h =
     let it = makes s text table m old new count was.schema h in
     record { schema = it.schema; blank = blank_more s.tables (record table { tree = next_tree s }) old.now.trees new.now.trees was.blank it.others it.empty }
 
-abbrev pub schema_1 : Schema
-schema_1 = record { tables = all_tables; indexes = key_indexes ++ cell_index ∷ []; views = [] }
+-- ---- the indexes
 
-cell_defined : index_defined_by file_table index_cell ≡ Ok (record cell_index { tree = 0 })
-unfolding understood everything
-cell_defined = refl
+-- the text makes this index on the table at this place, under this schema, and then it is that one
+record Indexes (s : Schema) (text : List ℕ) (at : ℕ) (table : Table) (index : Index) (made : Schema) : Type 0 where
+  there : slice_get s.tables at ≡ Some table
+  command : command_of (understood s text) ≡ CreateIndex at
+  statement : statement_of text (understood s text) ≡ text
+  plain : IsPlain (understood s text)
+  defines : index_defined_by table text ≡ Ok index
+  whole : indexed s table index ≡ made
 
-cell_whole : indexed table_schema file_table (record cell_index { tree = 0 }) ≡ schema_1
-unfolding understood everything
-cell_whole = refl
-
-cell_command : command_of (understood table_schema index_cell) ≡ CreateIndex 4
-unfolding understood everything
-cell_command = refl
-
-cell_statement : statement_of index_cell (understood table_schema index_cell) ≡ index_cell
-unfolding understood everything
-cell_statement = refl
-
-cell_plain : IsPlain (understood table_schema index_cell)
-unfolding understood everything
-cell_plain = (refl, refl)
-
-cell_made : (old new : State) (count : ℕ) → IsBlank table_schema old.now → Executes index_cell [] old new (Ok count) → IsBlank schema_1 new.now
-cell_made old new count was h =
-    let w = subst (λ t. Writes old new None (CreateIndex 4) t [] count) cell_statement (runs_as index_cell [] old new table_schema was.schema (CreateIndex 4) cell_command cell_plain count h) in
-    let does = subst (λ s. Does old.step_limit (mode_of old) [] (record old.now { schema = s }) index_cell None (CreateIndex 4) (Ok (w.tally, new.now))) was.schema w.changed in
-    let all = went does in
-    let made = all.1 in
-    let both : ◌≡◌ {A = Result Index Rattle.sqlite_resolve.specs.declared.error.CompileError.CompileError} (Ok made.index) (Ok (record cell_index { tree = 0 })) = sym made.defined ∙ cell_defined in
-    let same : made.index ≡ record cell_index { tree = 0 } = same_value both in
+indexed_more : (s : Schema) (text : List ℕ) (at : ℕ) (table : Table) (index : Index) (made : Schema) → Indexes s text at table index made
+    → (old new : State) (count : ℕ) → IsBlank s old.now → Executes text [] old new (Ok count) → IsBlank made new.now
+indexed_more s text at table index made m old new count was h =
+    let w = subst (λ t. Writes old new None (CreateIndex at) t [] count) m.statement (runs_as text [] old new s was.schema (CreateIndex at) m.command m.plain count h) in
+    let does = subst (λ x. Does old.step_limit (mode_of old) [] (record old.now { schema = x }) text None (CreateIndex at) (Ok (w.tally, new.now))) was.schema w.changed in
+    let all = went (subst (λ o. AtPlace (λ t. Defines (mode_of old) (MakesIndex text (record old.now { schema = s }) t)) o (Ok (w.tally, new.now))) m.there does) in
+    let one = all.1 in
+    let both : ◌≡◌ {A = Result Index Rattle.sqlite_resolve.specs.declared.error.CompileError.CompileError} (Ok one.index) (Ok index) = sym one.defined ∙ m.defines in
+    let schema : all.0.schema ≡ indexed s table index = one.is ∙ ap (indexed s table) (same_value both) in
     let now : new.now ≡ all.0 = ap (λ (p : Tally × Database). p.1) (same_value all.2) in
-    let schema : all.0.schema ≡ schema_1 = made.is ∙ ap (indexed table_schema file_table) same ∙ cell_whole in
-    record {
+    let blank : IsBlank (indexed s table index) new.now = record {
       schema = ap (λ (d : Database). d.schema) now ∙ schema;
-      blank = subst (λ (d : Database). AreBlank table_schema.tables d.trees) (sym now) (blank_still table_schema.tables old.now.trees all.0.trees was.blank made.rows);
-    }
+      blank = subst (λ (d : Database). AreBlank s.tables d.trees) (sym now) (blank_still s.tables old.now.trees all.0.trees was.blank one.rows);
+    } in
+    subst (λ x. IsBlank x new.now) m.whole blank
 
-abbrev pub schema_2 : Schema
-schema_2 = record { tables = all_tables; indexes = key_indexes ++ cell_index ∷ applicant_index ∷ []; views = [] }
+-- the six tables with the first indexes of those that make the selections quick
+abbrev with_first : ℕ → Schema
+with_first n = record { tables = all_tables; indexes = key_indexes ++ take n search_indexes; views = [] }
 
-applicant_defined : index_defined_by file_table index_applicant ≡ Ok (record applicant_index { tree = 0 })
+indexes_cell : Indexes table_schema index_cell 4 file_table (record cell_index { tree = 0 }) (with_first 1)
 unfolding understood everything
-applicant_defined = refl
+indexes_cell = record { there = refl; command = refl; statement = refl; plain = (refl, refl); defines = refl; whole = refl }
 
-applicant_whole : indexed schema_1 file_table (record applicant_index { tree = 0 }) ≡ schema_2
+indexes_applicant : Indexes (with_first 1) index_applicant 4 file_table (record applicant_index { tree = 0 }) (with_first 2)
 unfolding understood everything
-applicant_whole = refl
+indexes_applicant = record { there = refl; command = refl; statement = refl; plain = (refl, refl); defines = refl; whole = refl }
 
-applicant_command : command_of (understood schema_1 index_applicant) ≡ CreateIndex 4
+indexes_contractor : Indexes (with_first 2) index_contractor 4 file_table (record contractor_index { tree = 0 }) (with_first 3)
 unfolding understood everything
-applicant_command = refl
+indexes_contractor = record { there = refl; command = refl; statement = refl; plain = (refl, refl); defines = refl; whole = refl }
 
-applicant_statement : statement_of index_applicant (understood schema_1 index_applicant) ≡ index_applicant
+indexes_reviewer : Indexes (with_first 3) index_reviewer 4 file_table (record reviewer_index { tree = 0 }) (with_first 4)
 unfolding understood everything
-applicant_statement = refl
+indexes_reviewer = record { there = refl; command = refl; statement = refl; plain = (refl, refl); defines = refl; whole = refl }
 
-applicant_plain : IsPlain (understood schema_1 index_applicant)
+indexes_inspector : Indexes (with_first 4) index_inspector 4 file_table (record inspector_index { tree = 0 }) (with_first 5)
 unfolding understood everything
-applicant_plain = (refl, refl)
+indexes_inspector = record { there = refl; command = refl; statement = refl; plain = (refl, refl); defines = refl; whole = refl }
 
-applicant_made : (old new : State) (count : ℕ) → IsBlank schema_1 old.now → Executes index_applicant [] old new (Ok count) → IsBlank schema_2 new.now
-applicant_made old new count was h =
-    let w = subst (λ t. Writes old new None (CreateIndex 4) t [] count) applicant_statement (runs_as index_applicant [] old new schema_1 was.schema (CreateIndex 4) applicant_command applicant_plain count h) in
-    let does = subst (λ s. Does old.step_limit (mode_of old) [] (record old.now { schema = s }) index_applicant None (CreateIndex 4) (Ok (w.tally, new.now))) was.schema w.changed in
-    let all = went does in
-    let made = all.1 in
-    let both : ◌≡◌ {A = Result Index Rattle.sqlite_resolve.specs.declared.error.CompileError.CompileError} (Ok made.index) (Ok (record applicant_index { tree = 0 })) = sym made.defined ∙ applicant_defined in
-    let same : made.index ≡ record applicant_index { tree = 0 } = same_value both in
-    let now : new.now ≡ all.0 = ap (λ (p : Tally × Database). p.1) (same_value all.2) in
-    let schema : all.0.schema ≡ schema_2 = made.is ∙ ap (indexed schema_1 file_table) same ∙ applicant_whole in
-    record {
-      schema = ap (λ (d : Database). d.schema) now ∙ schema;
-      blank = subst (λ (d : Database). AreBlank schema_1.tables d.trees) (sym now) (blank_still schema_1.tables old.now.trees all.0.trees was.blank made.rows);
-    }
-
-abbrev pub schema_3 : Schema
-schema_3 = record { tables = all_tables; indexes = key_indexes ++ cell_index ∷ applicant_index ∷ contractor_index ∷ []; views = [] }
-
-contractor_defined : index_defined_by file_table index_contractor ≡ Ok (record contractor_index { tree = 0 })
+indexes_parcel : Indexes (with_first 5) index_parcel 4 file_table (record parcel_index { tree = 0 }) (with_first 6)
 unfolding understood everything
-contractor_defined = refl
+indexes_parcel = record { there = refl; command = refl; statement = refl; plain = (refl, refl); defines = refl; whole = refl }
 
-contractor_whole : indexed schema_2 file_table (record contractor_index { tree = 0 }) ≡ schema_3
+indexes_owner : Indexes (with_first 6) index_owner 2 parcel_table (record owner_index { tree = 0 }) (with_first 7)
 unfolding understood everything
-contractor_whole = refl
+indexes_owner = record { there = refl; command = refl; statement = refl; plain = (refl, refl); defines = refl; whole = refl }
 
-contractor_command : command_of (understood schema_2 index_contractor) ≡ CreateIndex 4
+indexes_interested : Indexes (with_first 7) index_interested 3 interest_table (record interested_index { tree = 0 }) office_schema
 unfolding understood everything
-contractor_command = refl
-
-contractor_statement : statement_of index_contractor (understood schema_2 index_contractor) ≡ index_contractor
-unfolding understood everything
-contractor_statement = refl
-
-contractor_plain : IsPlain (understood schema_2 index_contractor)
-unfolding understood everything
-contractor_plain = (refl, refl)
-
-contractor_made : (old new : State) (count : ℕ) → IsBlank schema_2 old.now → Executes index_contractor [] old new (Ok count) → IsBlank schema_3 new.now
-contractor_made old new count was h =
-    let w = subst (λ t. Writes old new None (CreateIndex 4) t [] count) contractor_statement (runs_as index_contractor [] old new schema_2 was.schema (CreateIndex 4) contractor_command contractor_plain count h) in
-    let does = subst (λ s. Does old.step_limit (mode_of old) [] (record old.now { schema = s }) index_contractor None (CreateIndex 4) (Ok (w.tally, new.now))) was.schema w.changed in
-    let all = went does in
-    let made = all.1 in
-    let both : ◌≡◌ {A = Result Index Rattle.sqlite_resolve.specs.declared.error.CompileError.CompileError} (Ok made.index) (Ok (record contractor_index { tree = 0 })) = sym made.defined ∙ contractor_defined in
-    let same : made.index ≡ record contractor_index { tree = 0 } = same_value both in
-    let now : new.now ≡ all.0 = ap (λ (p : Tally × Database). p.1) (same_value all.2) in
-    let schema : all.0.schema ≡ schema_3 = made.is ∙ ap (indexed schema_2 file_table) same ∙ contractor_whole in
-    record {
-      schema = ap (λ (d : Database). d.schema) now ∙ schema;
-      blank = subst (λ (d : Database). AreBlank schema_2.tables d.trees) (sym now) (blank_still schema_2.tables old.now.trees all.0.trees was.blank made.rows);
-    }
-
-abbrev pub schema_4 : Schema
-schema_4 = record { tables = all_tables; indexes = key_indexes ++ cell_index ∷ applicant_index ∷ contractor_index ∷ reviewer_index ∷ []; views = [] }
-
-reviewer_defined : index_defined_by file_table index_reviewer ≡ Ok (record reviewer_index { tree = 0 })
-unfolding understood everything
-reviewer_defined = refl
-
-reviewer_whole : indexed schema_3 file_table (record reviewer_index { tree = 0 }) ≡ schema_4
-unfolding understood everything
-reviewer_whole = refl
-
-reviewer_command : command_of (understood schema_3 index_reviewer) ≡ CreateIndex 4
-unfolding understood everything
-reviewer_command = refl
-
-reviewer_statement : statement_of index_reviewer (understood schema_3 index_reviewer) ≡ index_reviewer
-unfolding understood everything
-reviewer_statement = refl
-
-reviewer_plain : IsPlain (understood schema_3 index_reviewer)
-unfolding understood everything
-reviewer_plain = (refl, refl)
-
-reviewer_made : (old new : State) (count : ℕ) → IsBlank schema_3 old.now → Executes index_reviewer [] old new (Ok count) → IsBlank schema_4 new.now
-reviewer_made old new count was h =
-    let w = subst (λ t. Writes old new None (CreateIndex 4) t [] count) reviewer_statement (runs_as index_reviewer [] old new schema_3 was.schema (CreateIndex 4) reviewer_command reviewer_plain count h) in
-    let does = subst (λ s. Does old.step_limit (mode_of old) [] (record old.now { schema = s }) index_reviewer None (CreateIndex 4) (Ok (w.tally, new.now))) was.schema w.changed in
-    let all = went does in
-    let made = all.1 in
-    let both : ◌≡◌ {A = Result Index Rattle.sqlite_resolve.specs.declared.error.CompileError.CompileError} (Ok made.index) (Ok (record reviewer_index { tree = 0 })) = sym made.defined ∙ reviewer_defined in
-    let same : made.index ≡ record reviewer_index { tree = 0 } = same_value both in
-    let now : new.now ≡ all.0 = ap (λ (p : Tally × Database). p.1) (same_value all.2) in
-    let schema : all.0.schema ≡ schema_4 = made.is ∙ ap (indexed schema_3 file_table) same ∙ reviewer_whole in
-    record {
-      schema = ap (λ (d : Database). d.schema) now ∙ schema;
-      blank = subst (λ (d : Database). AreBlank schema_3.tables d.trees) (sym now) (blank_still schema_3.tables old.now.trees all.0.trees was.blank made.rows);
-    }
-
-abbrev pub schema_5 : Schema
-schema_5 = record { tables = all_tables; indexes = key_indexes ++ cell_index ∷ applicant_index ∷ contractor_index ∷ reviewer_index ∷ inspector_index ∷ []; views = [] }
-
-inspector_defined : index_defined_by file_table index_inspector ≡ Ok (record inspector_index { tree = 0 })
-unfolding understood everything
-inspector_defined = refl
-
-inspector_whole : indexed schema_4 file_table (record inspector_index { tree = 0 }) ≡ schema_5
-unfolding understood everything
-inspector_whole = refl
-
-inspector_command : command_of (understood schema_4 index_inspector) ≡ CreateIndex 4
-unfolding understood everything
-inspector_command = refl
-
-inspector_statement : statement_of index_inspector (understood schema_4 index_inspector) ≡ index_inspector
-unfolding understood everything
-inspector_statement = refl
-
-inspector_plain : IsPlain (understood schema_4 index_inspector)
-unfolding understood everything
-inspector_plain = (refl, refl)
-
-inspector_made : (old new : State) (count : ℕ) → IsBlank schema_4 old.now → Executes index_inspector [] old new (Ok count) → IsBlank schema_5 new.now
-inspector_made old new count was h =
-    let w = subst (λ t. Writes old new None (CreateIndex 4) t [] count) inspector_statement (runs_as index_inspector [] old new schema_4 was.schema (CreateIndex 4) inspector_command inspector_plain count h) in
-    let does = subst (λ s. Does old.step_limit (mode_of old) [] (record old.now { schema = s }) index_inspector None (CreateIndex 4) (Ok (w.tally, new.now))) was.schema w.changed in
-    let all = went does in
-    let made = all.1 in
-    let both : ◌≡◌ {A = Result Index Rattle.sqlite_resolve.specs.declared.error.CompileError.CompileError} (Ok made.index) (Ok (record inspector_index { tree = 0 })) = sym made.defined ∙ inspector_defined in
-    let same : made.index ≡ record inspector_index { tree = 0 } = same_value both in
-    let now : new.now ≡ all.0 = ap (λ (p : Tally × Database). p.1) (same_value all.2) in
-    let schema : all.0.schema ≡ schema_5 = made.is ∙ ap (indexed schema_4 file_table) same ∙ inspector_whole in
-    record {
-      schema = ap (λ (d : Database). d.schema) now ∙ schema;
-      blank = subst (λ (d : Database). AreBlank schema_4.tables d.trees) (sym now) (blank_still schema_4.tables old.now.trees all.0.trees was.blank made.rows);
-    }
-
-abbrev pub schema_6 : Schema
-schema_6 = record { tables = all_tables; indexes = key_indexes ++ cell_index ∷ applicant_index ∷ contractor_index ∷ reviewer_index ∷ inspector_index ∷ parcel_index ∷ []; views = [] }
-
-parcel_defined : index_defined_by file_table index_parcel ≡ Ok (record parcel_index { tree = 0 })
-unfolding understood everything
-parcel_defined = refl
-
-parcel_whole : indexed schema_5 file_table (record parcel_index { tree = 0 }) ≡ schema_6
-unfolding understood everything
-parcel_whole = refl
-
-parcel_command : command_of (understood schema_5 index_parcel) ≡ CreateIndex 4
-unfolding understood everything
-parcel_command = refl
-
-parcel_statement : statement_of index_parcel (understood schema_5 index_parcel) ≡ index_parcel
-unfolding understood everything
-parcel_statement = refl
-
-parcel_plain : IsPlain (understood schema_5 index_parcel)
-unfolding understood everything
-parcel_plain = (refl, refl)
-
-parcel_made : (old new : State) (count : ℕ) → IsBlank schema_5 old.now → Executes index_parcel [] old new (Ok count) → IsBlank schema_6 new.now
-parcel_made old new count was h =
-    let w = subst (λ t. Writes old new None (CreateIndex 4) t [] count) parcel_statement (runs_as index_parcel [] old new schema_5 was.schema (CreateIndex 4) parcel_command parcel_plain count h) in
-    let does = subst (λ s. Does old.step_limit (mode_of old) [] (record old.now { schema = s }) index_parcel None (CreateIndex 4) (Ok (w.tally, new.now))) was.schema w.changed in
-    let all = went does in
-    let made = all.1 in
-    let both : ◌≡◌ {A = Result Index Rattle.sqlite_resolve.specs.declared.error.CompileError.CompileError} (Ok made.index) (Ok (record parcel_index { tree = 0 })) = sym made.defined ∙ parcel_defined in
-    let same : made.index ≡ record parcel_index { tree = 0 } = same_value both in
-    let now : new.now ≡ all.0 = ap (λ (p : Tally × Database). p.1) (same_value all.2) in
-    let schema : all.0.schema ≡ schema_6 = made.is ∙ ap (indexed schema_5 file_table) same ∙ parcel_whole in
-    record {
-      schema = ap (λ (d : Database). d.schema) now ∙ schema;
-      blank = subst (λ (d : Database). AreBlank schema_5.tables d.trees) (sym now) (blank_still schema_5.tables old.now.trees all.0.trees was.blank made.rows);
-    }
-
-abbrev pub schema_7 : Schema
-schema_7 = record { tables = all_tables; indexes = key_indexes ++ cell_index ∷ applicant_index ∷ contractor_index ∷ reviewer_index ∷ inspector_index ∷ parcel_index ∷ owner_index ∷ []; views = [] }
-
-owner_defined : index_defined_by parcel_table index_owner ≡ Ok (record owner_index { tree = 0 })
-unfolding understood everything
-owner_defined = refl
-
-owner_whole : indexed schema_6 parcel_table (record owner_index { tree = 0 }) ≡ schema_7
-unfolding understood everything
-owner_whole = refl
-
-owner_command : command_of (understood schema_6 index_owner) ≡ CreateIndex 2
-unfolding understood everything
-owner_command = refl
-
-owner_statement : statement_of index_owner (understood schema_6 index_owner) ≡ index_owner
-unfolding understood everything
-owner_statement = refl
-
-owner_plain : IsPlain (understood schema_6 index_owner)
-unfolding understood everything
-owner_plain = (refl, refl)
-
-owner_made : (old new : State) (count : ℕ) → IsBlank schema_6 old.now → Executes index_owner [] old new (Ok count) → IsBlank schema_7 new.now
-owner_made old new count was h =
-    let w = subst (λ t. Writes old new None (CreateIndex 2) t [] count) owner_statement (runs_as index_owner [] old new schema_6 was.schema (CreateIndex 2) owner_command owner_plain count h) in
-    let does = subst (λ s. Does old.step_limit (mode_of old) [] (record old.now { schema = s }) index_owner None (CreateIndex 2) (Ok (w.tally, new.now))) was.schema w.changed in
-    let all = went does in
-    let made = all.1 in
-    let both : ◌≡◌ {A = Result Index Rattle.sqlite_resolve.specs.declared.error.CompileError.CompileError} (Ok made.index) (Ok (record owner_index { tree = 0 })) = sym made.defined ∙ owner_defined in
-    let same : made.index ≡ record owner_index { tree = 0 } = same_value both in
-    let now : new.now ≡ all.0 = ap (λ (p : Tally × Database). p.1) (same_value all.2) in
-    let schema : all.0.schema ≡ schema_7 = made.is ∙ ap (indexed schema_6 parcel_table) same ∙ owner_whole in
-    record {
-      schema = ap (λ (d : Database). d.schema) now ∙ schema;
-      blank = subst (λ (d : Database). AreBlank schema_6.tables d.trees) (sym now) (blank_still schema_6.tables old.now.trees all.0.trees was.blank made.rows);
-    }
-
-interested_defined : index_defined_by interest_table index_interested ≡ Ok (record interested_index { tree = 0 })
-unfolding understood everything
-interested_defined = refl
-
-interested_whole : indexed schema_7 interest_table (record interested_index { tree = 0 }) ≡ office_schema
-unfolding understood everything
-interested_whole = refl
-
-interested_command : command_of (understood schema_7 index_interested) ≡ CreateIndex 3
-unfolding understood everything
-interested_command = refl
-
-interested_statement : statement_of index_interested (understood schema_7 index_interested) ≡ index_interested
-unfolding understood everything
-interested_statement = refl
-
-interested_plain : IsPlain (understood schema_7 index_interested)
-unfolding understood everything
-interested_plain = (refl, refl)
-
-interested_made : (old new : State) (count : ℕ) → IsBlank schema_7 old.now → Executes index_interested [] old new (Ok count) → IsBlank office_schema new.now
-interested_made old new count was h =
-    let w = subst (λ t. Writes old new None (CreateIndex 3) t [] count) interested_statement (runs_as index_interested [] old new schema_7 was.schema (CreateIndex 3) interested_command interested_plain count h) in
-    let does = subst (λ s. Does old.step_limit (mode_of old) [] (record old.now { schema = s }) index_interested None (CreateIndex 3) (Ok (w.tally, new.now))) was.schema w.changed in
-    let all = went does in
-    let made = all.1 in
-    let both : ◌≡◌ {A = Result Index Rattle.sqlite_resolve.specs.declared.error.CompileError.CompileError} (Ok made.index) (Ok (record interested_index { tree = 0 })) = sym made.defined ∙ interested_defined in
-    let same : made.index ≡ record interested_index { tree = 0 } = same_value both in
-    let now : new.now ≡ all.0 = ap (λ (p : Tally × Database). p.1) (same_value all.2) in
-    let schema : all.0.schema ≡ office_schema = made.is ∙ ap (indexed schema_7 interest_table) same ∙ interested_whole in
-    record {
-      schema = ap (λ (d : Database). d.schema) now ∙ schema;
-      blank = subst (λ (d : Database). AreBlank schema_7.tables d.trees) (sym now) (blank_still schema_7.tables old.now.trees all.0.trees was.blank made.rows);
-    }
+indexes_interested = record { there = refl; command = refl; statement = refl; plain = (refl, refl); defines = refl; whole = refl }
 
 -- ---- the founding
 
@@ -460,7 +222,7 @@ desk_founded old new last count was h =
     )
 
 pub founding_made : {S : Type 0} (g : Ghosts S) (old : Held S) (db : Database) (last : ℕ) (p : Party) → (state g old).now.schema ≡ empty_schema
-    → RanAll g (founding_steps (int last ∷ []) (shown_party p)) old db → Keeps (record (no_rows (record { last = last; parties = 1; parcels = 0; files = 0 })) { parties = p ∷ [] }) db
+    → RanAll g (founding_statements (int last ∷ []) (shown_party p)) old db → Keeps (record (no_rows (record { last = last; parties = 1; parcels = 0; files = 0 })) { parties = p ∷ [] }) db
 founding_made g old db last p none ran =
     let s0 = state g (record old { in_transaction = true }) in
     let r1 = ran.ran in
@@ -487,14 +249,14 @@ founding_made g old db last p none ran =
     let b5 = more made_4 create_file _ makes_file (state g r4.0) (state g r5.0) r5.1 b4 r5.2 in
     let b6 = more made_5 create_paper _ makes_paper (state g r5.0) (state g r6.0) r6.1 b5 r6.2 in
     let c0 : IsBlank table_schema (state g r6.0).now = subst (λ s. IsBlank s (state g r6.0).now) six_is b6 in
-    let c1 = cell_made (state g r6.0) (state g r7.0) r7.1 c0 r7.2 in
-    let c2 = applicant_made (state g r7.0) (state g r8.0) r8.1 c1 r8.2 in
-    let c3 = contractor_made (state g r8.0) (state g r9.0) r9.1 c2 r9.2 in
-    let c4 = reviewer_made (state g r9.0) (state g r10.0) r10.1 c3 r10.2 in
-    let c5 = inspector_made (state g r10.0) (state g r11.0) r11.1 c4 r11.2 in
-    let c6 = parcel_made (state g r11.0) (state g r12.0) r12.1 c5 r12.2 in
-    let c7 = owner_made (state g r12.0) (state g r13.0) r13.1 c6 r13.2 in
-    let c8 = interested_made (state g r13.0) (state g r14.0) r14.1 c7 r14.2 in
+    let c1 = indexed_more table_schema index_cell 4 file_table (record cell_index { tree = 0 }) (with_first 1) indexes_cell (state g r6.0) (state g r7.0) r7.1 c0 r7.2 in
+    let c2 = indexed_more (with_first 1) index_applicant 4 file_table (record applicant_index { tree = 0 }) (with_first 2) indexes_applicant (state g r7.0) (state g r8.0) r8.1 c1 r8.2 in
+    let c3 = indexed_more (with_first 2) index_contractor 4 file_table (record contractor_index { tree = 0 }) (with_first 3) indexes_contractor (state g r8.0) (state g r9.0) r9.1 c2 r9.2 in
+    let c4 = indexed_more (with_first 3) index_reviewer 4 file_table (record reviewer_index { tree = 0 }) (with_first 4) indexes_reviewer (state g r9.0) (state g r10.0) r10.1 c3 r10.2 in
+    let c5 = indexed_more (with_first 4) index_inspector 4 file_table (record inspector_index { tree = 0 }) (with_first 5) indexes_inspector (state g r10.0) (state g r11.0) r11.1 c4 r11.2 in
+    let c6 = indexed_more (with_first 5) index_parcel 4 file_table (record parcel_index { tree = 0 }) (with_first 6) indexes_parcel (state g r11.0) (state g r12.0) r12.1 c5 r12.2 in
+    let c7 = indexed_more (with_first 6) index_owner 2 parcel_table (record owner_index { tree = 0 }) (with_first 7) indexes_owner (state g r12.0) (state g r13.0) r13.1 c6 r13.2 in
+    let c8 = indexed_more (with_first 7) index_interested 3 interest_table (record interested_index { tree = 0 }) office_schema indexes_interested (state g r13.0) (state g r14.0) r14.1 c7 r14.2 in
     let desk = desk_founded (state g r14.0) (state g r15.0) last r15.1 c8 r15.2 in
     let t0 = no_rows (record { last = last; parties = 1; parcels = 0; files = 0 }) in
     let party = adds_party (state g r15.0) (state g r16.0) r16.1 desk.0 p r16.2 in

@@ -26,7 +26,7 @@ use Rattle.sqlite.specs.Listing.{understood}
 use Rattle.sqlite.proofs.Callers.{runs_as, statement_of, command_of, IsPlain}
 use Rattle.permit_base.specs.declared.words.Step.{Step}
 use Rattle.permit_sql_rows.specs.Schema.{office_schema}
-use Rattle.permit_sql_rows.specs.Rows.{int, or_zero, or_less, step_value, flag}
+use Rattle.permit_sql_rows.specs.Rows.{int, or_zero, or_minus_one, step_value, flag}
 use Rattle.permit_sql_statements.proofs.QueryTexts.{alone}
 use Rattle.permit_sql_statements.proofs.Permuted.{IsFreshIn, fresh_rows, not_taken}
 use Rattle.permit_sql_statements.proofs.WriteLemmas.{task_on, on_office, inserted, updated}
@@ -53,12 +53,12 @@ pub cast_or_zero : (o : Option ℕ) → cast Integer (or_zero o) ≡ or_zero o
 cast_or_zero None = cast_int 0
 cast_or_zero (Some n) = cast_int n
 
-pub cast_or_less : (o : Option ℕ) → cast Integer (or_less o) ≡ or_less o
-cast_or_less None = cast_less
-cast_or_less (Some n) = cast_int n
+pub cast_or_minus_one : (o : Option ℕ) → cast Integer (or_minus_one o) ≡ or_minus_one o
+cast_or_minus_one None = cast_less
+cast_or_minus_one (Some n) = cast_int n
 
 pub cast_step : (o : Option Step) → cast Integer (step_value o) ≡ step_value o
-cast_step o = cast_or_less _
+cast_step o = cast_or_minus_one _
 
 pub cast_flag : (b : Bool) → cast Integer (flag b) ≡ flag b
 cast_flag true = cast_int 1

@@ -16,7 +16,7 @@ use Rattle.permit_model.specs.Routes.{Found, found_by}
 use Rattle.permit_store.specs.Handing.{AreFound, AreHanded, IsLeft}
 use Rattle.permit_sql_rows.specs.Kept.{Keeps, Shows}
 use Rattle.permit_sql_rows.specs.Rows.{shown_found}
-use Rattle.permit_sql_statements.specs.Handed.{AreReadAs, Gave}
+use Rattle.permit_sql_statements.specs.Gave.{AreReadAs, Gave}
 use Rattle.permit_sql_statements.specs.Selected.{AreNamed, ShowWhere, text_for, params_for}
 use Rattle.permit_sql_statements.proofs.KeptLemmas.{shown_open}
 use Rattle.permit_sql_statements.proofs.RouteTexts.{Means, query_for, means_for, plain_for}

@@ -1,6 +1,6 @@
 -- What is kept of the tables as one table turns into another.
-use Rattle.std.proofs.Common.{◌≡◌, ℕ, suc, ℤ, ◌<◌, ◌≤◌, Bool, true, false, cond, eqb, List, [], ◌∷◌, ◌++◌, map, filter, find, drop, length, Some, option_map, unwrap_or, refl, sym, ap, subst, ◌∙◌, arith, IsPermutation}
-use Rattle.std.specs.Prelude.{◌&&◌, bytes_eq}
+use Rattle.std.proofs.Common.{◌≡◌, ℕ, suc, ℤ, ◌<◌, ◌≤◌, Bool, true, false, cond, eqb, List, [], ◌∷◌, ◌++◌, map, filter, find, drop, length, Some, option_map, unwrap_or, true≢false, refl, sym, ap, subst, ◌∙◌, arith, IsPermutation}
+use Rattle.std.specs.Prelude.{◌≢◌, ◌&&◌, bytes_eq}
 use Rattle.std.specs.List.{AllByRecursion}
 use Rattle.std.proofs.lemmas.Bool.Decides.{nat_tests}
 use Rattle.std.proofs.lemmas.Slice.Eq.{bytes_eq-Decides}
@@ -11,6 +11,7 @@ use Rattle.permit_model.specs.Caller.{Party}
 use Rattle.permit_model.specs.Parcels.{Parcel, Interest}
 use Rattle.permit_model.specs.Tables.{Desk, State, FileRow, Paper, Tables}
 use Rattle.permit_store.specs.Changes.{given_to, with_state, closed_by}
+use Rattle.sqlite_schema.specs.declared.schema.Table.{Table}
 use Rattle.permit_sql_rows.specs.Schema.{desk_table, party_table, parcel_table, interest_table, file_table, paper_table}
 use Rattle.permit_sql_rows.specs.Rows.{desk_row, party_row, parcel_row, file_row, shown_interest, shown_paper}
 use Rattle.permit_sql_rows.specs.Kept.{papers_counted, IsNamed, AreKeyed, AreInTrees}
@@ -22,66 +23,103 @@ use Rattle.permit_sql_statements.proofs.Effects.{Leaves}
 abbrev pub Apart : List (List Rattle.sqlite.specs.declared.types.Value.Value) → Type 0
 Apart rows = (id : ℤ) → length (filter (has_rowid id) rows) ≤ 1
 
+apart : (a b : ℕ) → eqb a b ≡ false → a ≢ b
+apart a b other same = absurd (true≢false (sym (itself b) ∙ ap (λ n. eqb n b) (sym same) ∙ other))
+  where
+    itself : (n : ℕ) → eqb n n ≡ true
+    itself n = grind (arith, nat_tests)
+
 module _ (old new : Database) (t : Tables) (k : AreInTrees t old.trees) where
+  -- what an edit of one table leaves of each other's tree
+  module _ (table : Table) (leaves : Leaves old new table) where
+    abbrev Other : ℕ → Type 0
+    Other tree = eqb tree table.tree ≡ false
+
+    desk_stays : Other 0 → new.trees 0 ≡ desk_row t.desk ∷ []
+    desk_stays other = leaves.others.0 (apart 0 table.tree other) ∙ k.desk
+
+    parties_stay : Other 1 → IsPermutation (map party_row t.parties) (new.trees 1)
+    parties_stay other = subst (IsPermutation (map party_row t.parties)) (sym (leaves.others.1.0 (apart 1 table.tree other))) k.parties
+
+    parcels_stay : Other 3 → IsPermutation (map parcel_row t.parcels) (new.trees 3)
+    parcels_stay other = subst (IsPermutation (map parcel_row t.parcels)) (sym (leaves.others.1.1.0 (apart 3 table.tree other))) k.parcels
+
+    interests_stay : Other 5 → IsPermutation (map shown_interest t.interests) (map (drop 1) (new.trees 5))
+    interests_stay other = subst (λ r. IsPermutation (map shown_interest t.interests) (map (drop 1) r)) (sym (leaves.others.1.1.1.0 (apart 5 table.tree other))) k.interests
+
+    files_stay : Other 7 → IsPermutation (map file_row t.files) (new.trees 7)
+    files_stay other = subst (IsPermutation (map file_row t.files)) (sym (leaves.others.1.1.1.1.0 (apart 7 table.tree other))) k.files
+
+    papers_stay : Other 8 → IsPermutation (map shown_paper t.papers) (map (drop 1) (new.trees 8)) × Apart (new.trees 8)
+    papers_stay other =
+        let same = sym (leaves.others.1.1.1.1.1.0 (apart 8 table.tree other)) in
+        (subst (λ r. IsPermutation (map shown_paper t.papers) (map (drop 1) r)) same k.papers, subst Apart same k.apart)
+
   pub keeps_desk : (d : Desk) → Leaves old new desk_table → new.trees 0 ≡ desk_row d ∷ [] → AreInTrees (record t { desk = d }) new.trees
-  keeps_desk d leaves now =
-      let o = leaves.others in
-      let e1 : new.trees 1 ≡ old.trees 1 = o.1.0 (λ e. absurd (omega (arith, e))) in
-      let e3 : new.trees 3 ≡ old.trees 3 = o.1.1.0 (λ e. absurd (omega (arith, e))) in
-      let e5 : new.trees 5 ≡ old.trees 5 = o.1.1.1.0 (λ e. absurd (omega (arith, e))) in
-      let e7 : new.trees 7 ≡ old.trees 7 = o.1.1.1.1.0 (λ e. absurd (omega (arith, e))) in
-      let e8 : new.trees 8 ≡ old.trees 8 = o.1.1.1.1.1.0 (λ e. absurd (omega (arith, e))) in
-      record { desk = now; parties = subst (IsPermutation (map party_row t.parties)) (sym e1) k.parties; parcels = subst (IsPermutation (map parcel_row t.parcels)) (sym e3) k.parcels; interests = subst (λ r. IsPermutation (map shown_interest t.interests) (map (drop 1) r)) (sym e5) k.interests; files = subst (IsPermutation (map file_row t.files)) (sym e7) k.files; papers = subst (λ r. IsPermutation (map shown_paper t.papers) (map (drop 1) r)) (sym e8) k.papers; apart = subst Apart (sym e8) k.apart }
+  keeps_desk d leaves now = record {
+    desk = now;
+    parties = parties_stay desk_table leaves refl;
+    parcels = parcels_stay desk_table leaves refl;
+    interests = interests_stay desk_table leaves refl;
+    files = files_stay desk_table leaves refl;
+    papers = (papers_stay desk_table leaves refl).0;
+    apart = (papers_stay desk_table leaves refl).1;
+  }
 
   pub keeps_parties : (xs : List Party) → Leaves old new party_table → IsPermutation (map party_row xs) (new.trees 1) → AreInTrees (record t { parties = xs }) new.trees
-  keeps_parties xs leaves now =
-      let o = leaves.others in
-      let e0 : new.trees 0 ≡ old.trees 0 = o.0 (λ e. absurd (omega (arith, e))) in
-      let e3 : new.trees 3 ≡ old.trees 3 = o.1.1.0 (λ e. absurd (omega (arith, e))) in
-      let e5 : new.trees 5 ≡ old.trees 5 = o.1.1.1.0 (λ e. absurd (omega (arith, e))) in
-      let e7 : new.trees 7 ≡ old.trees 7 = o.1.1.1.1.0 (λ e. absurd (omega (arith, e))) in
-      let e8 : new.trees 8 ≡ old.trees 8 = o.1.1.1.1.1.0 (λ e. absurd (omega (arith, e))) in
-      record { desk = e0 ∙ k.desk; parties = now; parcels = subst (IsPermutation (map parcel_row t.parcels)) (sym e3) k.parcels; interests = subst (λ r. IsPermutation (map shown_interest t.interests) (map (drop 1) r)) (sym e5) k.interests; files = subst (IsPermutation (map file_row t.files)) (sym e7) k.files; papers = subst (λ r. IsPermutation (map shown_paper t.papers) (map (drop 1) r)) (sym e8) k.papers; apart = subst Apart (sym e8) k.apart }
+  keeps_parties xs leaves now = record {
+    desk = desk_stays party_table leaves refl;
+    parties = now;
+    parcels = parcels_stay party_table leaves refl;
+    interests = interests_stay party_table leaves refl;
+    files = files_stay party_table leaves refl;
+    papers = (papers_stay party_table leaves refl).0;
+    apart = (papers_stay party_table leaves refl).1;
+  }
 
   pub keeps_parcels : (xs : List Parcel) → Leaves old new parcel_table → IsPermutation (map parcel_row xs) (new.trees 3) → AreInTrees (record t { parcels = xs }) new.trees
-  keeps_parcels xs leaves now =
-      let o = leaves.others in
-      let e0 : new.trees 0 ≡ old.trees 0 = o.0 (λ e. absurd (omega (arith, e))) in
-      let e1 : new.trees 1 ≡ old.trees 1 = o.1.0 (λ e. absurd (omega (arith, e))) in
-      let e5 : new.trees 5 ≡ old.trees 5 = o.1.1.1.0 (λ e. absurd (omega (arith, e))) in
-      let e7 : new.trees 7 ≡ old.trees 7 = o.1.1.1.1.0 (λ e. absurd (omega (arith, e))) in
-      let e8 : new.trees 8 ≡ old.trees 8 = o.1.1.1.1.1.0 (λ e. absurd (omega (arith, e))) in
-      record { desk = e0 ∙ k.desk; parties = subst (IsPermutation (map party_row t.parties)) (sym e1) k.parties; parcels = now; interests = subst (λ r. IsPermutation (map shown_interest t.interests) (map (drop 1) r)) (sym e5) k.interests; files = subst (IsPermutation (map file_row t.files)) (sym e7) k.files; papers = subst (λ r. IsPermutation (map shown_paper t.papers) (map (drop 1) r)) (sym e8) k.papers; apart = subst Apart (sym e8) k.apart }
+  keeps_parcels xs leaves now = record {
+    desk = desk_stays parcel_table leaves refl;
+    parties = parties_stay parcel_table leaves refl;
+    parcels = now;
+    interests = interests_stay parcel_table leaves refl;
+    files = files_stay parcel_table leaves refl;
+    papers = (papers_stay parcel_table leaves refl).0;
+    apart = (papers_stay parcel_table leaves refl).1;
+  }
 
   pub keeps_interests : (xs : List Interest) → Leaves old new interest_table → IsPermutation (map shown_interest xs) (map (drop 1) (new.trees 5)) → AreInTrees (record t { interests = xs }) new.trees
-  keeps_interests xs leaves now =
-      let o = leaves.others in
-      let e0 : new.trees 0 ≡ old.trees 0 = o.0 (λ e. absurd (omega (arith, e))) in
-      let e1 : new.trees 1 ≡ old.trees 1 = o.1.0 (λ e. absurd (omega (arith, e))) in
-      let e3 : new.trees 3 ≡ old.trees 3 = o.1.1.0 (λ e. absurd (omega (arith, e))) in
-      let e7 : new.trees 7 ≡ old.trees 7 = o.1.1.1.1.0 (λ e. absurd (omega (arith, e))) in
-      let e8 : new.trees 8 ≡ old.trees 8 = o.1.1.1.1.1.0 (λ e. absurd (omega (arith, e))) in
-      record { desk = e0 ∙ k.desk; parties = subst (IsPermutation (map party_row t.parties)) (sym e1) k.parties; parcels = subst (IsPermutation (map parcel_row t.parcels)) (sym e3) k.parcels; interests = now; files = subst (IsPermutation (map file_row t.files)) (sym e7) k.files; papers = subst (λ r. IsPermutation (map shown_paper t.papers) (map (drop 1) r)) (sym e8) k.papers; apart = subst Apart (sym e8) k.apart }
+  keeps_interests xs leaves now = record {
+    desk = desk_stays interest_table leaves refl;
+    parties = parties_stay interest_table leaves refl;
+    parcels = parcels_stay interest_table leaves refl;
+    interests = now;
+    files = files_stay interest_table leaves refl;
+    papers = (papers_stay interest_table leaves refl).0;
+    apart = (papers_stay interest_table leaves refl).1;
+  }
 
   pub keeps_files : (xs : List FileRow) → Leaves old new file_table → IsPermutation (map file_row xs) (new.trees 7) → AreInTrees (record t { files = xs }) new.trees
-  keeps_files xs leaves now =
-      let o = leaves.others in
-      let e0 : new.trees 0 ≡ old.trees 0 = o.0 (λ e. absurd (omega (arith, e))) in
-      let e1 : new.trees 1 ≡ old.trees 1 = o.1.0 (λ e. absurd (omega (arith, e))) in
-      let e3 : new.trees 3 ≡ old.trees 3 = o.1.1.0 (λ e. absurd (omega (arith, e))) in
-      let e5 : new.trees 5 ≡ old.trees 5 = o.1.1.1.0 (λ e. absurd (omega (arith, e))) in
-      let e8 : new.trees 8 ≡ old.trees 8 = o.1.1.1.1.1.0 (λ e. absurd (omega (arith, e))) in
-      record { desk = e0 ∙ k.desk; parties = subst (IsPermutation (map party_row t.parties)) (sym e1) k.parties; parcels = subst (IsPermutation (map parcel_row t.parcels)) (sym e3) k.parcels; interests = subst (λ r. IsPermutation (map shown_interest t.interests) (map (drop 1) r)) (sym e5) k.interests; files = now; papers = subst (λ r. IsPermutation (map shown_paper t.papers) (map (drop 1) r)) (sym e8) k.papers; apart = subst Apart (sym e8) k.apart }
+  keeps_files xs leaves now = record {
+    desk = desk_stays file_table leaves refl;
+    parties = parties_stay file_table leaves refl;
+    parcels = parcels_stay file_table leaves refl;
+    interests = interests_stay file_table leaves refl;
+    files = now;
+    papers = (papers_stay file_table leaves refl).0;
+    apart = (papers_stay file_table leaves refl).1;
+  }
 
   pub keeps_papers : (xs : List Paper) → Leaves old new paper_table → IsPermutation (map shown_paper xs) (map (drop 1) (new.trees 8)) × Apart (new.trees 8) → AreInTrees (record t { papers = xs }) new.trees
-  keeps_papers xs leaves now =
-      let o = leaves.others in
-      let e0 : new.trees 0 ≡ old.trees 0 = o.0 (λ e. absurd (omega (arith, e))) in
-      let e1 : new.trees 1 ≡ old.trees 1 = o.1.0 (λ e. absurd (omega (arith, e))) in
-      let e3 : new.trees 3 ≡ old.trees 3 = o.1.1.0 (λ e. absurd (omega (arith, e))) in
-      let e5 : new.trees 5 ≡ old.trees 5 = o.1.1.1.0 (λ e. absurd (omega (arith, e))) in
-      let e7 : new.trees 7 ≡ old.trees 7 = o.1.1.1.1.0 (λ e. absurd (omega (arith, e))) in
-      record { desk = e0 ∙ k.desk; parties = subst (IsPermutation (map party_row t.parties)) (sym e1) k.parties; parcels = subst (IsPermutation (map parcel_row t.parcels)) (sym e3) k.parcels; interests = subst (λ r. IsPermutation (map shown_interest t.interests) (map (drop 1) r)) (sym e5) k.interests; files = subst (IsPermutation (map file_row t.files)) (sym e7) k.files; papers = now.0; apart = now.1 }
+  keeps_papers xs leaves now = record {
+    desk = desk_stays paper_table leaves refl;
+    parties = parties_stay paper_table leaves refl;
+    parcels = parcels_stay paper_table leaves refl;
+    interests = interests_stay paper_table leaves refl;
+    files = files_stay paper_table leaves refl;
+    papers = now.0;
+    apart = now.1;
+  }
 
 -- ---- the keys
 

@@ -13,7 +13,7 @@ use Rattle.permit_model.specs.Routes.{Found}
 use Rattle.permit_store.specs.Handing.{more_handed}
 use Rattle.permit_sql_rows.specs.Kept.{IsNamed}
 use Rattle.permit_sql_rows.specs.Rows.{shown_found}
-use Rattle.permit_sql_statements.specs.Handed.{AreReadAs}
+use Rattle.permit_sql_statements.specs.Gave.{AreReadAs}
 
 pub read_more : (rows : List Row) (given : List Found) (row : Row) (found : Found) → AreReadAs rows given → ((is : Found) → IsNamed is.row.state → row ≡ shown_found is → found ≡ is) → AreReadAs (rows ++ row ∷ []) (given ++ found ∷ [])
 read_more [] [] row found are is = (is, tt)

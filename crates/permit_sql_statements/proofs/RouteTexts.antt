@@ -19,7 +19,7 @@ use Rattle.permit_base.specs.declared.route.By.TheVariants.{Whole, One, Two}
 use Rattle.permit_base.specs.declared.route.Route.{Route}
 use Rattle.permit_base.specs.declared.route.Route.TheVariants.{Every, Cell}
 use Rattle.permit_sql_rows.specs.Schema.{office_schema}
-use Rattle.permit_sql_statements.specs.RouteTexts.{select_every, select_whole, select_applicant, select_contractor, select_owner, select_reviewer, select_inspector, select_conflict}
+use Rattle.permit_sql_statements.specs.RouteTexts.{select_every, select_whole}
 use Rattle.permit_sql_statements.specs.Selected.{text_by, text_for, leader}
 use Rattle.permit_sql_statements.proofs.Lookups.{plain_query, equals}
 use Rattle.permit_sql_statements.proofs.QueryTexts.{alone, names_of}
@@ -80,16 +80,8 @@ counts_two file slot next = counted 1 (inner 5 end) (declared file slot) (counts
 abbrev pub every_query : Query
 every_query = plain_query (inner 7 (left 3 its_parcel (counts_one 1 3))) [] (shows 1 2 3) (in_order 1)
 
-pub every_is : command_of (understood office_schema select_every) ≡ Select (alone every_query) (names_of (command_of (understood office_schema select_every)))
-unfolding understood everything
-every_is = refl
-
 abbrev pub whole_query : Query
 whole_query = plain_query (inner 7 (left 3 its_parcel (counts_one 1 3))) (within 1) (shows 1 2 3) (in_order 1)
-
-pub whole_is : command_of (understood office_schema select_whole) ≡ Select (alone whole_query) (names_of (command_of (understood office_schema select_whole)))
-unfolding understood everything
-whole_is = refl
 
 -- by a column of the file
 abbrev pub direct_query : ℕ → Query
@@ -120,110 +112,31 @@ query_for (Cell Whole s b t) = whole_query
 query_for (Cell (One r) s b t) = query_by r
 query_for (Cell (Two a c) s b t) = query_by (leader a c)
 
-pub applicant_is : command_of (understood office_schema select_applicant) ≡ Select (alone (direct_query 3)) (names_of (command_of (understood office_schema select_applicant)))
-unfolding understood everything
-applicant_is = refl
-
-pub contractor_is : command_of (understood office_schema select_contractor) ≡ Select (alone (direct_query 4)) (names_of (command_of (understood office_schema select_contractor)))
-unfolding understood everything
-contractor_is = refl
-
-pub owner_is : command_of (understood office_schema select_owner) ≡ Select (alone owner_query) (names_of (command_of (understood office_schema select_owner)))
-unfolding understood everything
-owner_is = refl
-
-pub reviewer_is : command_of (understood office_schema select_reviewer) ≡ Select (alone (direct_query 5)) (names_of (command_of (understood office_schema select_reviewer)))
-unfolding understood everything
-reviewer_is = refl
-
-pub inspector_is : command_of (understood office_schema select_inspector) ≡ Select (alone (direct_query 6)) (names_of (command_of (understood office_schema select_inspector)))
-unfolding understood everything
-inspector_is = refl
-
-pub conflict_is : command_of (understood office_schema select_conflict) ≡ Select (alone conflict_query) (names_of (command_of (understood office_schema select_conflict)))
-unfolding understood everything
-conflict_is = refl
-
-pub every_plain : IsPlain (understood office_schema select_every)
-unfolding understood everything
-every_plain = (refl, refl)
-
-pub every_unlisted : reads_listing office_schema select_every ≡ false
-unfolding understood everything
-every_unlisted = refl
-
-pub whole_plain : IsPlain (understood office_schema select_whole)
-unfolding understood everything
-whole_plain = (refl, refl)
-
-pub whole_unlisted : reads_listing office_schema select_whole ≡ false
-unfolding understood everything
-whole_unlisted = refl
-
-pub applicant_plain : IsPlain (understood office_schema select_applicant)
-unfolding understood everything
-applicant_plain = (refl, refl)
-
-pub applicant_unlisted : reads_listing office_schema select_applicant ≡ false
-unfolding understood everything
-applicant_unlisted = refl
-
-pub contractor_plain : IsPlain (understood office_schema select_contractor)
-unfolding understood everything
-contractor_plain = (refl, refl)
-
-pub contractor_unlisted : reads_listing office_schema select_contractor ≡ false
-unfolding understood everything
-contractor_unlisted = refl
-
-pub owner_plain : IsPlain (understood office_schema select_owner)
-unfolding understood everything
-owner_plain = (refl, refl)
-
-pub owner_unlisted : reads_listing office_schema select_owner ≡ false
-unfolding understood everything
-owner_unlisted = refl
-
-pub reviewer_plain : IsPlain (understood office_schema select_reviewer)
-unfolding understood everything
-reviewer_plain = (refl, refl)
-
-pub reviewer_unlisted : reads_listing office_schema select_reviewer ≡ false
-unfolding understood everything
-reviewer_unlisted = refl
-
-pub inspector_plain : IsPlain (understood office_schema select_inspector)
-unfolding understood everything
-inspector_plain = (refl, refl)
-
-pub inspector_unlisted : reads_listing office_schema select_inspector ≡ false
-unfolding understood everything
-inspector_unlisted = refl
-
-pub conflict_plain : IsPlain (understood office_schema select_conflict)
-unfolding understood everything
-conflict_plain = (refl, refl)
-
-pub conflict_unlisted : reads_listing office_schema select_conflict ≡ false
-unfolding understood everything
-conflict_unlisted = refl
-
 -- ---- the text of each selection
 
 abbrev pub Means : List ℕ → Query → Type 0
 Means text q = (command_of (understood office_schema text) ≡ Select (alone q) (names_of (command_of (understood office_schema text)))) × IsPlain (understood office_schema text) × (reads_listing office_schema text ≡ false)
 
 means_by : (r : Relation) → Means (text_by r) (query_by r)
-means_by Applicant = (applicant_is, applicant_plain, applicant_unlisted)
-means_by Contractor = (contractor_is, contractor_plain, contractor_unlisted)
-means_by Owner = (owner_is, owner_plain, owner_unlisted)
-means_by AssignedReviewer = (reviewer_is, reviewer_plain, reviewer_unlisted)
-means_by AssignedInspector = (inspector_is, inspector_plain, inspector_unlisted)
-means_by Conflict = (conflict_is, conflict_plain, conflict_unlisted)
+unfolding understood everything
+means_by Applicant = (refl, (refl, refl), refl)
+means_by Contractor = (refl, (refl, refl), refl)
+means_by Owner = (refl, (refl, refl), refl)
+means_by AssignedReviewer = (refl, (refl, refl), refl)
+means_by AssignedInspector = (refl, (refl, refl), refl)
+means_by Conflict = (refl, (refl, refl), refl)
+
+means_every : Means select_every every_query
+unfolding understood everything
+means_every = (refl, (refl, refl), refl)
+
+means_whole : Means select_whole whole_query
+unfolding understood everything
+means_whole = (refl, (refl, refl), refl)
 
 pub means_for : (route : Route) → Means (text_for route) (query_for route)
-means_for Every = (every_is, every_plain, every_unlisted)
-means_for (Cell Whole s b t) = (whole_is, whole_plain, whole_unlisted)
+means_for Every = means_every
+means_for (Cell Whole s b t) = means_whole
 means_for (Cell (One r) s b t) = means_by r
 means_for (Cell (Two a c) s b t) = means_by (leader a c)
 

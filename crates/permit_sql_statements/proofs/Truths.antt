@@ -24,7 +24,7 @@ use Rattle.permit_model.specs.Opened.{same_truth}
 use Rattle.permit_model.specs.Parcels.{Parcel}
 use Rattle.permit_model.specs.Routes.{is_kept_in}
 use Rattle.permit_model.specs.Tables.{State}
-use Rattle.permit_sql_rows.specs.Rows.{int, or_zero, or_less, flag, parcel_row}
+use Rattle.permit_sql_rows.specs.Rows.{int, or_zero, or_minus_one, flag, parcel_row}
 use Rattle.permit_sql_statements.specs.Selected.{first_deadline, next_deadline, leader, follower}
 use Rattle.permit_sql_statements.proofs.Lookups.{eq_is}
 
@@ -138,7 +138,7 @@ ahead_is false true = refl
 ahead_is false false = refl
 
 -- the ends of the deadline are those of the timing
-timed : (t : Timing) (day : ℕ) (o : Option ℕ) → in_time (or_less o) t day ≡ is_timing t (timing_on day o)
+timed : (t : Timing) (day : ℕ) (o : Option ℕ) → in_time (or_minus_one o) t day ≡ is_timing t (timing_on day o)
 timed Untimed day None = ap₂ ◌&&◌ (ge_is (negsuc 0) (negsuc 0)) (lt_is (negsuc 0) (pos 0))
 timed Past day None = ap₂ ◌&&◌ (ge_is (negsuc 0) (pos 0)) refl
 timed Near day None = ap₂ ◌&&◌ (ge_is (negsuc 0) (pos day)) refl
@@ -176,10 +176,10 @@ regroup true true false h r = refl
 regroup true true true false r = refl
 regroup true true true true r = refl
 
-pub kept_is : (s : Stage) (b : Bool) (t : Timing) (day : ℕ) (f : State) (after : Bool) → cell_tests (int (stage_code f.stage)) (flag f.stopped) (or_less f.deadline) s b t day after ≡ (is_kept_in s b t day f && after)
+pub kept_is : (s : Stage) (b : Bool) (t : Timing) (day : ℕ) (f : State) (after : Bool) → cell_tests (int (stage_code f.stage)) (flag f.stopped) (or_minus_one f.deadline) s b t day after ≡ (is_kept_in s b t day f && after)
 kept_is s b t day f after =
     regroup (is_true (binary (Compare Eq Binary) (int (stage_code f.stage)) (int (stage_code s)))) (is_true (binary (Compare Eq Binary) (flag f.stopped) (flag b)))
-    (is_true (binary (Compare Ge Binary) (or_less f.deadline) (first_deadline t day))) (is_true (binary (Compare Lt Binary) (or_less f.deadline) (next_deadline t day))) after
+    (is_true (binary (Compare Ge Binary) (or_minus_one f.deadline) (first_deadline t day))) (is_true (binary (Compare Lt Binary) (or_minus_one f.deadline) (next_deadline t day))) after
     ∙ ap (λ k. k && after) (ap₂ ◌&&◌ (ap₂ ◌&&◌ (same_number (stage_code f.stage) (stage_code s)) (same_flag f.stopped b)) (timed t day f.deadline))
 
 -- after a plus
@@ -192,21 +192,21 @@ plus_flag : (b : Bool) → binary Coalesce (flag b) Null ≡ flag b
 plus_flag true = plus_int (pos 1)
 plus_flag false = plus_int (pos 0)
 
-plus_less : (o : Option ℕ) → binary Coalesce (or_less o) Null ≡ or_less o
-plus_less None = plus_int (negsuc 0)
-plus_less (Some n) = plus_int (pos n)
+plus_minus_one : (o : Option ℕ) → binary Coalesce (or_minus_one o) Null ≡ or_minus_one o
+plus_minus_one None = plus_int (negsuc 0)
+plus_minus_one (Some n) = plus_int (pos n)
 
 pub kept_plus : (s : Stage) (b : Bool) (t : Timing) (day : ℕ) (f : State) (after : Bool)
-    → cell_tests (binary Coalesce (int (stage_code f.stage)) Null) (binary Coalesce (flag f.stopped) Null) (binary Coalesce (or_less f.deadline) Null) s b t day after ≡ (is_kept_in s b t day f && after)
+    → cell_tests (binary Coalesce (int (stage_code f.stage)) Null) (binary Coalesce (flag f.stopped) Null) (binary Coalesce (or_minus_one f.deadline) Null) s b t day after ≡ (is_kept_in s b t day f && after)
 kept_plus s b t day f after =
-    ap (λ v. cell_tests v (binary Coalesce (flag f.stopped) Null) (binary Coalesce (or_less f.deadline) Null) s b t day after) (plus_int (pos (stage_code f.stage)))
-    ∙ ap (λ v. cell_tests (int (stage_code f.stage)) v (binary Coalesce (or_less f.deadline) Null) s b t day after) (plus_flag f.stopped)
-    ∙ ap (λ v. cell_tests (int (stage_code f.stage)) (flag f.stopped) v s b t day after) (plus_less f.deadline)
+    ap (λ v. cell_tests v (binary Coalesce (flag f.stopped) Null) (binary Coalesce (or_minus_one f.deadline) Null) s b t day after) (plus_int (pos (stage_code f.stage)))
+    ∙ ap (λ v. cell_tests (int (stage_code f.stage)) v (binary Coalesce (or_minus_one f.deadline) Null) s b t day after) (plus_flag f.stopped)
+    ∙ ap (λ v. cell_tests (int (stage_code f.stage)) (flag f.stopped) v s b t day after) (plus_minus_one f.deadline)
     ∙ kept_is s b t day f after
 
 -- with a relation that leads, and a second one
 pub led_is : (s : Stage) (b : Bool) (t : Timing) (day : ℕ) (f : State) (lead second : Bool)
-    → (lead && cell_tests (binary Coalesce (int (stage_code f.stage)) Null) (binary Coalesce (flag f.stopped) Null) (binary Coalesce (or_less f.deadline) Null) s b t day (second && true)) ≡ (is_kept_in s b t day f && (lead && second))
+    → (lead && cell_tests (binary Coalesce (int (stage_code f.stage)) Null) (binary Coalesce (flag f.stopped) Null) (binary Coalesce (or_minus_one f.deadline) Null) s b t day (second && true)) ≡ (is_kept_in s b t day f && (lead && second))
 led_is s b t day f lead second = ap (λ k. lead && k) (kept_plus s b t day f (second && true) ∙ ap (λ r. is_kept_in s b t day f && r) (and_all second)) ∙ and_swap lead _ second
 
 -- ---- relations

@@ -14,13 +14,13 @@ use Rattle.permit_model.specs.Caller.{Party}
 use Rattle.permit_model.specs.Parcels.{Parcel, Interest}
 use Rattle.permit_model.specs.Tables.{Desk, State as FileState, FileRow, Paper, Tables}
 use Rattle.permit_sql_rows.specs.Schema.{office_schema, desk_table, party_table, parcel_table, interest_table, file_table, paper_table}
-use Rattle.permit_sql_rows.specs.Rows.{int, or_zero, or_less, step_value, flag, desk_row, party_row, parcel_row, file_row, shown_party, shown_parcel, shown_file, shown_interest, shown_paper}
+use Rattle.permit_sql_rows.specs.Rows.{int, or_zero, or_minus_one, step_value, flag, desk_row, party_row, parcel_row, file_row, shown_party, shown_parcel, shown_file, shown_interest, shown_paper}
 use Rattle.permit_sql_rows.specs.Kept.{Keeps}
 use Rattle.permit_sql_statements.specs.Texts.{write_desk, add_party, add_parcel, add_interest, add_file, add_paper, set_owner, write_file, found_desk}
 use Rattle.permit_sql_statements.proofs.Permuted.{alone, has_is}
 use Rattle.permit_sql_statements.proofs.Lookups.{one_test, eq_is, finds_one}
 use Rattle.permit_sql_statements.proofs.WriteTexts.{write_desk_query, write_desk_is, write_desk_plain, add_party_terms, add_party_is, add_party_plain, add_parcel_terms, add_parcel_is, add_parcel_plain, add_interest_terms, add_interest_is, add_interest_plain, add_file_terms, add_file_is, add_file_plain, add_paper_terms, add_paper_is, add_paper_plain, set_owner_query, set_owner_is, set_owner_plain, write_file_query, write_file_is, write_file_plain, found_desk_terms, found_desk_is, found_desk_plain}
-use Rattle.permit_sql_statements.proofs.Effects.{cast_int, cast_null, cast_or_zero, cast_or_less, cast_step, cast_flag, Leaves, Adds, adds, sets}
+use Rattle.permit_sql_statements.proofs.Effects.{cast_int, cast_null, cast_or_zero, cast_or_minus_one, cast_step, cast_flag, Leaves, Adds, adds, sets}
 
 -- ---- the rows are stored as they are
 
@@ -37,7 +37,7 @@ cast_interest : (i : Interest) → cast_row interest_table (Null ∷ shown_inter
 cast_interest i = simp (cast_int, cast_null)
 
 cast_file : (f : FileRow) → cast_row file_table (file_row f) ≡ file_row f
-cast_file f = simp (cast_int, cast_null, cast_or_zero, cast_or_less, cast_step, cast_flag)
+cast_file f = simp (cast_int, cast_null, cast_or_zero, cast_or_minus_one, cast_step, cast_flag)
 
 cast_paper : (p : Paper) → cast_row paper_table (Null ∷ shown_paper p) ≡ Null ∷ shown_paper p
 cast_paper p = simp (cast_int, cast_null, cast_flag)
@@ -93,12 +93,12 @@ module _ (old new : State) (count : ℕ) (schema : old.now.schema ≡ office_sch
       it.one (pos id) (parcel_row (record p { owner = owner })) (cast_parcel (record p { owner = owner })) (found ∙ ap (map set) there ∙ ap (λ n. (int n ∷ parcel_row (record p { owner = owner })) ∷ []) same)
 
   pub sets_file : (t : Tables) (k : Keeps t old.now) (id : ℕ) (s : FileState) (f : FileRow) → filter (λ x. eqb x.id id) t.files ≡ f ∷ [] → f.id ≡ id → s.parcel ≡ f.state.parcel → s.applicant ≡ f.state.applicant
-      → Executes write_file (int id ∷ or_zero s.contractor ∷ or_zero s.reviewer ∷ or_zero s.inspector ∷ int (kind_code s.kind) ∷ int s.filed ∷ int (stage_code s.stage) ∷ or_less s.deadline ∷ int s.done ∷ step_value s.request
-      ∷ or_less s.requested ∷ or_zero s.ask ∷ flag s.stopped ∷ int s.notices ∷ int s.papers ∷ or_less s.temporary ∷ []) old new (Ok count)
+      → Executes write_file (int id ∷ or_zero s.contractor ∷ or_zero s.reviewer ∷ or_zero s.inspector ∷ int (kind_code s.kind) ∷ int s.filed ∷ int (stage_code s.stage) ∷ or_minus_one s.deadline ∷ int s.done ∷ step_value s.request
+      ∷ or_minus_one s.requested ∷ or_zero s.ask ∷ flag s.stopped ∷ int s.notices ∷ int s.papers ∷ or_minus_one s.temporary ∷ []) old new (Ok count)
       → Leaves old.now new.now file_table × (new.now.trees 7 ≡ put_row (file_row (record f { state = s })) (without_rowid (pos id) (old.now.trees 7)))
   sets_file t k id s f there same parcel applicant h =
-      let params = int id ∷ or_zero s.contractor ∷ or_zero s.reviewer ∷ or_zero s.inspector ∷ int (kind_code s.kind) ∷ int s.filed ∷ int (stage_code s.stage) ∷ or_less s.deadline ∷ int s.done ∷ step_value s.request
-      ∷ or_less s.requested ∷ or_zero s.ask ∷ flag s.stopped ∷ int s.notices ∷ int s.papers ∷ or_less s.temporary ∷ [] in
+      let params = int id ∷ or_zero s.contractor ∷ or_zero s.reviewer ∷ or_zero s.inspector ∷ int (kind_code s.kind) ∷ int s.filed ∷ int (stage_code s.stage) ∷ or_minus_one s.deadline ∷ int s.done ∷ step_value s.request
+      ∷ or_minus_one s.requested ∷ or_zero s.ask ∷ flag s.stopped ∷ int s.notices ∷ int s.papers ∷ or_minus_one s.temporary ∷ [] in
       let it = sets write_file 4 file_table write_file_query write_file_is write_file_plain params old new count schema refl (λ tally x. x) h in
       let set : FileRow → Row = λ x. int x.id ∷ file_row (record x { state = record s { parcel = x.state.parcel; applicant = x.state.applicant } }) in
       let found = finds_one file_row set 7 write_file_query.filter write_file_query.project (overlay old.now.trees []) params t.files (λ x. eqb x.id id) (λ x. one_test _ ∙ eq_is x.id id) (λ x. refl)

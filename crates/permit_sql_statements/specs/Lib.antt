@@ -3,7 +3,7 @@ pub use Rattle.permit_sql_rows.specs.Kept
 pub mod Texts
 pub mod RouteTexts
 pub mod Selected
-pub mod Handed
-pub mod Steps
-pub mod StepOf
+pub mod Gave
+pub mod Statements
+pub mod TextAndParams
 pub mod Founding

@@ -13,6 +13,7 @@ ghost use Rattle.permit_sql_rows.specs.Kept.{IsNamed, Keeps, Shows};
 
 use crate::read::read_desk;
 use crate::turns::{turn_three, turn_two};
+use permit_base::limits::number_after;
 use permit_base::values::{
     Cents, Day, Days, Digest, FileId, Lot, PaperNumber, ParcelId, PartyId, Text,
 };
@@ -354,14 +355,11 @@ fn make<S: Alter>(conn: &mut Connection<S>, desk: &Desk, change: &Change<'_>) ->
     }
 }
 
-/// A count more.
+/// The number of the record behind so many of its kind, which is their count with it.
 fn next(count: u32) -> Got<u32>
     ensures { IfOk result (λ n. n ≡ count + 1) }
 {
-    match count.checked_add(1) {
-        Some(next) => Ok(next),
-        None => Err(StoreError),
-    }
+    number_after(count).ok_or(StoreError)
 }
 
 /// The desk after a change on a day.

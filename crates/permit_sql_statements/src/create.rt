@@ -7,11 +7,12 @@ ghost use Rattle.sqlite.specs.Values.{bound};
 ghost use Rattle.permit_model.specs.Tables.{tables};
 ghost use Rattle.permit_store.specs.Founding.{founding};
 ghost use Rattle.permit_sql_rows.specs.Schema.{empty_schema};
-ghost use Rattle.permit_sql_statements.specs.Steps.{RanAll};
-ghost use Rattle.permit_sql_statements.specs.Founding.{founding_steps};
+ghost use Rattle.permit_sql_statements.specs.Statements.{RanAll};
+ghost use Rattle.permit_sql_statements.specs.Founding.{founding_statements};
 ghost use Rattle.permit_sql_rows.specs.Kept.{Keeps};
 
-use crate::steps::{Step, run_all};
+use crate::statements::{Statement, run_all};
+use permit_base::words::Role;
 use permit_store::founder::Founder;
 use sqlite::{Alter, Connection, Error, params};
 use sqlite_value::value::ValueRef;
@@ -56,10 +57,10 @@ const DESK_ROW: &str =
 const PARTY_ROW: &str = "INSERT INTO party (id, name, role, digest) VALUES (?1, ?2, ?3, ?4)";
 
 /// A text and its parameters.
-fn step<'a>(text: &'a str, params: &'a [ValueRef<'a>]) -> Step<'a>
+fn statement<'a>(text: &'a str, params: &'a [ValueRef<'a>]) -> Statement<'a>
     ensures { (result.text.now ≡ text.now) × (result.params.now ≡ params.now) }
 {
-    Step { text, params }
+    Statement { text, params }
 }
 
 /// The tables, their indexes, the desk and the first party, in one transaction.
@@ -71,35 +72,38 @@ fn found<'a, S: Alter>(
 ) -> Result<(), Error>
     requires calm { conn.old.in_transaction ≡ false }
     requires bare { none.now ≡ [] }
-    ensures all { HasCleanDisk (state S.Store conn.new) → OnOk result (RanAll S.Store (founding_steps (bound desk.now) (bound party.now)) conn.old (state S.Store conn.new).committed) }
+    ensures all { HasCleanDisk (state S.Store conn.new) → OnOk result (RanAll S.Store (founding_statements (bound desk.now) (bound party.now)) conn.old (state S.Store conn.new).committed) }
     ensures shown { HasCleanDisk (state S.Store conn.new) → OnOk result ((state S.Store conn.new).now ≡ (state S.Store conn.new).committed) }
     ensures none { HasCleanDisk (state S.Store conn.new) → IsTrue (state S.Store conn.new).is_open
         → OnErr result (((state S.Store conn.new).now ≡ (state S.Store conn.old).now) × ((state S.Store conn.new).committed ≡ (state S.Store conn.old).committed)) }
     ensures calm { conn.new.in_transaction ≡ false }
-    ensures crash { Survives (state S.Store conn.old) (state S.Store conn.new) (λ trees. (db : _) × RanAll S.Store (founding_steps (bound desk.now) (bound party.now)) conn.old db × (trees ≡ db.trees)) }
+    ensures crash { Survives (state S.Store conn.old) (state S.Store conn.new) (λ trees. (db : _) × RanAll S.Store (founding_statements (bound desk.now) (bound party.now)) conn.old db × (trees ≡ db.trees)) }
 {
     run_all(
         conn,
         &[
-            step(DESK_TABLE, none),
-            step(PARTY_TABLE, none),
-            step(PARCEL_TABLE, none),
-            step(INTEREST_TABLE, none),
-            step(FILE_TABLE, none),
-            step(PAPER_TABLE, none),
-            step(FILE_CELL_INDEX, none),
-            step(FILE_APPLICANT_INDEX, none),
-            step(FILE_CONTRACTOR_INDEX, none),
-            step(FILE_REVIEWER_INDEX, none),
-            step(FILE_INSPECTOR_INDEX, none),
-            step(FILE_PARCEL_INDEX, none),
-            step(PARCEL_OWNER_INDEX, none),
-            step(INTEREST_PARTY_INDEX, none),
-            step(DESK_ROW, desk),
-            step(PARTY_ROW, party),
+            statement(DESK_TABLE, none),
+            statement(PARTY_TABLE, none),
+            statement(PARCEL_TABLE, none),
+            statement(INTEREST_TABLE, none),
+            statement(FILE_TABLE, none),
+            statement(PAPER_TABLE, none),
+            statement(FILE_CELL_INDEX, none),
+            statement(FILE_APPLICANT_INDEX, none),
+            statement(FILE_CONTRACTOR_INDEX, none),
+            statement(FILE_REVIEWER_INDEX, none),
+            statement(FILE_INSPECTOR_INDEX, none),
+            statement(FILE_PARCEL_INDEX, none),
+            statement(PARCEL_OWNER_INDEX, none),
+            statement(INTEREST_PARTY_INDEX, none),
+            statement(DESK_ROW, desk),
+            statement(PARTY_ROW, party),
         ],
     )
 }
+
+/// The number of the first party, who founds the office.
+const FOUNDER: u32 = 1;
 
 /// Makes the tables with their founding in a database that has none, or changes nothing, also over a crash.
 pub fn create_in<S: Alter>(conn: &mut Connection<S>, founder: &Founder) -> Result<(), Error>
@@ -115,6 +119,11 @@ pub fn create_in<S: Alter>(conn: &mut Connection<S>, founder: &Founder) -> Resul
         conn,
         &[],
         params![founder.day.get()],
-        params![1u32, founder.name.as_str(), 4u32, founder.digest.as_str()],
+        params![
+            FOUNDER,
+            founder.name.as_str(),
+            Role::Official as u32,
+            founder.digest.as_str()
+        ],
     )
 }

@@ -11,5 +11,5 @@ pub mod query;
 mod question;
 pub mod read;
 pub mod select;
-mod steps;
+mod statements;
 mod turns;

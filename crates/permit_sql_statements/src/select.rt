@@ -13,7 +13,7 @@ ghost use Rattle.permit_store.specs.Handing.{AreAmong, AreFound, AreHanded, Took
 ghost use Rattle.permit_sql_rows.specs.Kept.{IsFine, Keeps, Shows};
 ghost use Rattle.permit_sql_rows.specs.Rows.{shown_found};
 ghost use Rattle.permit_sql_statements.specs.Selected.{AreNamed, ShowFound};
-ghost use Rattle.permit_sql_statements.specs.Handed.{Gave};
+ghost use Rattle.permit_sql_statements.specs.Gave.{Gave};
 
 use crate::query::rows_of;
 use crate::question::{count_of, text_of, text_of_any, values_of};

@@ -7,27 +7,27 @@ ghost use Rattle.sqlite.specs.State.{HasCleanDisk, Survives};
 ghost use Rattle.sqlite.specs.Held.{state};
 ghost use Rattle.sqlite.specs.Values.{bound};
 ghost use Rattle.permit_model.specs.Tables.{Tables};
-ghost use Rattle.permit_sql_statements.specs.Steps.{RanAll};
-ghost use Rattle.permit_sql_statements.specs.StepOf.{step_of};
+ghost use Rattle.permit_sql_statements.specs.Statements.{RanAll};
+ghost use Rattle.permit_sql_statements.specs.TextAndParams.{text_and_params};
 ghost use Rattle.permit_sql_rows.specs.Kept.{Keeps, Shows};
 
-use crate::steps::{Step, run_all};
+use crate::statements::{Statement, run_all};
 use permit_store::store::{Got, StoreError};
 use sqlite::{Alter, Connection};
 use sqlite_value::value::ValueRef;
 
 /// All statements in turn or none, also over a crash.
-fn turn<S: Alter>(conn: &mut Connection<S>, steps: &[Step<'_>]) -> Got<()>
+fn turn<S: Alter>(conn: &mut Connection<S>, statements: &[Statement<'_>]) -> Got<()>
     requires calm { conn.old.in_transaction ≡ false }
     ensures made { (t u : Tables) → HasCleanDisk (state S.Store conn.new) → Shows t (state S.Store conn.old)
-        → (Keeps t (state S.Store conn.old).now → (db : Database) → RanAll S.Store (map step_of steps.now) conn.old db → Keeps u db) → OnOk result (Shows u (state S.Store conn.new)) }
+        → (Keeps t (state S.Store conn.old).now → (db : Database) → RanAll S.Store (map text_and_params statements.now) conn.old db → Keeps u db) → OnOk result (Shows u (state S.Store conn.new)) }
     ensures kept { (t : Tables) → HasCleanDisk (state S.Store conn.new) → Shows t (state S.Store conn.old) → OnErr result (Shows t (state S.Store conn.new)) }
     ensures calm { conn.new.in_transaction ≡ false }
     ensures open { HasCleanDisk (state S.Store conn.new) → OnOk result (IsTrue (state S.Store conn.new).is_open) }
     ensures doubt { doubt (state S.Store conn.old).is_clean ≤ doubt (state S.Store conn.new).is_clean }
-    ensures crash { Survives (state S.Store conn.old) (state S.Store conn.new) (λ trees. (db : Database) × RanAll S.Store (map step_of steps.now) conn.old db × (trees ≡ db.trees)) }
+    ensures crash { Survives (state S.Store conn.old) (state S.Store conn.new) (λ trees. (db : Database) × RanAll S.Store (map text_and_params statements.now) conn.old db × (trees ≡ db.trees)) }
 {
-    match run_all(conn, steps) {
+    match run_all(conn, statements) {
         Ok(()) => Ok(()),
         Err(_) => Err(StoreError),
     }
@@ -54,11 +54,11 @@ pub(crate) fn turn_two<'a, S: Alter>(
     turn(
         conn,
         &[
-            Step {
+            Statement {
                 text: first,
                 params: one,
             },
-            Step {
+            Statement {
                 text: last,
                 params: two,
             },
@@ -89,15 +89,15 @@ pub(crate) fn turn_three<'a, S: Alter>(
     turn(
         conn,
         &[
-            Step {
+            Statement {
                 text: first,
                 params: one,
             },
-            Step {
+            Statement {
                 text: second,
                 params: two,
             },
-            Step {
+            Statement {
                 text: last,
                 params: three,
             },

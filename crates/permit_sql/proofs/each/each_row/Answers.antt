@@ -7,7 +7,7 @@ use Rattle.sqlite.specs.Held.{state}
 use Rattle.sqlite.proofs.StateLemmas.{survives_weaker, survives_then}
 use Rattle.sqlite.proofs.Callers.{IsPlain, given_begin, begun_plain, never_commits, unchanged_then}
 use Rattle.sqlite.specs.Given.{IsRefused}
-use Rattle.permit_sql.specs.Taken.{TookAll, Handed}
+use Rattle.permit_sql.specs.Taken.{TookAll, TookRows}
 use Rattle.permit_sql_statements.proofs.KeptLemmas.{failed_open, failed_same}
 use Rattle.permit_sql.proofs.each.each_row.Goals as goal
 
@@ -39,9 +39,9 @@ returns-in_default-clause-ok g c clean =
     let late : HasCleanDisk (state g.S.Store now) = search rules in
     let was = c.rows.invariant.2 (omega (arith, moved.survives.clean)) in
     let shown = (rw (c.in_ok-row.was, c.in_default.is) at (moved.ok late)) c.args.sql.now (bound c.args.params.now) was.0 was.1 in
-    let whole : Handed g.T.Taker.took g.S.Store c.args.sql.now (bound c.args.params.now) c.args.conn.now now c.args.taker.now c.rows.taker true =
+    let whole : TookRows g.T.Taker.took g.S.Store c.args.sql.now (bound c.args.params.now) c.args.conn.now now c.args.taker.now c.rows.taker true =
     (was.0, c.rows.rows.conn.now, was.2, shown, was.3) in
-    subst (λ h. Handed g.T.Taker.took g.S.Store c.args.sql.now (bound c.args.params.now) c.args.conn.now h c.args.taker.now c.rows.taker true) same whole
+    subst (λ h. TookRows g.T.Taker.took g.S.Store c.args.sql.now (bound c.args.params.now) c.args.conn.now h c.args.taker.now c.rows.taker true) same whole
 
 pub returns-then-not-take-clause-ok : goal.returns-then-not-take-clause-ok
 returns-then-not-take-clause-ok g c clean =

@@ -10,7 +10,12 @@ use Rattle.permit_sql_statements.proofs.read.file_rows.Goals as goal
 
 pub returns-clause-found : goal.returns-clause-found
 returns-clause-found g c t clean there =
-    IfOk-weaker c.rows_of.result _ _ (λ rows h. ap (λ l. slice_get l 0) (file_shown (state g.S.Store c.args.conn.now) (state g.S.Store c.rows_of.new.conn) t rows.items (there (shown_open _ _ (state g.S.Store c.args.conn.now) (state g.S.Store c.rows_of.new.conn) rows.items h)) c.args.file (rw (c.params-to_sql.ensures, c.get.ensures.same) at h)) ∙ first_of shown_file (λ f. eqb f.id c.args.file) t.files) (c.rows_of.ensures.shown clean)
+    let old = state g.S.Store c.args.conn.now in
+    let new = state g.S.Store c.rows_of.new.conn in
+    IfOk-weaker c.rows_of.result _ _ (λ rows h.
+    let keeps = there (shown_open _ _ old new rows.items h) in
+    let shown = file_shown old new t rows.items keeps c.args.file (rw (c.params-to_sql.ensures, c.get.ensures.same) at h) in
+    ap (λ l. slice_get l 0) shown ∙ first_of shown_file (λ f. eqb f.id c.args.file) t.files) (c.rows_of.ensures.shown clean)
 
 pub returns-clause-kept : goal.returns-clause-kept
 returns-clause-kept g c t clean there = c.rows_of.ensures.kept read_file_plain t clean there
@@ -20,4 +25,8 @@ returns-clause-crash g c t there = c.rows_of.ensures.crash read_file_plain t the
 
 pub returns-clause-named : goal.returns-clause-named
 returns-clause-named g c t clean there =
-    IfOk-weaker c.rows_of.result _ _ (λ rows h. all_found (λ f. eqb f.id c.args.file) (λ f. IsNamed f.state) t.files (there (shown_open _ _ (state g.S.Store c.args.conn.now) (state g.S.Store c.rows_of.new.conn) rows.items h)).keyed.named) (c.rows_of.ensures.shown clean)
+    let old = state g.S.Store c.args.conn.now in
+    let new = state g.S.Store c.rows_of.new.conn in
+    IfOk-weaker c.rows_of.result _ _ (λ rows h.
+    let keeps = there (shown_open _ _ old new rows.items h) in
+    all_found (λ f. eqb f.id c.args.file) (λ f. IsNamed f.state) t.files keeps.keyed.named) (c.rows_of.ensures.shown clean)

@@ -9,7 +9,12 @@ use Rattle.permit_sql_statements.proofs.read.party_rows.Goals as goal
 
 pub returns-clause-found : goal.returns-clause-found
 returns-clause-found g c t clean there =
-    IfOk-weaker c.rows_of.result _ _ (λ rows h. ap (λ l. slice_get l 0) (party_shown (state g.S.Store c.args.conn.now) (state g.S.Store c.rows_of.new.conn) t rows.items (there (shown_open _ _ (state g.S.Store c.args.conn.now) (state g.S.Store c.rows_of.new.conn) rows.items h)) c.args.party (rw (c.params-to_sql.ensures, c.get.ensures.same) at h)) ∙ first_of shown_party (λ p. eqb p.id c.args.party) t.parties) (c.rows_of.ensures.shown clean)
+    let old = state g.S.Store c.args.conn.now in
+    let new = state g.S.Store c.rows_of.new.conn in
+    IfOk-weaker c.rows_of.result _ _ (λ rows h.
+    let keeps = there (shown_open _ _ old new rows.items h) in
+    let shown = party_shown old new t rows.items keeps c.args.party (rw (c.params-to_sql.ensures, c.get.ensures.same) at h) in
+    ap (λ l. slice_get l 0) shown ∙ first_of shown_party (λ p. eqb p.id c.args.party) t.parties) (c.rows_of.ensures.shown clean)
 
 pub returns-clause-kept : goal.returns-clause-kept
 returns-clause-kept g c t clean there = c.rows_of.ensures.kept read_party_plain t clean there

@@ -1,7 +1,7 @@
 use Rattle.std.proofs.Common.{sym, subst, subst₂}
 use Rattle.sqlite.specs.Held.{state}
 use Rattle.permit_sql_rows.specs.Kept.{Keeps}
-use Rattle.permit_sql_statements.specs.Handed.{Gave}
+use Rattle.permit_sql_statements.specs.Gave.{Gave}
 use Rattle.permit_sql_statements.proofs.RouteAnswers.{asked}
 use Rattle.permit_sql_statements.proofs.Handing.{plain_in, handed_shown}
 use Rattle.permit_sql_statements.proofs.select.each_found.Goals as goal

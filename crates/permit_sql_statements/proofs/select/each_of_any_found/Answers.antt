@@ -4,7 +4,7 @@ use Rattle.permit_store.specs.Handing.{AreAmong, Took, is_found_by_any, more_han
 use Rattle.permit_store.proofs.Sieving.{passed_on, among}
 use Rattle.permit_sql_rows.specs.Kept.{Keeps}
 use Rattle.permit_sql_rows.specs.Rows.{int}
-use Rattle.permit_sql_statements.specs.Handed.{Gave}
+use Rattle.permit_sql_statements.specs.Gave.{Gave}
 use Rattle.permit_sql_statements.proofs.AnyHanding.{handed_among, any_plain}
 use Rattle.permit_sql_statements.proofs.select.each_of_any_found.Goals as goal
 

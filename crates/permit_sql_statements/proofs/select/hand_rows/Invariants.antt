@@ -10,7 +10,7 @@ use Rattle.sqlite.specs.Values.{bound}
 use Rattle.permit_core.specs.Taking.{TookAll}
 use Rattle.permit_model.specs.Routes.{Found}
 use Rattle.permit_store.specs.Handing.{more_handed}
-use Rattle.permit_sql_statements.specs.Handed.{AreReadAs}
+use Rattle.permit_sql_statements.specs.Gave.{AreReadAs}
 use Rattle.permit_sql_statements.proofs.select.hand_rows.Given as goal
 
 -- what the rows given so far show was taken, and counted

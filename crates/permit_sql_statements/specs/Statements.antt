@@ -10,20 +10,20 @@ use Rattle.permit_sql_rows.specs.Rows.{int}
 use Rattle.permit_sql_statements.specs.Texts.{write_desk}
 
 -- a text and its parameters
-abbrev pub Step : Type 0
-Step = List ℕ × Row
+abbrev pub Statement : Type 0
+Statement = List ℕ × Row
 
--- the step that sets the desk's row
-abbrev pub desk_step : Desk → Step
-desk_step d = (write_desk, int d.last ∷ int d.parties ∷ int d.parcels ∷ int d.files ∷ [])
+-- the statement that sets the desk's row
+abbrev pub desk_statement : Desk → Statement
+desk_statement d = (write_desk, int d.last ∷ int d.parties ∷ int d.parcels ∷ int d.files ∷ [])
 
 module _ {S : Type 0} (g : Ghosts S) where
-  abbrev pub Ran : List Step → Held S → Held S → Type 0
+  abbrev pub Ran : List Statement → Held S → Held S → Type 0
   Ran [] old new = new ≡ old
   Ran (s ∷ more) old new = (mid : Held S) × (count : ℕ) × Executes s.0 s.1 (state g old) (state g mid) (Ok count) × Ran more mid new
 
   -- they lead from the old database to this one
-  pub record RanAll (steps : List Step) (old : Held S) (db : Database) : Type 0 where
+  pub record RanAll (statements : List Statement) (old : Held S) (db : Database) : Type 0 where
     pub last : Held S
-    pub ran : Ran steps (record old { in_transaction = true }) last
+    pub ran : Ran statements (record old { in_transaction = true }) last
     pub is : db ≡ (state g last).now
