@@ -17,7 +17,7 @@ use permit_store::founder::Founder;
 use permit_store::store::{OpenError, Store};
 use permit_subcommands::asking::ask;
 use permit_subcommands::days::RunDays;
-use permit_subcommands::fault::Fault;
+use permit_subcommands::failure::Failure;
 use permit_subcommands::listing::{list, write_register};
 use permit_words::plan::ServeWords;
 use sqlite::{Alter, Connection, Error, ErrorCode};
@@ -81,12 +81,12 @@ pub enum Done {
 }
 
 /// Why a database is not opened.
-fn of_opening(error: Error) -> Fault {
+fn of_opening(error: Error) -> Failure {
     match error {
-        Error::SqliteFailure(ErrorCode::OutOfMemory) => Fault::memory(),
+        Error::SqliteFailure(ErrorCode::OutOfMemory) => Failure::memory(),
         Error::SqliteFailure(ErrorCode::NotADatabase | ErrorCode::DatabaseCorrupt) =>
-            Fault::Database(OpenError::Damaged),
-        _ => Fault::Database(OpenError::Store),
+            Failure::Database(OpenError::Damaged),
+        _ => Failure::Database(OpenError::Store),
     }
 }
 
@@ -95,10 +95,10 @@ fn found_in<S: Alter + Drop>(
     alloc: Global,
     conn: Connection<S>,
     founder: &Founder,
-) -> (Connection<S>, Result<Done, Fault>) {
+) -> (Connection<S>, Result<Done, Failure>) {
     match SqlStore::create(alloc, conn, founder) {
         Ok(store) => (store.into_connection(), Ok(Done::Founded)),
-        Err((conn, why)) => (conn, Err(Fault::Database(why))),
+        Err((conn, why)) => (conn, Err(Failure::Database(why))),
     }
 }
 
@@ -124,7 +124,7 @@ fn ask_of<S: Store + Drop, O: Write>(
     day: Day,
     question: Question<'_>,
     out: &mut O,
-) -> Result<Done, Fault> {
+) -> Result<Done, Failure> {
     match question {
         Question::Serve { request } => Ok(Done::Served(ask(alloc, office, request, day)?)),
         Question::List { token, filter } => Ok(Done::Listed(list(office, token, filter, day)?)),
@@ -138,7 +138,7 @@ fn ask_of<S: Store + Drop, O: Write>(
             records,
         } => match import(alloc, office, &token, day, records, out) {
             Ok(tally) => Ok(Done::Imported(tally)),
-            Err(fault) => Err(Fault::of_import(alloc, path, fault)),
+            Err(fault) => Err(Failure::of_import(alloc, path, fault)),
         },
     }
 }
@@ -152,7 +152,7 @@ fn serve_in<S, R, O>(
     days: &RunDays,
     words: &ServeWords<'_>,
     out: &mut O,
-) -> (Connection<S>, Result<(), Fault>)
+) -> (Connection<S>, Result<(), Failure>)
 where
     S: Alter + Drop,
     R: Threads + Wait + Copy + Drop + Send + 'static,
@@ -163,7 +163,7 @@ where
             let (office, served) = serve(rt, workers, office, words, &|| days.today(rt), out);
             (office.into_store().into_connection(), served)
         }
-        Err((conn, why)) => (conn, Err(Fault::Database(why))),
+        Err((conn, why)) => (conn, Err(Failure::Database(why))),
     }
 }
 
@@ -175,14 +175,14 @@ fn ask_in<S: Alter + Drop, O: Write>(
     day: Day,
     question: Question<'_>,
     out: &mut O,
-) -> (Connection<S>, Result<Done, Fault>) {
+) -> (Connection<S>, Result<Done, Failure>) {
     match office_in(alloc, conn, policy) {
         Ok(office) => {
             let mut office = office;
             let done = ask_of(alloc, &mut office, day, question, out);
             (office.into_store().into_connection(), done)
         }
-        Err((conn, why)) => (conn, Err(Fault::Database(why))),
+        Err((conn, why)) => (conn, Err(Failure::Database(why))),
     }
 }
 
@@ -192,7 +192,7 @@ fn work_in<S: Alter + Drop, O: Write>(
     conn: Connection<S>,
     work: Work<'_>,
     out: &mut O,
-) -> (Connection<S>, Result<Done, Fault>) {
+) -> (Connection<S>, Result<Done, Failure>) {
     match work {
         Work::Found(founder) => found_in(alloc, conn, &founder),
         Work::Ask {
@@ -213,7 +213,7 @@ pub fn work_at<O: Write>(
     path: &str,
     work: Work<'_>,
     out: &mut O,
-) -> Result<Done, Fault> {
+) -> Result<Done, Failure> {
     match Connection::open(rt, path) {
         Ok(conn) => {
             let (conn, done) = work_in(rt.alloc(), conn, work, out);
@@ -232,7 +232,7 @@ pub fn serve_at<R, O>(
     days: &RunDays,
     words: &ServeWords<'_>,
     out: &mut O,
-) -> Result<(), Fault>
+) -> Result<(), Failure>
 where
     R: Threads + Wait + Copy + Drop + Send + 'static,
     O: Write,

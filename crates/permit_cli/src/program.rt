@@ -3,8 +3,8 @@
 ghost use Rattle.std.specs.Prelude.{◌≡◌, ◌≤◌, ◌⊎◌, IfErr, IfOk, None, Some};
 ghost use Rattle.permit_import.specs.declared.refused.RefusalWord.TheVariants.{Store};
 ghost use Rattle.permit_words.specs.FactsText.{facts_in, pieces};
-ghost use Rattle.permit_subcommands.specs.Faults.{fault_status, plain, IsStatusOf};
-ghost use Rattle.permit_subcommands.specs.declared.fault.Fault.TheVariants as fault;
+ghost use Rattle.permit_subcommands.specs.Failures.{failure_status, plain, IsStatusOf};
+ghost use Rattle.permit_subcommands.specs.declared.failure.Failure.TheVariants as failure;
 
 use crate::database::{Done, Question, Work, serve_at, work_at};
 use permit_base::request::Filter;
@@ -13,7 +13,7 @@ use permit_policy::{Facts, Policy};
 use permit_store::store::OpenError;
 use permit_subcommands::asking::{print, show};
 use permit_subcommands::days::{day_of_run, days_of_run};
-use permit_subcommands::fault::{Fault, status_after};
+use permit_subcommands::failure::{Failure, status_after};
 use permit_subcommands::founding::founder;
 use permit_subcommands::listing::listing_text;
 use permit_subcommands::request::{caller, request};
@@ -43,12 +43,12 @@ enum Outcome {
     Ended,
 }
 
-/// Says a fault on standard error, whose own failure nobody can be told, and gives its status.
-fn complain<E: Write>(fault: &Fault, err: &mut E) -> u8
-    ensures { result ≡ fault_status fault.now }
+/// Says a failure on standard error, of whose own nobody can be told, and gives its status.
+fn complain<E: Write>(failure: &Failure, err: &mut E) -> u8
+    ensures { result ≡ failure_status failure.now }
 {
-    let _ = writeln!(err, "{fault}");
-    fault.status()
+    let _ = writeln!(err, "{failure}");
+    failure.status()
 }
 
 /// Says why the words give no plan, or the help that they ask for.
@@ -58,40 +58,40 @@ fn without_plan<O: Write, E: Write>(fault: &PlanFault, out: &mut O, err: &mut E)
     match fault {
         PlanFault::Help(text) => match out.write_all(text.as_bytes()) {
             Ok(()) => 0,
-            Err(_) => complain(&Fault::Output, err),
+            Err(_) => complain(&Failure::Output, err),
         },
         PlanFault::Words(text) => {
             let _ = err.write_all(text.as_bytes());
             2
         }
-        PlanFault::Memory => complain(&Fault::memory(), err),
+        PlanFault::Memory => complain(&Failure::memory(), err),
     }
 }
 
 /// Reads the policy at a path.
-fn policy_at(rt: &HostRuntime, path: &str) -> Result<Policy, Fault> {
+fn policy_at(rt: &HostRuntime, path: &str) -> Result<Policy, Failure> {
     match fs::read_to_string(rt, path) {
         Ok(text) => match read_policy(rt.alloc(), text.as_str()) {
             Ok(policy) => Ok(policy),
-            Err(error) => Err(Fault::of_policy(error)),
+            Err(error) => Err(Failure::of_policy(error)),
         },
-        Err(error) => Err(Fault::of_reading(rt.alloc(), path, &error)),
+        Err(error) => Err(Failure::of_reading(rt.alloc(), path, &error)),
     }
 }
 
 /// The facts of a word.
-fn facts_of(alloc: Global, text: &str) -> Result<Facts, Fault>
+fn facts_of(alloc: Global, text: &str) -> Result<Facts, Failure>
     ensures read { IfOk result (λ facts. facts_in (pieces 44 text.now) ≡ Some facts) }
-    ensures refused { IfErr result (λ why. (why ≡ plain Store) ⊎ ((why ≡ fault.Facts) × (facts_in (pieces 44 text.now) ≡ None))) }
+    ensures refused { IfErr result (λ why. (why ≡ plain Store) ⊎ ((why ≡ failure.Facts) × (facts_in (pieces 44 text.now) ≡ None))) }
 {
     match read_facts(alloc, text)? {
         Some(facts) => Ok(facts),
-        None => Err(Fault::Facts),
+        None => Err(Failure::Facts),
     }
 }
 
 /// Reads the policy at a path, and says of it what is asked. The facts are read first.
-fn check_policy(rt: &HostRuntime, words: &CheckPolicyWords<'_>) -> Result<Outcome, Fault> {
+fn check_policy(rt: &HostRuntime, words: &CheckPolicyWords<'_>) -> Result<Outcome, Failure> {
     let alloc = rt.alloc();
     let text = match words.check {
         Check::Rules => rules_text(alloc, &policy_at(rt, words.policy)?)?,
@@ -105,7 +105,11 @@ fn check_policy(rt: &HostRuntime, words: &CheckPolicyWords<'_>) -> Result<Outcom
 }
 
 /// Founds an office.
-fn init<O: Write>(rt: &HostRuntime, words: &InitWords<'_>, out: &mut O) -> Result<Outcome, Fault> {
+fn init<O: Write>(
+    rt: &HostRuntime,
+    words: &InitWords<'_>,
+    out: &mut O,
+) -> Result<Outcome, Failure> {
     let day = day_of_run(rt, &words.days)?;
     let founder = founder(rt.alloc(), words.name, words.token, day)?;
     let done = work_at(rt, words.db, Work::Found(founder), out)?;
@@ -113,9 +117,9 @@ fn init<O: Write>(rt: &HostRuntime, words: &InitWords<'_>, out: &mut O) -> Resul
 }
 
 /// That there is a database at a path: none is made there.
-fn found_at(rt: &HostRuntime, path: &str) -> Result<(), Fault> {
+fn found_at(rt: &HostRuntime, path: &str) -> Result<(), Failure> {
     match fs::exists(rt, path) {
-        Ok(false) => Err(Fault::Database(OpenError::Store)),
+        Ok(false) => Err(Failure::Database(OpenError::Store)),
         _ => Ok(()),
     }
 }
@@ -126,7 +130,7 @@ fn ask_office<O: Write>(
     words: &OfficeWords<'_>,
     question: Question<'_>,
     out: &mut O,
-) -> Result<Outcome, Fault> {
+) -> Result<Outcome, Failure> {
     let day = day_of_run(rt, &words.days)?;
     let policy = policy_at(rt, words.policy)?;
     found_at(rt, words.db)?;
@@ -139,7 +143,7 @@ fn ask_office<O: Write>(
 }
 
 /// Has the office serve one request.
-fn act<O: Write>(rt: &HostRuntime, words: &ActWords<'_>, out: &mut O) -> Result<Outcome, Fault> {
+fn act<O: Write>(rt: &HostRuntime, words: &ActWords<'_>, out: &mut O) -> Result<Outcome, Failure> {
     let request = request(rt.alloc(), words)?;
     let question = Question::Serve {
         request: request.as_str(),
@@ -148,7 +152,11 @@ fn act<O: Write>(rt: &HostRuntime, words: &ActWords<'_>, out: &mut O) -> Result<
 }
 
 /// Lists files.
-fn list<O: Write>(rt: &HostRuntime, words: &ListWords<'_>, out: &mut O) -> Result<Outcome, Fault> {
+fn list<O: Write>(
+    rt: &HostRuntime,
+    words: &ListWords<'_>,
+    out: &mut O,
+) -> Result<Outcome, Failure> {
     let token = caller(rt.alloc(), words.office.token)?;
     let filter = match words.stage {
         Some(stage) => Filter::InStage(stage),
@@ -162,7 +170,7 @@ fn register<O: Write>(
     rt: &HostRuntime,
     words: &RegisterWords<'_>,
     out: &mut O,
-) -> Result<Outcome, Fault> {
+) -> Result<Outcome, Failure> {
     let token = caller(rt.alloc(), words.office.token)?;
     let kind = words.kind;
     ask_office(rt, &words.office, Question::Register { token, kind }, out)
@@ -173,11 +181,11 @@ fn import<O: Write>(
     rt: &HostRuntime,
     words: &ImportWords<'_>,
     out: &mut O,
-) -> Result<Outcome, Fault> {
+) -> Result<Outcome, Failure> {
     let token = caller(rt.alloc(), words.office.token)?;
     let records = match File::open(rt, words.file) {
         Ok(records) => records,
-        Err(error) => return Err(Fault::of_reading(rt.alloc(), words.file, &error)),
+        Err(error) => return Err(Failure::of_reading(rt.alloc(), words.file, &error)),
     };
     let question = Question::Import {
         token,
@@ -193,7 +201,7 @@ fn serve<R, O>(
     workers: R,
     words: &ServeWords<'_>,
     out: &mut O,
-) -> Result<Outcome, Fault>
+) -> Result<Outcome, Failure>
 where
     R: Threads + Wait + Copy + Drop + Send + 'static,
     O: Write,
@@ -212,7 +220,7 @@ fn carry_out<R, O>(
     workers: R,
     plan: &Plan<'_>,
     out: &mut O,
-) -> Result<Outcome, Fault>
+) -> Result<Outcome, Failure>
 where
     R: Threads + Wait + Copy + Drop + Send + 'static,
     O: Write,
@@ -230,15 +238,15 @@ where
 }
 
 /// Prints a text.
-fn print_text<O: Write>(out: &mut O, text: &str) -> Result<(), Fault> {
+fn print_text<O: Write>(out: &mut O, text: &str) -> Result<(), Failure> {
     match out.write_all(text.as_bytes()) {
         Ok(()) => Ok(()),
-        Err(_) => Err(Fault::Output),
+        Err(_) => Err(Failure::Output),
     }
 }
 
-/// Prints what a plan came to, and gives the status. The refusal that an answer tells is the fault then.
-fn tell<O: Write>(alloc: Global, outcome: &Outcome, out: &mut O) -> Result<u8, Fault>
+/// Prints what a plan came to, and gives the status. The refusal that an answer tells is the failure then.
+fn tell<O: Write>(alloc: Global, outcome: &Outcome, out: &mut O) -> Result<u8, Failure>
     ensures { IfOk result (λ status. status ≤ 1) }
 {
     match outcome {
@@ -258,7 +266,7 @@ fn tell<O: Write>(alloc: Global, outcome: &Outcome, out: &mut O) -> Result<u8, F
 }
 
 /// Does what a plan asks for, prints what it came to, and gives the status.
-fn perform<R, O>(rt: &HostRuntime, workers: R, plan: &Plan<'_>, out: &mut O) -> Result<u8, Fault>
+fn perform<R, O>(rt: &HostRuntime, workers: R, plan: &Plan<'_>, out: &mut O) -> Result<u8, Failure>
 where
     R: Threads + Wait + Copy + Drop + Send + 'static,
     O: Write,
@@ -286,7 +294,7 @@ where
     match plan(rt.alloc(), words) {
         Ok(plan) => match perform(rt, workers, &plan, out) {
             Ok(status) => status,
-            Err(fault) => complain(&fault, err),
+            Err(failure) => complain(&failure, err),
         },
         Err(fault) => without_plan(&fault, out, err),
     }

@@ -14,7 +14,7 @@ use permit_samples::offices::over_vectors;
 use permit_samples::opening::OPENING;
 use permit_samples::script::play;
 use permit_store::plain::PlainStore;
-use permit_subcommands::fault::Fault;
+use permit_subcommands::failure::Failure;
 use permit_subcommands::listing::{list, write_register};
 use std::alloc::Global;
 use std::io::{self, ErrorKind, Write};
@@ -92,7 +92,7 @@ fn a_thousand_files_and_a_writer_that_fails(rt: HostRuntime) -> Result<(), Fail>
     };
     let token_of = token(alloc, official)?;
     match write_register(&mut office, token_of, RegisterKind::Files, on, &mut cut) {
-        Err(Fault::Output) => {}
+        Err(Failure::Output) => {}
         _ => return Err(Fail::new("a writer that fails is no fault of the output")),
     }
     assert!(rt; whole.starts_with(&cut.bytes));

@@ -11,7 +11,7 @@ use permit_base::values::Day;
 use permit_hall::doors::run_hall;
 use permit_office::office::Office;
 use permit_store::store::Store;
-use permit_subcommands::fault::Fault;
+use permit_subcommands::failure::Failure;
 use permit_words::plan::ServeWords;
 use std::io::{self, Write};
 use std::net::{SocketAddr, TcpListener};
@@ -33,13 +33,13 @@ fn doors_at(
 }
 
 /// Says on which address connections are taken.
-fn say<O: Write>(out: &mut O, address: SocketAddr) -> Result<(), Fault> {
+fn say<O: Write>(out: &mut O, address: SocketAddr) -> Result<(), Failure> {
     match writeln!(out, "listening {address}") {
         Ok(()) => match out.flush() {
             Ok(()) => Ok(()),
-            Err(_) => Err(Fault::Output),
+            Err(_) => Err(Failure::Output),
         },
-        Err(_) => Err(Fault::Output),
+        Err(_) => Err(Failure::Output),
     }
 }
 
@@ -48,19 +48,19 @@ fn listen<O: Write>(
     rt: &HostRuntime,
     words: &ServeWords<'_>,
     out: &mut O,
-) -> Result<Vec<Connections<HostRuntime>>, Fault>
+) -> Result<Vec<Connections<HostRuntime>>, Failure>
     ensures count { IfOk result (λ doors. length doors.items ≡ words.now.workers) }
     ensures left { IfOk result (λ doors. All (λ d. d.left ≡ words.now.connections) doors.items) }
 {
     let Ok((doors, address)) = doors_at(rt, words) else {
-        return Err(Fault::unheard(rt.alloc(), words.listen));
+        return Err(Failure::unheard(rt.alloc(), words.listen));
     };
     say(out, address)?;
     Ok(doors)
 }
 
 /// Serves an office until its workers have ended, on the days that a clock gives, and gives it back: what its clients
-/// asked is one history of it. With a fault it is as it was.
+/// asked is one history of it. With a failure it is as it was.
 pub fn serve<S, T, R, O>(
     rt: &HostRuntime,
     workers: R,
@@ -68,7 +68,7 @@ pub fn serve<S, T, R, O>(
     words: &ServeWords<'_>,
     today: &T,
     out: &mut O,
-) -> (Office<S>, Result<(), Fault>)
+) -> (Office<S>, Result<(), Failure>)
 where
     S: Store + Drop,
     T: Fn() -> Day,
@@ -80,10 +80,10 @@ where
 {
     let doors = match listen(rt, words, out) {
         Ok(doors) => doors,
-        Err(fault) => return (office, Err(fault)),
+        Err(failure) => return (office, Err(failure)),
     };
     match run_hall(workers, rt.alloc(), office, doors, today) {
         Ok(end) => (end.office, Ok(())),
-        Err((office, _)) => (office, Err(Fault::memory())),
+        Err((office, _)) => (office, Err(Failure::memory())),
     }
 }

@@ -24,8 +24,8 @@ use Rattle.permit_report.specs.Progress.{ending}
 use Rattle.permit_report.specs.Taken.{progress, IsSameOutput, TakesFile}
 use Rattle.permit_report.specs.Whole.{IsBegun, KeepsOutput, MakesText, CutsEnding, CutsLine, LacksEnding}
 use Rattle.permit_subcommands.specs.Listings.{IsRegisterOf, Writes}
-use Rattle.permit_subcommands.specs.declared.fault.Fault.{Fault}
-use Rattle.permit_subcommands.specs.declared.fault.Fault.TheVariants as fault
+use Rattle.permit_subcommands.specs.declared.failure.Failure.{Failure}
+use Rattle.permit_subcommands.specs.declared.failure.Failure.TheVariants as failure
 
 -- ---- the machine's reply
 
@@ -107,7 +107,7 @@ module _ {W : Type 0} (contents : W → Option (List ℕ)) (kind : RegisterKind)
 
   -- all files, and an ending that is cut
   pub writes_cut : CutsEnding contents → (reply : Reply) (read : ℕ) (after : W) → Shows (TakesFile contents) reply old new (ended.All read)
-      → WroteFront (contents new.writer.now) (contents after) (ending (progress new)) → Writes day (contents old.writer.now) (contents after) (as_register kind reply) (Err fault.Output)
+      → WroteFront (contents new.writer.now) (contents after) (ending (progress new)) → Writes day (contents old.writer.now) (contents after) (as_register kind reply) (Err failure.Output)
   writes_cut cuts (Listed files) read after took ended = (inl refl, cuts kind day files old new (contents after) begun took ended)
   writes_cut cuts (shown.Done number) read after took ended = elim took [ ]
   writes_cut cuts (shown.ParcelShown parcel) read after took ended = elim took [ ]
@@ -117,7 +117,7 @@ module _ {W : Type 0} (contents : W → Option (List ℕ)) (kind : RegisterKind)
 
   -- the last file's line is cut
   pub writes_some : CutsLine contents → (reply : Reply) → Shows (TakesFile contents) reply old new ended.Stopped
-      → Writes day (contents old.writer.now) (contents new.writer.now) (as_register kind reply) (Err fault.Output)
+      → Writes day (contents old.writer.now) (contents new.writer.now) (as_register kind reply) (Err failure.Output)
   writes_some cuts (Listed files) stopped = (inl refl, (cuts kind day files old new begun stopped).0)
   writes_some cuts (shown.Done number) stopped = elim stopped [ ]
   writes_some cuts (shown.ParcelShown parcel) stopped = elim stopped [ ]
@@ -127,15 +127,15 @@ module _ {W : Type 0} (contents : W → Option (List ℕ)) (kind : RegisterKind)
 
   -- the office refused
   pub writes_refused : LacksEnding contents → (reply : Reply) (why : Refusal) → Shows (TakesFile contents) reply old new (ended.Refused why)
-      → Writes day (contents old.writer.now) (contents new.writer.now) (as_register kind reply) (Err (fault.Refused (refused_by why)))
+      → Writes day (contents old.writer.now) (contents new.writer.now) (as_register kind reply) (Err (failure.Refused (refused_by why)))
   writes_refused lacks (Listed files) refusal.Store began = (inr refl, (lacks kind day files old new begun began).0)
   writes_refused lacks (shown.Refused why) refusal.Store is = (inr refl, ap (λ (w : RegisterWriter W). contents w.writer.now) is)
-  writes_refused lacks (shown.Refused why) refusal.Syntax is = (inl (ap (λ (r : Refusal). Err (fault.Refused (refused_by r))) is.0), ap (λ (w : RegisterWriter W). contents w.writer.now) is.1)
-  writes_refused lacks (shown.Refused why) refusal.Caller is = (inl (ap (λ (r : Refusal). Err (fault.Refused (refused_by r))) is.0), ap (λ (w : RegisterWriter W). contents w.writer.now) is.1)
-  writes_refused lacks (shown.Refused why) refusal.Clock is = (inl (ap (λ (r : Refusal). Err (fault.Refused (refused_by r))) is.0), ap (λ (w : RegisterWriter W). contents w.writer.now) is.1)
-  writes_refused lacks (shown.Refused why) refusal.Record is = (inl (ap (λ (r : Refusal). Err (fault.Refused (refused_by r))) is.0), ap (λ (w : RegisterWriter W). contents w.writer.now) is.1)
-  writes_refused lacks (shown.Refused why) (refusal.Denied rule) is = (inl (ap (λ (r : Refusal). Err (fault.Refused (refused_by r))) is.0), ap (λ (w : RegisterWriter W). contents w.writer.now) is.1)
-  writes_refused lacks (shown.Refused why) (refusal.NotAdmitted against) is = (inl (ap (λ (r : Refusal). Err (fault.Refused (refused_by r))) is.0), ap (λ (w : RegisterWriter W). contents w.writer.now) is.1)
+  writes_refused lacks (shown.Refused why) refusal.Syntax is = (inl (ap (λ (r : Refusal). Err (failure.Refused (refused_by r))) is.0), ap (λ (w : RegisterWriter W). contents w.writer.now) is.1)
+  writes_refused lacks (shown.Refused why) refusal.Caller is = (inl (ap (λ (r : Refusal). Err (failure.Refused (refused_by r))) is.0), ap (λ (w : RegisterWriter W). contents w.writer.now) is.1)
+  writes_refused lacks (shown.Refused why) refusal.Clock is = (inl (ap (λ (r : Refusal). Err (failure.Refused (refused_by r))) is.0), ap (λ (w : RegisterWriter W). contents w.writer.now) is.1)
+  writes_refused lacks (shown.Refused why) refusal.Record is = (inl (ap (λ (r : Refusal). Err (failure.Refused (refused_by r))) is.0), ap (λ (w : RegisterWriter W). contents w.writer.now) is.1)
+  writes_refused lacks (shown.Refused why) (refusal.Denied rule) is = (inl (ap (λ (r : Refusal). Err (failure.Refused (refused_by r))) is.0), ap (λ (w : RegisterWriter W). contents w.writer.now) is.1)
+  writes_refused lacks (shown.Refused why) (refusal.NotAdmitted against) is = (inl (ap (λ (r : Refusal). Err (failure.Refused (refused_by r))) is.0), ap (λ (w : RegisterWriter W). contents w.writer.now) is.1)
   writes_refused lacks (shown.Done number) why is = elim is [ ]
   writes_refused lacks (shown.ParcelShown parcel) why is = elim is [ ]
   writes_refused lacks (shown.FileShown file papers) why is = elim is [ ]
@@ -148,7 +148,7 @@ module _ {W : Type 0} (contents : W → Option (List ℕ)) (kind : RegisterKind)
   writes_refused lacks (Listed files) (refusal.NotAdmitted against) began = elim began [ ]
 
 -- the same of a reply that is equal, between equal writers
-pub writes_between : {W : Type 0} (contents : W → Option (List ℕ)) (day : ℕ) (reply told : Reply) (result : Result (Unit {0}) Fault) (old first new last : W)
+pub writes_between : {W : Type 0} (contents : W → Option (List ℕ)) (day : ℕ) (reply told : Reply) (result : Result (Unit {0}) Failure) (old first new last : W)
     → told ≡ reply → old ≡ first → Writes day (contents old) (contents new) reply result → new ≡ last → Writes day (contents first) (contents last) told result
 writes_between {W} contents day reply told result old first new last same here is there =
     let P : W → Type 0 = λ w. Writes day (contents w) (contents new) reply result in

@@ -1,8 +1,8 @@
 -- The zone of a run, and why its words give no day.
 use Rattle.std.specs.Prelude.{◌≡◌, ◌⊎◌, ℕ, Bool, false, IsTrue, IsSome, List, codes, is_some, option_map, unwrap_or}
 use Rattle.jiff_tz.specs.PosixReader.{read_whole}
-use Rattle.permit_subcommands.specs.declared.fault.Fault.{Fault}
-use Rattle.permit_subcommands.specs.declared.fault.Fault.TheVariants.{Day, Zone}
+use Rattle.permit_subcommands.specs.declared.failure.Failure.{Failure}
+use Rattle.permit_subcommands.specs.declared.failure.Failure.TheVariants.{Day, Zone}
 use Rattle.permit_words.specs.declared.plan.DayWords.{DayWords}
 
 -- a POSIX rule, whole
@@ -14,7 +14,7 @@ abbrev pub zone_of : DayWords → List ℕ
 zone_of words = unwrap_or (option_map (λ s. s.now) words.zone) (codes "UTC0")
 
 -- the zone is read before the date
-abbrev pub IsRefusedFor : DayWords → Fault → Type 0
+abbrev pub IsRefusedFor : DayWords → Failure → Type 0
 IsRefusedFor words why =
     ((why ≡ Zone) × (is_zone (zone_of words) ≡ false))
     ⊎ ((why ≡ Day) × IsTrue (is_zone (zone_of words)) × IsSome words.day)

@@ -3,9 +3,9 @@ use Rattle.std.specs.Prelude.{◌≡◌, ◌⊎◌, ℕ, Bool, true, false, ◌&
 use Rattle.permit_base.specs.Digests.{digest_of}
 use Rattle.permit_base.specs.Texts.{is_printable, is_token}
 use Rattle.permit_store.specs.declared.founder.Founder.{Founder}
-use Rattle.permit_subcommands.specs.Faults.{plain}
+use Rattle.permit_subcommands.specs.Failures.{plain}
 use Rattle.permit_import.specs.declared.refused.RefusalWord.TheVariants.{Syntax, Clock, Store}
-use Rattle.permit_subcommands.specs.declared.fault.Fault.{Fault}
+use Rattle.permit_subcommands.specs.declared.failure.Failure.{Failure}
 
 -- the name and the token are within their limits
 abbrev pub is_person : List ℕ → List ℕ → Bool
@@ -19,7 +19,7 @@ pub record Founds (called secret : List ℕ) (today : ℕ) (founder : Founder) :
   pub day : founder.day ≡ today
 
 -- why there is none
-abbrev pub IsRefusedFor : List ℕ → List ℕ → ℕ → Fault → Type 0
+abbrev pub IsRefusedFor : List ℕ → List ℕ → ℕ → Failure → Type 0
 IsRefusedFor name token day why =
     (why ≡ plain Store)
     ⊎ (((why ≡ plain Syntax) × (is_person name token ≡ false))

@@ -1,6 +1,6 @@
 pub mod Asking
 pub mod Days
-pub mod Faults
+pub mod Failures
 pub mod Founders
 pub mod Listings
 pub mod Refusals

@@ -15,9 +15,9 @@ use Rattle.permit_office.specs.declared.showing.RowsEnd.TheVariants as ended
 use Rattle.permit_office.specs.Showing.{RefusesCaller}
 use Rattle.permit_import.specs.Refusals.{refused_by}
 use Rattle.permit_import.specs.declared.refused.RefusalWord.TheVariants.{Store}
-use Rattle.permit_subcommands.specs.Faults.{plain}
-use Rattle.permit_subcommands.specs.declared.fault.Fault.{Fault}
-use Rattle.permit_subcommands.specs.declared.fault.Fault.TheVariants.{Output, Refused as refused}
+use Rattle.permit_subcommands.specs.Failures.{plain}
+use Rattle.permit_subcommands.specs.declared.failure.Failure.{Failure}
+use Rattle.permit_subcommands.specs.declared.failure.Failure.TheVariants.{Output, Refused as refused}
 
 -- the files' numbers, a line each
 abbrev pub number_lines : List FileView → List ℕ
@@ -29,7 +29,7 @@ abbrev pub listing_text : List FileView → ℕ → List ℕ
 listing_text files read = number_lines files ++ codes "read " ++ decimal read ++ codes "\n"
 
 -- the listing that the office's reply holds, or its refusal; the office gives no other reply to a request for a listing
-abbrev pub listed : Reply → Result Listing Fault
+abbrev pub listed : Reply → Result Listing Failure
 listed (Listed listing) = Ok listing
 listed (Refused why) = Err (refused (refused_by why))
 listed (Done number) = Err (plain Store)
@@ -38,7 +38,7 @@ listed (File file papers) = Err (plain Store)
 listed (Register kind listing) = Err (plain Store)
 
 -- how the office handed the files out, as the program tells it: an output that failed asked it to stop, or failed at the end
-abbrev pub Tells : RowsEnd → Result (Unit {0}) Fault → Type 0
+abbrev pub Tells : RowsEnd → Result (Unit {0}) Failure → Type 0
 Tells (ended.All read) (Ok done) = Unit {0}
 Tells (ended.All read) (Err why) = why ≡ Output
 Tells ended.Stopped result = result ≡ Err Output
@@ -52,12 +52,12 @@ IsRegisterOf kind reply = ⊥
 
 -- The register of the machine's reply is written, or a beginning of it where the output failed or the store refused. Where
 -- the machine refuses, nothing is, and its refusal is told, or the store's.
-abbrev pub Writes : ℕ → Option (List ℕ) → Option (List ℕ) → TheReply → Result (Unit {0}) Fault → Type 0
+abbrev pub Writes : ℕ → Option (List ℕ) → Option (List ℕ) → TheReply → Result (Unit {0}) Failure → Type 0
 Writes day before after (RegisterShown kind files) (Ok done) = Appends before after (register_text kind day files)
 Writes day before after (RegisterShown kind files) (Err why) = ((why ≡ Output) ⊎ (why ≡ plain Store)) × WroteFront before after (register_text kind day files)
 Writes day before after (Shown.Refused why) result = ((result ≡ Err (refused (refused_by why))) ⊎ (result ≡ Err (plain Store))) × (after ≡ before)
 Writes day before after reply result = ⊥
 
 -- The text of some register of the kind is written so, or nothing, whichever tables there are.
-abbrev pub WritesSome : RegisterKind → ℕ → Option (List ℕ) → Option (List ℕ) → Result (Unit {0}) Fault → Type 0
+abbrev pub WritesSome : RegisterKind → ℕ → Option (List ℕ) → Option (List ℕ) → Result (Unit {0}) Failure → Type 0
 WritesSome kind day before after result = (reply : TheReply) × IsRegisterOf kind reply × Writes day before after reply result

@@ -3,9 +3,9 @@ use Rattle.std.specs.Prelude.{◌≡◌, ◌⊎◌, ℕ, Bool, false, ◌&&◌, 
 use Rattle.std.specs.Borrow.{Bor}
 use Rattle.std.specs.List.{list_all}
 use Rattle.permit_base.specs.Texts.{is_token}
-use Rattle.permit_subcommands.specs.Faults.{plain}
+use Rattle.permit_subcommands.specs.Failures.{plain}
 use Rattle.permit_import.specs.declared.refused.RefusalWord.TheVariants.{Caller, Store, Syntax}
-use Rattle.permit_subcommands.specs.declared.fault.Fault.{Fault}
+use Rattle.permit_subcommands.specs.declared.failure.Failure.{Failure}
 use Rattle.permit_words.specs.declared.plan.ActWords.{ActWords}
 
 -- a byte from 0x21 to 0x7E
@@ -28,7 +28,7 @@ request_text method path token body =
     ++ (codes "\r\nContent-Length: " ++ (decimal (length body) ++ (codes "\r\n\r\n" ++ body)))))))
 
 -- why the words make no request
-abbrev pub IsRefusedFor : ActWords → Fault → Type 0
+abbrev pub IsRefusedFor : ActWords → Failure → Type 0
 IsRefusedFor words why =
     (why ≡ plain Store)
     ⊎ (((why ≡ plain Syntax) × ((is_word words.method.now && is_word words.path.now) ≡ false))

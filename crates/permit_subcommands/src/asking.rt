@@ -4,7 +4,7 @@ ghost use Rattle.std.specs.Prelude.{◌≡◌, ◌≤◌, ◌++◌, List, ℕ, I
 ghost use Rattle.permit_wire.specs.Serving.{Moves};
 ghost use Rattle.permit_subcommands.specs.Asking.{Asks};
 
-use crate::fault::Fault;
+use crate::failure::Failure;
 use crate::refused::refused_in;
 use permit_base::values::Day;
 use permit_http::inbox::Inbox;
@@ -47,23 +47,23 @@ fn body_in(answer: &str) -> Option<&str>
     Some(body)
 }
 
-/// Prints a line.
-pub fn print<O: Write>(out: &mut O, line: &str) -> Result<(), Fault> {
+/// Prints a line and its end. A writer that fails is a failure of the output.
+pub fn print<O: Write>(out: &mut O, line: &str) -> Result<(), Failure> {
     match writeln!(out, "{line}") {
         Ok(()) => Ok(()),
-        Err(_) => Err(Fault::Output),
+        Err(_) => Err(Failure::Output),
     }
 }
 
-/// Prints an answer's body and a line end. The refusal that it tells is the fault then.
-pub fn show<O: Write>(answer: &[u8], out: &mut O) -> Result<(), Fault> {
+/// Prints an answer's body and a line end. The refusal that it tells is the failure then.
+pub fn show<O: Write>(answer: &[u8], out: &mut O) -> Result<(), Failure> {
     // Each answer is text with a head, so that there is a body.
     let Some(body) = str::from_utf8(answer).ok().and_then(body_in) else {
-        return Err(Fault::memory());
+        return Err(Failure::memory());
     };
     print(out, body)?;
     match refused_in(body) {
-        Some(why) => Err(Fault::Refused(why)),
+        Some(why) => Err(Failure::Refused(why)),
         None => Ok(()),
     }
 }

@@ -3,9 +3,9 @@
 ghost use Rattle.std.specs.Prelude.{◌≡◌, ◌≤◌, ℕ, false, IfErr, IfNone, IfOk, IfSome, IsSomeAnd, IsTrue, None, OnOk, Ok};
 ghost use Rattle.permit_days.specs.Dates.{last_day, IsTextOf};
 ghost use Rattle.permit_subcommands.specs.Days.{is_zone, zone_of, IsRefusedFor};
-ghost use Rattle.permit_subcommands.specs.declared.fault.Fault.TheVariants as fault;
+ghost use Rattle.permit_subcommands.specs.declared.failure.Failure.TheVariants as failure;
 
-use crate::fault::Fault;
+use crate::failure::Failure;
 use jiff::Timestamp;
 use jiff::tz::TimeZone;
 use permit_base::values::Day;
@@ -15,14 +15,14 @@ use permit_words::plan::DayWords;
 use std::time::Clock;
 
 /// The day that a date names.
-fn dated(date: &str) -> Result<Day, Fault>
+fn dated(date: &str) -> Result<Day, Failure>
     ensures read { IfOk result (λ day. IsTextOf day date.now) }
     ensures every { (day : ℕ) → day ≤ last_day → IsTextOf day date.now → result ≡ Ok day }
-    ensures refused { IfErr result (λ why. why ≡ fault.Day) }
+    ensures refused { IfErr result (λ why. why ≡ failure.Day) }
 {
     match read_date(date) {
         Some(day) => Ok(day),
-        None => Err(Fault::Day),
+        None => Err(Failure::Day),
     }
 }
 
@@ -45,18 +45,18 @@ fn on_the_clock<R: Clock>(rt: &R, zone: &TimeZone<'_>) -> Day {
 }
 
 /// The zone of the clock.
-fn zone(words: &DayWords<'_>) -> Result<TimeZone<'static>, Fault>
+fn zone(words: &DayWords<'_>) -> Result<TimeZone<'static>, Failure>
     ensures within { OnOk result (IsTrue (is_zone (zone_of words.now))) }
-    ensures refused { IfErr result (λ why. (why ≡ fault.Zone) × (is_zone (zone_of words.now) ≡ false)) }
+    ensures refused { IfErr result (λ why. (why ≡ failure.Zone) × (is_zone (zone_of words.now) ≡ false)) }
 {
     match TimeZone::posix(words.zone.unwrap_or("UTC0")) {
         Ok(zone) => Ok(zone),
-        Err(_) => Err(Fault::Zone),
+        Err(_) => Err(Failure::Zone),
     }
 }
 
 /// The day of a run: a date goes before the clock. The zone is read first, and with a date too.
-pub fn day_of_run<R: Clock>(rt: &R, words: &DayWords<'_>) -> Result<Day, Fault>
+pub fn day_of_run<R: Clock>(rt: &R, words: &DayWords<'_>) -> Result<Day, Failure>
     ensures read { IfSome words.now.day (λ date. IfOk result (λ day. IsTextOf day date.now)) }
     ensures every { IfSome words.now.day (λ date. IsTrue (is_zone (zone_of words.now)) → (day : ℕ) → day ≤ last_day → IsTextOf day date.now → result ≡ Ok day) }
     ensures within { OnOk result (IsTrue (is_zone (zone_of words.now))) }
@@ -77,7 +77,7 @@ pub struct RunDays {
 }
 
 /// The days of a run that goes on. The zone is read first, and with a date too.
-pub fn days_of_run(words: &DayWords<'_>) -> Result<RunDays, Fault>
+pub fn days_of_run(words: &DayWords<'_>) -> Result<RunDays, Failure>
     ensures dated { IfSome words.now.day (λ date. IfOk result (λ days. IsSomeAnd days.date (λ day. IsTextOf day date.now))) }
     ensures clock { IfNone words.now.day (IfOk result (λ days. days.date ≡ None)) }
     ensures within { OnOk result (IsTrue (is_zone (zone_of words.now))) }

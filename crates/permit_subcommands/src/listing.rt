@@ -13,7 +13,7 @@ ghost use Rattle.permit_office.specs.declared.reply.Reply.{Reply as TheReply};
 ghost use Rattle.permit_office.specs.declared.showing.RowsEnd.{RowsEnd as TheEnd};
 ghost use Rattle.permit_subcommands.specs.Listings.{listed, listing_text, Tells, Writes, WritesSome};
 
-use crate::fault::Fault;
+use crate::failure::Failure;
 use crate::refused::Refused;
 use permit_base::request::{Asked, Filter, Request};
 use permit_base::values::{Day, Token};
@@ -28,24 +28,25 @@ use std::alloc::{AllocError, Global};
 use std::io::Write;
 
 /// The listing that a reply holds, or its refusal.
-fn listed(reply: Reply) -> Result<Listing, Fault>
+fn listed(reply: Reply) -> Result<Listing, Failure>
     ensures { result ≡ listed reply }
 {
     match reply {
         Reply::Listed(listing) => Ok(listing),
-        Reply::Refused(why) => Err(Fault::Refused(Refused::from(why))),
+        Reply::Refused(why) => Err(Failure::Refused(Refused::from(why))),
         // The office gives no other reply to a request for a listing.
-        _ => Err(Fault::memory()),
+        _ => Err(Failure::memory()),
     }
 }
 
-/// Lists the files of a filter, by one step of the office for the caller of the token.
+/// Lists the files of a filter, by one step of the office for the caller of the token. A refusal is the failure, and what
+/// the policy keeps from the caller is no failure but left out.
 pub fn list<S: Store + Drop>(
     office: &mut Office<S>,
     token: Token,
     filter: Filter,
     day: Day,
-) -> Result<Listing, Fault>
+) -> Result<Listing, Failure>
     ensures step { (reply : TheReply) × IsStep S.view (digest_of token) (ListFiles filter) day office.old office.new reply × (result ≡ listed reply) }
 {
     let request = Request::ListFiles { filter };
@@ -54,14 +55,14 @@ pub fn list<S: Store + Drop>(
 }
 
 /// Writes a register for the caller of the token, each line as the office hands its file out. After a failure a beginning of
-/// its text stands: the fault is the output's where that failed, else the office's refusal.
+/// its text stands: the failure is the output's where that failed, else the office's refusal.
 pub fn write_register<S: Store + Drop, W: Write>(
     office: &mut Office<S>,
     token: Token,
     kind: RegisterKind,
     day: Day,
     out: &mut W,
-) -> Result<(), Fault>
+) -> Result<(), Failure>
     ensures text { (S.view office.new.store).doubt ≡ 0 → (h : History) → IsHistory h → (S.view office.old.store).holds (tables h)
         → Writes day (W.contents out.old) (W.contents out.new) (step_as office.old.policy h (digest_of token) (Register kind) day).reply result }
     ensures some { WritesSome kind day (W.contents out.old) (W.contents out.new) result }
@@ -75,10 +76,10 @@ pub fn write_register<S: Store + Drop, W: Write>(
     match office.rows(&token, day, register_filter(kind), &mut writer) {
         RowsEnd::All { .. } => match writer.finish() {
             Ok(()) => Ok(()),
-            Err(ReportError::Write) => Err(Fault::Output),
+            Err(ReportError::Write) => Err(Failure::Output),
         },
-        RowsEnd::Stopped => Err(Fault::Output),
-        RowsEnd::Refused(why) => Err(Fault::Refused(Refused::from(why))),
+        RowsEnd::Stopped => Err(Failure::Output),
+        RowsEnd::Refused(why) => Err(Failure::Refused(Refused::from(why))),
     }
 }
 

@@ -3,11 +3,11 @@
 ghost use Rattle.std.specs.Prelude.{◌≡◌, ◌⊎◌, ◌&&◌, false, IfOk, IfErr, OnOk, IsTrue, string_bytes};
 ghost use Rattle.std.specs.List.{list_all};
 ghost use Rattle.permit_base.specs.Texts.{is_token};
-ghost use Rattle.permit_subcommands.specs.Faults.{plain};
+ghost use Rattle.permit_subcommands.specs.Failures.{plain};
 ghost use Rattle.permit_subcommands.specs.Requests.{body_of, is_printed, is_word, request_text, IsRefusedFor};
 ghost use Rattle.permit_import.specs.declared.refused.RefusalWord.TheVariants.{Caller, Store};
 
-use crate::fault::Fault;
+use crate::failure::Failure;
 use crate::refused::RefusalWord;
 use permit_base::values::Token;
 use permit_words::plan::ActWords;
@@ -43,26 +43,26 @@ fn request_text(
     )
 }
 
-/// The caller's token, where it has a token's form.
-pub fn caller(alloc: Global, token: &str) -> Result<Token, Fault>
+/// The caller's token. One that has another form is refused as the caller, as an office refuses a token that nobody has.
+pub fn caller(alloc: Global, token: &str) -> Result<Token, Failure>
     ensures token { IfOk result (λ t. (t ≡ token.now) × IsTrue (is_token token.now)) }
     ensures refused { IfErr result (λ why. (why ≡ plain Store) ⊎ ((why ≡ plain Caller) × (is_token token.now ≡ false))) }
 {
     match Token::new(String::from_str(alloc, token)?) {
         Some(token) => Ok(token),
-        None => Err(Fault::plain(RefusalWord::Caller)),
+        None => Err(Failure::plain(RefusalWord::Caller)),
     }
 }
 
 /// The bytes of the request that the words make. A method or path that is no word is refused as syntax, a token that
 /// has another form as the caller.
-pub fn request(alloc: Global, words: &ActWords<'_>) -> Result<String, Fault>
+pub fn request(alloc: Global, words: &ActWords<'_>) -> Result<String, Failure>
     ensures text { IfOk result (λ text. string_bytes text ≡ request_text words.now.method.now words.now.path.now words.now.office.token.now (body_of words.now.body)) }
     ensures within { OnOk result (IsTrue (is_word words.now.method.now && is_word words.now.path.now && is_token words.now.office.token.now)) }
     ensures refused { IfErr result (IsRefusedFor words.now) }
 {
     if !is_word(words.method) || !is_word(words.path) {
-        return Err(Fault::plain(RefusalWord::Syntax));
+        return Err(Failure::plain(RefusalWord::Syntax));
     }
     let token = caller(alloc, words.office.token)?;
     let body = words.body.unwrap_or("");

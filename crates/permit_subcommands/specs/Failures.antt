@@ -1,4 +1,4 @@
--- The program's faults: the line that it prints for each, and its status.
+-- Why the program does not do what its words ask: the line that it prints for each failure, and its status.
 use Rattle.std.specs.Prelude.{◌≡◌, ◌≤◌, ◌==◌, ℕ, List, ◌++◌, codes, decimal, string_bytes, if◌then◌else◌}
 use Rattle.permit_import.specs.declared.fault.ImportFault.{ImportFault}
 use Rattle.permit_import.specs.declared.fault.ImportFault.TheVariants as stopping
@@ -12,11 +12,11 @@ use Rattle.permit_import.specs.declared.refused.RefusalWord.{RefusalWord}
 use Rattle.permit_import.specs.declared.refused.RefusalWord.TheVariants.{Store}
 use Rattle.permit_words.specs.declared.plan.PlanFault.{PlanFault}
 use Rattle.permit_words.specs.declared.plan.PlanFault.TheVariants as planning
-use Rattle.permit_subcommands.specs.declared.fault.Fault.{Fault}
-use Rattle.permit_subcommands.specs.declared.fault.Fault.TheVariants.{Refused, File, Policy, Facts, Database, Day, Zone, Listen, Output}
+use Rattle.permit_subcommands.specs.declared.failure.Failure.{Failure}
+use Rattle.permit_subcommands.specs.declared.failure.Failure.TheVariants.{Refused, File, Policy, Facts, Database, Day, Zone, Listen, Output}
 
 -- the refusal by a word alone
-abbrev pub plain : RefusalWord → Fault
+abbrev pub plain : RefusalWord → Failure
 plain word = Refused (Plain word)
 
 abbrev pub open_word : OpenError → List ℕ
@@ -25,40 +25,40 @@ open_word opening.Version = codes "version"
 open_word opening.Store = codes "store"
 open_word opening.Exists = codes "exists"
 
--- the line for a fault
-abbrev pub fault_line : Fault → List ℕ
-fault_line (Refused why) = refused_line why
-fault_line (File path) = codes "cannot read " ++ string_bytes path
-fault_line (Policy error) = codes "policy: fault " ++ decimal (fault_number error.code) ++ codes " at rule " ++ decimal error.rule
-fault_line Facts = codes "facts: unreadable"
-fault_line (Database why) = codes "database: " ++ open_word why
-fault_line Day = codes "day: unreadable"
-fault_line Zone = codes "zone: unreadable"
-fault_line (Listen address) = codes "cannot listen " ++ string_bytes address
-fault_line Output = codes "cannot write"
+-- the line for a failure
+abbrev pub failure_line : Failure → List ℕ
+failure_line (Refused why) = refused_line why
+failure_line (File path) = codes "cannot read " ++ string_bytes path
+failure_line (Policy error) = codes "policy: fault " ++ decimal (fault_number error.code) ++ codes " at rule " ++ decimal error.rule
+failure_line Facts = codes "facts: unreadable"
+failure_line (Database why) = codes "database: " ++ open_word why
+failure_line Day = codes "day: unreadable"
+failure_line Zone = codes "zone: unreadable"
+failure_line (Listen address) = codes "cannot listen " ++ string_bytes address
+failure_line Output = codes "cannot write"
 
 -- 1 where the program is refused or cannot print, 2 for bad words and files
-abbrev pub fault_status : Fault → ℕ
-fault_status (Refused why) = 1
-fault_status Output = 1
-fault_status _ = 2
+abbrev pub failure_status : Failure → ℕ
+failure_status (Refused why) = 1
+failure_status Output = 1
+failure_status _ = 2
 
 -- a file that can't be read is told by its path, unless memory is wanting for that
-abbrev pub IsUnread : List ℕ → Fault → Type 0
+abbrev pub IsUnread : List ℕ → Failure → Type 0
 IsUnread path (File told) = string_bytes told ≡ path
-IsUnread path fault = fault ≡ plain Store
+IsUnread path failure = failure ≡ plain Store
 
 -- an address that can't be listened on is told, unless memory is wanting for that
-abbrev pub IsUnheard : List ℕ → Fault → Type 0
+abbrev pub IsUnheard : List ℕ → Failure → Type 0
 IsUnheard address (Listen told) = string_bytes told ≡ address
-IsUnheard address fault = fault ≡ plain Store
+IsUnheard address failure = failure ≡ plain Store
 
 -- an import's records can't be read, memory is wanting, or the output failed
-abbrev pub IsFaultOfImport : List ℕ → ImportFault → Fault → Type 0
-IsFaultOfImport path stopping.FirstRecord fault = IsUnread path fault
-IsFaultOfImport path stopping.Reading fault = IsUnread path fault
-IsFaultOfImport path stopping.Memory fault = fault ≡ plain Store
-IsFaultOfImport path stopping.Writing fault = fault ≡ Output
+abbrev pub IsFailureOfImport : List ℕ → ImportFault → Failure → Type 0
+IsFailureOfImport path stopping.FirstRecord failure = IsUnread path failure
+IsFailureOfImport path stopping.Reading failure = IsUnread path failure
+IsFailureOfImport path stopping.Memory failure = failure ≡ plain Store
+IsFailureOfImport path stopping.Writing failure = failure ≡ Output
 
 -- for words that give no plan: 2 where they are bad, 1 where memory is wanting, and for help 0 unless it cannot be printed
 abbrev pub IsStatusOf : PlanFault → ℕ → Type 0

@@ -1,0 +1,159 @@
+//! Why the program does not do what its words ask, and its status then.
+
+ghost use Rattle.std.specs.Prelude.{◌≡◌, ◌≤◌, Some};
+ghost use Rattle.permit_subcommands.specs.Failures.{failure_line, failure_status, import_status, plain, IsFailureOfImport, IsUnheard, IsUnread};
+ghost use Rattle.permit_import.specs.declared.refused.RefusalWord.TheVariants.{Store};
+
+use crate::refused::{RefusalWord, Refused};
+use permit_import::fault::ImportFault;
+use permit_import::tally::Tally;
+use permit_policy::fault::{PolicyError, PolicyFault};
+use permit_store::store::OpenError;
+use std::alloc::{AllocError, Global};
+use std::fmt;
+use std::io::{self, ErrorKind};
+
+/// Why the program does not do what its words ask. Printed, it is one line without its end.
+#[derive(Drop)]
+pub enum Failure {
+    /// A request or a founding is refused, or memory is wanting.
+    Refused(Refused),
+    /// The file of the path cannot be read.
+    File(String),
+    /// The policy's text is refused.
+    Policy(PolicyError),
+    /// The facts to decide by are in another form.
+    Facts,
+    /// The database cannot be opened or made.
+    Database(OpenError),
+    /// The day is no date from 1970-01-01 to the day 100000.
+    Day,
+    /// The zone is no POSIX rule.
+    Zone,
+    /// No connections can be taken on the address.
+    Listen(String),
+    /// Standard output failed.
+    Output,
+}
+
+impl Failure {
+    /// A refusal that names no rule and no reason.
+    pub fn plain(word: RefusalWord) -> Failure
+        ensures { result ≡ plain word }
+    {
+        Failure::Refused(Refused::Plain(word))
+    }
+
+    /// Want of memory, which is told as the store's refusal is.
+    pub fn memory() -> Failure
+        ensures { result ≡ plain Store }
+    {
+        Failure::plain(RefusalWord::Store)
+    }
+
+    /// That the file at a path cannot be read.
+    fn unread(alloc: Global, path: &str) -> Failure
+        ensures { IsUnread path.now result }
+    {
+        match String::from_str(alloc, path) {
+            Ok(path) => Failure::File(path),
+            Err(_) => Failure::memory(),
+        }
+    }
+
+    /// That no connections can be taken on an address.
+    pub fn unheard(alloc: Global, address: &str) -> Failure
+        ensures { IsUnheard address.now result }
+    {
+        match String::from_str(alloc, address) {
+            Ok(address) => Failure::Listen(address),
+            Err(_) => Failure::memory(),
+        }
+    }
+
+    /// Why a file could not be read: its path is told, unless memory was wanting.
+    pub fn of_reading(alloc: Global, path: &str, error: &io::Error) -> Failure {
+        if error.kind() == ErrorKind::OutOfMemory {
+            Failure::memory()
+        } else {
+            Failure::unread(alloc, path)
+        }
+    }
+
+    /// Why an import of the records at a path stopped. A first record that is none of an import's is told as a file that
+    /// cannot be read.
+    pub fn of_import(alloc: Global, path: &str, fault: ImportFault) -> Failure
+        ensures { IsFailureOfImport path.now fault result }
+    {
+        match fault {
+            ImportFault::FirstRecord | ImportFault::Reading => Failure::unread(alloc, path),
+            ImportFault::Memory => Failure::memory(),
+            ImportFault::Writing => Failure::Output,
+        }
+    }
+
+    /// Why a policy was refused: by its place, unless memory was wanting.
+    pub fn of_policy(error: PolicyError) -> Failure {
+        if error.code == PolicyFault::Memory {
+            Failure::memory()
+        } else {
+            Failure::Policy(error)
+        }
+    }
+
+    /// The program's status: 1 where it is refused or cannot print, 2 for bad words and files.
+    pub fn status(&self) -> u8
+        ensures { result ≡ failure_status self.now }
+    {
+        match self {
+            Failure::Refused(_) | Failure::Output => 1,
+            Failure::File(_)
+            | Failure::Policy(_)
+            | Failure::Facts
+            | Failure::Database(_)
+            | Failure::Day
+            | Failure::Zone
+            | Failure::Listen(_) => 2,
+        }
+    }
+}
+
+/// The program's status after an import: 1 where a record was refused.
+pub fn status_after(tally: &Tally) -> u8
+    ensures { result ≡ import_status tally.now }
+{
+    if tally.refused == 0 { 0 } else { 1 }
+}
+
+impl From<AllocError> for Failure {
+    ghost from_gives = { λ _ failure. failure ≡ plain Store };
+
+    fn from(_error: AllocError) -> Failure {
+        Failure::memory()
+    }
+}
+
+impl fmt::Display for Failure {
+    ghost output = { λ failure. Some (failure_line failure) };
+
+    fn fmt<W: fmt::Write>(&self, f: &mut fmt::Formatter<W>) -> fmt::Result {
+        match self {
+            Failure::Refused(why) => write!(f, "{why}"),
+            Failure::File(path) => write!(f, "cannot read {path}"),
+            Failure::Policy(error) => {
+                let code = error.code.number();
+                let rule = error.rule;
+                write!(f, "policy: fault {code} at rule {rule}")
+            }
+            Failure::Facts => f.write_str("facts: unreadable"),
+            Failure::Database(OpenError::Damaged) => f.write_str("database: damaged"),
+            Failure::Database(OpenError::Version) => f.write_str("database: version"),
+            Failure::Database(OpenError::Store) => f.write_str("database: store"),
+            Failure::Database(OpenError::Exists) => f.write_str("database: exists"),
+            Failure::Day => f.write_str("day: unreadable"),
+            Failure::Zone => f.write_str("zone: unreadable"),
+            Failure::Listen(address) => write!(f, "cannot listen {address}"),
+            Failure::Output => f.write_str("cannot write"),
+        }
+    }
+}
