@@ -2,6 +2,7 @@
 
 ghost use Rattle.std.specs.Prelude.{◌≡◌, ◌≤◌, ◌==◌, ℕ, length, IfOk, IfErr, IsErr, IsTrue, false, map, if◌then◌else◌};
 ghost use Rattle.permit_store.specs.Changes.{with_state, papers_after};
+ghost use Rattle.permit_base.specs.Limits.{most_records};
 ghost use Rattle.permit_store.specs.Plain.{papers_at};
 ghost use Rattle.permit_store.specs.Counts.{next_count};
 ghost use Rattle.permit_store.specs.Founding.{founding};
@@ -40,9 +41,9 @@ pub struct PlainStore {
     handed: u64,
     failed: u64,
     commits: u64,
-    ghost few_parties: { length parties.items ≤ 99999 },
-    ghost few_parcels: { length parcels.items ≤ 99999 },
-    ghost few_files: { length files.items ≤ 99999 },
+    ghost few_parties: { length parties.items ≤ most_records },
+    ghost few_parcels: { length parcels.items ≤ most_records },
+    ghost few_files: { length files.items ≤ most_records },
 }
 
 /// A file's new row, with what else changes by it: the papers first, since they alone may find no memory.

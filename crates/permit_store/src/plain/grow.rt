@@ -1,35 +1,36 @@
 //! What the vectors gain, and what changes in them. Each call that answers false has left them as they were.
 
 ghost use Rattle.std.specs.Prelude.{◌≡◌, ◌≤◌, [], ◌∷◌, ◌++◌, ◌+◌, length, map, IsTrue, false, IfOk, IfSome, string_bytes};
+ghost use Rattle.permit_base.specs.Limits.{most_records};
 ghost use Rattle.permit_model.specs.Tables;
 ghost use Rattle.permit_store.specs.Changes.{given_to, closed_by, text_of, paper_of, papers_after};
 ghost use Rattle.permit_store.specs.Plain.{kept_with_state};
 
 use crate::plain::kept::Kept;
 use crate::rows::{FileRow, Interest, NewPaper, Paper, Parcel, Party, RowEffect};
+use permit_base::limits::number_after;
 use permit_base::values::{Cents, Day, Digest, FileId, Lot, PaperNumber, ParcelId, PartyId, Text};
 use permit_base::words::{PaperSort, Role};
 use permit_core::state::FileState;
 use std::alloc::{AllocError, Global};
 
-/// The number after a count, where it is at most 99999.
-fn number_after(count: usize) -> Option<u32>
-    ensures { IfSome result (λ n. (n ≡ count + 1) × (n ≤ 99999)) }
+/// The number of the record behind so many rows, where there may be one more.
+fn number_behind(rows: usize) -> Option<u32>
+    ensures { IfSome result (λ n. (n ≡ rows + 1) × (n ≤ most_records)) }
 {
-    if count < 99999 {
-        Some(count as u32 + 1)
-    } else {
-        None
-    }
+    let Ok(count) = u32::try_from(rows) else {
+        return None;
+    };
+    number_after(count)
 }
 
 pub(crate) fn push_party(parties: &mut Vec<Party>, name: &Text, role: Role, digest: &Digest) -> bool
     ensures made { IsTrue result
         → parties.new.items ≡ parties.old.items ++ (record { id = length parties.old.items + 1; name = name.now; role = role; digest = digest.now }) ∷ [] }
-    ensures few { length parties.old.items ≤ 99999 → length parties.new.items ≤ 99999 }
+    ensures few { length parties.old.items ≤ most_records → length parties.new.items ≤ most_records }
     ensures kept { result ≡ false → parties.new.items ≡ parties.old.items }
 {
-    let Some(number) = number_after(parties.len()) else {
+    let Some(number) = number_behind(parties.len()) else {
         return false;
     };
     let Some(id) = PartyId::new(number) else {
@@ -56,10 +57,10 @@ pub(crate) fn push_parcel(
 ) -> bool
     ensures made { IsTrue result
         → parcels.new.items ≡ parcels.old.items ++ (record { id = length parcels.old.items + 1; lot = lot.now; address = address.now; owner = owner }) ∷ [] }
-    ensures few { length parcels.old.items ≤ 99999 → length parcels.new.items ≤ 99999 }
+    ensures few { length parcels.old.items ≤ most_records → length parcels.new.items ≤ most_records }
     ensures kept { result ≡ false → parcels.new.items ≡ parcels.old.items }
 {
-    let Some(number) = number_after(parcels.len()) else {
+    let Some(number) = number_behind(parcels.len()) else {
         return false;
     };
     let Some(id) = ParcelId::new(number) else {
@@ -91,10 +92,10 @@ pub(crate) fn push_file(
 ) -> bool
     ensures made { IsTrue result
         → files.new.items ≡ files.old.items ++ (record { row = record { id = length files.old.items + 1; state = state; valuation = valuation; description = description.now }; papers = [] }) ∷ [] }
-    ensures few { length files.old.items ≤ 99999 → length files.new.items ≤ 99999 }
+    ensures few { length files.old.items ≤ most_records → length files.new.items ≤ most_records }
     ensures kept { result ≡ false → files.new.items ≡ files.old.items }
 {
-    let Some(number) = number_after(files.len()) else {
+    let Some(number) = number_behind(files.len()) else {
         return false;
     };
     let Some(id) = FileId::new(number) else {
