@@ -1,8 +1,10 @@
 //! One request through the office, and what is printed of its answer.
 
-ghost use Rattle.std.specs.Prelude.{◌≡◌, ◌≤◌, ◌++◌, List, ℕ, IfOk, IfSome, codes};
+ghost use Rattle.std.specs.Prelude.{◌≡◌, ◌≤◌, ◌++◌, ◌∷◌, [], List, ℕ, IfErr, IfOk, IfSome, OnOk, codes};
+ghost use Rattle.std.specs.Io.KnownBytes.{Appends};
 ghost use Rattle.permit_wire.specs.Serving.{Moves};
 ghost use Rattle.permit_subcommands.specs.Asking.{Asks};
+ghost use Rattle.permit_subcommands.specs.declared.failure.Failure.TheVariants as failure;
 
 use crate::failure::Failure;
 use crate::refused::refused_in;
@@ -48,7 +50,10 @@ fn body_in(answer: &str) -> Option<&str>
 }
 
 /// Prints a line and its end. A writer that fails is a failure of the output.
-pub fn print<O: Write>(out: &mut O, line: &str) -> Result<(), Failure> {
+pub fn print<O: Write>(out: &mut O, line: &str) -> Result<(), Failure>
+    ensures whole { OnOk result (Appends (O.contents out.old) (O.contents out.new) (line.now ++ 10 ∷ [])) }
+    ensures fault { IfErr result (λ why. why ≡ failure.Output) }
+{
     match writeln!(out, "{line}") {
         Ok(()) => Ok(()),
         Err(_) => Err(Failure::Output),
@@ -56,7 +61,10 @@ pub fn print<O: Write>(out: &mut O, line: &str) -> Result<(), Failure> {
 }
 
 /// Prints an answer's body and a line end. The refusal that it tells is the failure then.
-pub fn show<O: Write>(answer: &[u8], out: &mut O) -> Result<(), Failure> {
+pub fn show<O: Write>(answer: &[u8], out: &mut O) -> Result<(), Failure>
+    ensures whole { OnOk result ((head body : List ℕ) × (answer.now ≡ head ++ (codes "\r\n\r\n" ++ body))
+        × Appends (O.contents out.old) (O.contents out.new) (body ++ 10 ∷ [])) }
+{
     // Each answer is text with a head, so that there is a body.
     let Some(body) = str::from_utf8(answer).ok().and_then(body_in) else {
         return Err(Failure::memory());

@@ -1,6 +1,8 @@
 //! The day of a run: the date that its words name, or the clock's.
 
 ghost use Rattle.std.specs.Prelude.{◌≡◌, ◌≤◌, ℕ, false, IfErr, IfNone, IfOk, IfSome, IsSomeAnd, IsTrue, None, OnOk, Ok};
+ghost use Rattle.jiff.specs.Placed.{IsPosixZone};
+ghost use Rattle.jiff.specs.Words.{plain_zone};
 ghost use Rattle.permit_days.specs.Dates.{last_day, IsTextOf};
 ghost use Rattle.permit_subcommands.specs.Days.{is_zone, zone_of, IsRefusedFor};
 ghost use Rattle.permit_subcommands.specs.declared.failure.Failure.TheVariants as failure;
@@ -46,6 +48,7 @@ fn on_the_clock<R: Clock>(rt: &R, zone: &TimeZone<'_>) -> Day {
 
 /// The zone of the clock.
 fn zone(words: &DayWords<'_>) -> Result<TimeZone<'static>, Failure>
+    ensures read { IfOk result (λ zone. IsPosixZone (zone_of words.now) (plain_zone zone)) }
     ensures within { OnOk result (IsTrue (is_zone (zone_of words.now))) }
     ensures refused { IfErr result (λ why. (why ≡ failure.Zone) × (is_zone (zone_of words.now) ≡ false)) }
 {
@@ -80,6 +83,7 @@ pub struct RunDays {
 pub fn days_of_run(words: &DayWords<'_>) -> Result<RunDays, Failure>
     ensures dated { IfSome words.now.day (λ date. IfOk result (λ days. IsSomeAnd days.date (λ day. IsTextOf day date.now))) }
     ensures clock { IfNone words.now.day (IfOk result (λ days. days.date ≡ None)) }
+    ensures zone { IfOk result (λ days. IsPosixZone (zone_of words.now) (plain_zone days.zone)) }
     ensures within { OnOk result (IsTrue (is_zone (zone_of words.now))) }
     ensures refused { IfErr result (IsRefusedFor words.now) }
 {
