@@ -49,7 +49,30 @@ bare_command action.GrantExtension = Some command.GrantExtension
 bare_command action.BeginWork = Some command.BeginWork
 bare_command action.Lift = Some command.Lift
 bare_command action.Certify = Some command.Certify
-bare_command _ = None
+bare_command action.AddParty = None
+bare_command action.AddStaff = None
+bare_command action.AddParcel = None
+bare_command action.Transfer = None
+bare_command action.Declare = None
+bare_command action.ReadParcel = None
+bare_command action.File = None
+bare_command action.Read = None
+bare_command action.List = None
+bare_command action.AssignReviewer = None
+bare_command action.AssignInspector = None
+bare_command action.NameContractor = None
+bare_command action.Return = None
+bare_command action.Resubmit = None
+bare_command action.Reject = None
+bare_command action.AskExtension = None
+bare_command action.RefuseExtension = None
+bare_command action.RequestInspection = None
+bare_command action.ApproveStep = None
+bare_command action.Notice = None
+bare_command action.ClearNotice = None
+bare_command action.Stop = None
+bare_command action.Revoke = None
+bare_command action.Temporary = None
 
 -- the command of an action whose body has the key text alone, or no key
 abbrev pub text_command : Action → List ℕ → Option Command

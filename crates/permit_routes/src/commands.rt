@@ -63,7 +63,8 @@ fn text_and_conditions(alloc: Global, body: &[u8]) -> Result<(Text, Text), BodyF
     Ok((text, conditions))
 }
 
-/// The command of an action that has no keys.
+/// The command of an action that has no keys. It names every action, since each that `command` and `text_command` don't
+/// name comes here.
 fn bare_command(action: Action) -> Option<Command>
     ensures { result ≡ bare_command action }
 {
@@ -75,7 +76,30 @@ fn bare_command(action: Action) -> Option<Command>
         Action::BeginWork => Some(Command::BeginWork),
         Action::Lift => Some(Command::Lift),
         Action::Certify => Some(Command::Certify),
-        _ => None,
+        Action::AddParty
+        | Action::AddStaff
+        | Action::AddParcel
+        | Action::Transfer
+        | Action::Declare
+        | Action::ReadParcel
+        | Action::File
+        | Action::Read
+        | Action::List
+        | Action::AssignReviewer
+        | Action::AssignInspector
+        | Action::NameContractor
+        | Action::Return
+        | Action::Resubmit
+        | Action::Reject
+        | Action::AskExtension
+        | Action::RefuseExtension
+        | Action::RequestInspection
+        | Action::ApproveStep
+        | Action::Notice
+        | Action::ClearNotice
+        | Action::Stop
+        | Action::Revoke
+        | Action::Temporary => None,
     }
 }
 

@@ -106,16 +106,37 @@ pub fn register_of(params: &Params<'_, '_>) -> Option<RegisterKind>
 pub fn is_command(action: Action) -> bool
     ensures { result ≡ is_command action }
 {
-    !matches!(
-        action,
+    match action {
         Action::AddParty
-            | Action::AddStaff
-            | Action::AddParcel
-            | Action::Transfer
-            | Action::Declare
-            | Action::ReadParcel
-            | Action::File
-            | Action::Read
-            | Action::List
-    )
+        | Action::AddStaff
+        | Action::AddParcel
+        | Action::Transfer
+        | Action::Declare
+        | Action::ReadParcel
+        | Action::File
+        | Action::Read
+        | Action::List => false,
+        Action::AssignReviewer
+        | Action::AssignInspector
+        | Action::NameContractor
+        | Action::StartReview
+        | Action::Return
+        | Action::Resubmit
+        | Action::ApprovePlans
+        | Action::Reject
+        | Action::Issue
+        | Action::AskExtension
+        | Action::GrantExtension
+        | Action::RefuseExtension
+        | Action::BeginWork
+        | Action::RequestInspection
+        | Action::ApproveStep
+        | Action::Notice
+        | Action::ClearNotice
+        | Action::Stop
+        | Action::Lift
+        | Action::Revoke
+        | Action::Temporary
+        | Action::Certify => true,
+    }
 }
