@@ -17,9 +17,21 @@ most_papers = 9999
 abbrev pub is_object_number : ℕ → Bool
 is_object_number = is_between 1 most_records
 
+-- the latest day that the office takes, in days since 1970-01-01
+abbrev pub latest_day : ℕ
+latest_day = 100000
+
+-- the greatest number that a deadline may be
+abbrev pub latest_deadline : ℕ
+latest_deadline = 200000
+
+-- the greatest amount, in cents
+abbrev pub most_cents : ℕ
+most_cents = 9999999999999
+
 -- days since 1970-01-01
 abbrev pub is_day : ℕ → Bool
-is_day = is_between 0 100000
+is_day = is_between 0 latest_day
 
 -- days of an extension or of a temporary certificate
 abbrev pub is_days : ℕ → Bool
@@ -31,7 +43,7 @@ is_paper_number = is_between 1 most_papers
 
 -- an amount in cents
 abbrev pub is_cents : ℕ → Bool
-is_cents = is_between 0 9999999999999
+is_cents = is_between 0 most_cents
 
 -- the value, where it passes the test
 abbrev pub only_if : {A : Type 0} → (A → Bool) → A → Option A

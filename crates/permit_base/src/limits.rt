@@ -9,8 +9,11 @@ pub const MOST_RECORDS: u32 = 99999;
 /// The most papers of a file, and so the greatest number of one.
 pub const MOST_PAPERS: u16 = 9999;
 
-/// The last day, in days since 1970-01-01: 2243-10-17.
-pub const LAST_DAY: u32 = 100000;
+/// The latest day that the office takes, in days since 1970-01-01: 2243-10-17.
+pub const LATEST_DAY: u32 = 100000;
+
+/// The latest deadline of a file, in days since 1970-01-01: 2517-08-01.
+pub const LATEST_DEADLINE: u32 = 200000;
 
 /// The greatest amount, in cents.
 pub const MOST_CENTS: u64 = 9999999999999;

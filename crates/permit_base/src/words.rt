@@ -1,6 +1,7 @@
 //! The word types. The codes of a type count from 0 in the order in which its variants stand.
 
 ghost use Rattle.std.specs.Prelude.{◌≡◌, IfSome};
+ghost use Rattle.permit_base.specs.Relations.{holds};
 ghost use Rattle.permit_base.specs.Words.{named};
 
 /// A type of words, each of which has one spelling.
@@ -368,6 +369,22 @@ pub struct Relations {
     pub assigned_reviewer: bool,
     pub assigned_inspector: bool,
     pub conflict: bool,
+}
+
+impl Relations {
+    /// Whether the relation is in the set.
+    pub fn has(self, relation: Relation) -> bool
+        ensures { result ≡ holds self relation }
+    {
+        match relation {
+            Relation::Applicant => self.applicant,
+            Relation::Contractor => self.contractor,
+            Relation::Owner => self.owner,
+            Relation::AssignedReviewer => self.assigned_reviewer,
+            Relation::AssignedInspector => self.assigned_inspector,
+            Relation::Conflict => self.conflict,
+        }
+    }
 }
 
 /// The sort of a paper that the office keeps with a file.

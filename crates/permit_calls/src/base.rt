@@ -216,12 +216,12 @@ fn texts_have_their_limits(rt: HostRuntime) -> Result<(), Fail> {
     let address = text(rt.alloc(), "Hauptstraße 5, \u{a0}London")?;
     assert!(rt; address.as_str() == "Hauptstraße 5, \u{a0}London");
     assert!(rt; address.clone()?.as_str() == address.as_str());
-    assert!(rt; address.copy()?.as_str() == address.as_str());
+    assert!(rt; address.clone()?.as_str() == address.as_str());
     for refused in ["", "a\tb", "a\nb", "\u{7f}"] {
         assert!(rt; Text::new(string(rt.alloc(), refused)?).is_none());
     }
     let lot = lot(rt.alloc(), "A-17")?;
-    assert!(rt; lot.is(&lot.copy()?));
+    assert!(rt; lot == lot.clone()?);
     for refused in ["", "a-17", "A 17", "ABCDEFGHIJKLMNOPQRSTU"] {
         assert!(rt; Lot::new(string(rt.alloc(), refused)?).is_none());
     }
@@ -239,7 +239,7 @@ fn digest_is_that_of_the_standard(rt: HostRuntime) -> Result<(), Fail> {
         known.as_str() == "71c480df93d6ae2f1efad1447c66c9525e316218cf51fc8d9ed832f2daf18b73"
     );
     let again = digest_again(&token).ok_or("a digest")?;
-    assert!(rt; known.is(&again) && known == again);
+    assert!(rt; known == again);
     assert!(rt;
         Digest::read("71C480DF93D6AE2F1EFAD1447C66C9525E316218CF51FC8D9ED832F2DAF18B73").is_none()
     );

@@ -139,7 +139,7 @@ fn rows_are_copied(rt: HostRuntime) -> Result<(), Fail> {
         valuation: Cents::new(25000000).ok_or("an amount")?,
         description: text(rt.alloc(), "House")?,
     };
-    let copy = row.copy()?;
+    let copy = row.clone()?;
     assert!(rt; copy.id == row.id && copy.valuation == row.valuation);
     assert!(rt; copy.description.as_str() == "House");
     assert_eq!(rt; copy.state.deadline(), Some(19903));

@@ -1,6 +1,6 @@
 //! What is read of a store over vectors. The changes are tested through the office.
 
-use permit_base::values::Text;
+use permit_base::values::{PaperNumber, Text};
 use permit_base::words::Role;
 use permit_samples::ask::TOKENS;
 use permit_samples::makers::{day, digest_of, file, lot, parcel, party, text};
@@ -61,5 +61,8 @@ fn founding_adds_nothing_else(rt: HostRuntime) -> Result<(), Fail> {
     assert!(rt; !store.interest(parcel(1)?, party(1)?)?);
     assert!(rt; store.file(file(1)?)?.is_none());
     assert!(rt; store.papers(file(1)?)?.is_empty());
+    assert!(rt; store.state(file(1)?)?.is_none());
+    let number = PaperNumber::new(1).ok_or("a number")?;
+    assert!(rt; !store.has_open_notice(file(1)?, number)?);
     Ok(())
 }

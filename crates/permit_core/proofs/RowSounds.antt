@@ -14,12 +14,12 @@ use Rattle.permit_base.specs.declared.request.Command.{Command}
 use Rattle.permit_base.specs.declared.request.Command.TheVariants.{StartReview, Return, Resubmit, ApprovePlans, Reject, Issue, AskExtension, GrantExtension, RefuseExtension, BeginWork, RequestInspection, ApproveStep, Notice, ClearNotice, Stop, Lift, Revoke, Temporary, Certify}
 use Rattle.permit_core.specs.declared.people.People.{People}
 use Rattle.permit_model.specs.Codes.{is_stage, is_stage_among}
-use Rattle.permit_model.specs.Days.{is_past, last_deadline}
+use Rattle.permit_model.specs.Days.{is_past}
 use Rattle.permit_model.specs.Steps.{required_steps}
 use Rattle.permit_model.specs.Facts.{past_stage}
 use Rattle.permit_model.specs.Work.{makes_paper}
 use Rattle.permit_model.specs.Admission.{stoppable_stages}
-use Rattle.permit_base.specs.Limits.{most_papers}
+use Rattle.permit_base.specs.Limits.{latest_deadline, most_papers}
 use Rattle.permit_model.specs.Tables.{State, next_in_row}
 use Rattle.permit_model.specs.SoundState.{is_stored, is_timed, is_completed, is_certified, deadline_stands, is_for, is_finished, request_dated, IsSoundState}
 use Rattle.permit_model.proofs.Fronts.{AllPass, all_pass, same_step, is_it}
@@ -213,7 +213,7 @@ pub few_done : (s : State) → IsSoundState s → s.done < 255
 few_done s sound = omega (arith, few_steps s.kind, leb-true s.done (length (required_steps s.kind)) (sound_facts s sound).few)
 
 fits_grant : (day : ℕ) (command : Command) (s : State) (people : People) → AllPass (row_tests day s people command) → FitsGrant command s.ask s.deadline
-fits_grant day GrantExtension s people p = omega (arith, not_below last_deadline (unwrap_or s.deadline 0 + unwrap_or s.ask 0) p.1.1.1.0)
+fits_grant day GrantExtension s people p = omega (arith, not_below latest_deadline (unwrap_or s.deadline 0 + unwrap_or s.ask 0) p.1.1.1.0)
 fits_grant day _ s people p = tt
 
 pub grant_fits : (day : ℕ) (command : Command) (s : State) → IsAdmitted day s command → FitsGrant command s.ask s.deadline

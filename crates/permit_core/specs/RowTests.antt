@@ -13,10 +13,9 @@ use Rattle.permit_core.specs.declared.people.NamedParty.{NamedParty}
 use Rattle.permit_core.specs.declared.people.People.{People}
 use Rattle.permit_model.specs.Search.{is_the_party}
 use Rattle.permit_model.specs.Codes.{is_role, is_stage_among}
-use Rattle.permit_model.specs.Days.{last_deadline}
 use Rattle.permit_model.specs.Steps.{has_certificates}
 use Rattle.permit_model.specs.Admission.{Test, first_failing, reviewing_stages, inspecting_stages, stoppable_stages, revocable_stages, ask_limit, is_the_step, days_above}
-use Rattle.permit_base.specs.Limits.{most_papers}
+use Rattle.permit_base.specs.Limits.{latest_deadline, most_papers}
 use Rattle.permit_model.specs.BaseStage.{timed_stages}
 use Rattle.permit_model.specs.Tables.{State, next_in_row}
 use Rattle.permit_core.specs.Views.{row_stage}
@@ -97,7 +96,7 @@ papers_full s = (nat_le most_papers s.papers, reason.Full)
 
 -- the deadline with the asked days is too far
 abbrev pub too_far : State → Test
-too_far s = (nat_lt last_deadline (unwrap_or s.deadline 0 + unwrap_or s.ask 0), reason.Far)
+too_far s = (nat_lt latest_deadline (unwrap_or s.deadline 0 + unwrap_or s.ask 0), reason.Far)
 
 -- the tests of each command, in the order of the reasons
 abbrev pub row_tests : ℕ → State → People → Command → List Test
@@ -125,9 +124,9 @@ row_tests day s people (Temporary days text) = not_in day s (stage.Working ∷ [
 row_tests day s people Certify = not_in day s (stage.Finaled ∷ []) ∷ stopped s ∷ no_certificates s ∷ papers_full s ∷ []
 
 -- the answer to a command: done where nothing stands against it, else the reason
-abbrev pub Answers : Result Unit Reason → Option Reason → Type 0
-Answers (Ok done) against = against ≡ None
-Answers (Err reason) against = against ≡ Some reason
+abbrev pub Admits : Result Unit Reason → Option Reason → Type 0
+Admits (Ok done) against = against ≡ None
+Admits (Err reason) against = against ≡ Some reason
 
 -- the command is admitted on the day, with some people about it
 abbrev pub IsAdmitted : ℕ → State → Command → Type 0

@@ -12,12 +12,12 @@ ghost use Rattle.permit_model.specs.Machine.{IsHistory};
 ghost use Rattle.permit_model.specs.Tables.{state_of};
 ghost use Rattle.permit_core.specs.Naming.{people_of};
 ghost use Rattle.permit_core.specs.RowTests;
-ghost use Rattle.permit_core.specs.RowTests.{row_tests, Answers};
+ghost use Rattle.permit_core.specs.RowTests.{row_tests, Admits};
 ghost use Rattle.permit_core.specs.declared.people.People.{People};
 
 use crate::people::{NamedParty, People};
 use crate::state::FileState;
-use permit_base::limits::MOST_PAPERS;
+use permit_base::limits::{LATEST_DEADLINE, MOST_PAPERS};
 use permit_base::refusal::Reason;
 use permit_base::request::Command;
 use permit_base::values::{Day, Days, PartyId};
@@ -50,9 +50,6 @@ const STOPPABLE: [Stage; 5] = [
 
 /// The stages in which a permit is revoked.
 const REVOCABLE: [Stage; 3] = [Stage::Issued, Stage::Working, Stage::Lapsed];
-
-/// The greatest number that a deadline may be.
-const LAST_DEADLINE: u32 = 200000;
 
 /// The most days of a temporary certificate, and of an extension once the permit is issued (IBC 2018, section 105.5).
 const LONGEST_TERM: u32 = 180;
@@ -203,7 +200,7 @@ impl FileState {
             None => 0,
         };
         let deadline = self.deadline().unwrap_or(0);
-        (deadline.saturating_add(asked) > LAST_DEADLINE, Reason::Far)
+        (deadline.saturating_add(asked) > LATEST_DEADLINE, Reason::Far)
     }
 
     /// What stands against a reviewer or an inspector being assigned.
@@ -421,10 +418,10 @@ impl FileState {
 
     /// Whether a command is admitted on a day: Ok, or the first reason, in their numbered order, that stands against it.
     pub fn admit(&self, day: Day, command: &Command, people: &People) -> Result<(), Reason>
-        ensures row { Answers result (Admission.first_failing (row_tests day self.now people.now command.now)) }
+        ensures row { Admits result (Admission.first_failing (row_tests day self.now people.now command.now)) }
         ensures model { (h : History) (id caller : ℕ) (file : CaseFile) → IsHistory h → case_numbered h id ≡ Some file
             → self.now ≡ state_of file → people.now ≡ people_of h file command.now
-            → Answers result (Admission.reason_against h day caller (OnFile id command.now)) }
+            → Admits result (Admission.reason_against h day caller (OnFile id command.now)) }
     {
         match self.reason_against(day, command, people) {
             Some(reason) => Err(reason),

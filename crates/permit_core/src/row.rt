@@ -1,6 +1,6 @@
 //! A file's row, and the row on a day.
 
-ghost use Rattle.std.specs.Prelude.{◌≡◌, IfOk};
+ghost use Rattle.std.specs.Prelude.{◌≡◌};
 
 use crate::state::FileState;
 use permit_base::values::{Cents, FileId, Text};
@@ -25,17 +25,15 @@ impl Model for FileRow {
     ghost view = { λ f. record { id = f.id; state = f.state; valuation = f.valuation; description = f.description } };
 }
 
-impl FileRow {
-    /// A copy.
-    pub fn copy(&self) -> Result<FileRow, AllocError>
-        ensures { IfOk result (λ p. p ≡ self.now) }
-    {
-        let description = self.description.copy()?;
+impl Clone for FileRow {
+    ghost is_clone = { λ a b. b ≡ a };
+
+    fn clone(&self) -> Result<FileRow, AllocError> {
         Ok(FileRow {
             id: self.id,
             state: self.state,
             valuation: self.valuation,
-            description,
+            description: self.description.clone()?,
         })
     }
 }

@@ -4,10 +4,6 @@ use Rattle.jiff.specs.Words.{epoch_day, date_text}
 use Rattle.jiff_fmt.specs.Text.{pad2, pad4}
 use Rattle.jiff_core.specs.declared.civil.date.Date.{Date}
 
--- the greatest day that the office takes
-abbrev pub last_day : ℕ
-last_day = 100000
-
 -- the date is the one whose day has this number, from 1970-01-01
 abbrev pub IsDateOf : ℕ → Date → Type 0
 IsDateOf day date = epoch_day date ≡ pos day

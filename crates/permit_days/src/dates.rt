@@ -4,7 +4,8 @@ ghost use Rattle.std.specs.Prelude.{◌≡◌, ◌≤◌, ◌<◌, ◌∷◌, �
 ghost use Rattle.jiff.specs.Words.{epoch_day, date_text};
 ghost use Rattle.jiff_fmt.specs.Text.{pad2};
 ghost use Rattle.jiff_core.specs.declared.civil.date.Date.{Date as TheDate};
-ghost use Rattle.permit_days.specs.Dates.{last_day, written, IsDateOf, IsTextOf};
+ghost use Rattle.permit_base.specs.Limits.{latest_day, latest_deadline};
+ghost use Rattle.permit_days.specs.Dates.{written, IsDateOf, IsTextOf};
 
 use crate::instants::number;
 use jiff::civil::Date;
@@ -26,7 +27,7 @@ fn date_of(day: u32) -> Option<Date>
 /// The date of a day as YYYY-MM-DD. The day counts from 1970-01-01; past 9999-12-31, which no deadline reaches, the
 /// text is empty.
 pub fn date_text(alloc: Global, day: u32) -> Result<String, AllocError>
-    ensures text { day ≤ 200000 → IfOk result (λ text. IsTextOf day (string_bytes text)) }
+    ensures text { day ≤ latest_deadline → IfOk result (λ text. IsTextOf day (string_bytes text)) }
 {
     match date_of(day) {
         Some(date) => date.to_string(alloc),
@@ -66,7 +67,7 @@ fn parts_in(text: &[u8]) -> Option<(u16, u8, u8)>
 /// The day of a date, where the office takes it.
 fn day_of_date(date: Date) -> Option<Day>
     ensures day { IfSome result (λ day. IsDateOf day date) }
-    ensures every { (day : ℕ) → IsDateOf day date → day ≤ last_day → result ≡ Some day }
+    ensures every { (day : ℕ) → IsDateOf day date → day ≤ latest_day → result ≡ Some day }
 {
     let number = number(date);
     if number < 0 {
@@ -79,7 +80,7 @@ fn day_of_date(date: Date) -> Option<Day>
 /// day that isn't from 1970-01-01 to the day 100000.
 pub fn read_date(text: &str) -> Option<Day>
     ensures read { IfSome result (λ day. IsTextOf day text.now) }
-    ensures every { (day : ℕ) → day ≤ last_day → IsTextOf day text.now → result ≡ Some day }
+    ensures every { (day : ℕ) → day ≤ latest_day → IsTextOf day text.now → result ≡ Some day }
 {
     match parts_in(text.as_bytes()) {
         Some((year, month, day)) => match Date::new(year as i16, month as i8, day as i8) {

@@ -2,7 +2,7 @@
 
 ghost use Rattle.std.specs.Prelude.{◌≡◌, ◌≤◌, ℕ, IfOk, IfErr};
 ghost use Rattle.jiff.specs.Words.{epoch_day, plain_zone};
-ghost use Rattle.permit_days.specs.Dates.{last_day};
+ghost use Rattle.permit_base.specs.Limits.{latest_day};
 ghost use Rattle.permit_days.specs.Instants.{IsDayAt};
 
 use jiff::Timestamp;
@@ -29,7 +29,7 @@ pub(crate) fn number(date: Date) -> i32
 /// The day that a zone's clock shows at an instant, counted from 1970-01-01.
 pub fn day_of(instant: Timestamp, zone: &TimeZone<'_>) -> Result<Day, DayError>
     ensures day { IfOk result (IsDayAt (plain_zone zone.now) instant.nanosecond) }
-    ensures range { IfErr result (λ e. (e ≡ DayError.Range) × ((day : ℕ) → day ≤ last_day → IsDayAt (plain_zone zone.now) instant.nanosecond day → ⊥)) }
+    ensures range { IfErr result (λ e. (e ≡ DayError.Range) × ((day : ℕ) → day ≤ latest_day → IsDayAt (plain_zone zone.now) instant.nanosecond day → ⊥)) }
 {
     let shown = number(zone.to_datetime(instant).date());
     if shown < 0 {

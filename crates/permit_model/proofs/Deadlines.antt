@@ -2,12 +2,13 @@
 use Rattle.std.proofs.Common.{◌≡◌, ◌≤◌, ℕ, ◌+◌, max, Bool, true, false, List, [], ◌∷◌, refl, sym, ◌∙◌, ap, arith}
 use Rattle.std.specs.Prelude.{Option, None, Some, option_map, unwrap_or, nat_lt}
 use Rattle.std.proofs.lemmas.Bool.{ltb-false as not_below}
+use Rattle.permit_base.specs.Limits.{latest_day, latest_deadline}
 use Rattle.permit_base.specs.declared.words.Step.TheVariants.{Final}
 use Rattle.permit_base.specs.declared.words.Stage.{Stage}
 use Rattle.permit_base.specs.declared.words.Stage.TheVariants as stage
 use Rattle.permit_base.specs.declared.request.Command.{Command}
 use Rattle.permit_base.specs.declared.request.Command.TheVariants.{StartReview, Return, Resubmit, ApprovePlans, Reject, Issue, GrantExtension, BeginWork, RequestInspection, ApproveStep, Notice, Revoke, Certify}
-use Rattle.permit_model.specs.Days.{term, last_deadline, greatest}
+use Rattle.permit_model.specs.Days.{term, greatest}
 use Rattle.permit_model.specs.Files.{Filing, Act, CaseFile}
 use Rattle.permit_model.specs.Work.{pending_ask}
 use Rattle.permit_model.specs.BaseStage.{base_stage}
@@ -213,17 +214,17 @@ deadline_from filing (act ∷ before) w =
 
 -- a deadline, where one stands, is at most the last one
 abbrev pub IsWithin : Option ℕ → Type 0
-IsWithin deadline = (d : ℕ) → deadline ≡ Some d → d ≤ last_deadline
+IsWithin deadline = (d : ℕ) → deadline ≡ Some d → d ≤ latest_deadline
 
-active_within : (day : ℕ) (old : Option ℕ) → day ≤ 100000 → IsWithin old → IsWithin (moved_by_activity day old)
+active_within : (day : ℕ) (old : Option ℕ) → day ≤ latest_day → IsWithin old → IsWithin (moved_by_activity day old)
 active_within day None early within d e = omega (arith, early, same_number (max (day + term) 0) d e)
 active_within day (Some r) early within d e = omega (arith, early, within r refl, same_number (max (day + term) r) d e)
 
-granted_within : (ask : ℕ) (old : Option ℕ) → nat_lt last_deadline (unwrap_or old 0 + ask) ≡ false → IsWithin (option_map (λ d. d + ask) old)
+granted_within : (ask : ℕ) (old : Option ℕ) → nat_lt latest_deadline (unwrap_or old 0 + ask) ≡ false → IsWithin (option_map (λ d. d + ask) old)
 granted_within ask None near d e = cc
-granted_within ask (Some r) near d e = omega (arith, not_below last_deadline (r + ask) near, same_number (r + ask) d e)
+granted_within ask (Some r) near d e = omega (arith, not_below latest_deadline (r + ask) near, same_number (r + ask) d e)
 
-within_more : (filing : Filing) (caller day : ℕ) (command : Command) (number : Option ℕ) (before : List Act) → WasAdmitted filing (act_by caller day command number) before → day ≤ 100000 →
+within_more : (filing : Filing) (caller day : ℕ) (command : Command) (number : Option ℕ) (before : List Act) → WasAdmitted filing (act_by caller day command number) before → day ≤ latest_day →
     IsWithin (deadline (case_of filing before)) → IsWithin (deadline_after command day (pending_ask before) (deadline (case_of filing before)))
 within_more filing caller day GrantExtension number before w early within =
     granted_within (unwrap_or (pending_ask before) 0) (deadline (case_of filing before)) (tests_passed filing (act_by caller day GrantExtension number) before w).1.1.1.0
@@ -239,7 +240,7 @@ within_more filing caller day Certify number before w early within = λ d e. cc
 within_more filing caller day _ number before w early within = within
 
 -- a deadline is never later than the last one
-pub deadline_within : (filing : Filing) (acts : List Act) → WereAdmitted filing acts → last_touched filing acts ≤ 100000 → IsWithin (deadline (case_of filing acts))
+pub deadline_within : (filing : Filing) (acts : List Act) → WereAdmitted filing acts → last_touched filing acts ≤ latest_day → IsWithin (deadline (case_of filing acts))
 deadline_within filing [] w early = λ d e. omega (arith, early, same_number (filing.filed + term) d e)
 deadline_within filing (act ∷ before) w early =
     rw (deadline_more filing act.caller act.day act.command act.number before w.0 (unanchored filing before w.1))

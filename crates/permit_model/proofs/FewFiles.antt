@@ -3,6 +3,7 @@ use Rattle.std.proofs.Common.{◌≤◌, ◌<◌, ℕ, List, [], ◌∷◌, leng
 use Rattle.std.specs.Prelude.{Option, None, Some}
 use Rattle.std.proofs.lemmas.Bool.{leb-false as not_above}
 use Rattle.std.proofs.lemmas.List.{length-map}
+use Rattle.permit_base.specs.Limits.{most_records}
 use Rattle.permit_base.specs.declared.request.Request.TheVariants.{File}
 use Rattle.permit_model.specs.History.{Deed, Founding, Accepted, History}
 use Rattle.permit_model.specs.Files.{Filing, filings, case_file, case_files}
@@ -11,28 +12,28 @@ use Rattle.permit_model.specs.Machine.{MayFollow, IsFounding, IsHistory}
 use Rattle.permit_model.proofs.Fronts.{all_pass}
 use Rattle.permit_model.specs.Search.{add_last}
 
-filing_more : (before : List Filing) (new : Option Filing) → length before < 99999 → length (add_last before new) ≤ 99999
+filing_more : (before : List Filing) (new : Option Filing) → length before < most_records → length (add_last before new) ≤ most_records
 filing_more before None few = omega (arith, few)
 filing_more before (Some filing) few = omega (arith, few, length-append before (filing ∷ []))
 
 filings_deed : (h : History) (caller day : ℕ) (deed : Deed) (number : Option ℕ) → MayFollow h (record { caller = caller; day = day; deed = deed; number = number }) deed →
-    length (filings h) ≤ 99999 → length (filings (record { caller = caller; day = day; deed = deed; number = number } ∷ h)) ≤ 99999
+    length (filings h) ≤ most_records → length (filings (record { caller = caller; day = day; deed = deed; number = number } ∷ h)) ≤ most_records
 filings_deed h caller day (Founding name digest) number may ih = absurd may
 filings_deed h caller day (Accepted (File parcel kind valuation description)) None may ih = ih
 filings_deed h caller day (Accepted (File parcel kind valuation description)) (Some n) may ih =
     filing_more (filings h) (Some (record { id = n; parcel = parcel; applicant = caller; kind = kind; valuation = valuation; description = description; filed = day }))
-    (not_above 99999 (length (filings h)) (all_pass (tests h day caller (File parcel kind valuation description)) may.admitted).0)
+    (not_above most_records (length (filings h)) (all_pass (tests h day caller (File parcel kind valuation description)) may.admitted).0)
 filings_deed h caller day (Accepted request) number may ih = ih
 
-filings_first : (caller day : ℕ) (deed : Deed) (number : Option ℕ) → IsFounding (record { caller = caller; day = day; deed = deed; number = number }) deed → length (filings (record { caller = caller; day = day; deed = deed; number = number } ∷ [])) ≤ 99999
+filings_first : (caller day : ℕ) (deed : Deed) (number : Option ℕ) → IsFounding (record { caller = caller; day = day; deed = deed; number = number }) deed → length (filings (record { caller = caller; day = day; deed = deed; number = number } ∷ [])) ≤ most_records
 filings_first caller day (Founding name digest) number is = omega arith
 filings_first caller day (Accepted request) number is = absurd is
 
-few_filings : (h : History) → IsHistory h → length (filings h) ≤ 99999
+few_filings : (h : History) → IsHistory h → length (filings h) ≤ most_records
 few_filings [] is = absurd is
 few_filings (entry ∷ []) is = filings_first entry.caller entry.day entry.deed entry.number is
 few_filings (entry ∷ last ∷ before) is = filings_deed (last ∷ before) entry.caller entry.day entry.deed entry.number is.0 (few_filings (last ∷ before) is.1)
 
--- a history holds at most 99999 files
-pub few_files : (h : History) → IsHistory h → length (case_files h) ≤ 99999
+-- a history holds no more files than records
+pub few_files : (h : History) → IsHistory h → length (case_files h) ≤ most_records
 few_files h is = omega (arith, few_filings h is, length-map (filings h) (case_file h))

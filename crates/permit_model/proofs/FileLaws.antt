@@ -2,9 +2,10 @@
 use Rattle.std.proofs.Common.{◌≡◌, ◌≤◌, ℕ, ◌+◌, Bool, true, false, List, [], ◌∷◌, length, take, refl, sym, ◌∙◌, ap, arith}
 use Rattle.std.specs.Prelude.{Option, None, Some, is_some, is_none, if◌then◌else◌}
 use Rattle.std.proofs.lemmas.List.{take_all}
+use Rattle.permit_base.specs.Limits.{latest_day, latest_deadline}
 use Rattle.permit_base.specs.declared.words.Step.{Step}
 use Rattle.permit_base.specs.declared.words.Stage.TheVariants as stage
-use Rattle.permit_model.specs.Days.{term, last_deadline}
+use Rattle.permit_model.specs.Days.{term}
 use Rattle.permit_model.specs.Steps.{required_steps}
 use Rattle.permit_model.specs.History.{History, last_day}
 use Rattle.permit_model.specs.Files.{CaseFile, case_numbered}
@@ -70,7 +71,7 @@ deadline_exactly h id file is there = exactly_when (is_timed (base_stage file.ac
 pub deadline_least : OfEachFile (λ h file. (d : ℕ) → deadline file ≡ Some d → file.filing.filed + term ≤ d)
 deadline_least h id file is there = deadline_from file.filing file.acts (done_to h id file is there).admitted
 
-pub deadline_most : OfEachFile (λ h file. last_day h ≤ 100000 → (d : ℕ) → deadline file ≡ Some d → d ≤ last_deadline)
+pub deadline_most : OfEachFile (λ h file. last_day h ≤ latest_day → (d : ℕ) → deadline file ≡ Some d → d ≤ latest_deadline)
 deadline_most h id file is there early =
     let done : DoneTo h file = done_to h id file is there in
     deadline_within file.filing file.acts done.admitted (omega (arith, done.until, early))

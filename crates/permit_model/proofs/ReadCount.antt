@@ -14,6 +14,7 @@ use Rattle.permit_base.specs.declared.request.Filter.{Filter}
 use Rattle.permit_base.specs.declared.route.By.{By}
 use Rattle.permit_base.specs.declared.route.By.TheVariants as by
 use Rattle.permit_base.specs.declared.route.Route.{Route}
+use Rattle.permit_base.specs.Limits.{most_records}
 use Rattle.permit_base.specs.Words.{all_relations}
 use Rattle.permit_model.specs.Search.{how_many}
 use Rattle.permit_model.specs.History.{History}
@@ -185,5 +186,5 @@ few_openings policy h day caller wanted =
     (case_files h) in
     omega (arith, ap length (opened_ways policy h day caller wanted), length_permutation _ _ moved, few)
 
-pub few_opened : (policy : Policy) (h : History) (day : ℕ) (caller : Party) (wanted : Filter) → IsHistory h → length (opened policy h day caller wanted) ≤ 21 * 99999
+pub few_opened : (policy : Policy) (h : History) (day : ℕ) (caller : Party) (wanted : Filter) → IsHistory h → length (opened policy h day caller wanted) ≤ 21 * most_records
 few_opened policy h day caller wanted is = omega (arith, few_openings policy h day caller wanted, few_files h is)

@@ -12,11 +12,10 @@ use Rattle.permit_base.specs.declared.request.Command.{Command}
 use Rattle.permit_base.specs.declared.request.Command.TheVariants.{AssignReviewer, AssignInspector, NameContractor, StartReview, Return, Resubmit, ApprovePlans, Reject, Issue, AskExtension, GrantExtension, RefuseExtension, BeginWork, RequestInspection, ApproveStep, Notice, ClearNotice, Stop, Lift, Revoke, Temporary, Certify}
 use Rattle.permit_base.specs.declared.request.Request.{Request}
 use Rattle.permit_base.specs.declared.request.Request.TheVariants.{AddParty, AddParcel, Transfer, Declare, ReadParcel, File, ReadFile, ListFiles, Register, OnFile}
-use Rattle.permit_base.specs.Limits.{most_records, most_papers}
+use Rattle.permit_base.specs.Limits.{latest_deadline, most_records, most_papers}
 use Rattle.permit_base.specs.Digests.{digest_of}
 use Rattle.permit_model.specs.Search.{is_the_party, has_number}
 use Rattle.permit_model.specs.Codes.{is_step, is_stage_among}
-use Rattle.permit_model.specs.Days.{last_deadline}
 use Rattle.permit_model.specs.Steps.{has_certificates}
 use Rattle.permit_model.specs.History.{History}
 use Rattle.permit_model.specs.Caller.{parties, party_numbered, who, is_party, has_role}
@@ -142,7 +141,7 @@ papers_full file = (nat_le most_papers (paper_count file.acts), reason.Full)
 
 -- the deadline with the asked days is too far
 abbrev pub too_far : CaseFile → Test
-too_far file = (nat_lt last_deadline (unwrap_or (deadline file) 0 + unwrap_or (pending_ask file.acts) 0), reason.Far)
+too_far file = (nat_lt latest_deadline (unwrap_or (deadline file) 0 + unwrap_or (pending_ask file.acts) 0), reason.Far)
 
 -- ---- the tests of each command
 

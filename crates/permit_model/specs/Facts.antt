@@ -5,10 +5,9 @@ use Rattle.permit_base.specs.declared.words.Stage.{Stage}
 use Rattle.permit_base.specs.declared.words.Stage.TheVariants as stage
 use Rattle.permit_base.specs.declared.words.Timing.{Timing}
 use Rattle.permit_base.specs.declared.words.Timing.TheVariants.{Untimed}
-use Rattle.permit_base.specs.declared.words.Relation.{Relation}
-use Rattle.permit_base.specs.declared.words.Relation.TheVariants as relation
 use Rattle.permit_base.specs.declared.words.Relations.{Relations}
 use Rattle.permit_base.specs.declared.words.Action.{Action}
+pub use Rattle.permit_base.specs.Relations.{holds}
 use Rattle.permit_model.specs.Search.{is_the_party}
 use Rattle.permit_model.specs.Codes.{is_stage_among}
 use Rattle.permit_model.specs.Days.{timing_on, is_past}
@@ -32,15 +31,6 @@ stage_on day file = if is_past day (deadline file) then past_stage (base_stage f
 -- the timing of a file on a day
 abbrev pub timing_of : ℕ → CaseFile → Timing
 timing_of day file = timing_on day (deadline file)
-
--- whether the relation is in the set
-abbrev pub holds : Relations → Relation → Bool
-holds set relation.Applicant = set.applicant
-holds set relation.Contractor = set.contractor
-holds set relation.Owner = set.owner
-holds set relation.AssignedReviewer = set.assigned_reviewer
-holds set relation.AssignedInspector = set.assigned_inspector
-holds set relation.Conflict = set.conflict
 
 -- the empty set
 abbrev pub no_relations : Relations

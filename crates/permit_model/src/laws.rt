@@ -1,12 +1,13 @@
 //! The laws that hold of every history, and of every policy.
 
 ghost use Rattle.std.specs.Prelude.{◌≡◌, ◌≤◌, ◌+◌, ◌++◌, ℕ, List, [], length, take, Some, is_some, true, false};
+ghost use Rattle.permit_base.specs.Limits.{latest_day, latest_deadline};
 ghost use Rattle.permit_base.specs.declared.words.Step.{Step};
 ghost use Rattle.permit_base.specs.declared.words.Stage.TheVariants as stage;
 ghost use Rattle.permit_base.specs.declared.words.Relations.{Relations};
 ghost use Rattle.permit_base.specs.declared.request.Asked.{Asked};
 ghost use Rattle.permit_base.specs.declared.request.Request.{Request};
-ghost use Rattle.permit_model.specs.Days.{term, last_deadline};
+ghost use Rattle.permit_model.specs.Days.{term};
 ghost use Rattle.permit_model.specs.Steps.{required_steps};
 ghost use Rattle.permit_model.specs.History.{History, last_day};
 ghost use Rattle.permit_model.specs.Caller.{Party, parties};
@@ -60,12 +61,12 @@ pub fn certified_files_are_finished()
 {}
 
 /// A deadline stands in the six stages from filed to working but rejected, and in no other. It is never before the
-/// filing's 180 days. Where the last day is at most 100000 it is never after 200000: days never fall, and a grant that
-/// goes further isn't admitted.
+/// filing's 180 days. Where the last day is one that the office takes it is never after the latest deadline: days
+/// never fall, and a grant that goes further isn't admitted.
 pub fn deadlines_stand_in_bounds()
     ensures stands { OfEachFile (λ h file. is_some (deadline file) ≡ is_timed (base_stage file.acts)) }
     ensures least { OfEachFile (λ h file. (d : ℕ) → deadline file ≡ Some d → file.filing.filed + term ≤ d) }
-    ensures most { OfEachFile (λ h file. last_day h ≤ 100000 → (d : ℕ) → deadline file ≡ Some d → d ≤ last_deadline) }
+    ensures most { OfEachFile (λ h file. last_day h ≤ latest_day → (d : ℕ) → deadline file ≡ Some d → d ≤ latest_deadline) }
 {}
 
 /// The row of each file is sound: a stored stage, no more steps done than its kind requires, a deadline in the six

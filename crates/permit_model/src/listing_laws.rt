@@ -2,6 +2,7 @@
 
 ghost use Rattle.std.specs.Prelude.{◌≡◌, ◌≤◌, ◌*◌, ℕ, length, map, true, IsPermutation};
 ghost use Rattle.std.specs.List.{flat_map, list_any, sum_by};
+ghost use Rattle.permit_base.specs.Limits.{most_records};
 ghost use Rattle.permit_base.specs.declared.words.Action.TheVariants as action;
 ghost use Rattle.permit_base.specs.declared.request.Filter.{Filter};
 ghost use Rattle.permit_model.specs.History.{History};
@@ -38,6 +39,6 @@ pub fn no_listed_file_is_missed()
 /// There are at most 99999 files, since one more isn't admitted. A listing opens the row of each at most 21 times: by
 /// each of six relations, and by each two of them.
 pub fn few_files()
-    ensures files { (h : History) → IsHistory h → length (case_files h) ≤ 99999 }
-    ensures opened { (policy : Policy) (h : History) (day : ℕ) (caller : Party) (wanted : Filter) → IsHistory h → length (opened policy h day caller wanted) ≤ 21 * 99999 }
+    ensures files { (h : History) → IsHistory h → length (case_files h) ≤ most_records }
+    ensures opened { (policy : Policy) (h : History) (day : ℕ) (caller : Party) (wanted : Filter) → IsHistory h → length (opened policy h day caller wanted) ≤ 21 * most_records }
 {}

@@ -195,7 +195,7 @@ room_by h day file (Temporary days text) p e = p.1.1.1.1.1.0
 room_by h day file Certify p e = p.1.1.1.0
 room_by h day file _ p e = cc
 
-below_most : (n : ℕ) → nat_le 9999 n ≡ false → nat_lt n 9999 ≡ true
+below_most : (n : ℕ) → nat_le most_papers n ≡ false → nat_lt n most_papers ≡ true
 below_most n e = grind (arith, nat_tests)
 
 -- an admitted command that makes a paper finds room for it

@@ -18,7 +18,7 @@ use Rattle.permit_model.specs.Parcels.{Parcel, parcel_numbered}
 use Rattle.permit_model.specs.Files.{Filing, CaseFile, filings, case_file, case_files, case_numbered}
 use Rattle.permit_model.specs.Facts.{parcel_facts, file_facts}
 use Rattle.permit_model.specs.Policy.{Policy, decision}
-use Rattle.permit_model.specs.Tables.{Paper, FileRow, file_row, file_view, papers_of, tables}
+use Rattle.permit_model.specs.Tables.{Paper, State, FileRow, file_row, state_of, file_view, papers_of, tables}
 use Rattle.permit_model.specs.Machine.{FileShown, ParcelShown, shown_parcel, outcome_by_decision, outcome_by_facts, outcome_by_request, refused, unchanged, shown_file}
 use Rattle.permit_policy.specs.Denial.{denied}
 use Rattle.permit_office.proofs.Lists.{find_mapped}
@@ -67,9 +67,31 @@ file_found h id row found =
     let o = find (λ (f : Filing). f.id == id) (filings h) in
     found_by h id row (find (λ (f : Filing). f.id == id) (filings h)) refl (found ∙ rows_found h id)
 
+-- the state of a file's row
+abbrev pub row_state_in : History → ℕ → Option State
+row_state_in h id = option_map (λ (r : FileRow). r.state) (find (λ (r : FileRow). r.id == id) (tables h).files)
+
+-- a file whose row's state is found
+pub record IsStateOf (h : History) (id : ℕ) (state : State) : Type 0 where
+  pub file : CaseFile
+  pub found : case_numbered h id ≡ Some file
+  pub state_is : state ≡ state_of file
+
+state_by : (h : History) (id : ℕ) (state : State) (o : Option CaseFile) → case_numbered h id ≡ o → Some state ≡ option_map (λ (r : FileRow). r.state) (option_map file_row o) → IsStateOf h id state
+state_by h id state None e found = cc
+state_by h id state (Some file) e found = record { file = file; found = e; state_is = ap (λ o. unwrap_or o state) found }
+
+pub state_found : (h : History) (id : ℕ) (state : State) → Some state ≡ row_state_in h id → IsStateOf h id state
+state_found h id state found =
+    state_by h id state (case_numbered h id) refl (found ∙ ap (option_map (λ (r : FileRow). r.state)) (rows_found h id))
+
 missing_by : (o : Option CaseFile) → None ≡ option_map file_row o → o ≡ None
 missing_by None e = refl
 missing_by (Some f) e = cc
+
+stateless_by : (o : Option CaseFile) → None ≡ option_map (λ (r : FileRow). r.state) (option_map file_row o) → o ≡ None
+stateless_by None e = refl
+stateless_by (Some f) e = cc
 
 pub read_missing : (policy : Policy) (h : History) (day : ℕ) (caller : Party) (id : ℕ) → None ≡ find (λ (r : FileRow). r.id == id) (tables h).files → outcome_by_request policy h day caller (ReadFile id) ≡ refused h refusal.Record
 read_missing policy h day caller id none =
@@ -122,9 +144,10 @@ transfer_judged policy h day caller parcel to land found =
 
 -- ---- a command on a file
 
-pub command_missing : (policy : Policy) (h : History) (day : ℕ) (caller : Party) (id : ℕ) (command : Command) → None ≡ find (λ (r : FileRow). r.id == id) (tables h).files → outcome_by_request policy h day caller (OnFile id command) ≡ refused h refusal.Record
+pub command_missing : (policy : Policy) (h : History) (day : ℕ) (caller : Party) (id : ℕ) (command : Command) → None ≡ row_state_in h id → outcome_by_request policy h day caller (OnFile id command) ≡ refused h refusal.Record
 command_missing policy h day caller id command none =
-    ap (λ (o : Option CaseFile). outcome_by_facts policy h day caller (OnFile id command) (option_map (λ file. file_facts h day caller file (command_action command)) o)) (missing_by (case_numbered h id) (none ∙ rows_found h id))
+    ap (λ (o : Option CaseFile). outcome_by_facts policy h day caller (OnFile id command) (option_map (λ file. file_facts h day caller file (command_action command)) o))
+    (stateless_by (case_numbered h id) (none ∙ ap (option_map (λ (r : FileRow). r.state)) (rows_found h id)))
 
 pub command_judged : (policy : Policy) (h : History) (day : ℕ) (caller : Party) (id : ℕ) (command : Command) (file : CaseFile) → case_numbered h id ≡ Some file →
     outcome_by_request policy h day caller (OnFile id command) ≡ outcome_by_decision policy h day caller (OnFile id command) (decision policy (file_facts h day caller file (command_action command)))

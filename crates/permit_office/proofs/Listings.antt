@@ -6,6 +6,7 @@ use Rattle.std.proofs.Math.Path.{fun_ext}
 use Rattle.std.proofs.lemmas.List.{map-append}
 use Rattle.std.proofs.lemmas.List.Elements.{filter-append, filter_agree}
 use Rattle.std.proofs.lemmas.List.Sorted.{IsPermutation-refl, IsPermutation-sym, IsPermutation-trans, IsPermutation-append, IsPermutation-map, Contains-permutation, length_permutation}
+use Rattle.permit_base.specs.Limits.{most_records}
 use Rattle.permit_base.specs.declared.words.Role.{Role}
 use Rattle.permit_base.specs.declared.words.Relations.{Relations}
 use Rattle.permit_base.specs.declared.words.Action.TheVariants as action
@@ -298,7 +299,7 @@ GivenBy caller day h given routes = IsPermutation given (flat_map (λ r. found_b
 
 -- ---- the rows read
 
-pub few_read : (read n m : ℕ) → read ≡ n % 2 ^ 32 → n ≡ m → m ≤ 21 * 99999 → read ≡ m
+pub few_read : (read n m : ℕ) → read ≡ n % 2 ^ 32 → n ≡ m → m ≤ 21 * most_records → read ≡ m
 few_read read n m e f few = omega arith
 
 -- the rows that all selections hand out are those opened, and their count is told

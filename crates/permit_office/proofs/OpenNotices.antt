@@ -117,13 +117,24 @@ both_by : (b c : Bool) → (b ≡ true → c ≡ true) → (b && c) ≡ b
 both_by true c e = e refl
 both_by false c e = refl
 
--- the file's papers say which notices are open
+any_of : {A : Type 0} (test p : A → Bool) (x : A) (xs : List A) (b : Bool) → test x ≡ b → list_any (λ y. test y && p y) xs ≡ list_any p (filter test xs) →
+    ((b && p x) || list_any (λ y. test y && p y) xs) ≡ list_any p (cond b (x ∷ filter test xs) (filter test xs))
+any_of test p x xs true e ih = ap (λ c. p x || c) ih
+any_of test p x xs false e ih = ih
+
+-- one that passes both tests is one of those that pass the first
+any_in : {A : Type 0} (test p : A → Bool) (xs : List A) → list_any (λ y. test y && p y) xs ≡ list_any p (filter test xs)
+any_in test p [] = refl
+any_in test p (x ∷ xs) = any_of test p x xs (test x) refl (any_in test p xs)
+
+-- the papers say which notices of the file are open
 pub open_papers : (h : History) (id n : ℕ) (one : CaseFile) → case_numbered h id ≡ Some one →
-    list_any (is_open_of n) (filter (λ p. p.file == id) (tables h).papers) ≡ has_number (open_notices one.acts) n
+    list_any (λ (p : Paper). (p.file == id) && is_open_of n p) (tables h).papers ≡ has_number (open_notices one.acts) n
 open_papers h id n one there =
     let c : IsCase h id one = case_found h id one there in
     let named : one.filing.id ≡ id = ap (λ (x : CaseFile). x.filing.id) (sym c.is) ∙ c.named in
-    ap (λ k. list_any (is_open_of n) (papers_of h k)) (sym named)
+    any_in (λ (p : Paper). p.file == id) (is_open_of n) (tables h).papers
+    ∙ ap (λ k. list_any (is_open_of n) (papers_of h k)) (sym named)
     ∙ ap (list_any (is_open_of n)) (papers_of-case h id one there)
     ∙ open_from one.filing.id n (open_notices one.acts) one.acts
     ∙ both_by (has_number (open_notices one.acts) n) (was_given n one.acts) (given n one.acts)

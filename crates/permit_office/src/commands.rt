@@ -1,7 +1,6 @@
 //! The commands on a file that is there.
 
-ghost use Rattle.std.specs.Prelude.{◌≡◌, ◌≤◌, ◌==◌, ◌&&◌, ℕ, List, Option, Some, None, IsTrue, IfOk, find, is_some, nat_lt, true, false};
-ghost use Rattle.std.specs.List.{list_any};
+ghost use Rattle.std.specs.Prelude.{◌≡◌, ◌≤◌, ◌==◌, ℕ, List, Option, Some, None, IsTrue, IfOk, find, is_some, nat_lt, true, false};
 ghost use Rattle.permit_base.specs.declared.request.Request.TheVariants as request;
 ghost use Rattle.permit_model.specs.Caller;
 ghost use Rattle.permit_model.specs.History.{History, last_day};
@@ -10,7 +9,7 @@ ghost use Rattle.permit_model.specs.Files.{CaseFile, case_numbered};
 ghost use Rattle.permit_model.specs.Work;
 ghost use Rattle.permit_model.specs.Admission.{reason_against};
 ghost use Rattle.permit_base.specs.Limits.{most_papers};
-ghost use Rattle.permit_model.specs.Tables.{Paper as ThePaper, State, Tables, tables, file_row, state_of};
+ghost use Rattle.permit_model.specs.Tables.{Paper, State, Tables, tables, state_of};
 ghost use Rattle.permit_model.specs.Machine.{IsHistory, outcome_by_reason, entry_of, outcome_by_request};
 ghost use Rattle.permit_core.specs.Naming;
 ghost use Rattle.permit_core.specs.RowAfter;
@@ -25,12 +24,12 @@ use crate::facts::{facts_on_file, owner_on};
 use crate::reply::Reply;
 use permit_base::refusal::Refusal;
 use permit_base::request::Command;
-use permit_base::values::{Day, FileId, PaperNumber, ParcelId, PartyId};
+use permit_base::values::{Day, FileId, ParcelId, PartyId};
 use permit_core::paper::{paper_sort, paper_terms, paper_text};
 use permit_core::people::{NamedParty, People, named_paper, named_party};
 use permit_core::state::FileState;
 use permit_policy::Policy;
-use permit_store::rows::{Change, FileRow, NewPaper, Paper, Party, RowEffect};
+use permit_store::rows::{Change, NewPaper, Party, RowEffect};
 use permit_store::store::{Got, Store};
 
 /// The party that a command names, where it is there, with its interest in the parcel.
@@ -52,16 +51,6 @@ fn named<S: Store>(store: &mut S, parcel: ParcelId, command: &Command) -> Got<Op
     }))
 }
 
-/// Whether one of the papers is an open notice of the number.
-fn has_open_notice(papers: &[Paper], number: PaperNumber) -> bool
-    ensures { result ≡ list_any (λ p. p.is_open && (p.number == number)) papers.now }
-{
-    papers.iter().any(|paper| {
-        let paper: &Paper = paper;
-        paper.is_open && paper.number.get() == number.get()
-    })
-}
-
 /// Whether the paper that a command names is an open notice of the file.
 fn is_open_notice<S: Store>(store: &mut S, file: FileId, command: &Command) -> Got<bool>
     ensures open { (S.view store.new).doubt ≡ 0 → (h : History) (one : CaseFile) → IsHistory h → (S.view store.old).holds (tables h)
@@ -72,24 +61,24 @@ fn is_open_notice<S: Store>(store: &mut S, file: FileId, command: &Command) -> G
     let Some(number) = named_paper(command) else {
         return Ok(false);
     };
-    let papers = store.papers(file)?;
-    Ok(has_open_notice(&papers, number))
+    store.has_open_notice(file, number)
 }
 
 /// The people about a command on a file whose parcel has this owner.
 fn people_about<S: Store>(
     store: &mut S,
-    row: &FileRow,
+    file: FileId,
+    state: &FileState,
     owner: Option<PartyId>,
     command: &Command,
 ) -> Got<People>
     ensures people { (S.view store.new).doubt ≡ 0 → (h : History) (one : CaseFile) → IsHistory h → (S.view store.old).holds (tables h)
-        → case_numbered h row.now.id ≡ Some one → row.now ≡ file_row one → owner ≡ Parcels.owner h one.filing.parcel
+        → case_numbered h file ≡ Some one → state.now ≡ state_of one → owner ≡ Parcels.owner h one.filing.parcel
         → IfOk result (λ p. p ≡ Naming.people_of h one command.now) }
     ensures read { OnlyReads (S.view store.old) (S.view store.new) result }
 {
-    let named = named(store, row.state.parcel(), command)?;
-    let is_open_notice = is_open_notice(store, row.id, command)?;
+    let named = named(store, state.parcel(), command)?;
+    let is_open_notice = is_open_notice(store, file, command)?;
     Ok(People {
         named,
         owner,
@@ -99,7 +88,7 @@ fn people_about<S: Store>(
 
 /// What changes of the papers by a command of the author on a file of this state.
 fn effect_of<'a>(state: &FileState, author: PartyId, command: &'a Command) -> RowEffect<'a>
-    ensures papers { (file number day : ℕ) (one : CaseFile) (papers : List ThePaper) → state.now ≡ state_of one
+    ensures papers { (file number day : ℕ) (one : CaseFile) (papers : List Paper) → state.now ≡ state_of one
         → papers_after file number day result papers
         ≡ papers_entered file number day author command.now one.acts (Work.paper_sort command.now) (Naming.named_paper command.now) papers }
     ensures suits { (t : Tables) (after : State) → after.papers ≡ RowAfter.papers_after command.now state.now.papers
@@ -125,38 +114,35 @@ fn effect_of<'a>(state: &FileState, author: PartyId, command: &'a Command) -> Ro
 fn perform<S: Store>(
     store: &mut S,
     caller: PartyId,
-    row: &FileRow,
+    file: FileId,
+    state: &FileState,
     owner: Option<PartyId>,
     command: &Command,
     day: Day,
 ) -> Got<Reply>
     ensures model { (S.view store.new).doubt ≡ 0 → (h : History) (one : CaseFile) → IsHistory h → (S.view store.old).holds (tables h)
-        → case_numbered h row.now.id ≡ Some one → row.now ≡ file_row one → owner ≡ Parcels.owner h one.filing.parcel
+        → case_numbered h file ≡ Some one → state.now ≡ state_of one → owner ≡ Parcels.owner h one.filing.parcel
         → last_day h ≤ day → IsTrue (Caller.is_party h caller)
         → Attempts (S.view store.new).holds result
-        (outcome_by_reason h (entry_of h day caller (request.OnFile row.now.id command.now)) (reason_against h day caller (request.OnFile row.now.id command.now))) h }
+        (outcome_by_reason h (entry_of h day caller (request.OnFile file command.now)) (reason_against h day caller (request.OnFile file command.now))) h }
     ensures attempt { IsAttempt NoRow (S.view store.old) (S.view store.new) result }
     ensures decided { IfOk result IsDecided }
     ensures own { IfOk result IsOwn }
 {
-    let people = people_about(store, row, owner, command)?;
-    if let Err(reason) = row.state.admit(day, command, &people) {
+    let people = people_about(store, file, state, owner, command)?;
+    if let Err(reason) = state.admit(day, command, &people) {
         return Ok(Reply::Refused(Refusal::NotAdmitted(reason)));
     }
-    let number = row.state.paper_number(command);
-    let effect = effect_of(&row.state, caller, command);
-    let mut state = row.state;
+    let number = state.paper_number(command);
+    let effect = effect_of(state, caller, command);
+    let mut state = *state;
     state.apply(day, command, caller);
-    carry_out(
-        store,
-        Ok(number),
-        &Change::NewRow {
-            file: row.id,
-            state,
-            effect,
-        },
-        day,
-    )
+    let change = Change::NewRow {
+        file,
+        state,
+        effect,
+    };
+    carry_out(store, Ok(number), &change, day)
 }
 
 /// Serves a command on a file.
@@ -174,13 +160,13 @@ pub(crate) fn on_file<S: Store>(
     ensures attempt { IsAttempt OneRow (S.view store.old) (S.view store.new) result }
     ensures own { IfOk result IsOwn }
 {
-    let Some(row) = store.file(file)? else {
+    let Some(state) = store.state(file)? else {
         return Ok(Reply::Refused(Refusal::Record));
     };
-    let owner = owner_on(store, &row)?;
-    let facts = facts_on_file(store, caller, &row, &owner, command.action(), day)?;
+    let owner = owner_on(store, &state)?;
+    let facts = facts_on_file(store, caller, &state, &owner, command.action(), day)?;
     if let Some(name) = policy.denial(&facts) {
         return Ok(Reply::Refused(Refusal::Denied(name)));
     }
-    perform(store, caller.id, &row, owner, command, day)
+    perform(store, caller.id, file, &state, owner, command, day)
 }

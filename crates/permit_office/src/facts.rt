@@ -6,13 +6,14 @@ ghost use Rattle.permit_model.specs.Parcels;
 ghost use Rattle.permit_model.specs.Parcels.{parcel_numbered};
 ghost use Rattle.permit_model.specs.Files.{CaseFile};
 ghost use Rattle.permit_model.specs.Facts.{file_facts, parcel_facts};
-ghost use Rattle.permit_model.specs.Tables.{Tables, tables, file_row};
+ghost use Rattle.permit_model.specs.Tables.{Tables, tables, state_of};
 ghost use Rattle.permit_office.specs.Frames.{OnlyReads};
 
 use permit_base::values::{Day, ParcelId, PartyId};
 use permit_base::words::{Action, Relations, Stage, Timing};
+use permit_core::state::FileState;
 use permit_policy::Facts;
-use permit_store::rows::{FileRow, Parcel, Party};
+use permit_store::rows::{Parcel, Party};
 use permit_store::store::{Got, Store};
 
 /// The facts of a request on a parcel.
@@ -57,35 +58,35 @@ fn owner_of<S: Store>(store: &mut S, parcel: ParcelId) -> Got<Option<PartyId>>
 }
 
 /// The owner of the parcel of a file.
-pub(crate) fn owner_on<S: Store>(store: &mut S, row: &FileRow) -> Got<Option<PartyId>>
-    ensures owner { (S.view store.new).doubt ≡ 0 → (h : History) (file : CaseFile) → (S.view store.old).holds (tables h) → row.now ≡ file_row file
+pub(crate) fn owner_on<S: Store>(store: &mut S, state: &FileState) -> Got<Option<PartyId>>
+    ensures owner { (S.view store.new).doubt ≡ 0 → (h : History) (file : CaseFile) → (S.view store.old).holds (tables h) → state.now ≡ state_of file
         → IfOk result (λ o. o ≡ Parcels.owner h file.filing.parcel) }
     ensures read { OnlyReads (S.view store.old) (S.view store.new) result }
 {
-    owner_of(store, row.state.parcel())
+    owner_of(store, state.parcel())
 }
 
 /// The facts of a request on a file whose parcel has this owner.
 pub(crate) fn facts_on_file<S: Store>(
     store: &mut S,
     caller: &Party,
-    row: &FileRow,
+    state: &FileState,
     owner: &Option<PartyId>,
     action: Action,
     day: Day,
 ) -> Got<Facts>
-    ensures facts { (S.view store.new).doubt ≡ 0 → (h : History) (file : CaseFile) → (S.view store.old).holds (tables h) → row.now ≡ file_row file
+    ensures facts { (S.view store.new).doubt ≡ 0 → (h : History) (file : CaseFile) → (S.view store.old).holds (tables h) → state.now ≡ state_of file
         → owner.now ≡ Parcels.owner h file.filing.parcel
         → IfOk result (λ f. f ≡ file_facts h day caller.now file action) }
     ensures read { OnlyReads (S.view store.old) (S.view store.new) result }
 {
-    let conflict = store.interest(row.state.parcel(), caller.id)?;
+    let conflict = store.interest(state.parcel(), caller.id)?;
     Ok(Facts {
         role: caller.role,
-        relations: row.state.relations(caller.id, *owner, conflict),
+        relations: state.relations(caller.id, *owner, conflict),
         action,
-        stage: row.state.stage(day),
-        stopped: row.state.is_stopped(),
-        timing: row.state.timing(day),
+        stage: state.stage(day),
+        stopped: state.is_stopped(),
+        timing: state.timing(day),
     })
 }

@@ -66,7 +66,7 @@ pub(crate) fn facts_on(caller: &Party, day: Day, found: &Found) -> Facts
 pub(crate) fn view_on(day: Day, found: &Found) -> Result<FileView, AllocError>
     ensures { IfOk result (λ view. view ≡ view_found day found.now) }
 {
-    let row = found.row.copy()?;
+    let row = found.row.clone()?;
     let stage = row.state.stage(day);
     let timing = row.state.timing(day);
     Ok(FileView { row, stage, timing })

@@ -81,12 +81,12 @@ impl<S: Store + Drop> Office<S> {
     /// moves the last day. A listing has no test but the first two; its files are found by the selections that the
     /// policy's rules give, and no other row is read. The refusal for the store comes exactly where a call of the
     /// store failed, or where memory was refused to a listing; then, too, nothing has changed.
-    pub fn step_as(&mut self, digest: &Digest, asked: &Request, day: Day) -> Reply
+    pub fn step_as(&mut self, digest: &Digest, request: &Request, day: Day) -> Reply
         ensures model { (S.view self.new.store).doubt ≡ 0 → (h : History) → IsHistory h → (S.view self.old.store).holds (tables h)
-            → Answers (S.view self.new.store).holds result (step_as self.old.policy h digest.now asked.now day) h }
-        ensures step { IsStep S.view digest.now asked.now day self.old self.new result }
+            → Answers (S.view self.new.store).holds result (step_as self.old.policy h digest.now request.now day) h }
+        ensures step { IsStep S.view digest.now request.now day self.old self.new result }
     {
-        match attempt(&mut self.store, &self.policy, digest, asked, day) {
+        match attempt(&mut self.store, &self.policy, digest, request, day) {
             Ok(reply) => reply,
             Err(_) => Reply::Refused(Refusal::Store),
         }

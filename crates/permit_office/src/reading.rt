@@ -34,8 +34,8 @@ pub(crate) fn read_file<S: Store>(
     let Some(row) = store.file(file)? else {
         return Ok(Reply::Refused(Refusal::Record));
     };
-    let owner = owner_on(store, &row)?;
-    let facts = facts_on_file(store, caller, &row, &owner, Action::Read, day)?;
+    let owner = owner_on(store, &row.state)?;
+    let facts = facts_on_file(store, caller, &row.state, &owner, Action::Read, day)?;
     if let Some(name) = policy.denial(&facts) {
         return Ok(Reply::Refused(Refusal::Denied(name)));
     }

@@ -31,18 +31,18 @@ fn serve_known<S: Store>(
     policy: &Policy,
     caller: &Party,
     desk: &Desk,
-    asked: &Request,
+    request: &Request,
     day: Day,
 ) -> Got<Reply>
     ensures model { (S.view store.new).doubt ≡ 0 → (h : History) → IsHistory h → (S.view store.old).holds (tables h) → desk.now ≡ desk_of h
         → last_day h ≤ day → IsTrue (Caller.is_party h caller.now.id)
-        → Attempts (S.view store.new).holds result (outcome_by_request policy.now h day caller.now asked.now) h }
+        → Attempts (S.view store.new).holds result (outcome_by_request policy.now h day caller.now request.now) h }
     ensures opened { (S.view store.new).doubt ≡ 0 → (h : History) → IsHistory h → (S.view store.old).holds (tables h)
-        → IfOk result (λ reply. Opens (opened_for policy.now h day caller.now asked.now) reply (S.view store.old).handed (S.view store.new).handed) }
-    ensures attempt { IsAttempt (reach_of asked.now) (S.view store.old) (S.view store.new) result }
+        → IfOk result (λ reply. Opens (opened_for policy.now h day caller.now request.now) reply (S.view store.old).handed (S.view store.new).handed) }
+    ensures attempt { IsAttempt (reach_of request.now) (S.view store.old) (S.view store.new) result }
     ensures own { IfOk result IsOwn }
 {
-    match asked {
+    match request {
         Request::AddParty { name, role, token } => add_party(
             store, policy, caller, desk, name, *role, token, day,
         ),
@@ -82,14 +82,14 @@ pub(crate) fn attempt<S: Store>(
     store: &mut S,
     policy: &Policy,
     digest: &Digest,
-    asked: &Request,
+    request: &Request,
     day: Day,
 ) -> Got<Reply>
     ensures model { (S.view store.new).doubt ≡ 0 → (h : History) → IsHistory h → (S.view store.old).holds (tables h)
-        → Attempts (S.view store.new).holds result (step_as policy.now h digest.now asked.now day) h }
+        → Attempts (S.view store.new).holds result (step_as policy.now h digest.now request.now day) h }
     ensures opened { (S.view store.new).doubt ≡ 0 → (h : History) → IsHistory h → (S.view store.old).holds (tables h)
-        → IfOk result (λ reply. Opens (rows_opened policy.now h digest.now asked.now day) reply (S.view store.old).handed (S.view store.new).handed) }
-    ensures attempt { IsAttempt (reach_of asked.now) (S.view store.old) (S.view store.new) result }
+        → IfOk result (λ reply. Opens (rows_opened policy.now h digest.now request.now day) reply (S.view store.old).handed (S.view store.new).handed) }
+    ensures attempt { IsAttempt (reach_of request.now) (S.view store.old) (S.view store.new) result }
     ensures one { (S.view store.new).doubt ≡ 0 → OnOk result (HasOneDesk (S.view store.new)) }
     ensures own { IfOk result IsOwn }
 {
@@ -100,5 +100,5 @@ pub(crate) fn attempt<S: Store>(
     if day.get() < desk.last.get() {
         return Ok(Reply::Refused(Refusal::Clock));
     }
-    serve_known(store, policy, &caller, &desk, asked, day)
+    serve_known(store, policy, &caller, &desk, request, day)
 }

@@ -1,7 +1,7 @@
 //! One rule of a policy, and when it matches.
 
 ghost use Rattle.std.specs.Prelude.{◌≡◌, Bool, Some, option_map};
-ghost use Rattle.permit_model.specs.Facts.{holds};
+ghost use Rattle.permit_base.specs.Relations.{holds};
 ghost use Rattle.permit_model.specs.Codes.{is_role, is_action, is_stage, is_timing};
 ghost use Rattle.permit_model.specs.Policy.{matches, matches_list, matches_relations, matches_truth};
 ghost use Rattle.permit_policy.specs.Relating.{relation_view};
@@ -153,23 +153,10 @@ impl Rule {
     }
 }
 
-fn has_relation(set: &Relations, relation: Relation) -> bool
-    ensures { result ≡ holds set.now relation }
-{
-    match relation {
-        Relation::Applicant => set.applicant,
-        Relation::Contractor => set.contractor,
-        Relation::Owner => set.owner,
-        Relation::AssignedReviewer => set.assigned_reviewer,
-        Relation::AssignedInspector => set.assigned_inspector,
-        Relation::Conflict => set.conflict,
-    }
-}
-
 fn relation_in(words: &[Relation], set: &Relations) -> bool
     ensures { result ≡ matches_list (Some words.now) (holds set.now) }
 {
-    words.iter().any(|word| has_relation(set, *word))
+    words.iter().any(|word| set.has(*word))
 }
 
 fn has_word<W: Listed>(words: &[W], word: W) -> bool
@@ -205,7 +192,7 @@ fn relation_matches(test: &RelationTest, set: &Relations) -> bool
         RelationTest::Any => true,
         RelationTest::OneOf(words) => relation_in(words, set),
         RelationTest::Both(first, second) => {
-            has_relation(set, *first) && has_relation(set, *second)
+            set.has(*first) && set.has(*second)
         }
     }
 }

@@ -4,6 +4,7 @@ use Rattle.std.proofs.lemmas.Bool.Decides.{nat_tests}
 use Rattle.jiff_core.specs.declared.civil.date.Date.{Date as CivilDate}
 use Rattle.jiff_core.proofs.DateLemmas.{civil}
 use Rattle.jiff_fmt.specs.Text.{date_text as civil_text, year_text, pad2}
+use Rattle.permit_base.specs.Limits.{latest_deadline}
 use Rattle.permit_days.specs.Dates.{IsTextOf}
 use Rattle.jiff_core.specs.Calendar.{day_count, days_in_month, IsCivilDate}
 use Rattle.jiff_core.proofs.SignedLemmas.{signed_arith}
@@ -109,7 +110,7 @@ text_of date y is low high =
     ∙ ap (λ t. padded_number 4 y ++ 45 ∷ [] ++ padded_number 2 date.month ++ 45 ∷ [] ++ t) (sym day)
 
 -- up to the last deadline a civil date is that of the definitions
-pub shown_dates_agree : (day : ℕ) (text : List ℕ) → day ≤ 200000 → IsTextOf day text → text ≡ shown_date day
+pub shown_dates_agree : (day : ℕ) (text : List ℕ) → day ≤ latest_deadline → IsTextOf day text → text ≡ shown_date day
 unfolding FoundFrom
 shown_dates_agree day text small (date, is, same) =
     let count : day_count date.year date.month date.day ≡ day_count (pos 1970) 1 1 + day = omega (arith, signed_arith, is, day_count-epoch, days_from_civil-day_count date.year date.month date.day) in

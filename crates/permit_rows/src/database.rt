@@ -158,6 +158,20 @@ fn is_open<S: Store>(store: &mut S) -> Result<bool, Fail> {
     Ok(papers.first().ok_or("a paper")?.is_open)
 }
 
+/// Whether the paper of the number is an open notice of file 1.
+fn has_open_notice<S: Store>(store: &mut S, number: u32) -> Result<bool, Fail> {
+    let number = PaperNumber::new(number).ok_or("a number")?;
+    Ok(store.has_open_notice(file(1)?, number)?)
+}
+
+/// The count of papers in the state of a file, if it is there.
+fn papers_in_state<S: Store>(store: &mut S, number: u32) -> Result<Option<u16>, Fail> {
+    match store.state(file(number)?)? {
+        Some(state) => Ok(Some(state.papers())),
+        None => Ok(None),
+    }
+}
+
 fn give_parcel<S: Store>(store: &mut S) -> Result<(), Fail> {
     let (parcel, owner) = (parcel(1)?, party(2)?);
     commit(store, &Change::NewOwner { parcel, owner }, 19702)
@@ -231,10 +245,15 @@ fn a_notice_is_closed(rt: HostRuntime) -> Result<(), Fail> {
     add_file(&mut store, rt.alloc())?;
     add_notice(&mut store, rt.alloc())?;
     assert!(rt; is_open(&mut store)?);
+    assert!(rt; has_open_notice(&mut store, 1)?);
+    assert!(rt; !has_open_notice(&mut store, 2)?);
     close_notice(&mut store)?;
     assert!(rt; !is_open(&mut store)?);
+    assert!(rt; !has_open_notice(&mut store, 1)?);
     set_row(&mut store)?;
     assert_eq!(rt; papers_counted(&mut store)?, 1);
+    assert!(rt; papers_in_state(&mut store, 1)? == Some(1));
+    assert!(rt; papers_in_state(&mut store, 2)?.is_none());
     assert_eq!(rt; desk(&mut store)?, (19705, 1, 1, 1));
     Ok(())
 }

@@ -22,7 +22,7 @@ use Rattle.permit_sql_rows.specs.Schema.{office_schema}
 use Rattle.permit_sql_rows.specs.Rows.{int, party_row, parcel_row, file_row, shown_party, shown_parcel, shown_file}
 use Rattle.permit_sql_rows.specs.Kept.{Keeps}
 use Rattle.permit_sql.specs.Found.{IsNumbered, AreTyped}
-use Rattle.permit_sql.specs.WholeTexts.{each_party, each_parcel, each_file}
+use Rattle.permit_sql.specs.declared.texts.TheConstants.{EACH_PARTY, EACH_PARCEL, EACH_FILE}
 use Rattle.permit_sql_statements.proofs.Lookups.{plain_query, answers}
 use Rattle.permit_sql.proofs.WholeMeanings.{each_party_query, each_party_is, each_party_plain, each_party_unlisted, each_parcel_query, each_parcel_is, each_parcel_plain, each_parcel_unlisted, each_file_query, each_file_is, each_file_plain, each_file_unlisted}
 
@@ -64,17 +64,17 @@ module _ {X : Type 0} (number : X → ℕ) where
             rw less refl
 
 module _ (old new : State) (t : Tables) (typed : AreTyped t) (k : Keeps t old.now) (rows : List Row) where
-  pub parties_shown : Shown each_party [] old new rows → rows ≡ map shown_party t.parties
+  pub parties_shown : Shown EACH_PARTY.now [] old new rows → rows ≡ map shown_party t.parties
   parties_shown h =
-      let read = reads_as each_party [] old new office_schema k.schema _ each_party_is each_party_plain each_party_unlisted rows h in
+      let read = reads_as EACH_PARTY.now [] old new office_schema k.schema _ each_party_is each_party_plain each_party_unlisted rows h in
       numbered_shown (λ p. p.id) party_row shown_party 1 each_party_query.project (λ p. refl) (overlay old.now.trees []) t.parties 1 typed.party_numbers k.rows.parties rows (read.answer Null)
 
-  pub parcels_shown : Shown each_parcel [] old new rows → rows ≡ map shown_parcel t.parcels
+  pub parcels_shown : Shown EACH_PARCEL.now [] old new rows → rows ≡ map shown_parcel t.parcels
   parcels_shown h =
-      let read = reads_as each_parcel [] old new office_schema k.schema _ each_parcel_is each_parcel_plain each_parcel_unlisted rows h in
+      let read = reads_as EACH_PARCEL.now [] old new office_schema k.schema _ each_parcel_is each_parcel_plain each_parcel_unlisted rows h in
       numbered_shown (λ p. p.id) parcel_row shown_parcel 3 each_parcel_query.project (λ p. refl) (overlay old.now.trees []) t.parcels 1 typed.parcel_numbers k.rows.parcels rows (read.answer Null)
 
-  pub files_shown : Shown each_file [] old new rows → rows ≡ map shown_file t.files
+  pub files_shown : Shown EACH_FILE.now [] old new rows → rows ≡ map shown_file t.files
   files_shown h =
-      let read = reads_as each_file [] old new office_schema k.schema _ each_file_is each_file_plain each_file_unlisted rows h in
+      let read = reads_as EACH_FILE.now [] old new office_schema k.schema _ each_file_is each_file_plain each_file_unlisted rows h in
       numbered_shown (λ f. f.id) file_row shown_file 7 each_file_query.project (λ f. refl) (overlay old.now.trees []) t.files 1 typed.file_numbers k.rows.files rows (read.answer Null)

@@ -26,7 +26,7 @@ use Rattle.permit_sql_rows.specs.Typed.{firsts, IsObject, IsParty, IsParcel}
 use Rattle.permit_sql.specs.Found.{TookTable, TakesParty, TakesParcel, TakesInterest, RefusesParty, RefusesParcel, HasParties, HasParcels}
 use Rattle.permit_sql.specs.declared.check.Parties.{Parties}
 use Rattle.permit_sql.specs.declared.check.Parcels.{Parcels}
-use Rattle.permit_sql.specs.WholeTexts.{each_party, each_parcel}
+use Rattle.permit_sql.specs.declared.texts.TheConstants.{EACH_PARTY, EACH_PARCEL}
 use Rattle.permit_sql_statements.proofs.Lookups.{text_is, one_test}
 use Rattle.permit_sql.proofs.Wholes.{whole_shown}
 use Rattle.permit_sql.proofs.WholeMeanings.{each_party_query, each_party_is, each_party_plain, each_party_unlisted, each_parcel_query, each_parcel_is, each_parcel_plain, each_parcel_unlisted}
@@ -79,11 +79,11 @@ abbrev parcel_columns : List Column
 parcel_columns = text_column (codes "lot") ∷ text_column (codes "address") ∷ int_column (codes "owner") ∷ []
 
 module _ {S : Type 0} (g : Ghosts S) (old new : Held S) (schema : (state g old).now.schema ≡ office_schema) (count : ℕ) where
-  pub parties_are : (a b : Parties) → a.count ≡ 0 → TookTable party_took g each_party old new a b → b.count ≡ count → HasParties count ((state g old).now.trees 1)
+  pub parties_are : (a b : Parties) → a.count ≡ 0 → TookTable party_took g EACH_PARTY.now old new a b → b.count ≡ count → HasParties count ((state g old).now.trees 1)
   parties_are a b none took same =
       let was = state g took.1 in
       let now = (state g old).now in
-      let read = reads_as each_party [] was (state g new) office_schema (ap (λ (d : Database). d.schema) took.2 ∙ schema) _ each_party_is each_party_plain each_party_unlisted took.0 took.4 in
+      let read = reads_as EACH_PARTY.now [] was (state g new) office_schema (ap (λ (d : Database). d.schema) took.2 ∙ schema) _ each_party_is each_party_plain each_party_unlisted took.0 took.4 in
       let seen = whole_shown 1 each_party_query.project each_party_query.order (overlay was.now.trees []) took.0 (read.answer Null) in
       let here = subst (λ (d : Database). IsPermutation (map (λ r. column r 0 ∷ firsts 3 2 r) (d.trees 1)) took.0) took.2 seen in
       let taken = took_numbered 4 shown_party (λ p. p.id) IsParty (λ (t : Parties). t.count) party_took (λ a b r h. h) took.0 a b 0 none took.5 in
@@ -104,11 +104,11 @@ module _ {S : Type 0} (g : Ghosts S) (old new : Held S) (schema : (state g old).
         digests = once_each (λ (p : Party). p.digest) taken.0 (unclashed party_row (λ p. p.id) (λ p. p.digest) (same_text 4) party_clash 1 taken.0 (now.trees 1) taken.2 all (party_keys now.trees (now.trees 1) unique.1.0));
       }
 
-  pub parcels_are : (a b : Parcels) → a.count ≡ 0 → TookTable parcel_took g each_parcel old new a b → b.count ≡ count → HasParcels count ((state g old).now.trees 3)
+  pub parcels_are : (a b : Parcels) → a.count ≡ 0 → TookTable parcel_took g EACH_PARCEL.now old new a b → b.count ≡ count → HasParcels count ((state g old).now.trees 3)
   parcels_are a b none took same =
       let was = state g took.1 in
       let now = (state g old).now in
-      let read = reads_as each_parcel [] was (state g new) office_schema (ap (λ (d : Database). d.schema) took.2 ∙ schema) _ each_parcel_is each_parcel_plain each_parcel_unlisted took.0 took.4 in
+      let read = reads_as EACH_PARCEL.now [] was (state g new) office_schema (ap (λ (d : Database). d.schema) took.2 ∙ schema) _ each_parcel_is each_parcel_plain each_parcel_unlisted took.0 took.4 in
       let seen = whole_shown 3 each_parcel_query.project each_parcel_query.order (overlay was.now.trees []) took.0 (read.answer Null) in
       let here = subst (λ (d : Database). IsPermutation (map (λ r. column r 0 ∷ firsts 3 2 r) (d.trees 3)) took.0) took.2 seen in
       let taken = took_numbered 4 shown_parcel (λ p. p.id) IsParcel (λ (t : Parcels). t.count) parcel_took (λ a b r h. h) took.0 a b 0 none took.5 in

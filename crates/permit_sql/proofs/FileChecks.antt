@@ -33,7 +33,7 @@ use Rattle.permit_sql.specs.declared.check.Interests.{Interests}
 use Rattle.permit_sql.specs.declared.check_files.Files.{Files}
 use Rattle.permit_sql.specs.declared.check_files.Papers.{Papers}
 use Rattle.permit_sql.specs.declared.check_files.Rowids.{Rowids}
-use Rattle.permit_sql.specs.WholeTexts.{each_interest, each_file, each_paper, each_rowid}
+use Rattle.permit_sql.specs.declared.texts.TheConstants.{EACH_INTEREST, EACH_FILE, EACH_PAPER, EACH_ROWID}
 use Rattle.permit_sql.proofs.Wholes.{whole_shown}
 use Rattle.permit_sql.proofs.WholeMeanings.{each_interest_query, each_interest_is, each_interest_plain, each_interest_unlisted, each_file_query, each_file_is, each_file_plain, each_file_unlisted, each_paper_query, each_paper_is, each_paper_plain, each_paper_unlisted, each_rowid_query, each_rowid_is, each_rowid_plain, each_rowid_unlisted}
 use Rattle.permit_sql.proofs.Shaped.{keyed_rows, paired_rows}
@@ -144,11 +144,11 @@ module _ {S : Type 0} (g : Ghosts S) (old new : Held S) (schema : (state g old).
   rule : (sound : Rattle.sqlite.specs.Effect.IsDatabase (state g old).now) (c : Rattle.sqlite_schema.specs.declared.schema.Constraint.Constraint) → KeepsRule c office_schema (state g old).now.trees
   rule sound c = subst (λ s. KeepsRule c s (state g old).now.trees) schema (sound.obeys.rules c)
 
-  pub interests_are : (a b : Interests) → TookTable interest_took g each_interest old new a b → HasInterests ((state g old).now.trees 5)
+  pub interests_are : (a b : Interests) → TookTable interest_took g EACH_INTEREST.now old new a b → HasInterests ((state g old).now.trees 5)
   interests_are a b took =
       let was = state g took.1 in
       let now = (state g old).now in
-      let read = reads_as each_interest [] was (state g new) office_schema (ap (λ (d : Database). d.schema) took.2 ∙ schema) _ each_interest_is each_interest_plain each_interest_unlisted took.0 took.4 in
+      let read = reads_as EACH_INTEREST.now [] was (state g new) office_schema (ap (λ (d : Database). d.schema) took.2 ∙ schema) _ each_interest_is each_interest_plain each_interest_unlisted took.0 took.4 in
       let seen = whole_shown 5 each_interest_query.project each_interest_query.order (overlay was.now.trees []) took.0 (read.answer Null) in
       let here = subst (λ (d : Database). IsPermutation (map (λ r. firsts 2 1 r) (d.trees 5)) took.0) took.2 seen in
       let taken = took_interests took.0 a b took.5 in
@@ -157,11 +157,11 @@ module _ {S : Type 0} (g : Ghosts S) (old new : Held S) (schema : (state g old).
       let whole = paired_rows office_schema now.trees interest_table interest_table.columns refl refl (refl, (refl, tt)) (omega arith) (now.trees 5) typed.1.1.1.0 there.1.1.1.0 in
       record { all = taken.0; good = taken.1; here = in_tree 2 shown_interest shown_interest (λ r. firsts 2 1 r) (λ q. q) (drop 1) (λ r. refl) (λ p. refl) (now.trees 5) took.0 taken.0 here taken.2 whole }
 
-  pub files_are : (a b : Files) → a.counts.items ≡ [] → TookTable file_took g each_file old new a b → HasFiles b.counts.items ((state g old).now.trees 7)
+  pub files_are : (a b : Files) → a.counts.items ≡ [] → TookTable file_took g EACH_FILE.now old new a b → HasFiles b.counts.items ((state g old).now.trees 7)
   files_are a b none took =
       let was = state g took.1 in
       let now = (state g old).now in
-      let read = reads_as each_file [] was (state g new) office_schema (ap (λ (d : Database). d.schema) took.2 ∙ schema) _ each_file_is each_file_plain each_file_unlisted took.0 took.4 in
+      let read = reads_as EACH_FILE.now [] was (state g new) office_schema (ap (λ (d : Database). d.schema) took.2 ∙ schema) _ each_file_is each_file_plain each_file_unlisted took.0 took.4 in
       let seen = whole_shown 7 each_file_query.project each_file_query.order (overlay was.now.trees []) took.0 (read.answer Null) in
       let here = subst (λ (d : Database). IsPermutation (map (λ r. column r 0 ∷ firsts 19 2 r) (d.trees 7)) took.0) took.2 seen in
       let taken = took_files took.0 a b took.5 in
@@ -178,11 +178,11 @@ module _ {S : Type 0} (g : Ghosts S) (old new : Held S) (schema : (state g old).
         here = subst (IsPermutation (map file_row taken.0)) (map_itself (now.trees 7)) inside;
       }
 
-  pub papers_are : (a b : Papers) → a.file ≡ 0 → a.number ≡ 0 → (counts : List ℕ) → a.counts.items ≡ counts → TookTable paper_took g each_paper old new a b → HasPapers counts ((state g old).now.trees 8)
+  pub papers_are : (a b : Papers) → a.file ≡ 0 → a.number ≡ 0 → (counts : List ℕ) → a.counts.items ≡ counts → TookTable paper_took g EACH_PAPER.now old new a b → HasPapers counts ((state g old).now.trees 8)
   papers_are a b no_file no_number counts has took =
       let was = state g took.1 in
       let now = (state g old).now in
-      let read = reads_as each_paper [] was (state g new) office_schema (ap (λ (d : Database). d.schema) took.2 ∙ schema) _ each_paper_is each_paper_plain each_paper_unlisted took.0 took.4 in
+      let read = reads_as EACH_PAPER.now [] was (state g new) office_schema (ap (λ (d : Database). d.schema) took.2 ∙ schema) _ each_paper_is each_paper_plain each_paper_unlisted took.0 took.4 in
       let seen = whole_shown 8 each_paper_query.project each_paper_query.order (overlay was.now.trees []) took.0 (read.answer Null) in
       let here = subst (λ (d : Database). IsPermutation (map (λ r. firsts 9 1 r) (d.trees 8)) took.0) took.2 seen in
       let taken = took_papers took.0 a b counts has took.5 in
@@ -197,11 +197,11 @@ module _ {S : Type 0} (g : Ghosts S) (old new : Held S) (schema : (state g old).
         here = in_tree 9 shown_paper shown_paper (λ r. firsts 9 1 r) (λ q. q) (drop 1) (λ r. refl) (λ p. refl) (now.trees 8) took.0 taken.0 here taken.4 whole;
       }
 
-  pub rowids_are : (a b : Rowids) → TookTable rowid_took g each_rowid old new a b → IsApart ((state g old).now.trees 8)
+  pub rowids_are : (a b : Rowids) → TookTable rowid_took g EACH_ROWID.now old new a b → IsApart ((state g old).now.trees 8)
   rowids_are a b took = λ id.
       let was = state g took.1 in
       let now = (state g old).now in
-      let read = reads_as each_rowid [] was (state g new) office_schema (ap (λ (d : Database). d.schema) took.2 ∙ schema) _ each_rowid_is each_rowid_plain each_rowid_unlisted took.0 took.4 in
+      let read = reads_as EACH_ROWID.now [] was (state g new) office_schema (ap (λ (d : Database). d.schema) took.2 ∙ schema) _ each_rowid_is each_rowid_plain each_rowid_unlisted took.0 took.4 in
       let seen = whole_shown 8 each_rowid_query.project each_rowid_query.order (overlay was.now.trees []) took.0 (read.answer Null) in
       let here = subst (λ (d : Database). IsPermutation (map (λ r. column r 0 ∷ []) (d.trees 8)) took.0) took.2 seen in
       let once = once_above id a.last took.0 (took_rowids took.0 a b took.5) in

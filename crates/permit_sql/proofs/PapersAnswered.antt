@@ -27,7 +27,7 @@ use Rattle.permit_sql_rows.specs.Rows.{int, shown_interest, shown_paper}
 use Rattle.permit_sql_rows.specs.Kept.{Keeps, papers_counted}
 use Rattle.permit_sql_rows.specs.Typed.{firsts, IsInterest, IsPaper}
 use Rattle.permit_sql.specs.Found.{AreTyped, IsLater, IsRising, counted_in}
-use Rattle.permit_sql.specs.WholeTexts.{each_interest, each_paper, each_rowid}
+use Rattle.permit_sql.specs.declared.texts.TheConstants.{EACH_INTEREST, EACH_PAPER, EACH_ROWID}
 use Rattle.permit_sql_statements.proofs.Lookups.{answers}
 use Rattle.permit_sql_statements.proofs.Permuted.{no_more}
 use Rattle.permit_sql.proofs.Opened.{counts_of}
@@ -196,9 +196,9 @@ adjacent_values (v ∷ w ∷ vs) h = (up, adjacent_values (w ∷ vs) h.1)
 -- ---- the answers
 
 module _ (old new : State) (t : Tables) (typed : AreTyped t) (k : Keeps t old.now) (rows : List Row) where
-  pub interests_shown : Shown each_interest [] old new rows → (xs : List Interest) × (rows ≡ map shown_interest xs) × AllByRecursion IsInterest xs
+  pub interests_shown : Shown EACH_INTEREST.now [] old new rows → (xs : List Interest) × (rows ≡ map shown_interest xs) × AllByRecursion IsInterest xs
   interests_shown h =
-      let read = reads_as each_interest [] old new office_schema k.schema _ each_interest_is each_interest_plain each_interest_unlisted rows h in
+      let read = reads_as EACH_INTEREST.now [] old new office_schema k.schema _ each_interest_is each_interest_plain each_interest_unlisted rows h in
       let seen : IsPermutation (map (λ r. firsts 2 1 r) (old.now.trees 5)) rows = whole_shown 5 each_interest_query.project each_interest_query.order (overlay old.now.trees []) rows (read.answer Null) in
       let moved = IsPermutation-map (firsts 2 0) _ _ k.rows.interests in
       let here : map (firsts 2 0) (map (drop 1) (old.now.trees 5)) ≡ map (λ r. firsts 2 1 r) (old.now.trees 5) = map-map (firsts 2 0) (drop 1) _ ∙ map_same _ _ cut _ in
@@ -211,13 +211,13 @@ module _ (old new : State) (t : Tables) (typed : AreTyped t) (k : Keeps t old.no
       cut [] = refl
       cut (x ∷ r) = refl
 
-  pub papers_shown : Shown each_paper [] old new rows → let counts = map (λ f. f.state.papers) t.files in
+  pub papers_shown : Shown EACH_PAPER.now [] old new rows → let counts = map (λ f. f.state.papers) t.files in
       (xs : List Paper) × (rows ≡ map shown_paper xs) × AllByRecursion IsPaper xs × IsRising 0 0 xs × AllByRecursion (λ p. p.number ≤ counted_in counts p.file) xs
   papers_shown h =
       let q = each_paper_query in
       let db = overlay old.now.trees [] in
       let counts = map (λ (f : Rattle.permit_model.specs.Tables.FileRow). f.state.papers) t.files in
-      let read = reads_as each_paper [] old new office_schema k.schema _ each_paper_is each_paper_plain each_paper_unlisted rows h in
+      let read = reads_as EACH_PAPER.now [] old new office_schema k.schema _ each_paper_is each_paper_plain each_paper_unlisted rows h in
       let got = answers q.from q.filter q.project q.order db [] rows (read.answer Null) in
       let over : map (output q) (flat_map (λ r. ([] ∷ r ∷ []) ∷ []) (old.now.trees 8)) ≡ map (λ c. output q ([] ∷ (Null ∷ c) ∷ [])) (map (drop 1) (old.now.trees 8)) =
       each_one q (old.now.trees 8) ∙ map_same _ (λ r. output q ([] ∷ (Null ∷ drop 1 r) ∷ [])) cut (old.now.trees 8) ∙ sym (map-map (λ c. output q ([] ∷ (Null ∷ c) ∷ [])) (drop 1) (old.now.trees 8)) in
@@ -243,10 +243,10 @@ module _ (old new : State) (t : Tables) (typed : AreTyped t) (k : Keeps t old.no
       counted file [] h = tt
       counted file (p ∷ ps) h = (λ some. subst (λ n. p.number ≤ n) (counts_of t.files typed.file_numbers file some) h.0, counted file ps h.1)
 
-  pub rowids_shown : Shown each_rowid [] old new rows → (vs : List Value) × (rows ≡ map (λ v. v ∷ []) vs) × Adjacent AreUp vs
+  pub rowids_shown : Shown EACH_ROWID.now [] old new rows → (vs : List Value) × (rows ≡ map (λ v. v ∷ []) vs) × Adjacent AreUp vs
   rowids_shown h =
       let q = each_rowid_query in
-      let read = reads_as each_rowid [] old new office_schema k.schema _ each_rowid_is each_rowid_plain each_rowid_unlisted rows h in
+      let read = reads_as EACH_ROWID.now [] old new office_schema k.schema _ each_rowid_is each_rowid_plain each_rowid_unlisted rows h in
       let got = answers q.from q.filter q.project q.order (overlay old.now.trees []) [] rows (read.answer Null) in
       let same : IsPermutation (map (λ r. value_out (column r 0)) (old.now.trees 8)) got.0 = subst (λ l. IsPermutation l got.0) (each_one q (old.now.trees 8)) got.1 in
       let form = all_of_form value_out (λ v. ⊤) got.0 (all-permutation _ _ got.0 same (outs (old.now.trees 8))) in

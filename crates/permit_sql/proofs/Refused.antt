@@ -30,7 +30,7 @@ use Rattle.permit_sql.specs.declared.check.Interests.{Interests}
 use Rattle.permit_sql.specs.declared.check_files.Files.{Files}
 use Rattle.permit_sql.specs.declared.check_files.Papers.{Papers}
 use Rattle.permit_sql.specs.declared.check_files.Rowids.{Rowids}
-use Rattle.permit_sql.specs.WholeTexts.{each_party, each_parcel, each_interest, each_file, each_paper, each_rowid}
+use Rattle.permit_sql.specs.declared.texts.TheConstants.{EACH_PARTY, EACH_PARCEL, EACH_INTEREST, EACH_FILE, EACH_PAPER, EACH_ROWID}
 use Rattle.permit_sql_statements.proofs.QueryTexts.{alone, names_of}
 use Rattle.permit_sql.proofs.WholeMeanings.{each_party_is, each_parcel_is, each_interest_is, each_file_is, each_paper_is, each_rowid_is}
 use Rattle.permit_sql.proofs.Checks.{party_took, parcel_took}
@@ -102,9 +102,9 @@ took_with (inr lacks) none = absurd (true≢false (sym lacks ∙ none))
 -- ---- the six tables
 
 module _ {S : Type 0} (g : Ghosts S) (old new : Held S) (t : Tables) (typed : AreTyped t) (k : Keeps t (state g old).now) where
-  pub parties_taken : (a b : Parties) (all : Bool) → a.count ≡ 0 → TookRows party_took g each_party [] old new a b all → (IsTrue all × (b.count ≡ t.desk.parties)) ⊎ IsTrue b.lacks_memory
+  pub parties_taken : (a b : Parties) (all : Bool) → a.count ≡ 0 → TookRows party_took g EACH_PARTY.now [] old new a b all → (IsTrue all × (b.count ≡ t.desk.parties)) ⊎ IsTrue b.lacks_memory
   parties_taken a b all none h =
-      after (all_or_excused g old new t k each_party _ each_party_is shown_party party_took Fits (λ d. IsTrue d.lacks_memory) next (λ a b p ps fits refuses. refuses p fits.0.0 refl fits.1.0) a b all answer h)
+      after (all_or_excused g old new t k EACH_PARTY.now _ each_party_is shown_party party_took Fits (λ d. IsTrue d.lacks_memory) next (λ a b p ps fits refuses. refuses p fits.0.0 refl fits.1.0) a b all answer h)
     where
       Fits : Parties → List Party → Type 0
       Fits d ps = AllByRecursion IsParty ps × IsNumbered (λ p. p.id) (suc d.count) ps × (d.count + length ps ≡ t.desk.parties)
@@ -115,7 +115,7 @@ module _ {S : Type 0} (g : Ghosts S) (old new : Held S) (t : Tables) (typed : Ar
           let total : a.count + suc (length ps) ≡ t.desk.parties = fits.2 in
           (fits.0.1, subst (λ n. IsNumbered (λ (p : Party). p.id) (suc n) ps) (sym counted) fits.1.1, omega (arith, counted, total))
 
-      answer : (was late : State) → Keeps t was.now → (rows : List Row) → Shown each_party [] was late rows → (ps : List Party) × (rows ≡ map shown_party ps) × Fits a ps
+      answer : (was late : State) → Keeps t was.now → (rows : List Row) → Shown EACH_PARTY.now [] was late rows → (ps : List Party) × (rows ≡ map shown_party ps) × Fits a ps
       answer was late kept rows h =
           let count = typed.party_count in
           (t.parties, parties_shown was late t typed kept rows h, (typed.parties, subst (λ n. IsNumbered (λ (p : Party). p.id) (suc n) t.parties) (sym none) typed.party_numbers, omega (arith, none, count)))
@@ -124,9 +124,9 @@ module _ {S : Type 0} (g : Ghosts S) (old new : Held S) (t : Tables) (typed : Ar
       after (inl it) = let e : b.count + 0 ≡ t.desk.parties = it.1.2 in inl (it.0, omega (arith, e))
       after (inr lacks) = inr lacks
 
-  pub parcels_taken : (a b : Parcels) (all : Bool) → a.count ≡ 0 → TookRows parcel_took g each_parcel [] old new a b all → (IsTrue all × (b.count ≡ t.desk.parcels)) ⊎ IsTrue b.lacks_memory
+  pub parcels_taken : (a b : Parcels) (all : Bool) → a.count ≡ 0 → TookRows parcel_took g EACH_PARCEL.now [] old new a b all → (IsTrue all × (b.count ≡ t.desk.parcels)) ⊎ IsTrue b.lacks_memory
   parcels_taken a b all none h =
-      after (all_or_excused g old new t k each_parcel _ each_parcel_is shown_parcel parcel_took Fits (λ d. IsTrue d.lacks_memory) next (λ a b p ps fits refuses. refuses p fits.0.0 refl fits.1.0) a b all answer h)
+      after (all_or_excused g old new t k EACH_PARCEL.now _ each_parcel_is shown_parcel parcel_took Fits (λ d. IsTrue d.lacks_memory) next (λ a b p ps fits refuses. refuses p fits.0.0 refl fits.1.0) a b all answer h)
     where
       Fits : Parcels → List Parcel → Type 0
       Fits d ps = AllByRecursion IsParcel ps × IsNumbered (λ p. p.id) (suc d.count) ps × (d.count + length ps ≡ t.desk.parcels)
@@ -137,7 +137,7 @@ module _ {S : Type 0} (g : Ghosts S) (old new : Held S) (t : Tables) (typed : Ar
           let total : a.count + suc (length ps) ≡ t.desk.parcels = fits.2 in
           (fits.0.1, subst (λ n. IsNumbered (λ (p : Parcel). p.id) (suc n) ps) (sym counted) fits.1.1, omega (arith, counted, total))
 
-      answer : (was late : State) → Keeps t was.now → (rows : List Row) → Shown each_parcel [] was late rows → (ps : List Parcel) × (rows ≡ map shown_parcel ps) × Fits a ps
+      answer : (was late : State) → Keeps t was.now → (rows : List Row) → Shown EACH_PARCEL.now [] was late rows → (ps : List Parcel) × (rows ≡ map shown_parcel ps) × Fits a ps
       answer was late kept rows h =
           let count = typed.parcel_count in
           (t.parcels, parcels_shown was late t typed kept rows h, (typed.parcels, subst (λ n. IsNumbered (λ (p : Parcel). p.id) (suc n) t.parcels) (sym none) typed.parcel_numbers, omega (arith, none, count)))
@@ -146,9 +146,9 @@ module _ {S : Type 0} (g : Ghosts S) (old new : Held S) (t : Tables) (typed : Ar
       after (inl it) = let e : b.count + 0 ≡ t.desk.parcels = it.1.2 in inl (it.0, omega (arith, e))
       after (inr lacks) = inr lacks
 
-  pub interests_taken : (a b : Interests) (all : Bool) → TookRows interest_took g each_interest [] old new a b all → IsTrue all
+  pub interests_taken : (a b : Interests) (all : Bool) → TookRows interest_took g EACH_INTEREST.now [] old new a b all → IsTrue all
   interests_taken a b all h =
-      after (all_or_excused g old new t k each_interest _ each_interest_is shown_interest interest_took (λ d is. AllByRecursion IsInterest is) (λ d. ⊥) (λ a b i is fits h. fits.1) (λ a b i is fits refuses. refuses i fits.0 refl) a b all
+      after (all_or_excused g old new t k EACH_INTEREST.now _ each_interest_is shown_interest interest_took (λ d is. AllByRecursion IsInterest is) (λ d. ⊥) (λ a b i is fits h. fits.1) (λ a b i is fits refuses. refuses i fits.0 refl) a b all
       (λ was late kept rows h. interests_shown was late t typed kept rows h) h)
     where
       after : (IsTrue all × AllByRecursion IsInterest []) ⊎ ⊥ → IsTrue all
@@ -158,9 +158,9 @@ module _ {S : Type 0} (g : Ghosts S) (old new : Held S) (t : Tables) (typed : Ar
   abbrev papers_of : List FileRow → List ℕ
   papers_of = map (λ f. f.state.papers)
 
-  pub files_taken : (a b : Files) (all : Bool) → a.counts.items ≡ [] → TookRows file_took g each_file [] old new a b all → (IsTrue all × (b.counts.items ≡ papers_of t.files)) ⊎ IsTrue b.lacks_memory
+  pub files_taken : (a b : Files) (all : Bool) → a.counts.items ≡ [] → TookRows file_took g EACH_FILE.now [] old new a b all → (IsTrue all × (b.counts.items ≡ papers_of t.files)) ⊎ IsTrue b.lacks_memory
   files_taken a b all none h =
-      after (all_or_excused g old new t k each_file _ each_file_is shown_file file_took Fits (λ d. IsTrue d.lacks_memory) next (λ a b f fs fits refuses. refuses f fits.0.0 refl fits.1.0) a b all answer h)
+      after (all_or_excused g old new t k EACH_FILE.now _ each_file_is shown_file file_took Fits (λ d. IsTrue d.lacks_memory) next (λ a b f fs fits refuses. refuses f fits.0.0 refl fits.1.0) a b all answer h)
     where
       Fits : Files → List FileRow → Type 0
       Fits d fs = AllByRecursion IsGoodFile fs × IsNumbered (λ f. f.id) (suc (length d.counts.items)) fs × (d.counts.items ++ papers_of fs ≡ papers_of t.files)
@@ -184,7 +184,7 @@ module _ {S : Type 0} (g : Ghosts S) (old new : Held S) (t : Tables) (typed : Ar
       good [] p q = tt
       good (f ∷ fs) p q = ((p.0, q.0), good fs p.1 q.1)
 
-      answer : (was late : State) → Keeps t was.now → (rows : List Row) → Shown each_file [] was late rows → (fs : List FileRow) × (rows ≡ map shown_file fs) × Fits a fs
+      answer : (was late : State) → Keeps t was.now → (rows : List Row) → Shown EACH_FILE.now [] was late rows → (fs : List FileRow) × (rows ≡ map shown_file fs) × Fits a fs
       answer was late kept rows h = (
         t.files,
         files_shown was late t typed kept rows h,
@@ -195,9 +195,9 @@ module _ {S : Type 0} (g : Ghosts S) (old new : Held S) (t : Tables) (typed : Ar
       after (inl it) = inl (it.0, sym (append-nil b.counts.items) ∙ it.1.2)
       after (inr lacks) = inr lacks
 
-  pub papers_taken : (a b : Papers) (all : Bool) → a.file ≡ 0 → a.number ≡ 0 → a.counts.items ≡ papers_of t.files → TookRows paper_took g each_paper [] old new a b all → IsTrue all ⊎ IsTrue b.lacks_memory
+  pub papers_taken : (a b : Papers) (all : Bool) → a.file ≡ 0 → a.number ≡ 0 → a.counts.items ≡ papers_of t.files → TookRows paper_took g EACH_PAPER.now [] old new a b all → IsTrue all ⊎ IsTrue b.lacks_memory
   papers_taken a b all no_file no_number has h =
-      after (all_or_excused g old new t k each_paper _ each_paper_is shown_paper paper_took Fits (λ d. IsTrue d.lacks_memory) next stop a b all answer h)
+      after (all_or_excused g old new t k EACH_PAPER.now _ each_paper_is shown_paper paper_took Fits (λ d. IsTrue d.lacks_memory) next stop a b all answer h)
     where
       Fits : Papers → List Paper → Type 0
       Fits d ps = AllByRecursion IsPaper ps × IsRising d.file d.number ps × AllByRecursion (λ p. p.number ≤ counted_in (papers_of t.files) p.file) ps × (d.counts.items ≡ papers_of t.files)
@@ -214,7 +214,7 @@ module _ {S : Type 0} (g : Ghosts S) (old new : Held S) (t : Tables) (typed : Ar
       stop : (a b : Papers) (p : Paper) (ps : List Paper) → Fits a (p ∷ ps) → paper_took a (shown_paper p) b false → IsTrue b.lacks_memory
       stop a b p ps fits refuses = refuses p fits.0.0 refl fits.1.0 (subst (λ c. p.number ≤ counted_in c p.file) (sym fits.3) fits.2.0)
 
-      answer : (was late : State) → Keeps t was.now → (rows : List Row) → Shown each_paper [] was late rows → (ps : List Paper) × (rows ≡ map shown_paper ps) × Fits a ps
+      answer : (was late : State) → Keeps t was.now → (rows : List Row) → Shown EACH_PAPER.now [] was late rows → (ps : List Paper) × (rows ≡ map shown_paper ps) × Fits a ps
       answer was late kept rows h =
           let it = papers_shown was late t typed kept rows h in
           (it.0, it.1, (it.2, subst (λ n. IsRising a.file n it.0) (sym no_number) (subst (λ f. IsRising f 0 it.0) (sym no_file) it.3), it.4, has))
@@ -223,9 +223,9 @@ module _ {S : Type 0} (g : Ghosts S) (old new : Held S) (t : Tables) (typed : Ar
       after (inl it) = inl it.0
       after (inr lacks) = inr lacks
 
-  pub rowids_taken : (a b : Rowids) (all : Bool) → a.last ≡ None → TookRows rowid_took g each_rowid [] old new a b all → IsTrue all ⊎ IsTrue b.is_strange
+  pub rowids_taken : (a b : Rowids) (all : Bool) → a.last ≡ None → TookRows rowid_took g EACH_ROWID.now [] old new a b all → IsTrue all ⊎ IsTrue b.is_strange
   rowids_taken a b all none h =
-      after (all_or_excused g old new t k each_rowid _ each_rowid_is (λ v. v ∷ []) rowid_took Fits (λ d. IsTrue d.is_strange) next stop a b all answer h)
+      after (all_or_excused g old new t k EACH_ROWID.now _ each_rowid_is (λ v. v ∷ []) rowid_took Fits (λ d. IsTrue d.is_strange) next stop a b all answer h)
     where
       Fits : Rowids → List Value → Type 0
       Fits d vs = First (λ v. (l : ℤ) → d.last ≡ Some l → AreUp (Int l) v) vs × Adjacent AreUp vs
@@ -241,7 +241,7 @@ module _ {S : Type 0} (g : Ghosts S) (old new : Held S) (t : Tables) (typed : Ar
       stop a b v vs fits (inl strange) = strange
       stop a b v vs fits (inr h) = clash_ℤ (fits.0 h.1 h.3 h.1 h.0 refl h.2) h.4
 
-      answer : (was late : State) → Keeps t was.now → (rows : List Row) → Shown each_rowid [] was late rows → (vs : List Value) × (rows ≡ map (λ v. v ∷ []) vs) × Fits a vs
+      answer : (was late : State) → Keeps t was.now → (rows : List Row) → Shown EACH_ROWID.now [] was late rows → (vs : List Value) × (rows ≡ map (λ v. v ∷ []) vs) × Fits a vs
       answer was late kept rows h =
           let it = rowids_shown was late t typed kept rows h in
           (it.0, it.1, (start it.0, it.2))

@@ -27,7 +27,7 @@ use Rattle.permit_sql_rows.specs.Kept.{Keeps}
 use Rattle.permit_sql.specs.Found.{HasDesk}
 use Rattle.permit_sql.proofs.Shaped.{keyed_rows, IsKeyedRow}
 use Rattle.permit_sql.proofs.Checks.{with_null}
-use Rattle.permit_sql_statements.specs.Texts.{read_desk}
+use Rattle.permit_sql_statements.specs.declared.texts.TheConstants.{READ_DESK}
 use Rattle.permit_sql.specs.Opening.{seen_desk, IsOther, HasOtherVersion}
 use Rattle.permit_sql.proofs.Wholes.{whole_shown}
 use Rattle.permit_sql_statements.proofs.QueryTexts.{alone, read_desk_query, names_of}
@@ -36,15 +36,15 @@ module _ (more : List Table) (indexes : List Index) (views : List View) where
   abbrev pub begun : Schema
   begun = record { tables = desk_table ∷ more; indexes = indexes; views = views }
 
-  pub begun_is : command_of (understood begun read_desk) ≡ Select (alone read_desk_query) (names_of (command_of (understood begun read_desk)))
+  pub begun_is : command_of (understood begun READ_DESK.now) ≡ Select (alone read_desk_query) (names_of (command_of (understood begun READ_DESK.now)))
   unfolding understood everything
   begun_is = refl
 
-  pub begun_plain : IsPlain (understood begun read_desk)
+  pub begun_plain : IsPlain (understood begun READ_DESK.now)
   unfolding understood everything
   begun_plain = (refl, refl)
 
-  pub begun_unlisted : reads_listing begun read_desk ≡ false
+  pub begun_unlisted : reads_listing begun READ_DESK.now ≡ false
   unfolding understood everything
   begun_unlisted = refl
 
@@ -56,17 +56,17 @@ begun_by s first = go s.tables first
     go [] h = absurd (let e = h in cc)
     go (t ∷ more) h = let e : t ≡ desk_table = cc in (more, ap (λ (x : Table). record s { tables = x ∷ more }) e)
 
-pub first_plain : (s : Schema) → slice_get s.tables 0 ≡ Some desk_table → IsPlain (understood s read_desk)
+pub first_plain : (s : Schema) → slice_get s.tables 0 ≡ Some desk_table → IsPlain (understood s READ_DESK.now)
 first_plain s first =
     let it = begun_by s first in
-    subst (λ x. IsPlain (understood x read_desk)) (sym it.1) (begun_plain it.0 s.indexes s.views)
+    subst (λ x. IsPlain (understood x READ_DESK.now)) (sym it.1) (begun_plain it.0 s.indexes s.views)
 
-pub desk_rows_seen : (old new : State) (rows : List Row) → slice_get old.now.schema.tables 0 ≡ Some desk_table → Shown read_desk [] old new rows → IsPermutation (map seen_desk (old.now.trees 0)) rows
+pub desk_rows_seen : (old new : State) (rows : List Row) → slice_get old.now.schema.tables 0 ≡ Some desk_table → Shown READ_DESK.now [] old new rows → IsPermutation (map seen_desk (old.now.trees 0)) rows
 desk_rows_seen old new rows first h =
     let it = begun_by old.now.schema first in
     let ix = old.now.schema.indexes in
     let vs = old.now.schema.views in
-    let read = reads_as read_desk [] old new (begun it.0 ix vs) it.1 _ (begun_is it.0 ix vs) (begun_plain it.0 ix vs) (begun_unlisted it.0 ix vs) rows h in
+    let read = reads_as READ_DESK.now [] old new (begun it.0 ix vs) it.1 _ (begun_is it.0 ix vs) (begun_plain it.0 ix vs) (begun_unlisted it.0 ix vs) rows h in
     whole_shown 0 read_desk_query.project read_desk_query.order (overlay old.now.trees []) rows (read.answer Null)
 
 -- where one row is shown, the tree has one

@@ -3,6 +3,5 @@ pub use Rattle.permit_sql_rows.specs.Kept
 pub mod Opening
 pub mod Taken
 pub mod Found
-pub mod WholeTexts
 pub mod Seen
 pub mod Reopening

@@ -12,6 +12,7 @@ ghost use Rattle.permit_sql.specs.Taken.{TookRows};
 ghost use Rattle.permit_sql.specs.Found.{TookTable, TakesParty, TakesParcel, TakesInterest, RefusesParty, RefusesParcel, RefusesInterest, HasParties, HasParcels, HasInterests, AreTyped};
 
 use crate::each::{Taker, each_row};
+use crate::texts::{EACH_INTEREST, EACH_PARCEL, EACH_PARTY};
 use permit_sql_rows::decode::{interest_in, parcel_of, party_of};
 use permit_sql_rows::fields::RowFault;
 use permit_sql_rows::schema::is_office;
@@ -87,7 +88,7 @@ pub(crate) fn check_parties<S: Alter>(conn: &mut Connection<S>, count: u32) -> G
     };
     let all = takes_all(
         conn,
-        "SELECT id, name, role, digest FROM party ORDER BY id",
+        EACH_PARTY,
         &mut parties,
     )?;
     if parties.lacks_memory {
@@ -141,7 +142,7 @@ pub(crate) fn check_parcels<S: Alter>(conn: &mut Connection<S>, count: u32) -> G
     };
     let all = takes_all(
         conn,
-        "SELECT id, lot, address, owner FROM parcel ORDER BY id",
+        EACH_PARCEL,
         &mut parcels,
     )?;
     if parcels.lacks_memory {
@@ -183,5 +184,5 @@ pub(crate) fn check_interests<S: Alter>(conn: &mut Connection<S>) -> Got<bool>
     ensures crash { Survives (state S.Store conn.old) (state S.Store conn.new) (λ _. ⊥) }
     ensures calm { conn.new.in_transaction ≡ false }
 {
-    takes_all(conn, "SELECT parcel, party FROM interest", &mut Interests)
+    takes_all(conn, EACH_INTEREST, &mut Interests)
 }

@@ -9,6 +9,7 @@ ghost use Rattle.permit_sql.specs.Found.{TakesFile, TakesPaper, TakesRowid, Refu
 
 use crate::check::takes_all;
 use crate::each::Taker;
+use crate::texts::{EACH_FILE, EACH_PAPER, EACH_ROWID};
 use permit_sql_rows::decode::{file_of, paper_of};
 use permit_sql_rows::fields::{RowFault, whole_number};
 use permit_store::store::{Got, StoreError};
@@ -67,7 +68,7 @@ pub(crate) fn check_files<S: Alter>(
     };
     let all = takes_all(
         conn,
-        "SELECT id, parcel, applicant, contractor, reviewer, inspector, kind, valuation, description, filed, stage, deadline, done, request, requested, ask, stopped, notices, papers, temporary FROM file ORDER BY id",
+        EACH_FILE,
         &mut files,
     )?;
     if files.lacks_memory {
@@ -150,7 +151,7 @@ pub(crate) fn check_papers<S: Alter>(conn: &mut Connection<S>, counts: Vec<u16>)
     };
     let all = takes_all(
         conn,
-        "SELECT file, number, day, author, sort, days, text, terms, open FROM paper ORDER BY file, number",
+        EACH_PAPER,
         &mut papers,
     )?;
     if papers.lacks_memory {
@@ -197,7 +198,7 @@ pub(crate) fn check_rowids<S: Alter>(conn: &mut Connection<S>) -> Got<bool>
         last: None,
         is_strange: false,
     };
-    let all = takes_all(conn, "SELECT rowid FROM paper ORDER BY rowid", &mut rowids)?;
+    let all = takes_all(conn, EACH_ROWID, &mut rowids)?;
     if rowids.is_strange {
         return Err(StoreError);
     }

@@ -18,3 +18,4 @@ mod each;
 mod open;
 pub mod reopen;
 pub mod store;
+mod texts;

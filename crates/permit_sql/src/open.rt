@@ -19,6 +19,7 @@ use permit_sql_rows::decode::desk_in;
 use permit_sql_rows::fields::whole_number;
 use permit_sql_rows::schema::{VERSION, has_desk, is_office};
 use permit_sql_statements::query::read_all;
+use permit_sql_statements::texts::READ_DESK;
 use permit_store::rows::Desk;
 use permit_store::store::{Got, OpenError, StoreError};
 use sqlite::{Alter, Connection, Row};
@@ -47,7 +48,7 @@ fn desk_seen<S: Alter>(conn: &mut Connection<S>) -> Got<Vec<Row>>
 {
     match read_all(
         conn,
-        "SELECT id, version, last, parties, parcels, files FROM desk",
+        READ_DESK,
         &[],
     ) {
         Ok(rows) => Ok(rows),

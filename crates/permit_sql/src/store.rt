@@ -16,13 +16,14 @@ ghost use Rattle.permit_sql.specs.Found.{KeepsTyped};
 
 use crate::open::check;
 use permit_base::route::Route;
-use permit_base::values::{Day, Digest, FileId, Lot, ParcelId, PartyId};
+use permit_base::values::{Day, Digest, FileId, Lot, PaperNumber, ParcelId, PartyId};
+use permit_core::state::FileState;
 use permit_core::taker::Taker;
 use permit_sql_statements::commit::commit_in;
 use permit_sql_statements::create::create_in;
 use permit_sql_statements::read::{
-    find_parcel, find_party, has_interest, read_desk, read_file, read_papers, read_parcel,
-    read_party,
+    find_parcel, find_party, has_interest, has_open_notice, read_desk, read_file, read_papers,
+    read_parcel, read_party, read_state,
 };
 use permit_sql_statements::select::{each_found, each_of_any_found, select_found};
 use permit_store::founder::Founder;
@@ -229,9 +230,27 @@ impl<S: Alter> Store for SqlStore<S> {
         }
     }
 
+    fn state(&mut self, file: FileId) -> Got<Option<FileState>> {
+        match read_state(&mut self.conn, file) {
+            Ok(Some(state)) => {
+                self.handed = self.handed.wrapping_add(1);
+                Ok(Some(state))
+            }
+            Ok(None) => Ok(None),
+            Err(_) => self.fail(),
+        }
+    }
+
     fn papers(&mut self, file: FileId) -> Got<Vec<Paper>> {
         match read_papers(&mut self.conn, file, self.alloc) {
             Ok(papers) => Ok(papers),
+            Err(_) => self.fail(),
+        }
+    }
+
+    fn has_open_notice(&mut self, file: FileId, number: PaperNumber) -> Got<bool> {
+        match has_open_notice(&mut self.conn, file, number) {
+            Ok(is_open) => Ok(is_open),
             Err(_) => self.fail(),
         }
     }

@@ -1,7 +1,7 @@
 -- Rows within the limits of the program's types.
 use Rattle.std.specs.Prelude.{◌≡◌, ℕ, zero, suc, ◌<◌, ◌≤◌, ◌^◌, IsTrue, IfSome, IsUtf8, [], ◌∷◌}
 use Rattle.sqlite_value.specs.Order.{Row, column}
-use Rattle.permit_base.specs.Limits.{most_records, most_papers}
+use Rattle.permit_base.specs.Limits.{latest_day, most_cents, most_records, most_papers}
 use Rattle.permit_base.specs.Texts.{is_printable, is_lot, is_digest}
 use Rattle.permit_model.specs.Codes.{kind_code, stage_code}
 use Rattle.permit_model.specs.Caller.{Party}
@@ -24,7 +24,7 @@ abbrev pub IsCount : ℕ → Type 0
 IsCount n = n < 2 ^ 32
 
 pub record IsDesk (d : Desk) : Type 0 where
-  pub last : d.last ≤ 100000
+  pub last : d.last ≤ latest_day
   pub parties : IsCount d.parties
   pub parcels : IsCount d.parcels
   pub files : IsCount d.files
@@ -53,10 +53,10 @@ pub record IsState (s : State) : Type 0 where
   pub contractor : IfSome s.contractor IsObject
   pub reviewer : IfSome s.reviewer IsObject
   pub inspector : IfSome s.inspector IsObject
-  pub filed : s.filed ≤ 100000
+  pub filed : s.filed ≤ latest_day
   pub deadline : IfSome s.deadline IsCount
   pub done : s.done < 2 ^ 8
-  pub requested : IfSome s.requested (λ day. day ≤ 100000)
+  pub requested : IfSome s.requested (λ day. day ≤ latest_day)
   pub ask : IfSome s.ask (λ days. (0 < days) × (days ≤ 365))
   pub notices : s.notices < 2 ^ 16
   pub papers : s.papers < 2 ^ 16
@@ -66,14 +66,14 @@ pub record IsFile (f : FileRow) : Type 0 where
   pub id : IsObject f.id
   pub state : IsState f.state
   pub sound : IsSoundState f.state
-  pub valuation : f.valuation ≤ 9999999999999
+  pub valuation : f.valuation ≤ most_cents
   pub description : IsTrue (is_printable f.description)
   pub utf8 : IsUtf8 f.description
 
 pub record IsPaper (p : Paper) : Type 0 where
   pub file : IsObject p.file
   pub number : (0 < p.number) × (p.number ≤ most_papers)
-  pub day : p.day ≤ 100000
+  pub day : p.day ≤ latest_day
   pub author : IsObject p.author
   pub days : IsCount p.days
   pub text : IsUtf8 p.text

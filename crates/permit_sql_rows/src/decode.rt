@@ -157,7 +157,7 @@ fn fields_in(row: &Row) -> Option<StateFields>
 }
 
 /// The state in a file's row.
-fn state_in(row: &Row) -> Option<FileState>
+pub fn state_in(row: &Row) -> Option<FileState>
     ensures read { (is : TheRow) (more : List Value) → IsNamed is.state → row.now ≡ shown_file is ++ more → IfSome result (λ s. s ≡ is.state) }
     ensures back { IfSome result (ShowsState row.now) }
     ensures named { IfSome result IsNamed }

@@ -3,7 +3,7 @@
 ghost use Rattle.std.specs.Prelude.{◌≡◌, ◌≢◌, ◌<◌, ◌≤◌, ◌^◌, ℕ, ℤ, IsUtf8, List, IfOk, IsSome, IsTrue, IfErr, Bool, Option, Some, None, IfSome, string_bytes, slice_get, option_map};
 ghost use Rattle.sqlite.specs.declared.types.Value.TheVariants.{Int, Text as TextValue};
 ghost use Rattle.sqlite_value.specs.Order.{column};
-ghost use Rattle.permit_base.specs.Limits.{most_papers};
+ghost use Rattle.permit_base.specs.Limits.{latest_day, most_cents, most_papers};
 ghost use Rattle.permit_base.specs.Texts.{is_printable, is_lot, is_digest};
 ghost use Rattle.permit_base.specs.declared.words.Step.{Step as TheStep};
 ghost use Rattle.permit_sql_rows.specs.Rows.{int, or_zero, or_minus_one, or_null, step_value, flag};
@@ -142,7 +142,7 @@ pub(crate) fn paper_number(row: &Row, at: usize) -> Option<PaperNumber>
 pub(crate) fn cents(row: &Row, at: usize) -> Option<Cents>
     ensures read { (n : ℕ) → column row.now at ≡ int n → IfSome result (λ x. x ≡ n) }
     ensures back { IfSome result (λ x. column row.now at ≡ int x) }
-    ensures some { (n : ℕ) → n ≤ 9999999999999 → column row.now at ≡ int n → IsSome result }
+    ensures some { (n : ℕ) → n ≤ most_cents → column row.now at ≡ int n → IsSome result }
 {
     Cents::new(long_number(row, at)?)
 }
@@ -151,7 +151,7 @@ pub(crate) fn cents(row: &Row, at: usize) -> Option<Cents>
 pub(crate) fn day(row: &Row, at: usize) -> Option<Day>
     ensures read { (n : ℕ) → column row.now at ≡ int n → IfSome result (λ x. x ≡ n) }
     ensures back { IfSome result (λ x. column row.now at ≡ int x) }
-    ensures some { (n : ℕ) → n ≤ 100000 → column row.now at ≡ int n → IsSome result }
+    ensures some { (n : ℕ) → n ≤ latest_day → column row.now at ≡ int n → IsSome result }
 {
     Day::new(number(row, at)?)
 }
@@ -194,7 +194,7 @@ pub(crate) fn days_or_zero(row: &Row, at: usize) -> Option<Option<Days>>
 pub(crate) fn day_or_minus_one(row: &Row, at: usize) -> Option<Option<Day>>
     ensures read { (o : Option ℕ) → column row.now at ≡ or_minus_one o → IfSome result (λ x. x ≡ o) }
     ensures back { IfSome result (λ x. column row.now at ≡ or_minus_one x) }
-    ensures some { (o : Option ℕ) → IfSome o (λ n. n ≤ 100000) → column row.now at ≡ or_minus_one o → IsSome result }
+    ensures some { (o : Option ℕ) → IfSome o (λ n. n ≤ latest_day) → column row.now at ≡ or_minus_one o → IsSome result }
 {
     match number_or_minus_one(row, at)? {
         None => Some(None),

@@ -24,7 +24,7 @@ use Rattle.permit_sql_rows.specs.Schema.{office_schema}
 use Rattle.permit_sql_rows.specs.Kept.{Keeps, Shows}
 use Rattle.permit_sql_rows.specs.Rows.{int}
 use Rattle.permit_sql_statements.specs.Gave.{Gave}
-use Rattle.permit_sql_statements.specs.RouteTexts.{select_every}
+use Rattle.permit_sql_statements.specs.declared.question.TheConstants.{EVERY}
 use Rattle.permit_sql_statements.specs.Selected.{ShowWhere, ShowsEach, leader, relation_of, text_alone}
 use Rattle.permit_sql_statements.proofs.AloneTexts.{query_alone, means_alone}
 use Rattle.permit_sql_statements.proofs.Handing.{handed_where}
@@ -90,7 +90,7 @@ module _ (t : Tables) (caller : ℕ) (there : 0 < caller) (day : ℕ) (routes : 
       let read = reads_as (text_alone r) (int caller ∷ []) old new office_schema k.schema _ m.0 m.1 m.2 rows h in
       alone_shown caller there t (overlay old.now.trees []) k.keyed k.rows.parcels k.rows.interests k.rows.files r rows (read.answer Null)
 
-  every_shown : (old new : State) → Keeps t old.now → (rows : List Row) → Shown select_every (int caller ∷ []) old new rows → ShowWhere rows (λ given. IsPermutation given (found_by Every caller day t))
+  every_shown : (old new : State) → Keeps t old.now → (rows : List Row) → Shown EVERY.now (int caller ∷ []) old new rows → ShowWhere rows (λ given. IsPermutation given (found_by Every caller day t))
   every_shown old new k rows h = let it = route_shown t caller there Every day old new k rows h in record { given = it.given; are = it.are.same; shown = it.shown; named = it.named }
 
   -- what was handed out is among rows of which those that any of the selections finds are all that it finds
@@ -98,7 +98,7 @@ module _ (t : Tables) (caller : ℕ) (there : 0 < caller) (day : ℕ) (routes : 
       → (shown : List Found) × AreAmong result given shown × (filter (is_found_by_any routes caller day) shown ≡ found_by_any routes caller day t)
   handed_among text (inl is) result old new given shows gave = (
     found_by Every caller day t,
-    handed_where t select_every (int caller ∷ []) every_query (means_for Every) (λ given. IsPermutation given (found_by Every caller day t)) (found_by Every caller day t) (IsPermutation-refl _) every_shown result old new given shows (rw is at gave),
+    handed_where t EVERY.now (int caller ∷ []) every_query (means_for Every) (λ given. IsPermutation given (found_by Every caller day t)) (found_by Every caller day t) (IsPermutation-refl _) every_shown result old new given shows (rw is at gave),
     filter_within (is_found_by_any routes caller day) (is_found Every caller day) (λ found h. refl) _,
   )
   handed_among text (inr (r, all, is)) result old new given shows gave = (

@@ -31,7 +31,7 @@ use Rattle.permit_store.specs.Changes.{closed_by}
 use Rattle.permit_sql_rows.specs.Schema.{office_schema, paper_table}
 use Rattle.permit_sql_rows.specs.Rows.{int, shown_paper}
 use Rattle.permit_sql_rows.specs.Kept.{Keeps}
-use Rattle.permit_sql_statements.specs.Texts.{close_notice}
+use Rattle.permit_sql_statements.specs.declared.texts.TheConstants.{CLOSE_NOTICE}
 use Rattle.permit_sql_statements.proofs.Permuted.{IsFreshIn, put_fresh, no_more, one_order, map_one}
 use Rattle.permit_sql_statements.proofs.Lookups.{one_test, eq_is, finds_one}
 use Rattle.permit_sql_statements.proofs.WriteTexts.{close_notice_query, close_notice_is, close_notice_plain}
@@ -292,7 +292,7 @@ module _ (old new : State) (count : ℕ) (t : Tables) (k : Keeps t old.now) (fil
       × (IsPermutation (map shown_paper (map (closed_by file number) t.papers)) (map (drop 1) (new.now.trees 8)) × Apart (new.now.trees 8))
 
   abbrev Set : Type 0
-  Set = Sets close_notice 5 paper_table close_notice_query close_notice_is close_notice_plain (key file number) old new count k.schema refl
+  Set = Sets CLOSE_NOTICE.now 5 paper_table close_notice_query close_notice_is close_notice_plain (key file number) old new count k.schema refl
 
   none_closed : (it : Set) → filter (hits file number) (old.now.trees 8) ≡ [] → it.found ≡ [] → Closed
   none_closed it is found =
@@ -346,10 +346,10 @@ module _ (old new : State) (count : ℕ) (t : Tables) (k : Keeps t old.now) (fil
       untouched x true is known other = absurd (true≢false (sym (known is) ∙ other))
       untouched x false is known other = refl
 
-  pub notice_set : Executes close_notice (int file ∷ int number ∷ []) old new (Ok count) → Keeps (record t { papers = map (closed_by file number) t.papers }) new.now
+  pub notice_set : Executes CLOSE_NOTICE.now (int file ∷ int number ∷ []) old new (Ok count) → Keeps (record t { papers = map (closed_by file number) t.papers }) new.now
   notice_set h =
       let tree = old.now.trees 8 in
-      let it : Set = sets close_notice 5 paper_table close_notice_query close_notice_is close_notice_plain (key file number) old new count k.schema refl (λ tally x. x) h in
+      let it : Set = sets CLOSE_NOTICE.now 5 paper_table close_notice_query close_notice_is close_notice_plain (key file number) old new count k.schema refl (λ tally x. x) h in
       let short : length (filter (is_it file number) t.papers) ≤ 1 = subst (λ l. length l ≤ 1) (sym (both_tests file number t.papers)) (once file number (filter (λ (p : Paper). eqb p.file file) t.papers) (k.keyed.papers file)) in
       let columns = hit_columns file number t.papers tree k.rows.papers short in
       let few : length (filter (hits file number) tree) ≤ 1 = let a = long (drop 1) (filter (hits file number) tree) in let b = long shown_paper (filter (is_it file number) t.papers) in let c = ap length columns in omega (arith, short, a, b, c) in

@@ -19,7 +19,7 @@ use Rattle.permit_store.specs.Changes.{given_to, with_state, closed_by}
 use Rattle.permit_sql_rows.specs.Schema.{office_schema}
 use Rattle.permit_sql_rows.specs.Rows.{int, party_row, parcel_row, file_row, shown_party, shown_parcel, shown_file, shown_interest, shown_paper, row_params}
 use Rattle.permit_sql_rows.specs.Kept.{papers_counted, IsNamed, AreKeyed, AreInTrees, Keeps}
-use Rattle.permit_sql_statements.specs.Texts.{write_desk, add_party, add_parcel, add_interest, add_file, add_paper, set_owner, write_file, close_notice}
+use Rattle.permit_sql_statements.specs.declared.texts.TheConstants.{WRITE_DESK, ADD_PARTY, ADD_PARCEL, ADD_INTEREST, ADD_FILE, ADD_PAPER, SET_OWNER, WRITE_FILE, CLOSE_NOTICE}
 use Rattle.permit_sql_statements.specs.Statements.{RanAll, desk_statement}
 use Rattle.permit_sql_statements.proofs.Permuted.{put_fresh, put_more, put_changed, key_free, not_found, only_found, append_any}
 use Rattle.permit_sql_statements.proofs.Writes.{sets_desk, adds_party, adds_parcel, adds_interest, adds_file, adds_paper, sets_owner, sets_file}
@@ -27,7 +27,7 @@ use Rattle.permit_sql_statements.proofs.Closing.{apart_put, notice_set}
 use Rattle.permit_sql_statements.proofs.Keeping.{Apart, lower, counted_here, keeps_papers, keyed_paper, keeps_desk, keeps_parties, keeps_parcels, keeps_interests, keeps_files, keyed_desk, keyed_interests, keyed_party, keyed_parcel, keyed_owner, keyed_file, keyed_row}
 
 -- the desk is set last
-ended : (mid last : State) (count : ℕ) (t : Tables) (d : Desk) → mid.now.schema ≡ office_schema → AreInTrees t mid.now.trees → AreKeyed t → Executes write_desk (int d.last ∷ int d.parties ∷ int d.parcels ∷ int d.files ∷ []) mid last (Ok count)
+ended : (mid last : State) (count : ℕ) (t : Tables) (d : Desk) → mid.now.schema ≡ office_schema → AreInTrees t mid.now.trees → AreKeyed t → Executes WRITE_DESK.now (int d.last ∷ int d.parties ∷ int d.parcels ∷ int d.files ∷ []) mid last (Ok count)
     → Keeps (record t { desk = d }) last.now
 ended mid last count t d schema rows keyed h =
     let it = sets_desk mid last count schema t.desk d rows.desk h in
@@ -46,7 +46,7 @@ found_number {X} key id (y ∷ ys) x e = go (eqb (key y) id) refl e (found_numbe
 
 -- a file's row is set
 pub row_set : (old new : State) (count : ℕ) (t : Tables) (k : Keeps t old.now) (id : ℕ) (s : FileState) (f : FileRow) → find (λ q. eqb q.id id) t.files ≡ Some f → s.parcel ≡ f.state.parcel → s.applicant ≡ f.state.applicant
-    → f.state.papers ≤ s.papers → IsNamed s → Executes write_file (row_params id s) old new (Ok count) → Keeps (record t { files = map (with_state id s) t.files }) new.now
+    → f.state.papers ≤ s.papers → IsNamed s → Executes WRITE_FILE.now (row_params id s) old new (Ok count) → Keeps (record t { files = map (with_state id s) t.files }) new.now
 row_set old new count t k id s f found parcel applicant more named h =
     let only = only_found (λ (q : FileRow). eqb q.id id) t.files f found (k.keyed.files id) in
     let number = found_number (λ (q : FileRow). q.id) id t.files f found in
@@ -62,7 +62,7 @@ row_set old new count t k id s f found parcel applicant more named h =
 
 -- a paper of a file, with the number after all of its papers
 pub paper_added : (old new : State) (count : ℕ) (t : Tables) (k : Keeps t old.now) (p : Paper) → AllByRecursion (λ (x : Paper). x.number < p.number) (filter (λ (x : Paper). eqb x.file p.file) t.papers) → p.number ≤ papers_counted p.file t.files
-    → Executes add_paper (shown_paper p) old new (Ok count) → Keeps (record t { papers = t.papers ++ p ∷ [] }) new.now
+    → Executes ADD_PAPER.now (shown_paper p) old new (Ok count) → Keeps (record t { papers = t.papers ++ p ∷ [] }) new.now
 paper_added old new count t k p above low h =
     let first = adds_paper old new count k.schema p h in
     let xs = t.papers ++ p ∷ [] in
@@ -79,7 +79,7 @@ paper_added old new count t k p above low h =
     map_last (x ∷ xs) = ap (λ l. shown_paper x ∷ l) (map_last xs)
 
 module _ {S : Type 0} (g : Ghosts S) (old : Held S) (db : Database) (t : Tables) (k : Keeps t (state g old).now) (d : Desk) where
-  pub party_made : (p : Party) → find (λ q. bytes_eq q.digest p.digest) t.parties ≡ None → RanAll g ((add_party, shown_party p) ∷ desk_statement d ∷ []) old db → Keeps (record t { desk = d; parties = t.parties ++ p ∷ [] }) db
+  pub party_made : (p : Party) → find (λ q. bytes_eq q.digest p.digest) t.parties ≡ None → RanAll g ((ADD_PARTY.now, shown_party p) ∷ desk_statement d ∷ []) old db → Keeps (record t { desk = d; parties = t.parties ++ p ∷ [] }) db
   party_made p new ran =
       let one = ran.ran in
       let two = one.3 in
@@ -95,7 +95,7 @@ module _ {S : Type 0} (g : Ghosts S) (old : Held S) (db : Database) (t : Tables)
       let same : db ≡ b.now = ran.is ∙ ap (λ (h : Held _). (state g h).now) two.3 in
       subst (Keeps (record t { desk = d; parties = xs })) (sym same) done
 
-  pub parcel_made : (p : Parcel) → find (λ q. bytes_eq q.lot p.lot) t.parcels ≡ None → RanAll g ((add_parcel, shown_parcel p) ∷ desk_statement d ∷ []) old db → Keeps (record t { desk = d; parcels = t.parcels ++ p ∷ [] }) db
+  pub parcel_made : (p : Parcel) → find (λ q. bytes_eq q.lot p.lot) t.parcels ≡ None → RanAll g ((ADD_PARCEL.now, shown_parcel p) ∷ desk_statement d ∷ []) old db → Keeps (record t { desk = d; parcels = t.parcels ++ p ∷ [] }) db
   parcel_made p new ran =
       let one = ran.ran in
       let two = one.3 in
@@ -111,7 +111,7 @@ module _ {S : Type 0} (g : Ghosts S) (old : Held S) (db : Database) (t : Tables)
       let same : db ≡ b.now = ran.is ∙ ap (λ (h : Held _). (state g h).now) two.3 in
       subst (Keeps (record t { desk = d; parcels = xs })) (sym same) done
 
-  pub owner_made : (id owner : ℕ) (p : Parcel) → find (λ q. eqb q.id id) t.parcels ≡ Some p → RanAll g ((set_owner, int id ∷ int owner ∷ []) ∷ desk_statement d ∷ []) old db → Keeps (record t { desk = d; parcels = map (given_to id owner) t.parcels }) db
+  pub owner_made : (id owner : ℕ) (p : Parcel) → find (λ q. eqb q.id id) t.parcels ≡ Some p → RanAll g ((SET_OWNER.now, int id ∷ int owner ∷ []) ∷ desk_statement d ∷ []) old db → Keeps (record t { desk = d; parcels = map (given_to id owner) t.parcels }) db
   owner_made id owner p found ran =
       let one = ran.ran in
       let two = one.3 in
@@ -133,7 +133,7 @@ module _ {S : Type 0} (g : Ghosts S) (old : Held S) (db : Database) (t : Tables)
       given : p.id ≡ id → given_to id owner p ≡ record p { owner = owner }
       given e = let is : eqb p.id id ≡ true = grind (arith, nat_tests) in ap (λ c. cond c (record p { owner = owner }) p) is
 
-  pub interest_made : (i : Interest) → RanAll g ((add_interest, shown_interest i) ∷ desk_statement d ∷ []) old db → Keeps (record t { desk = d; interests = t.interests ++ i ∷ [] }) db
+  pub interest_made : (i : Interest) → RanAll g ((ADD_INTEREST.now, shown_interest i) ∷ desk_statement d ∷ []) old db → Keeps (record t { desk = d; interests = t.interests ++ i ∷ [] }) db
   interest_made i ran =
       let one = ran.ran in
       let two = one.3 in
@@ -155,7 +155,7 @@ module _ {S : Type 0} (g : Ghosts S) (old : Held S) (db : Database) (t : Tables)
       map_last [] = refl
       map_last (x ∷ xs) = ap (λ l. shown_interest x ∷ l) (map_last xs)
 
-  pub file_made : (f : FileRow) → IsNamed f.state → RanAll g ((add_file, shown_file f) ∷ desk_statement d ∷ []) old db → Keeps (record t { desk = d; files = t.files ++ f ∷ [] }) db
+  pub file_made : (f : FileRow) → IsNamed f.state → RanAll g ((ADD_FILE.now, shown_file f) ∷ desk_statement d ∷ []) old db → Keeps (record t { desk = d; files = t.files ++ f ∷ [] }) db
   file_made f named ran =
       let one = ran.ran in
       let two = one.3 in
@@ -172,7 +172,7 @@ module _ {S : Type 0} (g : Ghosts S) (old : Held S) (db : Database) (t : Tables)
       subst (Keeps (record t { desk = d; files = xs })) (sym same) done
 
   pub row_made : (id : ℕ) (s : FileState) (f : FileRow) → find (λ q. eqb q.id id) t.files ≡ Some f → s.parcel ≡ f.state.parcel → s.applicant ≡ f.state.applicant → f.state.papers ≤ s.papers → IsNamed s
-      → RanAll g ((write_file, row_params id s) ∷ desk_statement d ∷ []) old db → Keeps (record t { desk = d; files = map (with_state id s) t.files }) db
+      → RanAll g ((WRITE_FILE.now, row_params id s) ∷ desk_statement d ∷ []) old db → Keeps (record t { desk = d; files = map (with_state id s) t.files }) db
   row_made id s f found parcel applicant more named ran =
       let one = ran.ran in
       let two = one.3 in
@@ -187,7 +187,7 @@ module _ {S : Type 0} (g : Ghosts S) (old : Held S) (db : Database) (t : Tables)
 
   pub paper_made : (id : ℕ) (s : FileState) (f : FileRow) (p : Paper) → find (λ q. eqb q.id id) t.files ≡ Some f → s.parcel ≡ f.state.parcel → s.applicant ≡ f.state.applicant → s.papers ≡ f.state.papers + 1 → IsNamed s
       → p.file ≡ id → p.number ≡ s.papers
-      → RanAll g ((write_file, row_params id s) ∷ (add_paper, shown_paper p) ∷ desk_statement d ∷ []) old db → Keeps (record t { desk = d; files = map (with_state id s) t.files; papers = t.papers ++ p ∷ [] }) db
+      → RanAll g ((WRITE_FILE.now, row_params id s) ∷ (ADD_PAPER.now, shown_paper p) ∷ desk_statement d ∷ []) old db → Keeps (record t { desk = d; files = map (with_state id s) t.files; papers = t.papers ++ p ∷ [] }) db
   paper_made id s f p found parcel applicant more named file number ran =
       let one = ran.ran in
       let two = one.3 in
@@ -210,7 +210,7 @@ module _ {S : Type 0} (g : Ghosts S) (old : Held S) (db : Database) (t : Tables)
       subst (Keeps (record t { desk = d; files = fs; papers = pp })) (sym same) done
 
   pub notice_closed : (id number : ℕ) (s : FileState) (f : FileRow) → find (λ q. eqb q.id id) t.files ≡ Some f → s.parcel ≡ f.state.parcel → s.applicant ≡ f.state.applicant → f.state.papers ≤ s.papers → IsNamed s
-      → RanAll g ((write_file, row_params id s) ∷ (close_notice, int id ∷ int number ∷ []) ∷ desk_statement d ∷ []) old db → Keeps (record t { desk = d; files = map (with_state id s) t.files; papers = map (closed_by id number) t.papers }) db
+      → RanAll g ((WRITE_FILE.now, row_params id s) ∷ (CLOSE_NOTICE.now, int id ∷ int number ∷ []) ∷ desk_statement d ∷ []) old db → Keeps (record t { desk = d; files = map (with_state id s) t.files; papers = map (closed_by id number) t.papers }) db
   notice_closed id number s f found parcel applicant more named ran =
       let one = ran.ran in
       let two = one.3 in

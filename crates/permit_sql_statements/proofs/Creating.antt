@@ -24,7 +24,7 @@ use Rattle.permit_sql_rows.specs.Rows.{int, desk_row, party_row, shown_party}
 use Rattle.permit_sql_rows.specs.Kept.{AreKeyed, AreInTrees, Keeps}
 use Rattle.permit_sql_statements.specs.Statements.{RanAll}
 use Rattle.permit_sql_statements.specs.Founding.{founding_statements}
-use Rattle.permit_sql_statements.specs.Texts.{create_desk, create_party, create_parcel, create_interest, create_file, create_paper, index_cell, index_applicant, index_contractor, index_reviewer, index_inspector, index_parcel, index_owner, index_interested}
+use Rattle.permit_sql_statements.specs.declared.texts.TheConstants.{CREATE_DESK, CREATE_PARTY, CREATE_PARCEL, CREATE_INTEREST, CREATE_FILE, CREATE_PAPER, INDEX_CELL, INDEX_APPLICANT, INDEX_CONTRACTOR, INDEX_REVIEWER, INDEX_INSPECTOR, INDEX_PARCEL, INDEX_OWNER, INDEX_INTERESTED}
 use Rattle.permit_sql_statements.proofs.Permuted.{put_more}
 use Rattle.permit_sql_statements.proofs.Writes.{founds_desk, adds_party}
 use Rattle.permit_sql_statements.proofs.Keeping.{Apart, keeps_parties, keyed_party}
@@ -78,27 +78,27 @@ made_5 = created made_4 (record file_table { tree = 0 })
 abbrev pub made_6 : Schema
 made_6 = created made_5 (record paper_table { tree = 0 })
 
-makes_desk : Makes empty_schema create_desk desk_table
+makes_desk : Makes empty_schema CREATE_DESK.now desk_table
 unfolding understood everything
 makes_desk = record { command = refl; statement = refl; plain = (refl, refl); defines = refl; whole = refl }
 
-makes_party : Makes made_1 create_party (record party_table { tree = 0 })
+makes_party : Makes made_1 CREATE_PARTY.now (record party_table { tree = 0 })
 unfolding understood everything
 makes_party = record { command = refl; statement = refl; plain = (refl, refl); defines = refl; whole = refl }
 
-makes_parcel : Makes made_2 create_parcel (record parcel_table { tree = 0 })
+makes_parcel : Makes made_2 CREATE_PARCEL.now (record parcel_table { tree = 0 })
 unfolding understood everything
 makes_parcel = record { command = refl; statement = refl; plain = (refl, refl); defines = refl; whole = refl }
 
-makes_interest : Makes made_3 create_interest (record interest_table { tree = 0 })
+makes_interest : Makes made_3 CREATE_INTEREST.now (record interest_table { tree = 0 })
 unfolding understood everything
 makes_interest = record { command = refl; statement = refl; plain = (refl, refl); defines = refl; whole = refl }
 
-makes_file : Makes made_4 create_file (record file_table { tree = 0 })
+makes_file : Makes made_4 CREATE_FILE.now (record file_table { tree = 0 })
 unfolding understood everything
 makes_file = record { command = refl; statement = refl; plain = (refl, refl); defines = refl; whole = refl }
 
-makes_paper : Makes made_5 create_paper (record paper_table { tree = 0 })
+makes_paper : Makes made_5 CREATE_PAPER.now (record paper_table { tree = 0 })
 unfolding understood everything
 makes_paper = record { command = refl; statement = refl; plain = (refl, refl); defines = refl; whole = refl }
 
@@ -158,35 +158,35 @@ indexed_more s text at table index made m old new count was h =
 abbrev with_first : ℕ → Schema
 with_first n = record { tables = all_tables; indexes = key_indexes ++ take n search_indexes; views = [] }
 
-indexes_cell : Indexes table_schema index_cell 4 file_table (record cell_index { tree = 0 }) (with_first 1)
+indexes_cell : Indexes table_schema INDEX_CELL.now 4 file_table (record cell_index { tree = 0 }) (with_first 1)
 unfolding understood everything
 indexes_cell = record { there = refl; command = refl; statement = refl; plain = (refl, refl); defines = refl; whole = refl }
 
-indexes_applicant : Indexes (with_first 1) index_applicant 4 file_table (record applicant_index { tree = 0 }) (with_first 2)
+indexes_applicant : Indexes (with_first 1) INDEX_APPLICANT.now 4 file_table (record applicant_index { tree = 0 }) (with_first 2)
 unfolding understood everything
 indexes_applicant = record { there = refl; command = refl; statement = refl; plain = (refl, refl); defines = refl; whole = refl }
 
-indexes_contractor : Indexes (with_first 2) index_contractor 4 file_table (record contractor_index { tree = 0 }) (with_first 3)
+indexes_contractor : Indexes (with_first 2) INDEX_CONTRACTOR.now 4 file_table (record contractor_index { tree = 0 }) (with_first 3)
 unfolding understood everything
 indexes_contractor = record { there = refl; command = refl; statement = refl; plain = (refl, refl); defines = refl; whole = refl }
 
-indexes_reviewer : Indexes (with_first 3) index_reviewer 4 file_table (record reviewer_index { tree = 0 }) (with_first 4)
+indexes_reviewer : Indexes (with_first 3) INDEX_REVIEWER.now 4 file_table (record reviewer_index { tree = 0 }) (with_first 4)
 unfolding understood everything
 indexes_reviewer = record { there = refl; command = refl; statement = refl; plain = (refl, refl); defines = refl; whole = refl }
 
-indexes_inspector : Indexes (with_first 4) index_inspector 4 file_table (record inspector_index { tree = 0 }) (with_first 5)
+indexes_inspector : Indexes (with_first 4) INDEX_INSPECTOR.now 4 file_table (record inspector_index { tree = 0 }) (with_first 5)
 unfolding understood everything
 indexes_inspector = record { there = refl; command = refl; statement = refl; plain = (refl, refl); defines = refl; whole = refl }
 
-indexes_parcel : Indexes (with_first 5) index_parcel 4 file_table (record parcel_index { tree = 0 }) (with_first 6)
+indexes_parcel : Indexes (with_first 5) INDEX_PARCEL.now 4 file_table (record parcel_index { tree = 0 }) (with_first 6)
 unfolding understood everything
 indexes_parcel = record { there = refl; command = refl; statement = refl; plain = (refl, refl); defines = refl; whole = refl }
 
-indexes_owner : Indexes (with_first 6) index_owner 2 parcel_table (record owner_index { tree = 0 }) (with_first 7)
+indexes_owner : Indexes (with_first 6) INDEX_OWNER.now 2 parcel_table (record owner_index { tree = 0 }) (with_first 7)
 unfolding understood everything
 indexes_owner = record { there = refl; command = refl; statement = refl; plain = (refl, refl); defines = refl; whole = refl }
 
-indexes_interested : Indexes (with_first 7) index_interested 3 interest_table (record interested_index { tree = 0 }) office_schema
+indexes_interested : Indexes (with_first 7) INDEX_INTERESTED.now 3 interest_table (record interested_index { tree = 0 }) office_schema
 unfolding understood everything
 indexes_interested = record { there = refl; command = refl; statement = refl; plain = (refl, refl); defines = refl; whole = refl }
 
@@ -198,7 +198,7 @@ no_rows d = record { desk = d; parties = []; parcels = []; interests = []; files
 none_keyed : (d : Desk) → AreKeyed (no_rows d)
 none_keyed d = record { parties = λ id. omega arith; digests = λ d. omega arith; parcels = λ id. omega arith; lots = λ l. omega arith; files = λ id. omega arith; named = tt; papers = λ f. tt; counted = λ f. tt }
 
-desk_founded : (old new : State) (last count : ℕ) → IsBlank office_schema old.now → Executes Rattle.permit_sql_statements.specs.Texts.found_desk (int last ∷ []) old new (Ok count)
+desk_founded : (old new : State) (last count : ℕ) → IsBlank office_schema old.now → Executes Rattle.permit_sql_statements.specs.declared.texts.TheConstants.FOUND_DESK.now (int last ∷ []) old new (Ok count)
     → (new.now.schema ≡ office_schema) × AreInTrees (no_rows (record { last = last; parties = 1; parcels = 0; files = 0 })) new.now.trees
 desk_founded old new last count was h =
     let it = founds_desk old new count was.schema last h in
@@ -242,21 +242,21 @@ founding_made g old db last p none ran =
     let r15 = r14.3 in
     let r16 = r15.3 in
     let b0 : IsBlank empty_schema s0.now = record { schema = none; blank = tt } in
-    let b1 = more empty_schema create_desk desk_table makes_desk s0 (state g r1.0) r1.1 b0 r1.2 in
-    let b2 = more made_1 create_party _ makes_party (state g r1.0) (state g r2.0) r2.1 b1 r2.2 in
-    let b3 = more made_2 create_parcel _ makes_parcel (state g r2.0) (state g r3.0) r3.1 b2 r3.2 in
-    let b4 = more made_3 create_interest _ makes_interest (state g r3.0) (state g r4.0) r4.1 b3 r4.2 in
-    let b5 = more made_4 create_file _ makes_file (state g r4.0) (state g r5.0) r5.1 b4 r5.2 in
-    let b6 = more made_5 create_paper _ makes_paper (state g r5.0) (state g r6.0) r6.1 b5 r6.2 in
+    let b1 = more empty_schema CREATE_DESK.now desk_table makes_desk s0 (state g r1.0) r1.1 b0 r1.2 in
+    let b2 = more made_1 CREATE_PARTY.now _ makes_party (state g r1.0) (state g r2.0) r2.1 b1 r2.2 in
+    let b3 = more made_2 CREATE_PARCEL.now _ makes_parcel (state g r2.0) (state g r3.0) r3.1 b2 r3.2 in
+    let b4 = more made_3 CREATE_INTEREST.now _ makes_interest (state g r3.0) (state g r4.0) r4.1 b3 r4.2 in
+    let b5 = more made_4 CREATE_FILE.now _ makes_file (state g r4.0) (state g r5.0) r5.1 b4 r5.2 in
+    let b6 = more made_5 CREATE_PAPER.now _ makes_paper (state g r5.0) (state g r6.0) r6.1 b5 r6.2 in
     let c0 : IsBlank table_schema (state g r6.0).now = subst (λ s. IsBlank s (state g r6.0).now) six_is b6 in
-    let c1 = indexed_more table_schema index_cell 4 file_table (record cell_index { tree = 0 }) (with_first 1) indexes_cell (state g r6.0) (state g r7.0) r7.1 c0 r7.2 in
-    let c2 = indexed_more (with_first 1) index_applicant 4 file_table (record applicant_index { tree = 0 }) (with_first 2) indexes_applicant (state g r7.0) (state g r8.0) r8.1 c1 r8.2 in
-    let c3 = indexed_more (with_first 2) index_contractor 4 file_table (record contractor_index { tree = 0 }) (with_first 3) indexes_contractor (state g r8.0) (state g r9.0) r9.1 c2 r9.2 in
-    let c4 = indexed_more (with_first 3) index_reviewer 4 file_table (record reviewer_index { tree = 0 }) (with_first 4) indexes_reviewer (state g r9.0) (state g r10.0) r10.1 c3 r10.2 in
-    let c5 = indexed_more (with_first 4) index_inspector 4 file_table (record inspector_index { tree = 0 }) (with_first 5) indexes_inspector (state g r10.0) (state g r11.0) r11.1 c4 r11.2 in
-    let c6 = indexed_more (with_first 5) index_parcel 4 file_table (record parcel_index { tree = 0 }) (with_first 6) indexes_parcel (state g r11.0) (state g r12.0) r12.1 c5 r12.2 in
-    let c7 = indexed_more (with_first 6) index_owner 2 parcel_table (record owner_index { tree = 0 }) (with_first 7) indexes_owner (state g r12.0) (state g r13.0) r13.1 c6 r13.2 in
-    let c8 = indexed_more (with_first 7) index_interested 3 interest_table (record interested_index { tree = 0 }) office_schema indexes_interested (state g r13.0) (state g r14.0) r14.1 c7 r14.2 in
+    let c1 = indexed_more table_schema INDEX_CELL.now 4 file_table (record cell_index { tree = 0 }) (with_first 1) indexes_cell (state g r6.0) (state g r7.0) r7.1 c0 r7.2 in
+    let c2 = indexed_more (with_first 1) INDEX_APPLICANT.now 4 file_table (record applicant_index { tree = 0 }) (with_first 2) indexes_applicant (state g r7.0) (state g r8.0) r8.1 c1 r8.2 in
+    let c3 = indexed_more (with_first 2) INDEX_CONTRACTOR.now 4 file_table (record contractor_index { tree = 0 }) (with_first 3) indexes_contractor (state g r8.0) (state g r9.0) r9.1 c2 r9.2 in
+    let c4 = indexed_more (with_first 3) INDEX_REVIEWER.now 4 file_table (record reviewer_index { tree = 0 }) (with_first 4) indexes_reviewer (state g r9.0) (state g r10.0) r10.1 c3 r10.2 in
+    let c5 = indexed_more (with_first 4) INDEX_INSPECTOR.now 4 file_table (record inspector_index { tree = 0 }) (with_first 5) indexes_inspector (state g r10.0) (state g r11.0) r11.1 c4 r11.2 in
+    let c6 = indexed_more (with_first 5) INDEX_PARCEL.now 4 file_table (record parcel_index { tree = 0 }) (with_first 6) indexes_parcel (state g r11.0) (state g r12.0) r12.1 c5 r12.2 in
+    let c7 = indexed_more (with_first 6) INDEX_OWNER.now 2 parcel_table (record owner_index { tree = 0 }) (with_first 7) indexes_owner (state g r12.0) (state g r13.0) r13.1 c6 r13.2 in
+    let c8 = indexed_more (with_first 7) INDEX_INTERESTED.now 3 interest_table (record interested_index { tree = 0 }) office_schema indexes_interested (state g r13.0) (state g r14.0) r14.1 c7 r14.2 in
     let desk = desk_founded (state g r14.0) (state g r15.0) last r15.1 c8 r15.2 in
     let t0 = no_rows (record { last = last; parties = 1; parcels = 0; files = 0 }) in
     let party = adds_party (state g r15.0) (state g r16.0) r16.1 desk.0 p r16.2 in

@@ -12,7 +12,7 @@ use Rattle.sqlite_schema.specs.declared.command.Command.{Command}
 use Rattle.sqlite_schema.specs.declared.command.Command.TheVariants.{Select}
 use Rattle.sqlite.proofs.Callers.{command_of, IsPlain}
 use Rattle.permit_sql_rows.specs.Schema.{office_schema}
-use Rattle.permit_sql_statements.specs.Texts.{read_desk, read_party, find_party, read_parcel, find_parcel, find_interest, read_file, read_papers}
+use Rattle.permit_sql_statements.specs.declared.texts.TheConstants.{READ_DESK, READ_PARTY, FIND_PARTY, READ_PARCEL, FIND_PARCEL, FIND_INTEREST, READ_FILE, READ_PAPERS, FIND_NOTICE}
 use Rattle.permit_sql_statements.proofs.Lookups.{plain_query, equals}
 
 abbrev pub alone : Query → Program
@@ -29,119 +29,134 @@ names_of _ = []
 abbrev pub read_desk_query : Query
 read_desk_query = plain_query (inner 0 end) ([]) (col 1 0 ∷ columns_of 5 2) ([])
 
-pub read_desk_is : command_of (understood office_schema read_desk) ≡ Select (alone read_desk_query) (names_of (command_of (understood office_schema read_desk)))
+pub read_desk_is : command_of (understood office_schema READ_DESK.now) ≡ Select (alone read_desk_query) (names_of (command_of (understood office_schema READ_DESK.now)))
 unfolding understood everything
 read_desk_is = refl
 
-pub read_desk_plain : IsPlain (understood office_schema read_desk)
+pub read_desk_plain : IsPlain (understood office_schema READ_DESK.now)
 unfolding understood everything
 read_desk_plain = (refl, refl)
 
-pub read_desk_unlisted : reads_listing office_schema read_desk ≡ false
+pub read_desk_unlisted : reads_listing office_schema READ_DESK.now ≡ false
 unfolding understood everything
 read_desk_unlisted = refl
 
 abbrev pub read_party_query : Query
 read_party_query = plain_query (inner 1 end) (equals (col 1 0) (col 0 0) ∷ []) (col 1 0 ∷ columns_of 3 2) ([])
 
-pub read_party_is : command_of (understood office_schema read_party) ≡ Select (alone read_party_query) (names_of (command_of (understood office_schema read_party)))
+pub read_party_is : command_of (understood office_schema READ_PARTY.now) ≡ Select (alone read_party_query) (names_of (command_of (understood office_schema READ_PARTY.now)))
 unfolding understood everything
 read_party_is = refl
 
-pub read_party_plain : IsPlain (understood office_schema read_party)
+pub read_party_plain : IsPlain (understood office_schema READ_PARTY.now)
 unfolding understood everything
 read_party_plain = (refl, refl)
 
-pub read_party_unlisted : reads_listing office_schema read_party ≡ false
+pub read_party_unlisted : reads_listing office_schema READ_PARTY.now ≡ false
 unfolding understood everything
 read_party_unlisted = refl
 
 abbrev pub find_party_query : Query
 find_party_query = plain_query (inner 1 end) (equals (col 1 4) (col 0 0) ∷ []) (col 1 0 ∷ columns_of 3 2) ([])
 
-pub find_party_is : command_of (understood office_schema find_party) ≡ Select (alone find_party_query) (names_of (command_of (understood office_schema find_party)))
+pub find_party_is : command_of (understood office_schema FIND_PARTY.now) ≡ Select (alone find_party_query) (names_of (command_of (understood office_schema FIND_PARTY.now)))
 unfolding understood everything
 find_party_is = refl
 
-pub find_party_plain : IsPlain (understood office_schema find_party)
+pub find_party_plain : IsPlain (understood office_schema FIND_PARTY.now)
 unfolding understood everything
 find_party_plain = (refl, refl)
 
-pub find_party_unlisted : reads_listing office_schema find_party ≡ false
+pub find_party_unlisted : reads_listing office_schema FIND_PARTY.now ≡ false
 unfolding understood everything
 find_party_unlisted = refl
 
 abbrev pub read_parcel_query : Query
 read_parcel_query = plain_query (inner 3 end) (equals (col 1 0) (col 0 0) ∷ []) (col 1 0 ∷ columns_of 3 2) ([])
 
-pub read_parcel_is : command_of (understood office_schema read_parcel) ≡ Select (alone read_parcel_query) (names_of (command_of (understood office_schema read_parcel)))
+pub read_parcel_is : command_of (understood office_schema READ_PARCEL.now) ≡ Select (alone read_parcel_query) (names_of (command_of (understood office_schema READ_PARCEL.now)))
 unfolding understood everything
 read_parcel_is = refl
 
-pub read_parcel_plain : IsPlain (understood office_schema read_parcel)
+pub read_parcel_plain : IsPlain (understood office_schema READ_PARCEL.now)
 unfolding understood everything
 read_parcel_plain = (refl, refl)
 
-pub read_parcel_unlisted : reads_listing office_schema read_parcel ≡ false
+pub read_parcel_unlisted : reads_listing office_schema READ_PARCEL.now ≡ false
 unfolding understood everything
 read_parcel_unlisted = refl
 
 abbrev pub find_parcel_query : Query
 find_parcel_query = plain_query (inner 3 end) (equals (col 1 2) (col 0 0) ∷ []) (col 1 0 ∷ columns_of 3 2) ([])
 
-pub find_parcel_is : command_of (understood office_schema find_parcel) ≡ Select (alone find_parcel_query) (names_of (command_of (understood office_schema find_parcel)))
+pub find_parcel_is : command_of (understood office_schema FIND_PARCEL.now) ≡ Select (alone find_parcel_query) (names_of (command_of (understood office_schema FIND_PARCEL.now)))
 unfolding understood everything
 find_parcel_is = refl
 
-pub find_parcel_plain : IsPlain (understood office_schema find_parcel)
+pub find_parcel_plain : IsPlain (understood office_schema FIND_PARCEL.now)
 unfolding understood everything
 find_parcel_plain = (refl, refl)
 
-pub find_parcel_unlisted : reads_listing office_schema find_parcel ≡ false
+pub find_parcel_unlisted : reads_listing office_schema FIND_PARCEL.now ≡ false
 unfolding understood everything
 find_parcel_unlisted = refl
 
 abbrev pub find_interest_query : Query
 find_interest_query = plain_query (inner 5 end) (equals (col 1 1) (col 0 0) ∷ equals (col 1 2) (col 0 1) ∷ []) (lit (Int (pos 1)) ∷ []) ([])
 
-pub find_interest_is : command_of (understood office_schema find_interest) ≡ Select (alone find_interest_query) (names_of (command_of (understood office_schema find_interest)))
+pub find_interest_is : command_of (understood office_schema FIND_INTEREST.now) ≡ Select (alone find_interest_query) (names_of (command_of (understood office_schema FIND_INTEREST.now)))
 unfolding understood everything
 find_interest_is = refl
 
-pub find_interest_plain : IsPlain (understood office_schema find_interest)
+pub find_interest_plain : IsPlain (understood office_schema FIND_INTEREST.now)
 unfolding understood everything
 find_interest_plain = (refl, refl)
 
-pub find_interest_unlisted : reads_listing office_schema find_interest ≡ false
+pub find_interest_unlisted : reads_listing office_schema FIND_INTEREST.now ≡ false
 unfolding understood everything
 find_interest_unlisted = refl
 
 abbrev pub read_file_query : Query
 read_file_query = plain_query (inner 7 end) (equals (col 1 0) (col 0 0) ∷ []) (col 1 0 ∷ columns_of 19 2) ([])
 
-pub read_file_is : command_of (understood office_schema read_file) ≡ Select (alone read_file_query) (names_of (command_of (understood office_schema read_file)))
+pub read_file_is : command_of (understood office_schema READ_FILE.now) ≡ Select (alone read_file_query) (names_of (command_of (understood office_schema READ_FILE.now)))
 unfolding understood everything
 read_file_is = refl
 
-pub read_file_plain : IsPlain (understood office_schema read_file)
+pub read_file_plain : IsPlain (understood office_schema READ_FILE.now)
 unfolding understood everything
 read_file_plain = (refl, refl)
 
-pub read_file_unlisted : reads_listing office_schema read_file ≡ false
+pub read_file_unlisted : reads_listing office_schema READ_FILE.now ≡ false
 unfolding understood everything
 read_file_unlisted = refl
 
 abbrev pub read_papers_query : Query
 read_papers_query = plain_query (inner 8 end) (equals (col 1 1) (col 0 0) ∷ []) (columns_of 9 1) ((col 1 2, ascending Binary) ∷ [])
 
-pub read_papers_is : command_of (understood office_schema read_papers) ≡ Select (alone read_papers_query) (names_of (command_of (understood office_schema read_papers)))
+pub read_papers_is : command_of (understood office_schema READ_PAPERS.now) ≡ Select (alone read_papers_query) (names_of (command_of (understood office_schema READ_PAPERS.now)))
 unfolding understood everything
 read_papers_is = refl
 
-pub read_papers_plain : IsPlain (understood office_schema read_papers)
+pub read_papers_plain : IsPlain (understood office_schema READ_PAPERS.now)
 unfolding understood everything
 read_papers_plain = (refl, refl)
 
-pub read_papers_unlisted : reads_listing office_schema read_papers ≡ false
+pub read_papers_unlisted : reads_listing office_schema READ_PAPERS.now ≡ false
 unfolding understood everything
 read_papers_unlisted = refl
+
+abbrev pub find_notice_query : Query
+find_notice_query = plain_query (inner 8 end) (equals (col 1 1) (col 0 0) ∷ equals (col 1 9) (lit (Int (pos 1))) ∷ equals (col 1 2) (col 0 1) ∷ []) (lit (Int (pos 1)) ∷ []) ([])
+
+pub find_notice_is : command_of (understood office_schema FIND_NOTICE.now) ≡ Select (alone find_notice_query) (names_of (command_of (understood office_schema FIND_NOTICE.now)))
+unfolding understood everything
+find_notice_is = refl
+
+pub find_notice_plain : IsPlain (understood office_schema FIND_NOTICE.now)
+unfolding understood everything
+find_notice_plain = (refl, refl)
+
+pub find_notice_unlisted : reads_listing office_schema FIND_NOTICE.now ≡ false
+unfolding understood everything
+find_notice_unlisted = refl

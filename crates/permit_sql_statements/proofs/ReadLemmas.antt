@@ -1,13 +1,18 @@
 -- What the texts that read show of the tables.
 use Rattle.std.proofs.Common.{◌≡◌, get_or, take, ℕ, zero, suc, ◌+◌, ◌<◌, Bool, true, false, cond, eqb, not, List, [], ◌∷◌, ◌++◌, map, filter, find, drop, length, slice_get, Some, option_map, refl, sym, ap, ap₂, subst, ◌∙◌, arith, IsPermutation, Less}
 use Rattle.std.specs.Prelude.{◌&&◌, bytes_eq, IfSome}
-use Rattle.std.specs.List.{flat_map, list_any, AllByRecursion}
+use Rattle.std.specs.List.{flat_map, list_all, list_any, AllByRecursion}
 use Rattle.std.proofs.lemmas.Bool.Decides.{nat_tests}
 use Rattle.std.proofs.lemmas.List.Sorted.{length_permutation, IsPermutation-trans}
 use Rattle.sqlite.specs.declared.types.Value.TheVariants.{Null, Text}
 use Rattle.sqlite_value.specs.Order.{Row, value_cmp}
 use Rattle.sqlite_value.proofs.OrderLemmas.{value_cmp-Int}
-use Rattle.sqlite_sql.specs.Query.{Output, output, output_cmp}
+use Rattle.sqlite_value.specs.declared.keys.Collation.TheVariants.{Binary}
+use Rattle.sqlite_sql.specs.declared.ops.BinaryOp.TheVariants.{Compare}
+use Rattle.sqlite_sql.specs.declared.ops.CompareOp.TheVariants.{Eq}
+use Rattle.sqlite_sql.specs.Ops.{binary, is_true}
+use Rattle.sqlite_sql.specs.Term.{Term, holds}
+use Rattle.sqlite_sql.specs.Query.{Output, output, output_cmp, inner, end, IsAnswer}
 use Rattle.sqlite_sql.specs.Program.{overlay}
 use Rattle.sqlite_sql.proofs.QueryLemmas.{output_cmp_total}
 use Rattle.sqlite_keyed.proofs.ListLemmas.{IsPermutation-flat_map, flat_map-map, flat_map_same_on, map-map, none_counted, ascending-map, ascending_weaker, slice_get-filter, IsPermutation-same}
@@ -17,68 +22,72 @@ use Rattle.sqlite.proofs.Callers.{reads_as}
 use Rattle.permit_model.specs.Parcels.{Interest}
 use Rattle.permit_model.specs.Tables.{Tables, Paper}
 use Rattle.permit_sql_rows.specs.Schema.{office_schema}
-use Rattle.permit_sql_rows.specs.Rows.{int, desk_row, party_row, parcel_row, file_row, shown_desk, shown_party, shown_parcel, shown_file, shown_interest, shown_paper}
+use Rattle.permit_sql_rows.specs.Rows.{int, flag, desk_row, party_row, parcel_row, file_row, shown_desk, shown_party, shown_parcel, shown_file, shown_interest, shown_paper}
 use Rattle.permit_sql_rows.specs.Kept.{Keeps}
-use Rattle.permit_sql_statements.specs.Texts.{read_desk, read_party, find_party, read_parcel, find_parcel, find_interest, read_file, read_papers}
-use Rattle.permit_sql_statements.proofs.Lookups.{answers, put_out, spread, put_all_out, put_out_is, one_test, eq_is, text_is, finds_one}
-use Rattle.permit_sql_statements.proofs.QueryTexts.{read_desk_query, read_desk_is, read_desk_plain, read_desk_unlisted, read_party_query, read_party_is, read_party_plain, read_party_unlisted, find_party_query, find_party_is, find_party_plain, find_party_unlisted, read_parcel_query, read_parcel_is, read_parcel_plain, read_parcel_unlisted, find_parcel_query, find_parcel_is, find_parcel_plain, find_parcel_unlisted, find_interest_query, find_interest_is, find_interest_plain, find_interest_unlisted, read_file_query, read_file_is, read_file_plain, read_file_unlisted, read_papers_query, read_papers_is, read_papers_plain, read_papers_unlisted}
+use Rattle.permit_sql_statements.specs.declared.texts.TheConstants.{READ_DESK, READ_PARTY, FIND_PARTY, READ_PARCEL, FIND_PARCEL, FIND_INTEREST, READ_FILE, READ_PAPERS, FIND_NOTICE}
+use Rattle.permit_sql_statements.proofs.Lookups.{plain_query, answers, put_out, spread, put_all_out, put_out_is, one_test, eq_is, text_is, finds_one}
+use Rattle.permit_sql_statements.proofs.QueryTexts.{read_desk_query, read_desk_is, read_desk_plain, read_desk_unlisted, read_party_query, read_party_is, read_party_plain, read_party_unlisted, find_party_query, find_party_is, find_party_plain, find_party_unlisted, read_parcel_query, read_parcel_is, read_parcel_plain, read_parcel_unlisted, find_parcel_query, find_parcel_is, find_parcel_plain, find_parcel_unlisted, find_interest_query, find_interest_is, find_interest_plain, find_interest_unlisted, read_file_query, read_file_is, read_file_plain, read_file_unlisted, read_papers_query, read_papers_is, read_papers_plain, read_papers_unlisted, find_notice_query, find_notice_is, find_notice_plain, find_notice_unlisted}
 
 module _ (old new : State) (t : Tables) (rows : List Row) (k : Keeps t old.now) where
-  pub desk_shown : Shown read_desk [] old new rows → rows ≡ shown_desk t.desk ∷ []
+  pub desk_shown : Shown READ_DESK.now [] old new rows → rows ≡ shown_desk t.desk ∷ []
   desk_shown h =
-      let read = reads_as read_desk [] old new office_schema k.schema _ read_desk_is read_desk_plain read_desk_unlisted rows h in
+      let read = reads_as READ_DESK.now [] old new office_schema k.schema _ read_desk_is read_desk_plain read_desk_unlisted rows h in
       finds_one desk_row shown_desk 0 read_desk_query.filter read_desk_query.project (overlay old.now.trees []) [] (t.desk ∷ []) (λ d. true) (λ d. refl) (λ d. refl)
       (IsPermutation-same _ _ (sym k.rows.desk)) (omega arith) rows (read.answer Null)
 
-  pub party_shown : (id : ℕ) → Shown read_party (int id ∷ []) old new rows → rows ≡ map shown_party (filter (λ p. eqb p.id id) t.parties)
+  pub party_shown : (id : ℕ) → Shown READ_PARTY.now (int id ∷ []) old new rows → rows ≡ map shown_party (filter (λ p. eqb p.id id) t.parties)
   party_shown id h =
-      let read = reads_as read_party (int id ∷ []) old new office_schema k.schema _ read_party_is read_party_plain read_party_unlisted rows h in
+      let read = reads_as READ_PARTY.now (int id ∷ []) old new office_schema k.schema _ read_party_is read_party_plain read_party_unlisted rows h in
       finds_one party_row shown_party 1 read_party_query.filter read_party_query.project (overlay old.now.trees []) (int id ∷ []) t.parties (λ p. eqb p.id id) (λ p. one_test _ ∙ eq_is p.id id) (λ p. refl)
       k.rows.parties (k.keyed.parties id) rows (read.answer Null)
 
-  pub digest_shown : (digest : List ℕ) → Shown find_party (Text digest ∷ []) old new rows → rows ≡ map shown_party (filter (λ p. bytes_eq p.digest digest) t.parties)
+  pub digest_shown : (digest : List ℕ) → Shown FIND_PARTY.now (Text digest ∷ []) old new rows → rows ≡ map shown_party (filter (λ p. bytes_eq p.digest digest) t.parties)
   digest_shown digest h =
-      let read = reads_as find_party (Text digest ∷ []) old new office_schema k.schema _ find_party_is find_party_plain find_party_unlisted rows h in
+      let read = reads_as FIND_PARTY.now (Text digest ∷ []) old new office_schema k.schema _ find_party_is find_party_plain find_party_unlisted rows h in
       finds_one party_row shown_party 1 find_party_query.filter find_party_query.project (overlay old.now.trees []) (Text digest ∷ []) t.parties (λ p. bytes_eq p.digest digest) (λ p. one_test _ ∙ text_is p.digest digest) (λ p. refl)
       k.rows.parties (k.keyed.digests digest) rows (read.answer Null)
 
-  pub parcel_shown : (id : ℕ) → Shown read_parcel (int id ∷ []) old new rows → rows ≡ map shown_parcel (filter (λ p. eqb p.id id) t.parcels)
+  pub parcel_shown : (id : ℕ) → Shown READ_PARCEL.now (int id ∷ []) old new rows → rows ≡ map shown_parcel (filter (λ p. eqb p.id id) t.parcels)
   parcel_shown id h =
-      let read = reads_as read_parcel (int id ∷ []) old new office_schema k.schema _ read_parcel_is read_parcel_plain read_parcel_unlisted rows h in
+      let read = reads_as READ_PARCEL.now (int id ∷ []) old new office_schema k.schema _ read_parcel_is read_parcel_plain read_parcel_unlisted rows h in
       finds_one parcel_row shown_parcel 3 read_parcel_query.filter read_parcel_query.project (overlay old.now.trees []) (int id ∷ []) t.parcels (λ p. eqb p.id id) (λ p. one_test _ ∙ eq_is p.id id) (λ p. refl)
       k.rows.parcels (k.keyed.parcels id) rows (read.answer Null)
 
-  pub lot_shown : (lot : List ℕ) → Shown find_parcel (Text lot ∷ []) old new rows → rows ≡ map shown_parcel (filter (λ p. bytes_eq p.lot lot) t.parcels)
+  pub lot_shown : (lot : List ℕ) → Shown FIND_PARCEL.now (Text lot ∷ []) old new rows → rows ≡ map shown_parcel (filter (λ p. bytes_eq p.lot lot) t.parcels)
   lot_shown lot h =
-      let read = reads_as find_parcel (Text lot ∷ []) old new office_schema k.schema _ find_parcel_is find_parcel_plain find_parcel_unlisted rows h in
+      let read = reads_as FIND_PARCEL.now (Text lot ∷ []) old new office_schema k.schema _ find_parcel_is find_parcel_plain find_parcel_unlisted rows h in
       finds_one parcel_row shown_parcel 3 find_parcel_query.filter find_parcel_query.project (overlay old.now.trees []) (Text lot ∷ []) t.parcels (λ p. bytes_eq p.lot lot) (λ p. one_test _ ∙ text_is p.lot lot) (λ p. refl)
       k.rows.parcels (k.keyed.lots lot) rows (read.answer Null)
 
-  pub file_shown : (id : ℕ) → Shown read_file (int id ∷ []) old new rows → rows ≡ map shown_file (filter (λ f. eqb f.id id) t.files)
+  pub file_shown : (id : ℕ) → Shown READ_FILE.now (int id ∷ []) old new rows → rows ≡ map shown_file (filter (λ f. eqb f.id id) t.files)
   file_shown id h =
-      let read = reads_as read_file (int id ∷ []) old new office_schema k.schema _ read_file_is read_file_plain read_file_unlisted rows h in
+      let read = reads_as READ_FILE.now (int id ∷ []) old new office_schema k.schema _ read_file_is read_file_plain read_file_unlisted rows h in
       finds_one file_row shown_file 7 read_file_query.filter read_file_query.project (overlay old.now.trees []) (int id ∷ []) t.files (λ f. eqb f.id id) (λ f. one_test _ ∙ eq_is f.id id) (λ f. refl)
       k.rows.files (k.keyed.files id) rows (read.answer Null)
 
   -- ---- tables whose rowid is of no account
 
-  pub interest_shown : (parcel party : ℕ) → Shown find_interest (int parcel ∷ int party ∷ []) old new rows → not (eqb (length rows) 0) ≡ list_any (λ i. eqb i.parcel parcel && eqb i.party party) t.interests
-  interest_shown parcel party h =
-      let params = int parcel ∷ int party ∷ [] in
-      let read = reads_as find_interest params old new office_schema k.schema _ find_interest_is find_interest_plain find_interest_unlisted rows h in
+  -- whether a row is shown: one that passes the test, of a table whose rowid is of no account
+  row_shown : {X : Type 0} (tree : ℕ) (enc : X → Row) (test : X → Bool) (filter_by project : List Term) (params : Row) (xs : List X)
+      → ((r : Row) → put_out (plain_query (inner tree end) filter_by project []) params r ≡ put_out (plain_query (inner tree end) filter_by project []) params (Null ∷ drop 1 r))
+      → ((x : X) → list_all (holds (params ∷ (Null ∷ enc x) ∷ [])) filter_by ≡ test x)
+      → IsPermutation (map enc xs) (map (drop 1) (overlay old.now.trees [] tree))
+      → IsAnswer (plain_query (inner tree end) filter_by project []) (overlay old.now.trees []) params rows
+      → not (eqb (length rows) 0) ≡ list_any test xs
+  row_shown {X} tree enc test filter_by project params xs cut tests kept answer =
+      let q = plain_query (inner tree end) filter_by project [] in
       let db = overlay old.now.trees [] in
-      let got = answers find_interest_query.from find_interest_query.filter find_interest_query.project [] db params rows (read.answer Null) in
-      let test : Interest → Bool = λ i. eqb i.parcel parcel && eqb i.party party in
-      let out : Interest → Output = λ i. output find_interest_query (params ∷ (Null ∷ shown_interest i) ∷ []) in
-      let part : Row → List Output = λ c. put_out find_interest_query params (Null ∷ c) in
-      let over : flat_map (put_out find_interest_query params) (db 5) ≡ flat_map part (map (drop 1) (db 5)) =
-      flat_map_same_on _ _ (cut parcel party) (db 5) ∙ sym (flat_map-map part (drop 1) (db 5)) in
-      let there = subst (λ l. IsPermutation l (flat_map part (map (drop 1) (db 5)))) (put_all_out part shown_interest test out
-      (λ i. put_out_is find_interest_query params (Null ∷ shown_interest i) (test i) (out i) (ap₂ ◌&&◌ (eq_is i.parcel parcel) (one_test _ ∙ eq_is i.party party)) refl) t.interests)
-      (IsPermutation-flat_map part _ _ k.rows.interests) in
-      let same = IsPermutation-trans _ _ _ there (subst (λ l. IsPermutation l got.0) (spread find_interest_query params (db 5) ∙ over) got.1) in
-      let counted : length rows ≡ length (filter test t.interests) = ap length got.3 ∙ long_map (λ (o : Output). o.1) got.0 ∙ length_permutation _ _ same ∙ long_map out _ in
-      ap (λ n. not (eqb n 0)) counted ∙ ap not (none_counted test t.interests) ∙ twice _
+      let got = answers (inner tree end) filter_by project [] db params rows answer in
+      let out : X → Output = λ x. output q (params ∷ (Null ∷ enc x) ∷ []) in
+      let part : Row → List Output = λ c. put_out q params (Null ∷ c) in
+      let over : flat_map (put_out q params) (db tree) ≡ flat_map part (map (drop 1) (db tree)) =
+      flat_map_same_on _ _ cut (db tree) ∙ sym (flat_map-map part (drop 1) (db tree)) in
+      let there = subst (λ l. IsPermutation l (flat_map part (map (drop 1) (db tree)))) (put_all_out part enc test out
+      (λ x. put_out_is q params (Null ∷ enc x) (test x) (out x) (tests x) refl) xs)
+      (IsPermutation-flat_map part _ _ kept) in
+      let same = IsPermutation-trans _ _ _ there (subst (λ l. IsPermutation l got.0) (spread q params (db tree) ∙ over) got.1) in
+      let counted : length rows ≡ length (filter test xs) = ap length got.3 ∙ long_map (λ (o : Output). o.1) got.0 ∙ length_permutation _ _ same ∙ long_map out _ in
+      ap (λ n. not (eqb n 0)) counted ∙ ap not (none_counted test xs) ∙ twice _
     where
       long_map : {A B : Type 0} (f : A → B) (xs : List A) → length (map f xs) ≡ length xs
       long_map f [] = refl
@@ -88,14 +97,36 @@ module _ (old new : State) (t : Tables) (rows : List Row) (k : Keeps t old.now) 
       twice true = refl
       twice false = refl
 
+  pub interest_shown : (parcel party : ℕ) → Shown FIND_INTEREST.now (int parcel ∷ int party ∷ []) old new rows → not (eqb (length rows) 0) ≡ list_any (λ i. eqb i.parcel parcel && eqb i.party party) t.interests
+  interest_shown parcel party h =
+      let params = int parcel ∷ int party ∷ [] in
+      let read = reads_as FIND_INTEREST.now params old new office_schema k.schema _ find_interest_is find_interest_plain find_interest_unlisted rows h in
+      row_shown 5 shown_interest (λ i. eqb i.parcel parcel && eqb i.party party) find_interest_query.filter find_interest_query.project params t.interests (cut parcel party)
+      (λ i. ap₂ ◌&&◌ (eq_is i.parcel parcel) (one_test _ ∙ eq_is i.party party)) k.rows.interests (read.answer Null)
+    where
       cut : (parcel party : ℕ) (r : Row) → put_out find_interest_query (int parcel ∷ int party ∷ []) r ≡ put_out find_interest_query (int parcel ∷ int party ∷ []) (Null ∷ drop 1 r)
       cut parcel party [] = refl
       cut parcel party (x ∷ r) = refl
 
-  pub papers_shown : (file : ℕ) → Shown read_papers (int file ∷ []) old new rows → rows ≡ map shown_paper (filter (λ p. eqb p.file file) t.papers)
+  pub notice_shown : (file number : ℕ) → Shown FIND_NOTICE.now (int file ∷ int number ∷ []) old new rows → not (eqb (length rows) 0) ≡ list_any (λ p. eqb p.file file && (p.is_open && eqb p.number number)) t.papers
+  notice_shown file number h =
+      let params = int file ∷ int number ∷ [] in
+      let read = reads_as FIND_NOTICE.now params old new office_schema k.schema _ find_notice_is find_notice_plain find_notice_unlisted rows h in
+      row_shown 8 shown_paper (λ p. eqb p.file file && (p.is_open && eqb p.number number)) find_notice_query.filter find_notice_query.project params t.papers (cut file number)
+      (λ p. ap₂ ◌&&◌ (eq_is p.file file) (ap₂ ◌&&◌ (flag_equals p.is_open) (one_test _ ∙ eq_is p.number number))) k.rows.papers (read.answer Null)
+    where
+      cut : (file number : ℕ) (r : Row) → put_out find_notice_query (int file ∷ int number ∷ []) r ≡ put_out find_notice_query (int file ∷ int number ∷ []) (Null ∷ drop 1 r)
+      cut file number [] = refl
+      cut file number (x ∷ r) = refl
+
+      flag_equals : (b : Bool) → is_true (binary (Compare Eq Binary) (flag b) (int 1)) ≡ b
+      flag_equals true = eq_is 1 1
+      flag_equals false = eq_is 0 1
+
+  pub papers_shown : (file : ℕ) → Shown READ_PAPERS.now (int file ∷ []) old new rows → rows ≡ map shown_paper (filter (λ p. eqb p.file file) t.papers)
   papers_shown file h =
       let params = int file ∷ [] in
-      let read = reads_as read_papers params old new office_schema k.schema _ read_papers_is read_papers_plain read_papers_unlisted rows h in
+      let read = reads_as READ_PAPERS.now params old new office_schema k.schema _ read_papers_is read_papers_plain read_papers_unlisted rows h in
       let db = overlay old.now.trees [] in
       let got = answers read_papers_query.from read_papers_query.filter read_papers_query.project read_papers_query.order db params rows (read.answer Null) in
       let test : Paper → Bool = λ p. eqb p.file file in

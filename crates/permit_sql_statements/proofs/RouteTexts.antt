@@ -19,7 +19,7 @@ use Rattle.permit_base.specs.declared.route.By.TheVariants.{Whole, One, Two}
 use Rattle.permit_base.specs.declared.route.Route.{Route}
 use Rattle.permit_base.specs.declared.route.Route.TheVariants.{Every, Cell}
 use Rattle.permit_sql_rows.specs.Schema.{office_schema}
-use Rattle.permit_sql_statements.specs.RouteTexts.{select_every, select_whole}
+use Rattle.permit_sql_statements.specs.declared.question.TheConstants.{EVERY, WHOLE}
 use Rattle.permit_sql_statements.specs.Selected.{text_by, text_for, leader}
 use Rattle.permit_sql_statements.proofs.Lookups.{plain_query, equals}
 use Rattle.permit_sql_statements.proofs.QueryTexts.{alone, names_of}
@@ -126,11 +126,11 @@ means_by AssignedReviewer = (refl, (refl, refl), refl)
 means_by AssignedInspector = (refl, (refl, refl), refl)
 means_by Conflict = (refl, (refl, refl), refl)
 
-means_every : Means select_every every_query
+means_every : Means EVERY.now every_query
 unfolding understood everything
 means_every = (refl, (refl, refl), refl)
 
-means_whole : Means select_whole whole_query
+means_whole : Means WHOLE.now whole_query
 unfolding understood everything
 means_whole = (refl, (refl, refl), refl)
 

@@ -1,7 +1,5 @@
 pub use Rattle.permit_sql_rows.specs.Schema
 pub use Rattle.permit_sql_rows.specs.Kept
-pub mod Texts
-pub mod RouteTexts
 pub mod Selected
 pub mod Gave
 pub mod Statements

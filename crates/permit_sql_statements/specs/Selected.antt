@@ -19,18 +19,18 @@ use Rattle.permit_model.specs.Routes.{Found}
 use Rattle.permit_store.specs.Handing.{AreFound}
 use Rattle.permit_sql_rows.specs.Kept.{IsNamed}
 use Rattle.permit_sql_rows.specs.Rows.{int, flag, shown_found}
-use Rattle.permit_sql_statements.specs.RouteTexts.{select_every, select_whole, select_applicant, select_contractor, select_owner, select_reviewer, select_inspector, select_conflict, select_as_applicant, select_as_contractor, select_as_owner, select_as_reviewer, select_as_inspector, select_as_conflict}
+use Rattle.permit_sql_statements.specs.declared.question.TheConstants.{EVERY, WHOLE, BY_APPLICANT, BY_CONTRACTOR, BY_OWNER, BY_REVIEWER, BY_INSPECTOR, BY_CONFLICT, AS_APPLICANT, AS_CONTRACTOR, AS_OWNER, AS_REVIEWER, AS_INSPECTOR, AS_CONFLICT}
 
 -- ---- the question
 
 -- the text by whose relation the rows are looked up
 abbrev pub text_by : Relation → List ℕ
-text_by Applicant = select_applicant
-text_by Contractor = select_contractor
-text_by Owner = select_owner
-text_by AssignedReviewer = select_reviewer
-text_by AssignedInspector = select_inspector
-text_by Conflict = select_conflict
+text_by Applicant = BY_APPLICANT.now
+text_by Contractor = BY_CONTRACTOR.now
+text_by Owner = BY_OWNER.now
+text_by AssignedReviewer = BY_REVIEWER.now
+text_by AssignedInspector = BY_INSPECTOR.now
+text_by Conflict = BY_CONFLICT.now
 
 -- of two relations the one whose text is taken, which is the second where the first is a conflict
 abbrev pub leader : Relation → Relation → Relation
@@ -51,8 +51,8 @@ follower AssignedInspector b = b
 follower Conflict b = Conflict
 
 abbrev pub text_for : Route → List ℕ
-text_for Every = select_every
-text_for (Cell Whole s b t) = select_whole
+text_for Every = EVERY.now
+text_for (Cell Whole s b t) = WHOLE.now
 text_for (Cell (One r) s b t) = text_by r
 text_for (Cell (Two a c) s b t) = text_by (leader a c)
 
@@ -116,12 +116,12 @@ count_for (Cell (Two a c) s b t) = count_by (leader a c)
 
 -- the text by the relation alone
 abbrev pub text_alone : Relation → List ℕ
-text_alone Applicant = select_as_applicant
-text_alone Contractor = select_as_contractor
-text_alone Owner = select_as_owner
-text_alone AssignedReviewer = select_as_reviewer
-text_alone AssignedInspector = select_as_inspector
-text_alone Conflict = select_as_conflict
+text_alone Applicant = AS_APPLICANT.now
+text_alone Contractor = AS_CONTRACTOR.now
+text_alone Owner = AS_OWNER.now
+text_alone AssignedReviewer = AS_REVIEWER.now
+text_alone AssignedInspector = AS_INSPECTOR.now
+text_alone Conflict = AS_CONFLICT.now
 
 -- the relation by which a selection is looked up
 abbrev pub relation_of : Route → Option Relation
@@ -133,7 +133,7 @@ relation_of (Cell (Two a c) s b t) = Some (leader a c)
 -- The text shows the rows of each of these selections, and may show others: it is by a relation by which each is looked
 -- up, or shows every row.
 abbrev pub ShowsEach : List Route → List ℕ → Type 0
-ShowsEach routes text = (text ≡ select_every) ⊎ ((r : Relation) × AllByRecursion (λ route. relation_of route ≡ Some r) routes × (text ≡ text_alone r))
+ShowsEach routes text = (text ≡ EVERY.now) ⊎ ((r : Relation) × AllByRecursion (λ route. relation_of route ≡ Some r) routes × (text ≡ text_alone r))
 
 -- ---- the answer
 

@@ -7,7 +7,7 @@ use Rattle.sqlite.specs.State.{Executes}
 use Rattle.sqlite.specs.Held.{Held, state}
 use Rattle.permit_model.specs.Tables.{Desk}
 use Rattle.permit_sql_rows.specs.Rows.{int}
-use Rattle.permit_sql_statements.specs.Texts.{write_desk}
+use Rattle.permit_sql_statements.specs.declared.texts.TheConstants.{WRITE_DESK}
 
 -- a text and its parameters
 abbrev pub Statement : Type 0
@@ -15,7 +15,7 @@ Statement = List ℕ × Row
 
 -- the statement that sets the desk's row
 abbrev pub desk_statement : Desk → Statement
-desk_statement d = (write_desk, int d.last ∷ int d.parties ∷ int d.parcels ∷ int d.files ∷ [])
+desk_statement d = (WRITE_DESK.now, int d.last ∷ int d.parties ∷ int d.parcels ∷ int d.files ∷ [])
 
 module _ {S : Type 0} (g : Ghosts S) where
   abbrev pub Ran : List Statement → Held S → Held S → Type 0

@@ -12,6 +12,7 @@ ghost use Rattle.permit_store.specs.declared.change.RowEffect.TheVariants as eff
 ghost use Rattle.permit_sql_rows.specs.Kept.{IsNamed, Keeps, Shows};
 
 use crate::read::read_desk;
+use crate::texts::{ADD_FILE, ADD_INTEREST, ADD_PAPER, ADD_PARCEL, ADD_PARTY, CLOSE_NOTICE, SET_OWNER, WRITE_DESK, WRITE_FILE};
 use crate::turns::{turn_three, turn_two};
 use permit_base::limits::number_after;
 use permit_base::values::{
@@ -26,14 +27,6 @@ use permit_sql_rows::values::{
 use permit_store::rows::{Change, Desk, NewPaper, RowEffect};
 use permit_store::store::{Got, StoreError};
 use sqlite::{Alter, Connection};
-
-/// Sets the desk's row.
-const SET_DESK: &str =
-    "UPDATE desk SET last = ?1, parties = ?2, parcels = ?3, files = ?4 WHERE id = 1";
-
-/// Sets what may change in a file's row.
-const SET_FILE: &str =
-    "UPDATE file SET contractor = ?2, reviewer = ?3, inspector = ?4, kind = ?5, filed = ?6, stage = ?7, deadline = ?8, done = ?9, request = ?10, requested = ?11, ask = ?12, stopped = ?13, notices = ?14, papers = ?15, temporary = ?16 WHERE id = ?1";
 
 /// A party's number isn't 0.
 fn is_party(party: Option<PartyId>)
@@ -88,9 +81,9 @@ fn add_party<S: Alter>(
     let office = desk_values(desk);
     turn_two(
         conn,
-        "INSERT INTO party (id, name, role, digest) VALUES (?1, ?2, ?3, ?4)",
+        ADD_PARTY,
         &party,
-        SET_DESK,
+        WRITE_DESK,
         &office,
     )
 }
@@ -117,9 +110,9 @@ fn add_parcel<S: Alter>(
     let office = desk_values(desk);
     turn_two(
         conn,
-        "INSERT INTO parcel (id, lot, address, owner) VALUES (?1, ?2, ?3, ?4)",
+        ADD_PARCEL,
         &parcel,
-        SET_DESK,
+        WRITE_DESK,
         &office,
     )
 }
@@ -145,9 +138,9 @@ fn set_owner<S: Alter>(
     let office = desk_values(desk);
     turn_two(
         conn,
-        "UPDATE parcel SET owner = ?2 WHERE id = ?1",
+        SET_OWNER,
         &pair,
-        SET_DESK,
+        WRITE_DESK,
         &office,
     )
 }
@@ -173,9 +166,9 @@ fn add_interest<S: Alter>(
     let office = desk_values(desk);
     turn_two(
         conn,
-        "INSERT INTO interest (parcel, party) VALUES (?1, ?2)",
+        ADD_INTEREST,
         &pair,
-        SET_DESK,
+        WRITE_DESK,
         &office,
     )
 }
@@ -202,9 +195,9 @@ fn add_file<S: Alter>(
     let office = desk_values(desk);
     turn_two(
         conn,
-        "INSERT INTO file (id, parcel, applicant, contractor, reviewer, inspector, kind, valuation, description, filed, stage, deadline, done, request, requested, ask, stopped, notices, papers, temporary) VALUES (?1, ?2, ?3, ?4, ?5, ?6, ?7, ?8, ?9, ?10, ?11, ?12, ?13, ?14, ?15, ?16, ?17, ?18, ?19, ?20)",
+        ADD_FILE,
         &file,
-        SET_DESK,
+        WRITE_DESK,
         &office,
     )
 }
@@ -228,7 +221,7 @@ fn set_row<S: Alter>(
 {
     let fields = row_values(file, &fields_of(new));
     let office = desk_values(desk);
-    turn_two(conn, SET_FILE, &fields, SET_DESK, &office)
+    turn_two(conn, WRITE_FILE, &fields, WRITE_DESK, &office)
 }
 
 /// Sets a file's row and adds a paper on the desk's day, whose number is the row's count of papers.
@@ -255,11 +248,11 @@ fn add_paper<S: Alter>(
     let office = desk_values(desk);
     turn_three(
         conn,
-        SET_FILE,
+        WRITE_FILE,
         &fields,
-        "INSERT INTO paper (file, number, day, author, sort, days, text, terms, open) VALUES (?1, ?2, ?3, ?4, ?5, ?6, ?7, ?8, ?9)",
+        ADD_PAPER,
         &added,
-        SET_DESK,
+        WRITE_DESK,
         &office,
     )
 }
@@ -287,11 +280,11 @@ fn close_notice<S: Alter>(
     let office = desk_values(desk);
     turn_three(
         conn,
-        SET_FILE,
+        WRITE_FILE,
         &fields,
-        "UPDATE paper SET open = 0 WHERE file = ?1 AND number = ?2",
+        CLOSE_NOTICE,
         &pair,
-        SET_DESK,
+        WRITE_DESK,
         &office,
     )
 }

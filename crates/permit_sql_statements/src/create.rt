@@ -12,49 +12,11 @@ ghost use Rattle.permit_sql_statements.specs.Founding.{founding_statements};
 ghost use Rattle.permit_sql_rows.specs.Kept.{Keeps};
 
 use crate::statements::{Statement, run_all};
+use crate::texts::{ADD_PARTY, CREATE_DESK, CREATE_FILE, CREATE_INTEREST, CREATE_PAPER, CREATE_PARCEL, CREATE_PARTY, FOUND_DESK, INDEX_APPLICANT, INDEX_CELL, INDEX_CONTRACTOR, INDEX_INSPECTOR, INDEX_INTERESTED, INDEX_OWNER, INDEX_PARCEL, INDEX_REVIEWER};
 use permit_base::words::Role;
 use permit_store::founder::Founder;
 use sqlite::{Alter, Connection, Error, params};
 use sqlite_value::value::ValueRef;
-
-const DESK_TABLE: &str =
-    "CREATE TABLE desk (id INTEGER PRIMARY KEY, version INTEGER NOT NULL, last INTEGER NOT NULL, parties INTEGER NOT NULL, parcels INTEGER NOT NULL, files INTEGER NOT NULL) STRICT";
-
-const PARTY_TABLE: &str =
-    "CREATE TABLE party (id INTEGER PRIMARY KEY, name TEXT NOT NULL, role INTEGER NOT NULL, digest TEXT NOT NULL UNIQUE) STRICT";
-
-const PARCEL_TABLE: &str =
-    "CREATE TABLE parcel (id INTEGER PRIMARY KEY, lot TEXT NOT NULL UNIQUE, address TEXT NOT NULL, owner INTEGER NOT NULL REFERENCES party) STRICT";
-
-const INTEREST_TABLE: &str =
-    "CREATE TABLE interest (parcel INTEGER NOT NULL REFERENCES parcel, party INTEGER NOT NULL REFERENCES party, PRIMARY KEY (parcel, party)) STRICT";
-
-const FILE_TABLE: &str =
-    "CREATE TABLE file (id INTEGER PRIMARY KEY, parcel INTEGER NOT NULL REFERENCES parcel, applicant INTEGER NOT NULL REFERENCES party, contractor INTEGER NOT NULL, reviewer INTEGER NOT NULL, inspector INTEGER NOT NULL, kind INTEGER NOT NULL, valuation INTEGER NOT NULL, description TEXT NOT NULL, filed INTEGER NOT NULL, stage INTEGER NOT NULL, deadline INTEGER NOT NULL, done INTEGER NOT NULL, request INTEGER NOT NULL, requested INTEGER NOT NULL, ask INTEGER NOT NULL, stopped INTEGER NOT NULL, notices INTEGER NOT NULL, papers INTEGER NOT NULL, temporary INTEGER NOT NULL) STRICT";
-
-const PAPER_TABLE: &str =
-    "CREATE TABLE paper (file INTEGER NOT NULL REFERENCES file, number INTEGER NOT NULL, day INTEGER NOT NULL, author INTEGER NOT NULL, sort INTEGER NOT NULL, days INTEGER NOT NULL, text TEXT NOT NULL, terms TEXT NOT NULL, open INTEGER NOT NULL, PRIMARY KEY (file, number)) STRICT";
-
-const FILE_CELL_INDEX: &str = "CREATE INDEX file_cell ON file (stage, stopped, deadline)";
-
-const FILE_APPLICANT_INDEX: &str = "CREATE INDEX file_applicant ON file (applicant)";
-
-const FILE_CONTRACTOR_INDEX: &str = "CREATE INDEX file_contractor ON file (contractor)";
-
-const FILE_REVIEWER_INDEX: &str = "CREATE INDEX file_reviewer ON file (reviewer)";
-
-const FILE_INSPECTOR_INDEX: &str = "CREATE INDEX file_inspector ON file (inspector)";
-
-const FILE_PARCEL_INDEX: &str = "CREATE INDEX file_parcel ON file (parcel)";
-
-const PARCEL_OWNER_INDEX: &str = "CREATE INDEX parcel_owner ON parcel (owner)";
-
-const INTEREST_PARTY_INDEX: &str = "CREATE INDEX interest_party ON interest (party)";
-
-const DESK_ROW: &str =
-    "INSERT INTO desk (id, version, last, parties, parcels, files) VALUES (1, 1, ?1, 1, 0, 0)";
-
-const PARTY_ROW: &str = "INSERT INTO party (id, name, role, digest) VALUES (?1, ?2, ?3, ?4)";
 
 /// A text and its parameters.
 fn statement<'a>(text: &'a str, params: &'a [ValueRef<'a>]) -> Statement<'a>
@@ -82,22 +44,22 @@ fn found<'a, S: Alter>(
     run_all(
         conn,
         &[
-            statement(DESK_TABLE, none),
-            statement(PARTY_TABLE, none),
-            statement(PARCEL_TABLE, none),
-            statement(INTEREST_TABLE, none),
-            statement(FILE_TABLE, none),
-            statement(PAPER_TABLE, none),
-            statement(FILE_CELL_INDEX, none),
-            statement(FILE_APPLICANT_INDEX, none),
-            statement(FILE_CONTRACTOR_INDEX, none),
-            statement(FILE_REVIEWER_INDEX, none),
-            statement(FILE_INSPECTOR_INDEX, none),
-            statement(FILE_PARCEL_INDEX, none),
-            statement(PARCEL_OWNER_INDEX, none),
-            statement(INTEREST_PARTY_INDEX, none),
-            statement(DESK_ROW, desk),
-            statement(PARTY_ROW, party),
+            statement(CREATE_DESK, none),
+            statement(CREATE_PARTY, none),
+            statement(CREATE_PARCEL, none),
+            statement(CREATE_INTEREST, none),
+            statement(CREATE_FILE, none),
+            statement(CREATE_PAPER, none),
+            statement(INDEX_CELL, none),
+            statement(INDEX_APPLICANT, none),
+            statement(INDEX_CONTRACTOR, none),
+            statement(INDEX_REVIEWER, none),
+            statement(INDEX_INSPECTOR, none),
+            statement(INDEX_PARCEL, none),
+            statement(INDEX_OWNER, none),
+            statement(INDEX_INTERESTED, none),
+            statement(FOUND_DESK, desk),
+            statement(ADD_PARTY, party),
         ],
     )
 }

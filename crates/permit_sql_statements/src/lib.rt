@@ -12,4 +12,5 @@ mod question;
 pub mod read;
 pub mod select;
 mod statements;
+pub mod texts;
 mod turns;

@@ -17,47 +17,47 @@ use sqlite_value::value::ValueRef;
 // Each text's first parameter is the caller. In those by a relation a plus before the cell's columns keeps them from the
 // choice of an index, so that the relation's own leads. An interest leads to the files of its parcel, each as often as it
 // is kept, and nothing says that none is kept twice: hence the DISTINCT.
-const EVERY: &str =
+pub(crate) const EVERY: &str =
     "SELECT file.id, file.parcel, applicant, contractor, reviewer, inspector, kind, valuation, description, filed, stage, deadline, done, request, requested, ask, stopped, notices, papers, temporary, parcel.owner, EXISTS (SELECT 1 FROM interest WHERE interest.parcel = file.parcel AND interest.party = ?1) FROM file LEFT JOIN parcel ON parcel.id = file.parcel ORDER BY file.id";
 
-const WHOLE: &str =
+pub(crate) const WHOLE: &str =
     "SELECT file.id, file.parcel, applicant, contractor, reviewer, inspector, kind, valuation, description, filed, stage, deadline, done, request, requested, ask, stopped, notices, papers, temporary, parcel.owner, EXISTS (SELECT 1 FROM interest WHERE interest.parcel = file.parcel AND interest.party = ?1) FROM file LEFT JOIN parcel ON parcel.id = file.parcel WHERE stage = ?2 AND stopped = ?3 AND deadline >= ?4 AND deadline < ?5 ORDER BY file.id";
 
-const BY_APPLICANT: &str =
+pub(crate) const BY_APPLICANT: &str =
     "SELECT file.id, file.parcel, applicant, contractor, reviewer, inspector, kind, valuation, description, filed, stage, deadline, done, request, requested, ask, stopped, notices, papers, temporary, parcel.owner, EXISTS (SELECT 1 FROM interest WHERE interest.parcel = file.parcel AND interest.party = ?1) FROM file LEFT JOIN parcel ON parcel.id = file.parcel WHERE applicant = ?1 AND +stage = ?2 AND +stopped = ?3 AND +deadline >= ?4 AND +deadline < ?5 AND (?6 = 0 OR (?6 = 1 AND applicant = ?1) OR (?6 = 2 AND contractor = ?1) OR (?6 = 3 AND parcel.owner = ?1) OR (?6 = 4 AND reviewer = ?1) OR (?6 = 5 AND inspector = ?1) OR (?6 = 6 AND EXISTS (SELECT 1 FROM interest WHERE interest.parcel = file.parcel AND interest.party = ?1))) ORDER BY file.id";
 
-const BY_CONTRACTOR: &str =
+pub(crate) const BY_CONTRACTOR: &str =
     "SELECT file.id, file.parcel, applicant, contractor, reviewer, inspector, kind, valuation, description, filed, stage, deadline, done, request, requested, ask, stopped, notices, papers, temporary, parcel.owner, EXISTS (SELECT 1 FROM interest WHERE interest.parcel = file.parcel AND interest.party = ?1) FROM file LEFT JOIN parcel ON parcel.id = file.parcel WHERE contractor = ?1 AND +stage = ?2 AND +stopped = ?3 AND +deadline >= ?4 AND +deadline < ?5 AND (?6 = 0 OR (?6 = 1 AND applicant = ?1) OR (?6 = 2 AND contractor = ?1) OR (?6 = 3 AND parcel.owner = ?1) OR (?6 = 4 AND reviewer = ?1) OR (?6 = 5 AND inspector = ?1) OR (?6 = 6 AND EXISTS (SELECT 1 FROM interest WHERE interest.parcel = file.parcel AND interest.party = ?1))) ORDER BY file.id";
 
-const BY_OWNER: &str =
+pub(crate) const BY_OWNER: &str =
     "SELECT file.id, file.parcel, applicant, contractor, reviewer, inspector, kind, valuation, description, filed, stage, deadline, done, request, requested, ask, stopped, notices, papers, temporary, parcel.owner, EXISTS (SELECT 1 FROM interest WHERE interest.parcel = file.parcel AND interest.party = ?1) FROM parcel JOIN file ON file.parcel = parcel.id WHERE parcel.owner = ?1 AND +stage = ?2 AND +stopped = ?3 AND +deadline >= ?4 AND +deadline < ?5 AND (?6 = 0 OR (?6 = 1 AND applicant = ?1) OR (?6 = 2 AND contractor = ?1) OR (?6 = 3 AND parcel.owner = ?1) OR (?6 = 4 AND reviewer = ?1) OR (?6 = 5 AND inspector = ?1) OR (?6 = 6 AND EXISTS (SELECT 1 FROM interest WHERE interest.parcel = file.parcel AND interest.party = ?1))) ORDER BY file.id";
 
-const BY_REVIEWER: &str =
+pub(crate) const BY_REVIEWER: &str =
     "SELECT file.id, file.parcel, applicant, contractor, reviewer, inspector, kind, valuation, description, filed, stage, deadline, done, request, requested, ask, stopped, notices, papers, temporary, parcel.owner, EXISTS (SELECT 1 FROM interest WHERE interest.parcel = file.parcel AND interest.party = ?1) FROM file LEFT JOIN parcel ON parcel.id = file.parcel WHERE reviewer = ?1 AND +stage = ?2 AND +stopped = ?3 AND +deadline >= ?4 AND +deadline < ?5 AND (?6 = 0 OR (?6 = 1 AND applicant = ?1) OR (?6 = 2 AND contractor = ?1) OR (?6 = 3 AND parcel.owner = ?1) OR (?6 = 4 AND reviewer = ?1) OR (?6 = 5 AND inspector = ?1) OR (?6 = 6 AND EXISTS (SELECT 1 FROM interest WHERE interest.parcel = file.parcel AND interest.party = ?1))) ORDER BY file.id";
 
-const BY_INSPECTOR: &str =
+pub(crate) const BY_INSPECTOR: &str =
     "SELECT file.id, file.parcel, applicant, contractor, reviewer, inspector, kind, valuation, description, filed, stage, deadline, done, request, requested, ask, stopped, notices, papers, temporary, parcel.owner, EXISTS (SELECT 1 FROM interest WHERE interest.parcel = file.parcel AND interest.party = ?1) FROM file LEFT JOIN parcel ON parcel.id = file.parcel WHERE inspector = ?1 AND +stage = ?2 AND +stopped = ?3 AND +deadline >= ?4 AND +deadline < ?5 AND (?6 = 0 OR (?6 = 1 AND applicant = ?1) OR (?6 = 2 AND contractor = ?1) OR (?6 = 3 AND parcel.owner = ?1) OR (?6 = 4 AND reviewer = ?1) OR (?6 = 5 AND inspector = ?1) OR (?6 = 6 AND EXISTS (SELECT 1 FROM interest WHERE interest.parcel = file.parcel AND interest.party = ?1))) ORDER BY file.id";
 
-const BY_CONFLICT: &str =
+pub(crate) const BY_CONFLICT: &str =
     "SELECT DISTINCT file.id, file.parcel, applicant, contractor, reviewer, inspector, kind, valuation, description, filed, stage, deadline, done, request, requested, ask, stopped, notices, papers, temporary, parcel.owner, EXISTS (SELECT 1 FROM interest WHERE interest.parcel = file.parcel AND interest.party = ?1) FROM interest JOIN file ON interest.parcel = file.parcel LEFT JOIN parcel ON parcel.id = file.parcel WHERE interest.party = ?1 AND +stage = ?2 AND +stopped = ?3 AND +deadline >= ?4 AND +deadline < ?5 ORDER BY file.id";
 
 // By a relation alone, for several selections at once. Each cell is then told by the typed row.
-const AS_APPLICANT: &str =
+pub(crate) const AS_APPLICANT: &str =
     "SELECT file.id, file.parcel, applicant, contractor, reviewer, inspector, kind, valuation, description, filed, stage, deadline, done, request, requested, ask, stopped, notices, papers, temporary, parcel.owner, EXISTS (SELECT 1 FROM interest WHERE interest.parcel = file.parcel AND interest.party = ?1) FROM file LEFT JOIN parcel ON parcel.id = file.parcel WHERE applicant = ?1";
 
-const AS_CONTRACTOR: &str =
+pub(crate) const AS_CONTRACTOR: &str =
     "SELECT file.id, file.parcel, applicant, contractor, reviewer, inspector, kind, valuation, description, filed, stage, deadline, done, request, requested, ask, stopped, notices, papers, temporary, parcel.owner, EXISTS (SELECT 1 FROM interest WHERE interest.parcel = file.parcel AND interest.party = ?1) FROM file LEFT JOIN parcel ON parcel.id = file.parcel WHERE contractor = ?1";
 
-const AS_OWNER: &str =
+pub(crate) const AS_OWNER: &str =
     "SELECT file.id, file.parcel, applicant, contractor, reviewer, inspector, kind, valuation, description, filed, stage, deadline, done, request, requested, ask, stopped, notices, papers, temporary, parcel.owner, EXISTS (SELECT 1 FROM interest WHERE interest.parcel = file.parcel AND interest.party = ?1) FROM parcel JOIN file ON file.parcel = parcel.id WHERE parcel.owner = ?1";
 
-const AS_REVIEWER: &str =
+pub(crate) const AS_REVIEWER: &str =
     "SELECT file.id, file.parcel, applicant, contractor, reviewer, inspector, kind, valuation, description, filed, stage, deadline, done, request, requested, ask, stopped, notices, papers, temporary, parcel.owner, EXISTS (SELECT 1 FROM interest WHERE interest.parcel = file.parcel AND interest.party = ?1) FROM file LEFT JOIN parcel ON parcel.id = file.parcel WHERE reviewer = ?1";
 
-const AS_INSPECTOR: &str =
+pub(crate) const AS_INSPECTOR: &str =
     "SELECT file.id, file.parcel, applicant, contractor, reviewer, inspector, kind, valuation, description, filed, stage, deadline, done, request, requested, ask, stopped, notices, papers, temporary, parcel.owner, EXISTS (SELECT 1 FROM interest WHERE interest.parcel = file.parcel AND interest.party = ?1) FROM file LEFT JOIN parcel ON parcel.id = file.parcel WHERE inspector = ?1";
 
-const AS_CONFLICT: &str =
+pub(crate) const AS_CONFLICT: &str =
     "SELECT DISTINCT file.id, file.parcel, applicant, contractor, reviewer, inspector, kind, valuation, description, filed, stage, deadline, done, request, requested, ask, stopped, notices, papers, temporary, parcel.owner, EXISTS (SELECT 1 FROM interest WHERE interest.parcel = file.parcel AND interest.party = ?1) FROM interest JOIN file ON interest.parcel = file.parcel LEFT JOIN parcel ON parcel.id = file.parcel WHERE interest.party = ?1";
 
 /// The text by the relation that leads.

@@ -12,8 +12,13 @@ ghost use Rattle.permit_sql_rows.specs.Rows.{shown_desk, shown_party, shown_parc
 ghost use Rattle.permit_sql_rows.specs.Kept.{Keeps, Shows, IsNamed};
 
 use crate::query::rows_of;
-use permit_base::values::{Digest, FileId, Lot, ParcelId, PartyId};
-use permit_sql_rows::decode::{desk_in, file_in, paper_in, parcel_in, party_in};
+use crate::texts::{
+    FIND_INTEREST, FIND_NOTICE, FIND_PARCEL, FIND_PARTY, READ_DESK, READ_FILE, READ_PAPERS,
+    READ_PARCEL, READ_PARTY,
+};
+use permit_base::values::{Digest, FileId, Lot, PaperNumber, ParcelId, PartyId};
+use permit_core::state::FileState;
+use permit_sql_rows::decode::{desk_in, file_in, paper_in, parcel_in, party_in, state_in};
 use permit_store::rows::{Desk, FileRow, Paper, Parcel, Party};
 use permit_store::store::{Got, StoreError};
 use sqlite::{Alter, Connection, Row, params};
@@ -31,7 +36,7 @@ fn desk_rows<S: Alter>(conn: &mut Connection<S>) -> Got<Vec<Row>>
 {
     rows_of(
         conn,
-        "SELECT id, version, last, parties, parcels, files FROM desk",
+        READ_DESK,
         &[],
     )
 }
@@ -48,7 +53,7 @@ fn party_rows<S: Alter>(conn: &mut Connection<S>, party: PartyId) -> Got<Vec<Row
 {
     rows_of(
         conn,
-        "SELECT id, name, role, digest FROM party WHERE id = ?1",
+        READ_PARTY,
         params![party.get()],
     )
 }
@@ -65,7 +70,7 @@ fn digest_rows<S: Alter>(conn: &mut Connection<S>, digest: &Digest) -> Got<Vec<R
 {
     rows_of(
         conn,
-        "SELECT id, name, role, digest FROM party WHERE digest = ?1",
+        FIND_PARTY,
         params![digest.as_str()],
     )
 }
@@ -82,7 +87,7 @@ fn parcel_rows<S: Alter>(conn: &mut Connection<S>, parcel: ParcelId) -> Got<Vec<
 {
     rows_of(
         conn,
-        "SELECT id, lot, address, owner FROM parcel WHERE id = ?1",
+        READ_PARCEL,
         params![parcel.get()],
     )
 }
@@ -99,7 +104,7 @@ fn lot_rows<S: Alter>(conn: &mut Connection<S>, lot: &Lot) -> Got<Vec<Row>>
 {
     rows_of(
         conn,
-        "SELECT id, lot, address, owner FROM parcel WHERE lot = ?1",
+        FIND_PARCEL,
         params![lot.as_str()],
     )
 }
@@ -120,7 +125,7 @@ fn interest_rows<S: Alter>(
 {
     rows_of(
         conn,
-        "SELECT 1 FROM interest WHERE parcel = ?1 AND party = ?2",
+        FIND_INTEREST,
         params![parcel.get(), party.get()],
     )
 }
@@ -138,7 +143,7 @@ fn file_rows<S: Alter>(conn: &mut Connection<S>, file: FileId) -> Got<Vec<Row>>
 {
     rows_of(
         conn,
-        "SELECT id, parcel, applicant, contractor, reviewer, inspector, kind, valuation, description, filed, stage, deadline, done, request, requested, ask, stopped, notices, papers, temporary FROM file WHERE id = ?1",
+        READ_FILE,
         params![file.get()],
     )
 }
@@ -155,8 +160,29 @@ fn paper_rows<S: Alter>(conn: &mut Connection<S>, file: FileId) -> Got<Vec<Row>>
 {
     rows_of(
         conn,
-        "SELECT file, number, day, author, sort, days, text, terms, open FROM paper WHERE file = ?1 ORDER BY number",
+        READ_PAPERS,
         params![file.get()],
+    )
+}
+
+/// A row for each paper of the number that is an open notice of the file.
+fn notice_rows<S: Alter>(
+    conn: &mut Connection<S>,
+    file: FileId,
+    number: PaperNumber,
+) -> Got<Vec<Row>>
+    requires calm { conn.old.in_transaction ≡ false }
+    ensures found { (t : Tables) → HasCleanDisk (state S.Store conn.new) → Shows t (state S.Store conn.old) → IfOk result (λ rows. not (length rows.items == 0) ≡ list_any (λ p. (p.file == file) && (p.is_open && (p.number == number))) t.papers) }
+    ensures kept { (t : Tables) → HasCleanDisk (state S.Store conn.new) → Shows t (state S.Store conn.old) → Shows t (state S.Store conn.new) }
+    ensures open { HasCleanDisk (state S.Store conn.new) → OnOk result (IsTrue (state S.Store conn.new).is_open) }
+    ensures doubt { doubt (state S.Store conn.old).is_clean ≤ doubt (state S.Store conn.new).is_clean }
+    ensures crash { (t : Tables) → Keeps t (state S.Store conn.old).now → Survives (state S.Store conn.old) (state S.Store conn.new) (λ _. ⊥) }
+    ensures calm { conn.new.in_transaction ≡ false }
+{
+    rows_of(
+        conn,
+        FIND_NOTICE,
+        params![file.get(), number.get()],
     )
 }
 
@@ -194,6 +220,26 @@ fn first_file(rows: &[Row]) -> Got<Option<FileRow>>
         None => Ok(None),
         Some(row) => match file_in(row) {
             Some(value) => Ok(Some(value)),
+            None => Err(StoreError),
+        },
+    }
+}
+
+/// The state in a file's row that has no further columns.
+fn file_state(row: &Row) -> Option<FileState>
+    ensures { (is : TheRow) → IsNamed is.state → row.now ≡ shown_file is → IfSome result (λ s. s ≡ is.state) }
+{
+    state_in(row)
+}
+
+/// The state in the first row, if there is a row.
+fn first_state(rows: &[Row]) -> Got<Option<FileState>>
+    ensures { (found : Option TheRow) → IfSome found (λ f. IsNamed f.state) → slice_get rows.now 0 ≡ option_map shown_file found → IfOk result (λ x. x ≡ option_map (λ f. f.state) found) }
+{
+    match rows.get(0) {
+        None => Ok(None),
+        Some(row) => match file_state(row) {
+            Some(state) => Ok(Some(state)),
             None => Err(StoreError),
         },
     }
@@ -312,6 +358,38 @@ pub fn read_file<S: Alter>(conn: &mut Connection<S>, file: FileId) -> Got<Option
 {
     let rows = file_rows(conn, file)?;
     first_file(&rows)
+}
+
+/// The state of the file with the number, read of its row without a copy of its description.
+pub fn read_state<S: Alter>(conn: &mut Connection<S>, file: FileId) -> Got<Option<FileState>>
+    requires calm { conn.old.in_transaction ≡ false }
+    ensures found { (t : Tables) → HasCleanDisk (state S.Store conn.new) → Shows t (state S.Store conn.old) → IfOk result (λ s. s ≡ option_map (λ f. f.state) (find (λ f. f.id == file) t.files)) }
+    ensures kept { (t : Tables) → HasCleanDisk (state S.Store conn.new) → Shows t (state S.Store conn.old) → Shows t (state S.Store conn.new) }
+    ensures open { HasCleanDisk (state S.Store conn.new) → OnOk result (IsTrue (state S.Store conn.new).is_open) }
+    ensures doubt { doubt (state S.Store conn.old).is_clean ≤ doubt (state S.Store conn.new).is_clean }
+    ensures crash { (t : Tables) → Keeps t (state S.Store conn.old).now → Survives (state S.Store conn.old) (state S.Store conn.new) (λ _. ⊥) }
+    ensures calm { conn.new.in_transaction ≡ false }
+{
+    let rows = file_rows(conn, file)?;
+    first_state(&rows)
+}
+
+/// Whether the paper of the number is an open notice of the file.
+pub fn has_open_notice<S: Alter>(
+    conn: &mut Connection<S>,
+    file: FileId,
+    number: PaperNumber,
+) -> Got<bool>
+    requires calm { conn.old.in_transaction ≡ false }
+    ensures found { (t : Tables) → HasCleanDisk (state S.Store conn.new) → Shows t (state S.Store conn.old) → IfOk result (λ b. b ≡ list_any (λ p. (p.file == file) && (p.is_open && (p.number == number))) t.papers) }
+    ensures kept { (t : Tables) → HasCleanDisk (state S.Store conn.new) → Shows t (state S.Store conn.old) → Shows t (state S.Store conn.new) }
+    ensures open { HasCleanDisk (state S.Store conn.new) → OnOk result (IsTrue (state S.Store conn.new).is_open) }
+    ensures doubt { doubt (state S.Store conn.old).is_clean ≤ doubt (state S.Store conn.new).is_clean }
+    ensures crash { (t : Tables) → Keeps t (state S.Store conn.old).now → Survives (state S.Store conn.old) (state S.Store conn.new) (λ _. ⊥) }
+    ensures calm { conn.new.in_transaction ≡ false }
+{
+    let rows = notice_rows(conn, file, number)?;
+    Ok(rows.len() != 0)
 }
 
 /// A paper more.

@@ -1,18 +1,17 @@
 -- What the files keep when one of them changes.
 use Rattle.std.proofs.Common.{◌≡◌, ◌<◌, ℕ, zero, suc, ◌==◌, Bool, true, false, cond, List, [], ◌∷◌, ◌++◌, length, map, filter, find, get_or, slice_get, set, refl, sym, ◌∙◌, ap, arith}
-use Rattle.std.specs.Prelude.{None, Some, option_map, if◌then◌else◌, ◌&&◌, nat_lt}
+use Rattle.std.specs.Prelude.{None, Some, option_map, if◌then◌else◌, ◌&&◌}
 use Rattle.std.specs.List.{position_or_len}
 use Rattle.std.proofs.lemmas.Bool.{eqb-true}
-use Rattle.std.proofs.lemmas.Bool.Decides.{nat_tests}
 use Rattle.std.proofs.lemmas.List.{append-nil}
 use Rattle.std.proofs.lemmas.List.Elements.{filter-append}
 use Rattle.std.proofs.lemmas.List.Folds.{find_at, find-set, find_past}
 use Rattle.std.proofs.lemmas.List.Sums.{passes_at_first}
-use Rattle.permit_model.specs.Tables.{State, FileRow, Paper}
-use Rattle.permit_store.specs.Changes.{with_state, closed_by, papers_after, paper_of}
+use Rattle.permit_model.specs.Tables.{FileRow, Paper}
+use Rattle.permit_store.specs.Changes.{closed_by, papers_after, paper_of}
 use Rattle.permit_store.specs.declared.change.RowEffect.{RowEffect}
 use Rattle.permit_store.specs.declared.change.RowEffect.TheVariants as effect
-use Rattle.permit_store.specs.Plain.{KeptFile, papers_in, papers_at, kept_with_state}
+use Rattle.permit_store.specs.Plain.{KeptFile, papers_in, papers_at}
 
 -- ---- looking for a file
 
@@ -30,11 +29,6 @@ row_found id files = find_mapped (λ (k : KeptFile). k.row) (λ f. f.id == id) f
 
 -- ---- other papers at a place
 
-rows_set : (files : List KeptFile) (i : ℕ) (d : KeptFile) (papers : List Paper) → i < length files → map (λ k. k.row) (set files i (record (get_or files i d) { papers = papers })) ≡ map (λ k. k.row) files
-rows_set [] i d papers h = absurd (omega arith)
-rows_set (k ∷ files) zero d papers h = refl
-rows_set (k ∷ files) (suc i) d papers h = ap (λ rows. k.row ∷ rows) (rows_set files i d papers (omega arith))
-
 slice_at : {A : Type 0} (xs : List A) (i : ℕ) (d : A) → i < length xs → slice_get xs i ≡ Some (get_or xs i d)
 slice_at [] i d h = absurd (omega arith)
 slice_at (x ∷ xs) zero d h = refl
@@ -44,52 +38,22 @@ slice_at (x ∷ xs) (suc i) d h = slice_at xs i d (omega arith)
 pub papers_at_place : (id : ℕ) (files : List KeptFile) (i : ℕ) (d : KeptFile) → i ≡ position_or_len (λ k. k.row.id == id) files → i < length files → papers_at id files ≡ (get_or files i d).papers
 papers_at_place id files i d e h = ap papers_in (find_at (λ (k : KeptFile). k.row.id == id) files ∙ ap (slice_get files) (sym e) ∙ slice_at files i d h)
 
-passes : (id : ℕ) (files : List KeptFile) (i : ℕ) (d : KeptFile) → i ≡ position_or_len (λ k. k.row.id == id) files → i < length files → ((get_or files i d).row.id == id) ≡ true
-passes id files i d e h = ap (λ j. (get_or files j d).row.id == id) e ∙ passes_at_first (λ (k : KeptFile). k.row.id == id) files d (rw (sym e) h)
-
-set_at : (id f : ℕ) (files : List KeptFile) (i : ℕ) (d : KeptFile) (papers : List Paper) (b : Bool) → (id == f) ≡ b → i ≡ position_or_len (λ k. k.row.id == id) files → i < length files →
-    papers_at f (set files i (record (get_or files i d) { papers = papers })) ≡ (if b then papers else papers_at f files)
-set_at id f files i d papers true same e h =
-    let new : KeptFile = record (get_or files i d) { papers = papers } in
+set_at : (id f : ℕ) (files : List KeptFile) (i : ℕ) (d new : KeptFile) (b : Bool) → (id == f) ≡ b → ((get_or files i d).row.id ≡ id) → (new.row.id == id) ≡ true → i ≡ position_or_len (λ k. k.row.id == id) files → i < length files →
+    papers_at f (set files i new) ≡ (if b then new.papers else papers_at f files)
+set_at id f files i d new true same old named e h =
     ap (λ n. papers_at n (set files i new)) (sym (eqb-true id f same))
-    ∙ ap papers_in (find-set (λ (k : KeptFile). k.row.id == id) files i new e h (passes id files i d e h))
-set_at id f files i d papers false other e h =
-    let new : KeptFile = record (get_or files i d) { papers = papers } in
-    let at : (get_or files i d).row.id ≡ id = eqb-true (get_or files i d).row.id id (passes id files i d e h) in
-    let not_this : ((get_or files i d).row.id == f) ≡ false = ap (λ n. n == f) at ∙ other in
-    ap papers_in (find_past (λ (k : KeptFile). k.row.id == f) files i new d not_this not_this)
+    ∙ ap papers_in (find-set (λ (k : KeptFile). k.row.id == id) files i new e h named)
+set_at id f files i d new false other old named e h =
+    let not_this : ((get_or files i d).row.id == f) ≡ false = ap (λ n. n == f) old ∙ other in
+    let not_new : (new.row.id == f) ≡ false = ap (λ n. n == f) (eqb-true new.row.id id named) ∙ other in
+    ap papers_in (find_past (λ (k : KeptFile). k.row.id == f) files i new d not_this not_new)
 
--- ---- another state of a file
-
-pub papers_renewed : (f id : ℕ) (state : State) (files : List KeptFile) → papers_at f (map (kept_with_state id state) files) ≡ papers_at f files
-papers_renewed f id state [] = refl
-papers_renewed f id state (k ∷ files) = either (k.row.id == id) (papers_renewed f id state files)
-  where
-    rest : (b : Bool) (new : KeptFile) → new.papers ≡ k.papers → papers_at f (map (kept_with_state id state) files) ≡ papers_at f files →
-        papers_in (cond b (Some new) (find (λ k. k.row.id == f) (map (kept_with_state id state) files))) ≡ papers_in (cond b (Some k) (find (λ k. k.row.id == f) files))
-    rest true new e ih = e
-    rest false new e ih = ih
-
-    either : (b : Bool) → papers_at f (map (kept_with_state id state) files) ≡ papers_at f files →
-        papers_at f (record k { row = cond b (record k.row { state = state }) k.row } ∷ map (kept_with_state id state) files) ≡ papers_at f (k ∷ files)
-    either true ih = rest (k.row.id == f) (record k { row = record k.row { state = state } }) refl ih
-    either false ih = rest (k.row.id == f) k refl ih
-
-pub rows_renewed : (id : ℕ) (state : State) (files : List KeptFile) → map (λ k. k.row) (map (kept_with_state id state) files) ≡ map (with_state id state) (map (λ k. k.row) files)
-rows_renewed id state [] = refl
-rows_renewed id state (k ∷ files) = ap (λ rows. with_state id state k.row ∷ rows) (rows_renewed id state files)
-
--- ---- a file's new row
-
--- the rows after it
-pub rows_put : (id : ℕ) (state : State) (files : List KeptFile) (i : ℕ) (d : KeptFile) (papers : List Paper) → i < length files →
-    map (λ k. k.row) (map (kept_with_state id state) (set files i (record (get_or files i d) { papers = papers }))) ≡ map (with_state id state) (map (λ k. k.row) files)
-rows_put id state files i d papers h = rows_renewed id state (set files i (record (get_or files i d) { papers = papers })) ∙ ap (map (with_state id state)) (rows_set files i d papers h)
-
--- the papers of each file after it
-pub papers_put : (id f : ℕ) (state : State) (files : List KeptFile) (i : ℕ) (d : KeptFile) (papers : List Paper) → i ≡ position_or_len (λ k. k.row.id == id) files → i < length files →
-    papers_at f (map (kept_with_state id state) (set files i (record (get_or files i d) { papers = papers }))) ≡ (if id == f then papers else papers_at f files)
-papers_put id f state files i d papers e h = papers_renewed f id state (set files i (record (get_or files i d) { papers = papers })) ∙ set_at id f files i d papers (id == f) refl e h
+-- the papers of each file, after a file of the same number stands at its place
+pub papers_put : (id f : ℕ) (files : List KeptFile) (i : ℕ) (d new : KeptFile) → new.row.id ≡ (get_or files i d).row.id → i ≡ position_or_len (λ k. k.row.id == id) files → i < length files →
+    papers_at f (set files i new) ≡ (if id == f then new.papers else papers_at f files)
+papers_put id f files i d new same e h =
+    let there : ((get_or files i d).row.id == id) ≡ true = ap (λ j. (get_or files j d).row.id == id) e ∙ passes_at_first (λ (k : KeptFile). k.row.id == id) files d (rw (sym e) h) in
+    set_at id f files i d new (id == f) refl (eqb-true (get_or files i d).row.id id there) (ap (λ n. n == id) same ∙ there) e h
 
 -- ---- a file more
 
@@ -165,12 +129,3 @@ filtered_by file f count day (effect.NoticeClosed n) papers false e = closed_fil
 pub papers_filtered : (file f count day : ℕ) (change : RowEffect) (papers : List Paper) →
     filter (λ p. p.file == f) (papers_after file count day change papers) ≡ (if file == f then papers_after file count day change (filter (λ p. p.file == file) papers) else filter (λ p. p.file == f) papers)
 papers_filtered file f count day change papers = filtered_by file f count day change papers (file == f) refl
-
--- ---- the place of a file
-
--- a place that is found is the first, and within
-pub placed : (first count i : ℕ) (b : Bool) → nat_lt first count ≡ b → (if b then Some first else None) ≡ Some i → (i ≡ first) × (i < count)
-placed first count i true within e =
-    let same : i ≡ first = cc in
-    (same, rw same (grind (arith, nat_tests)))
-placed first count i false outside e = cc

@@ -4,3 +4,5 @@ mod Keeping
 mod Selecting
 pub mod Sifting
 pub mod Sieving
+mod Passing
+mod Places

@@ -1,12 +1,13 @@
 -- The tables that vectors keep, each file with its papers.
 use Rattle.std.specs.Prelude.{◌≡◌, ℕ, ◌==◌, ◌&&◌, Bool, List, [], length, map, filter, ◌++◌, find, Option, None, Some, option_map, Result}
-use Rattle.std.specs.List.{list_any}
+use Rattle.std.specs.List.{list_any, range_with_len}
 use Rattle.permit_model.specs.Caller.{Party}
 use Rattle.permit_model.specs.Parcels.{Parcel, Interest}
 use Rattle.permit_model.specs.Tables.{State, FileRow, Paper, Tables}
 use Rattle.permit_model.specs.Routes.{Found, is_found}
 use Rattle.permit_store.specs.declared.plain.select.Selection.{Selection}
-use Rattle.permit_store.specs.Changes.{with_state}
+use Rattle.permit_store.specs.declared.change.RowEffect.{RowEffect}
+use Rattle.permit_store.specs.Changes.{papers_after}
 use Rattle.permit_store.specs.Handing.{Took, IsLeft, more_handed}
 
 -- a file's row, and its papers in rising number
@@ -23,9 +24,16 @@ papers_in (Some kept) = kept.papers
 abbrev pub papers_at : ℕ → List KeptFile → List Paper
 papers_at file files = papers_in (find (λ k. k.row.id == file) files)
 
--- the file, its row with the state where it has the number
-abbrev pub kept_with_state : ℕ → State → KeptFile → KeptFile
-kept_with_state file state kept = record kept { row = with_state file state kept.row }
+-- the files are numbered from 1 without a gap, so each stands where its number says
+abbrev pub AreInPlace : List KeptFile → Type 0
+AreInPlace files = map (λ k. k.row.id) files ≡ range_with_len 1 (length files)
+
+-- the file after its new row, by which this changes of its papers
+abbrev pub renewed : ℕ → State → ℕ → RowEffect → KeptFile → KeptFile
+renewed file state day effect kept = record {
+  row = record kept.row { state = state };
+  papers = papers_after file state.papers day effect kept.papers;
+}
 
 -- the tables are those of the vectors, and the papers of each file are those kept with it
 pub record Keeps (last : ℕ) (kept_parties : List Party) (kept_parcels : List Parcel) (kept_interests : List Interest) (kept_files : List KeptFile) (t : Tables) : Type 0 where

@@ -3,7 +3,7 @@
 ghost use Rattle.std.specs.Prelude.{◌≡◌, ◌≤◌, ◌==◌, ℕ, length, IfOk, IfErr, IsErr, IsTrue, false, map, if◌then◌else◌};
 ghost use Rattle.permit_store.specs.Changes.{with_state, papers_after};
 ghost use Rattle.permit_base.specs.Limits.{most_records};
-ghost use Rattle.permit_store.specs.Plain.{papers_at};
+ghost use Rattle.permit_store.specs.Plain.{papers_at, AreInPlace};
 ghost use Rattle.permit_store.specs.Counts.{next_count};
 ghost use Rattle.permit_store.specs.Founding.{founding};
 ghost use Rattle.permit_store.specs.declared.store.OpenError.TheVariants as open_error;
@@ -22,13 +22,14 @@ use crate::rows::{Change, Desk, FileRow, Found, Interest, Paper, Parcel, Party, 
 use crate::sieve::Sieve;
 use crate::store::{Got, OpenError, Store, StoreError};
 use permit_base::route::Route;
-use permit_base::values::{Day, Digest, FileId, Lot, ParcelId, PartyId};
+use permit_base::values::{Day, Digest, FileId, Lot, PaperNumber, ParcelId, PartyId};
 use permit_base::words::Role;
 use permit_core::state::FileState;
 use permit_core::taker::Taker;
 use std::alloc::Global;
 
-/// The tables as vectors, in memory, each file with its papers, so that no call goes over the papers of other files.
+/// The tables as vectors, in memory, each file with its papers and at the place that its number says, so that no call on a
+/// file goes over other files.
 /// A call fails only where memory is refused, or at a commit that doesn't fit.
 #[derive(Drop)]
 pub struct PlainStore {
@@ -44,9 +45,10 @@ pub struct PlainStore {
     ghost few_parties: { length parties.items ≤ most_records },
     ghost few_parcels: { length parcels.items ≤ most_records },
     ghost few_files: { length files.items ≤ most_records },
+    ghost places: { AreInPlace files.items },
 }
 
-/// A file's new row, with what else changes by it: the papers first, since they alone may find no memory.
+/// A file's new row, with what else changes by it, at the file's place.
 fn put_row(
     alloc: Global,
     files: &mut [Kept],
@@ -55,20 +57,18 @@ fn put_row(
     effect: &RowEffect<'_>,
     day: Day,
 ) -> bool
+    requires places { AreInPlace files.old }
     ensures rows { IsTrue result → map (λ k. k.row) files.new ≡ map (with_state file state) (map (λ k. k.row) files.old) }
     ensures papers { IsTrue result → (f : ℕ)
         → papers_at f files.new ≡ (if file == f then papers_after file state.papers day effect.now (papers_at file files.old) else papers_at f files.old) }
+    ensures places { AreInPlace files.new }
     ensures count { length files.new ≡ length files.old }
     ensures kept { result ≡ false → files.new ≡ files.old }
 {
     let Some(place) = find::place_of(files, file) else {
         return false;
     };
-    if !grow::change_papers(alloc, &mut files[place], file, state.papers(), effect, day) {
-        return false;
-    }
-    grow::renew_file(files, file, state);
-    true
+    grow::renew(alloc, &mut files[place], file, state, effect, day)
 }
 
 impl PlainStore {
@@ -176,11 +176,23 @@ impl Store for PlainStore {
         }
     }
 
+    fn state(&mut self, file: FileId) -> Got<Option<FileState>> {
+        let found = find::state_of(&self.files, file);
+        if found.is_some() {
+            self.handed = self.handed.wrapping_add(1);
+        }
+        Ok(found)
+    }
+
     fn papers(&mut self, file: FileId) -> Got<Vec<Paper>> {
         match find::papers_of(self.alloc, &self.files, file) {
             Ok(papers) => Ok(papers),
             Err(_) => self.fail(),
         }
+    }
+
+    fn has_open_notice(&mut self, file: FileId, number: PaperNumber) -> Got<bool> {
+        Ok(find::has_open_notice(&self.files, file, number))
     }
 
     fn select(&mut self, route: &Route, caller: PartyId, day: Day) -> Got<Vec<Found>> {

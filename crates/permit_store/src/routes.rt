@@ -2,7 +2,6 @@
 
 ghost use Rattle.std.specs.Prelude.{◌≡◌};
 ghost use Rattle.permit_model.specs.Codes.{is_stage, is_timing};
-ghost use Rattle.permit_model.specs.Facts.{holds};
 ghost use Rattle.permit_model.specs.Routes.{is_found};
 ghost use Rattle.permit_store.specs.Finding.{lies_in, is_wanted};
 ghost use Rattle.permit_store.specs.Handing.{is_found_by_any};
@@ -10,7 +9,7 @@ ghost use Rattle.permit_store.specs.Handing.{is_found_by_any};
 use crate::rows::Found;
 use permit_base::route::{By, Route};
 use permit_base::values::{Day, PartyId};
-use permit_base::words::{Relation, Relations, Stage, Timing};
+use permit_base::words::{Relations, Stage, Timing};
 use permit_core::state::FileState;
 
 fn same_stage(a: Stage, b: Stage) -> bool
@@ -23,20 +22,6 @@ fn same_timing(a: Timing, b: Timing) -> bool
     ensures { result ≡ is_timing a b }
 {
     a == b
-}
-
-/// Whether the relation is one of the set.
-pub fn has_relation(set: &Relations, relation: Relation) -> bool
-    ensures { result ≡ holds set.now relation }
-{
-    match relation {
-        Relation::Applicant => set.applicant,
-        Relation::Contractor => set.contractor,
-        Relation::Owner => set.owner,
-        Relation::AssignedReviewer => set.assigned_reviewer,
-        Relation::AssignedInspector => set.assigned_inspector,
-        Relation::Conflict => set.conflict,
-    }
 }
 
 /// Whether the row lies in the selection's cell on the day.
@@ -66,8 +51,8 @@ pub(crate) fn asks_for(route: Route, set: &Relations) -> bool
         Route::Every => true,
         Route::Cell { by, .. } => match by {
             By::Whole => true,
-            By::One(relation) => has_relation(set, relation),
-            By::Two(first, second) => has_relation(set, first) && has_relation(set, second),
+            By::One(relation) => set.has(relation),
+            By::Two(first, second) => set.has(first) && set.has(second),
         },
     }
 }

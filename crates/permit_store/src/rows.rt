@@ -47,12 +47,11 @@ impl Model for Party {
     ghost view = { λ p. record { id = p.id; name = p.name; role = p.role; digest = p.digest } };
 }
 
-impl Party {
-    /// A copy.
-    pub(crate) fn copy(&self) -> Result<Party, AllocError>
-        ensures { IfOk result (λ p. p ≡ self.now) }
-    {
-        let name = self.name.copy()?;
+impl Clone for Party {
+    ghost is_clone = { λ a b. b ≡ a };
+
+    fn clone(&self) -> Result<Party, AllocError> {
+        let name = self.name.clone()?;
         Ok(Party {
             id: self.id,
             name,
@@ -79,13 +78,12 @@ impl Model for Parcel {
     ghost view = { λ p. record { id = p.id; lot = p.lot; address = p.address; owner = p.owner } };
 }
 
-impl Parcel {
-    /// A copy.
-    pub(crate) fn copy(&self) -> Result<Parcel, AllocError>
-        ensures { IfOk result (λ p. p ≡ self.now) }
-    {
-        let lot = self.lot.copy()?;
-        let address = self.address.copy()?;
+impl Clone for Parcel {
+    ghost is_clone = { λ a b. b ≡ a };
+
+    fn clone(&self) -> Result<Parcel, AllocError> {
+        let lot = self.lot.clone()?;
+        let address = self.address.clone()?;
         Ok(Parcel {
             id: self.id,
             lot,
@@ -156,11 +154,10 @@ impl Model for Paper {
     ghost view = { λ p. record { file = p.file; number = p.number; day = p.day; author = p.author; sort = p.sort; days = p.days; text = string_bytes p.text; terms = string_bytes p.terms; is_open = p.is_open } };
 }
 
-impl Paper {
-    /// A copy.
-    pub(crate) fn copy(&self) -> Result<Paper, AllocError>
-        ensures { IfOk result (λ p. p ≡ self.now) }
-    {
+impl Clone for Paper {
+    ghost is_clone = { λ a b. b ≡ a };
+
+    fn clone(&self) -> Result<Paper, AllocError> {
         let text = self.text.clone()?;
         let terms = self.terms.clone()?;
         Ok(Paper {

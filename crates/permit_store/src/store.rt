@@ -1,6 +1,6 @@
 //! What every store promises.
 
-ghost use Rattle.std.specs.Prelude.{◌≡◌, IfOk, ◌==◌, ◌&&◌, find, filter, length, bytes_eq, OnOk, List, ⊤};
+ghost use Rattle.std.specs.Prelude.{◌≡◌, IfOk, ◌==◌, ◌&&◌, find, filter, length, option_map, bytes_eq, OnOk, List, ⊤};
 ghost use Rattle.std.specs.List.{list_any};
 ghost use Rattle.permit_model.specs.Routes.{found_by, Found as TheFound};
 ghost use Rattle.permit_model.specs.Tables.{Tables};
@@ -10,7 +10,8 @@ ghost use Rattle.permit_store.specs.Handing.{AreAmong, AreFound, AreHanded, Hand
 
 use crate::rows::{Change, Desk, FileRow, Found, Paper, Parcel, Party};
 use permit_base::route::Route;
-use permit_base::values::{Day, Digest, FileId, Lot, ParcelId, PartyId};
+use permit_base::values::{Day, Digest, FileId, Lot, PaperNumber, ParcelId, PartyId};
+use permit_core::state::FileState;
 use permit_core::taker::Taker;
 
 /// A call of a store failed: memory was refused, or what keeps the tables doesn't answer.
@@ -98,10 +99,24 @@ pub trait Store {
         ensures read { IsLookUp (view self.old) (view self.new) result }
         ensures crash { (t : Tables) → crash self.old self.new t (λ _. ⊥) };
 
+    /// The state of the file of the number, with none of the row's texts. The file counts as handed out.
+    fn state(&mut self, file: FileId) -> Got<Option<FileState>>
+        ensures found { (view self.new).doubt ≡ 0 → (t : Tables) → (view self.old).holds t
+            → IfOk result (λ s. s ≡ option_map (λ f. f.state) (find (λ f. f.id == file) t.files)) }
+        ensures read { IsLookUp (view self.old) (view self.new) result }
+        ensures crash { (t : Tables) → crash self.old self.new t (λ _. ⊥) };
+
     /// The papers of a file, in rising number.
     fn papers(&mut self, file: FileId) -> Got<Vec<Paper>>
         ensures found { (view self.new).doubt ≡ 0 → (t : Tables) → (view self.old).holds t
             → IfOk result (λ v. v.items ≡ filter (λ p. p.file == file) t.papers) }
+        ensures read { IsRead (view self.old) (view self.new) result }
+        ensures crash { (t : Tables) → crash self.old self.new t (λ _. ⊥) };
+
+    /// Whether the paper of the number is an open notice of the file.
+    fn has_open_notice(&mut self, file: FileId, number: PaperNumber) -> Got<bool>
+        ensures found { (view self.new).doubt ≡ 0 → (t : Tables) → (view self.old).holds t
+            → IfOk result (λ b. b ≡ list_any (λ p. (p.file == file) && (p.is_open && (p.number == number))) t.papers) }
         ensures read { IsRead (view self.old) (view self.new) result }
         ensures crash { (t : Tables) → crash self.old self.new t (λ _. ⊥) };
 

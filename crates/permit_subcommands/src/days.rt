@@ -3,7 +3,8 @@
 ghost use Rattle.std.specs.Prelude.{◌≡◌, ◌≤◌, ℕ, false, IfErr, IfNone, IfOk, IfSome, IsSomeAnd, IsTrue, None, OnOk, Ok};
 ghost use Rattle.jiff.specs.Placed.{IsPosixZone};
 ghost use Rattle.jiff.specs.Words.{plain_zone};
-ghost use Rattle.permit_days.specs.Dates.{last_day, IsTextOf};
+ghost use Rattle.permit_base.specs.Limits.{latest_day};
+ghost use Rattle.permit_days.specs.Dates.{IsTextOf};
 ghost use Rattle.permit_subcommands.specs.Days.{is_zone, zone_of, IsRefusedFor};
 ghost use Rattle.permit_subcommands.specs.declared.failure.Failure.TheVariants as failure;
 
@@ -19,7 +20,7 @@ use std::time::Clock;
 /// The day that a date names.
 fn dated(date: &str) -> Result<Day, Failure>
     ensures read { IfOk result (λ day. IsTextOf day date.now) }
-    ensures every { (day : ℕ) → day ≤ last_day → IsTextOf day date.now → result ≡ Ok day }
+    ensures every { (day : ℕ) → day ≤ latest_day → IsTextOf day date.now → result ≡ Ok day }
     ensures refused { IfErr result (λ why. why ≡ failure.Day) }
 {
     match read_date(date) {
@@ -61,7 +62,7 @@ fn zone(words: &DayWords<'_>) -> Result<TimeZone<'static>, Failure>
 /// The day of a run: a date goes before the clock. The zone is read first, and with a date too.
 pub fn day_of_run<R: Clock>(rt: &R, words: &DayWords<'_>) -> Result<Day, Failure>
     ensures read { IfSome words.now.day (λ date. IfOk result (λ day. IsTextOf day date.now)) }
-    ensures every { IfSome words.now.day (λ date. IsTrue (is_zone (zone_of words.now)) → (day : ℕ) → day ≤ last_day → IsTextOf day date.now → result ≡ Ok day) }
+    ensures every { IfSome words.now.day (λ date. IsTrue (is_zone (zone_of words.now)) → (day : ℕ) → day ≤ latest_day → IsTextOf day date.now → result ≡ Ok day) }
     ensures within { OnOk result (IsTrue (is_zone (zone_of words.now))) }
     ensures refused { IfErr result (IsRefusedFor words.now) }
 {

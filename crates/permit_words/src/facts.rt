@@ -2,7 +2,7 @@
 
 ghost use Rattle.std.specs.Prelude.{◌≡◌, ◌<◌, IfOk, map, Some};
 ghost use Rattle.permit_words.specs.FactsText.{facts_by, facts_in, pieces, relations_in, set_from, truth_in, with_relation};
-ghost use Rattle.permit_model.specs.Facts.{holds, no_relations};
+ghost use Rattle.permit_model.specs.Facts.{no_relations};
 
 use permit_base::words::{Action, Relation, Relations, Role, Stage, Timing, Word};
 use permit_policy::Facts;
@@ -16,20 +16,6 @@ fn truth(text: &str) -> Option<bool>
         "yes" => Some(true),
         "no" => Some(false),
         _ => None,
-    }
-}
-
-/// Whether the relation is in the set.
-fn holds(set: Relations, relation: Relation) -> bool
-    ensures { result ≡ holds set relation }
-{
-    match relation {
-        Relation::Applicant => set.applicant,
-        Relation::Contractor => set.contractor,
-        Relation::Owner => set.owner,
-        Relation::AssignedReviewer => set.assigned_reviewer,
-        Relation::AssignedInspector => set.assigned_inspector,
-        Relation::Conflict => set.conflict,
     }
 }
 
@@ -70,7 +56,7 @@ fn set_of(words: &[&str]) -> Option<Relations>
     let mut set = no_relations();
     for word in words {
         let relation = Relation::read(word)?;
-        if holds(set, relation) {
+        if set.has(relation) {
             return None;
         }
         set = with_relation(set, relation);

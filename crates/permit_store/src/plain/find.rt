@@ -1,12 +1,13 @@
 //! What is looked for in the rows.
 
-ghost use Rattle.std.specs.Prelude.{◌≡◌, IfOk, ◌==◌, ◌&&◌, find, bytes_eq, option_map, map, length, Some, None, if◌then◌else◌, nat_lt};
-ghost use Rattle.std.specs.List.{list_any, position_or_len};
-ghost use Rattle.permit_store.specs.Plain.{papers_at};
+ghost use Rattle.std.specs.Prelude.{◌≡◌, IfOk, IfSome, ◌==◌, ◌&&◌, ◌+◌, ◌<◌, find, bytes_eq, option_map, map, length, Some, None};
+ghost use Rattle.std.specs.List.{list_any, slice_get};
+ghost use Rattle.permit_store.specs.Plain.{papers_at, AreInPlace};
 
 use crate::plain::kept::Kept;
 use crate::rows::{FileRow, Interest, Paper, Parcel, Party};
-use permit_base::values::{Digest, FileId, Lot, ParcelId, PartyId};
+use permit_base::values::{Digest, FileId, Lot, PaperNumber, ParcelId, PartyId};
+use permit_core::state::FileState;
 use std::alloc::{AllocError, Global};
 
 fn party_numbered(parties: &[Party], id: PartyId) -> Option<&Party>
@@ -23,7 +24,7 @@ fn party_with<'a>(parties: &'a [Party], digest: &Digest) -> Option<&'a Party>
 {
     parties.iter().find(|party| {
         let party: &Party = party;
-        party.digest.is(digest)
+        party.digest == *digest
     })
 }
 
@@ -51,24 +52,34 @@ fn parcel_with<'a>(parcels: &'a [Parcel], lot: &Lot) -> Option<&'a Parcel>
 {
     parcels.iter().find(|parcel| {
         let parcel: &Parcel = parcel;
-        parcel.lot.is(lot)
+        parcel.lot == *lot
     })
+}
+
+/// The place of the file of the number: the files are numbered from 1 without a gap.
+pub(crate) fn place_of(files: &[Kept], id: FileId) -> Option<usize>
+    requires places { AreInPlace files.now }
+    ensures { IfSome result (λ place. (id ≡ 1 + place) × (place < length files.now)) }
+{
+    let place = id.get() as usize - 1;
+    if place < files.len() {
+        Some(place)
+    } else {
+        None
+    }
+}
+
+fn file_at(files: &[Kept], place: usize) -> Option<&Kept>
+    ensures { option_map (λ k. k.now) result ≡ slice_get files.now place }
+{
+    files.get(place)
 }
 
 fn file_numbered(files: &[Kept], id: FileId) -> Option<&Kept>
+    requires places { AreInPlace files.now }
     ensures { option_map (λ k. k.now) result ≡ find (λ k. k.row.id == id) files.now }
 {
-    files.iter().find(|kept| {
-        let file: &FileRow = &kept.row;
-        file.id.get() == id.get()
-    })
-}
-
-/// The place of the file of the number.
-pub(crate) fn place_of(files: &[Kept], id: FileId) -> Option<usize>
-    ensures { result ≡ (if nat_lt (position_or_len (λ k. k.row.id == id) files.now) (length files.now) then Some (position_or_len (λ k. k.row.id == id) files.now) else None) }
-{
-    files.iter().position(|kept| kept.row.id.get() == id.get())
+    file_at(files, id.get() as usize - 1)
 }
 
 /// Whether the party has declared an interest in the parcel.
@@ -83,7 +94,7 @@ fn copy_party(found: Option<&Party>) -> Result<Option<Party>, AllocError>
 {
     match found {
         None => Ok(None),
-        Some(party) => Ok(Some(party.copy()?)),
+        Some(party) => Ok(Some(party.clone()?)),
     }
 }
 
@@ -92,7 +103,7 @@ fn copy_parcel(found: Option<&Parcel>) -> Result<Option<Parcel>, AllocError>
 {
     match found {
         None => Ok(None),
-        Some(parcel) => Ok(Some(parcel.copy()?)),
+        Some(parcel) => Ok(Some(parcel.clone()?)),
     }
 }
 
@@ -101,7 +112,16 @@ fn copy_file(found: Option<&Kept>) -> Result<Option<FileRow>, AllocError>
 {
     match found {
         None => Ok(None),
-        Some(kept) => Ok(Some(kept.row.copy()?)),
+        Some(kept) => Ok(Some(kept.row.clone()?)),
+    }
+}
+
+fn copy_state(found: Option<&Kept>) -> Option<FileState>
+    ensures { result ≡ option_map (λ f. f.state) (option_map (λ k. k.row) (option_map (λ k. k.now) found.entry)) }
+{
+    match found {
+        None => None,
+        Some(kept) => Some(kept.row.state),
     }
 }
 
@@ -111,7 +131,7 @@ fn copy_papers(alloc: Global, papers: &[Paper]) -> Result<Vec<Paper>, AllocError
 {
     let mut copies = Vec::new(alloc);
     for paper in papers {
-        copies.push(paper.copy()?)?;
+        copies.push(paper.clone()?)?;
     }
     Ok(copies)
 }
@@ -149,9 +169,39 @@ pub(crate) fn find_parcel_with(parcels: &[Parcel], lot: &Lot) -> Result<Option<P
 
 /// The file of the number.
 pub(crate) fn find_file(files: &[Kept], id: FileId) -> Result<Option<FileRow>, AllocError>
+    requires places { AreInPlace files.now }
     ensures { IfOk result (λ p. p ≡ find (λ f. f.id == id) (map (λ k. k.row) files.now)) }
 {
     copy_file(file_numbered(files, id))
+}
+
+/// The state of the file of the number.
+pub(crate) fn state_of(files: &[Kept], id: FileId) -> Option<FileState>
+    requires places { AreInPlace files.now }
+    ensures { result ≡ option_map (λ f. f.state) (find (λ f. f.id == id) (map (λ k. k.row) files.now)) }
+{
+    copy_state(file_numbered(files, id))
+}
+
+/// Whether one of the papers is an open notice of the number.
+fn is_notice_open(papers: &[Paper], number: PaperNumber) -> bool
+    ensures { result ≡ list_any (λ p. p.is_open && (p.number == number)) papers.now }
+{
+    papers.iter().any(|paper| {
+        let paper: &Paper = paper;
+        paper.is_open && paper.number.get() == number.get()
+    })
+}
+
+/// Whether the paper of the number is an open notice of the file.
+pub(crate) fn has_open_notice(files: &[Kept], file: FileId, number: PaperNumber) -> bool
+    requires places { AreInPlace files.now }
+    ensures { result ≡ list_any (λ p. p.is_open && (p.number == number)) (papers_at file files.now) }
+{
+    match file_numbered(files, file) {
+        None => false,
+        Some(kept) => is_notice_open(&kept.papers, number),
+    }
 }
 
 /// The papers of a file.
@@ -160,6 +210,7 @@ pub(crate) fn papers_of(
     files: &[Kept],
     file: FileId,
 ) -> Result<Vec<Paper>, AllocError>
+    requires places { AreInPlace files.now }
     ensures { IfOk result (λ v. v.items ≡ papers_at file files.now) }
 {
     match file_numbered(files, file) {

@@ -4,7 +4,7 @@ ghost use Rattle.std.specs.Prelude.{◌≡◌, ◌≤◌, [], ◌∷◌, ◌++�
 ghost use Rattle.permit_base.specs.Limits.{most_records};
 ghost use Rattle.permit_model.specs.Tables;
 ghost use Rattle.permit_store.specs.Changes.{given_to, closed_by, text_of, paper_of, papers_after};
-ghost use Rattle.permit_store.specs.Plain.{kept_with_state};
+ghost use Rattle.permit_store.specs.Plain.{renewed, AreInPlace};
 
 use crate::plain::kept::Kept;
 use crate::rows::{FileRow, Interest, NewPaper, Paper, Parcel, Party, RowEffect};
@@ -36,7 +36,7 @@ pub(crate) fn push_party(parties: &mut Vec<Party>, name: &Text, role: Role, dige
     let Some(id) = PartyId::new(number) else {
         return false;
     };
-    let Ok(name) = name.copy() else {
+    let Ok(name) = name.clone() else {
         return false;
     };
     parties
@@ -66,10 +66,10 @@ pub(crate) fn push_parcel(
     let Some(id) = ParcelId::new(number) else {
         return false;
     };
-    let Ok(lot) = lot.copy() else {
+    let Ok(lot) = lot.clone() else {
         return false;
     };
-    let Ok(address) = address.copy() else {
+    let Ok(address) = address.clone() else {
         return false;
     };
     parcels
@@ -93,6 +93,7 @@ pub(crate) fn push_file(
     ensures made { IsTrue result
         → files.new.items ≡ files.old.items ++ (record { row = record { id = length files.old.items + 1; state = state; valuation = valuation; description = description.now }; papers = [] }) ∷ [] }
     ensures few { length files.old.items ≤ most_records → length files.new.items ≤ most_records }
+    ensures places { AreInPlace files.old.items → AreInPlace files.new.items }
     ensures kept { result ≡ false → files.new.items ≡ files.old.items }
 {
     let Some(number) = number_behind(files.len()) else {
@@ -101,7 +102,7 @@ pub(crate) fn push_file(
     let Some(id) = FileId::new(number) else {
         return false;
     };
-    let Ok(description) = description.copy() else {
+    let Ok(description) = description.clone() else {
         return false;
     };
     let row = FileRow {
@@ -207,25 +208,6 @@ pub(crate) fn give_parcel(parcels: &mut [Parcel], id: ParcelId, owner: PartyId)
     }
 }
 
-/// Gives the file another state if it has the number.
-fn renew(kept: &mut Kept, id: FileId, state: FileState)
-    ensures { kept.new ≡ kept_with_state id state kept.old }
-{
-    let file = &mut kept.row;
-    if file.id.get() == id.get() {
-        file.state = state;
-    }
-}
-
-/// Gives a file another state.
-pub(crate) fn renew_file(files: &mut [Kept], id: FileId, state: FileState)
-    ensures { files.new ≡ map (kept_with_state id state) files.old }
-{
-    for file in files {
-        renew(file, id, state);
-    }
-}
-
 /// Closes the paper if it is the file's of the number.
 fn close(paper: &mut Paper, file: FileId, number: PaperNumber)
     ensures { paper.new ≡ closed_by file number paper.old }
@@ -244,24 +226,44 @@ pub(crate) fn close_paper(papers: &mut [Paper], file: FileId, number: PaperNumbe
     }
 }
 
-/// What else changes by a file's new row, which has this count of papers.
-pub(crate) fn change_papers(
+/// What changes of the papers by a file's new row, which has this count of them.
+fn change_papers(
     alloc: Global,
-    kept: &mut Kept,
+    papers: &mut Vec<Paper>,
     file: FileId,
     count: u16,
     effect: &RowEffect<'_>,
     day: Day,
 ) -> bool
-    ensures made { IsTrue result → kept.new ≡ record kept.old { papers = papers_after file count day effect.now kept.old.papers } }
-    ensures kept { result ≡ false → kept.new ≡ kept.old }
+    ensures made { IsTrue result → papers.new.items ≡ papers_after file count day effect.now papers.old.items }
+    ensures kept { result ≡ false → papers.new.items ≡ papers.old.items }
 {
     match effect {
         RowEffect::None => true,
-        RowEffect::Paper(paper) => push_paper(alloc, &mut kept.papers, file, count, day, paper),
+        RowEffect::Paper(paper) => push_paper(alloc, papers, file, count, day, paper),
         RowEffect::NoticeClosed(number) => {
-            close_paper(&mut kept.papers, file, *number);
+            close_paper(papers, file, *number);
             true
         }
     }
+}
+
+/// The file's new row, with what else changes by it: the papers first, since they alone may find no memory.
+pub(crate) fn renew(
+    alloc: Global,
+    kept: &mut Kept,
+    file: FileId,
+    state: FileState,
+    effect: &RowEffect<'_>,
+    day: Day,
+) -> bool
+    ensures made { IsTrue result → kept.new ≡ renewed file state day effect.now kept.old }
+    ensures number { kept.new.row.id ≡ kept.old.row.id }
+    ensures kept { result ≡ false → kept.new ≡ kept.old }
+{
+    if !change_papers(alloc, &mut kept.papers, file, state.papers(), effect, day) {
+        return false;
+    }
+    kept.row.state = state;
+    true
 }

@@ -27,7 +27,7 @@ pub(crate) struct Selection<'a> {
 fn copy_found(row: &FileRow, owner: Option<PartyId>, conflict: bool) -> Result<Found, AllocError>
     ensures { IfOk result (λ found. found ≡ record { row = row.now; owner = owner; conflict = conflict }) }
 {
-    let row = row.copy()?;
+    let row = row.clone()?;
     Ok(Found {
         row,
         owner,

@@ -2,31 +2,31 @@ use Rattle.std.proofs.Common.{◌≡◌, arith, ap, ◌∙◌, sym, refl, inl}
 use Rattle.permit_base.specs.declared.request.Request.TheVariants.{OnFile}
 use Rattle.permit_base.specs.Actions.{command_action}
 use Rattle.permit_model.specs.Caller.{Party}
-use Rattle.permit_model.specs.Files.{CaseFile, case_file, case_numbered}
-use Rattle.permit_model.specs.Tables.{FileRow, tables}
+use Rattle.permit_model.specs.Files.{CaseFile}
+use Rattle.permit_model.specs.Tables.{tables}
 use Rattle.permit_model.specs.Facts.{file_facts}
 use Rattle.permit_model.specs.Policy.{decision}
 use Rattle.permit_office.proofs.Deciding.{denied_outcome, allowed_outcome}
-use Rattle.permit_office.proofs.Finding.{IsFound, file_found, command_missing, command_judged}
+use Rattle.permit_office.proofs.Finding.{IsStateOf, state_found, command_missing, command_judged}
 use Rattle.permit_office.proofs.commands.on_file.Goals as goal
 
 pub returns-in_default-clause-model : goal.returns-in_default-clause-model
 returns-in_default-clause-model g c = λ doubt h is held time party.
     let a = c.args in
-    let none = sym c.in_default.is ∙ c.in_ok-row.ensures.found doubt (tables h) held in
-    rw (command_missing a.policy.now h a.day a.caller.now a.file a.command.now none) (inl (refl, c.file.ensures.read.kept (tables h) held))
+    let none = sym c.in_default.is ∙ c.in_ok-state.ensures.found doubt (tables h) held in
+    rw (command_missing a.policy.now h a.day a.caller.now a.file a.command.now none) (inl (refl, c.state.ensures.read.kept (tables h) held))
 
 pub returns-in-Some-denial-clause-model : goal.returns-in-Some-denial-clause-model
 returns-in-Some-denial-clause-model g c = λ doubt h is held time party.
-    let late : (g.S.Store.view c.file.new.self).doubt ≡ 0 = omega arith in
+    let late : (g.S.Store.view c.state.new.self).doubt ≡ 0 = omega arith in
     let mid : (g.S.Store.view c.owner_on.new.store).doubt ≡ 0 = omega arith in
     let a = c.args in
-    let f : IsFound h a.file c.in-Some.row = file_found h a.file c.in-Some.row (sym c.in-Some.is ∙ c.in_ok-row.ensures.found late (tables h) held) in
-    let file : CaseFile = case_file h f.filing in
-    let kept = c.file.ensures.read.kept (tables h) held in
+    let f : IsStateOf h a.file c.in-Some.state = state_found h a.file c.in-Some.state (sym c.in-Some.is ∙ c.in_ok-state.ensures.found late (tables h) held) in
+    let file : CaseFile = f.file in
+    let kept = c.state.ensures.read.kept (tables h) held in
     let kept_2 = c.owner_on.ensures.read.kept (tables h) kept in
-    let owner = c.in_ok-owner.ensures.owner mid h file kept f.row_is in
-    let facts = rw c.action.ensures at (c.in_ok-facts.ensures.facts doubt h file kept_2 f.row_is owner) in
+    let owner = c.in_ok-owner.ensures.owner mid h file kept f.state_is in
+    let facts = rw c.action.ensures at (c.in_ok-facts.ensures.facts doubt h file kept_2 f.state_is owner) in
     let denied = rw facts at (sym c.in-Some-denial.is ∙ c.denial.ensures) in
     rw (command_judged a.policy.now h a.day a.caller.now a.file a.command.now file f.found
     ∙ denied_outcome a.policy.now h a.day a.caller.now (OnFile a.file a.command.now) (decision a.policy.now (file_facts h a.day a.caller.now file (command_action a.command.now))) c.in-Some-denial.name denied)
@@ -34,20 +34,19 @@ returns-in-Some-denial-clause-model g c = λ doubt h is held time party.
 
 pub returns-clause-model : goal.returns-clause-model
 returns-clause-model g c = λ doubt h is held time party.
-    let late : (g.S.Store.view c.file.new.self).doubt ≡ 0 = omega arith in
+    let late : (g.S.Store.view c.state.new.self).doubt ≡ 0 = omega arith in
     let mid : (g.S.Store.view c.owner_on.new.store).doubt ≡ 0 = omega arith in
     let later : (g.S.Store.view c.facts_on_file.new.store).doubt ≡ 0 = omega arith in
     let a = c.args in
-    let f : IsFound h a.file c.in-Some.row = file_found h a.file c.in-Some.row (sym c.in-Some.is ∙ c.in_ok-row.ensures.found late (tables h) held) in
-    let file : CaseFile = case_file h f.filing in
-    let kept = c.file.ensures.read.kept (tables h) held in
+    let f : IsStateOf h a.file c.in-Some.state = state_found h a.file c.in-Some.state (sym c.in-Some.is ∙ c.in_ok-state.ensures.found late (tables h) held) in
+    let file : CaseFile = f.file in
+    let kept = c.state.ensures.read.kept (tables h) held in
     let kept_2 = c.owner_on.ensures.read.kept (tables h) kept in
-    let owner = c.in_ok-owner.ensures.owner mid h file kept f.row_is in
-    let facts = rw c.action.ensures at (c.in_ok-facts.ensures.facts later h file kept_2 f.row_is owner) in
+    let owner = c.in_ok-owner.ensures.owner mid h file kept f.state_is in
+    let facts = rw c.action.ensures at (c.in_ok-facts.ensures.facts later h file kept_2 f.state_is owner) in
     let allowed = rw facts at (sym c.in_default-denial.is ∙ c.denial.ensures) in
-    let id : c.in-Some.row.id ≡ a.file = ap (λ (r : FileRow). r.id) f.row_is ∙ f.named in
     let caller : c.caller.inside.id ≡ a.caller.now.id = ap (λ (p : Party). p.id) c.caller.view_is in
-    let done = c.perform.ensures.model doubt h file is (c.facts_on_file.ensures.read.kept (tables h) kept_2) (ap (case_numbered h) id ∙ f.found) f.row_is owner time (rw caller party) in
+    let done = c.perform.ensures.model doubt h file is (c.facts_on_file.ensures.read.kept (tables h) kept_2) f.found f.state_is owner time (rw caller party) in
     rw (command_judged a.policy.now h a.day a.caller.now a.file a.command.now file f.found
     ∙ allowed_outcome a.policy.now h a.day a.caller.now (OnFile a.file a.command.now) (decision a.policy.now (file_facts h a.day a.caller.now file (command_action a.command.now))) allowed)
-    (rw (id, caller) at done)
+    (rw caller at done)

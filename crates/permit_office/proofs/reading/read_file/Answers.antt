@@ -24,8 +24,9 @@ returns-in-Some-denial-clause-model g c = λ doubt h held.
     let file : CaseFile = case_file h f.filing in
     let kept = c.file.ensures.read.kept (tables h) held in
     let kept_2 = c.owner_on.ensures.read.kept (tables h) kept in
-    let owner = c.in_ok-owner.ensures.owner mid h file kept f.row_is in
-    let facts = c.in_ok-facts.ensures.facts doubt h file kept_2 f.row_is owner in
+    let state_is = ap (λ (r : FileRow). r.state) (c.row.view_is ∙ f.row_is) in
+    let owner = c.in_ok-owner.ensures.owner mid h file kept state_is in
+    let facts = c.in_ok-facts.ensures.facts doubt h file kept_2 state_is owner in
     let denied = rw facts at (sym c.in-Some-denial.is ∙ c.denial.ensures) in
     rw (read_judged a.policy.now h a.day a.caller.now a.file file f.found
     ∙ denied_outcome a.policy.now h a.day a.caller.now (ReadFile a.file) (decision a.policy.now (file_facts h a.day a.caller.now file action.Read)) c.in-Some-denial.name denied)
@@ -41,9 +42,10 @@ returns-clause-model g c = λ doubt h held.
     let file : CaseFile = case_file h f.filing in
     let kept = c.file.ensures.read.kept (tables h) held in
     let kept_2 = c.owner_on.ensures.read.kept (tables h) kept in
-    let owner = c.in_ok-owner.ensures.owner mid h file kept f.row_is in
+    let state_is = ap (λ (r : FileRow). r.state) (c.row.view_is ∙ f.row_is) in
+    let owner = c.in_ok-owner.ensures.owner mid h file kept state_is in
     let kept_3 = c.facts_on_file.ensures.read.kept (tables h) kept_2 in
-    let facts = c.in_ok-facts.ensures.facts later h file kept_2 f.row_is owner in
+    let facts = c.in_ok-facts.ensures.facts later h file kept_2 state_is owner in
     let allowed = rw facts at (sym c.in_default-denial.is ∙ c.denial.ensures) in
     let papers = c.in_ok-papers.ensures.found doubt (tables h) kept_3 in
     let state = ap (λ (r : FileRow). r.state) c.row.view_is in

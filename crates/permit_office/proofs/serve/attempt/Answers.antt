@@ -12,7 +12,7 @@ returns-clause-model g c = λ doubt h is held.
     let kept = c.party_by_token.ensures.read.kept (tables h) held in
     let desk = c.in_ok-desk.ensures.found later (tables h) kept in
     let last = ap (λ (d : Desk). d.last) (c.desk-2.view_is ∙ desk) in
-    rw (stepped a.policy.now h a.digest.now a.asked.now a.day c.in-Some.caller found (omega arith))
+    rw (stepped a.policy.now h a.digest.now a.request.now a.day c.in-Some.caller found (omega arith))
     (c.serve_known.ensures.model doubt h is (c.desk.ensures.read.kept (tables h) kept) desk (omega arith) (caller_there h a.digest.now c.in-Some.caller found))
 
 pub returns-clause-opened : goal.returns-clause-opened
@@ -21,5 +21,5 @@ returns-clause-opened g c = λ doubt h is held.
     let a = c.args in
     let found = sym c.in-Some.is ∙ c.in_ok-caller.ensures.found late (tables h) held in
     let kept = c.party_by_token.ensures.read.kept (tables h) held in
-    opened_known a.policy.now h a.digest.now a.asked.now a.day c.in-Some.caller found c.serve_known.result (g.S.Store.view c.desk.new.self).handed (g.S.Store.view a.store.now).handed (g.S.Store.view c.serve_known.new.store).handed
+    opened_known a.policy.now h a.digest.now a.request.now a.day c.in-Some.caller found c.serve_known.result (g.S.Store.view c.desk.new.self).handed (g.S.Store.view a.store.now).handed (g.S.Store.view c.serve_known.new.store).handed
     (c.desk.ensures.read.handed ∙ c.party_by_token.ensures.read.handed) (c.serve_known.ensures.opened doubt h is (c.desk.ensures.read.kept (tables h) kept))

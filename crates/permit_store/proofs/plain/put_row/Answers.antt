@@ -1,25 +1,33 @@
-use Rattle.std.proofs.Common.{◌≡◌, ◌==◌, length, IsTrue, get_or, refl, sym, ◌∙◌, ap, rules, if◌then◌else◌}
-use Rattle.std.specs.List.{position_or_len}
-use Rattle.permit_store.specs.Changes.{papers_after}
-use Rattle.permit_store.specs.Plain.{papers_at}
-use Rattle.permit_store.proofs.Kept.{rows_put, papers_put, papers_at_place, placed}
+use Rattle.std.proofs.Common.{get_or, refl, sym, ◌∙◌, ap}
+use Rattle.std.specs.List.{range_with_len}
+use Rattle.std.proofs.lemmas.List.{length-set}
+use Rattle.permit_store.specs.Plain.{renewed}
+use Rattle.permit_store.proofs.Kept.{papers_put, papers_at_place}
+use Rattle.permit_store.proofs.Places.{rows_at, is_place, numbered_from, numbers_set}
 use Rattle.permit_store.proofs.plain.put_row.Goals as goal
 
 pub returns-clause-rows : goal.returns-clause-rows
 returns-clause-rows c =
     let files = c.args.files.now in
-    let at = placed (position_or_len (λ k. k.row.id == c.args.file) files) (length files) c.in-Some.place _ refl (sym c.place_of.ensures ∙ c.in-Some.is) in
-    let ok : IsTrue c.change_papers.result = search rules in
-    λ _. rw (c.renew_file.ensures, c.change_papers.ensures.made ok) (rows_put c.args.file c.args.state files c.in-Some.place c.index-files-place.result _ at.1)
+    let i = c.in-Some.place in
+    let d = c.index-files-place.result in
+    let at = c.in-Some.ensures in
+    λ ok. rw (c.renew.ensures.made ok) (rows_at c.args.file 1 i c.args.state files d (renewed c.args.file c.args.state c.args.day c.args.effect.now (get_or files i d)) refl at.0 at.1 (numbered_from (λ k. k.row.id) 1 files c.requires.places))
 
 pub returns-clause-papers : goal.returns-clause-papers
 returns-clause-papers c =
     let files = c.args.files.now in
     let i = c.in-Some.place in
     let d = c.index-files-place.result in
-    let at = placed (position_or_len (λ k. k.row.id == c.args.file) files) (length files) i _ refl (sym c.place_of.ensures ∙ c.in-Some.is) in
-    let ok : IsTrue c.change_papers.result = search rules in
-    let same : papers_after c.args.file c.papers.result c.args.day c.args.effect.now (get_or files i d).papers ≡ papers_after c.args.file c.args.state.papers c.args.day c.args.effect.now (papers_at c.args.file files) =
-    rw (c.papers.ensures, papers_at_place c.args.file files i d at.0 at.1) refl in
-    λ _ f. rw (c.renew_file.ensures, c.change_papers.ensures.made ok)
-    (papers_put c.args.file f c.args.state files i d _ at.0 at.1 ∙ ap (λ ps. if c.args.file == f then ps else papers_at f files) same)
+    let at = c.in-Some.ensures in
+    let first = is_place (λ k. k.row.id) 1 c.args.file i files d at.0 at.1 (numbered_from (λ k. k.row.id) 1 files c.requires.places) in
+    λ ok f. rw (c.renew.ensures.made ok, papers_at_place c.args.file files i d first at.1)
+    (papers_put c.args.file f files i d (renewed c.args.file c.args.state c.args.day c.args.effect.now (get_or files i d)) refl first at.1)
+
+pub returns-clause-places : goal.returns-clause-places
+returns-clause-places c =
+    let files = c.args.files.now in
+    let i = c.in-Some.place in
+    let at = c.in-Some.ensures in
+    numbers_set (λ k. k.row.id) files i c.index-files-place.result c.renew.new.kept c.renew.ensures.number at.1
+    ∙ c.requires.places ∙ ap (range_with_len 1) (sym (length-set files i c.renew.new.kept))
