@@ -200,7 +200,10 @@ impl FileState {
             None => 0,
         };
         let deadline = self.deadline().unwrap_or(0);
-        (deadline.saturating_add(asked) > LATEST_DEADLINE, Reason::Far)
+        (
+            deadline.saturating_add(asked) > LATEST_DEADLINE,
+            Reason::Far,
+        )
     }
 
     /// What stands against a reviewer or an inspector being assigned.

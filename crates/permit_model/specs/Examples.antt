@@ -25,7 +25,7 @@ use Rattle.permit_base.specs.declared.words.Relation.TheVariants as relation
 use Rattle.permit_base.specs.declared.words.Action.TheVariants as action
 use Rattle.permit_model.specs.Caller.{Party}
 use Rattle.permit_base.specs.declared.words.Effect.TheVariants.{Allow, Deny}
-use Rattle.permit_model.specs.Policy.{Policy, OneOf, Both, Any}
+use Rattle.permit_model.specs.Policy.{Policy, OneOf, Both}
 use Rattle.permit_model.specs.Opened.{opened, allowed_by}
 use Rattle.permit_model.specs.Routes.{routes_of}
 use Rattle.permit_model.specs.HallRun.{Event, Put, Take, Collect}

@@ -191,9 +191,7 @@ fn relation_matches(test: &RelationTest, set: &Relations) -> bool
     match test {
         RelationTest::Any => true,
         RelationTest::OneOf(words) => relation_in(words, set),
-        RelationTest::Both(first, second) => {
-            set.has(*first) && set.has(*second)
-        }
+        RelationTest::Both(first, second) => set.has(*first) && set.has(*second),
     }
 }
 

@@ -86,11 +86,7 @@ pub(crate) fn check_parties<S: Alter>(conn: &mut Connection<S>, count: u32) -> G
         count: 0,
         lacks_memory: false,
     };
-    let all = takes_all(
-        conn,
-        EACH_PARTY,
-        &mut parties,
-    )?;
+    let all = takes_all(conn, EACH_PARTY, &mut parties)?;
     if parties.lacks_memory {
         return Err(StoreError);
     }
@@ -140,11 +136,7 @@ pub(crate) fn check_parcels<S: Alter>(conn: &mut Connection<S>, count: u32) -> G
         count: 0,
         lacks_memory: false,
     };
-    let all = takes_all(
-        conn,
-        EACH_PARCEL,
-        &mut parcels,
-    )?;
+    let all = takes_all(conn, EACH_PARCEL, &mut parcels)?;
     if parcels.lacks_memory {
         return Err(StoreError);
     }

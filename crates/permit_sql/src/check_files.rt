@@ -66,11 +66,7 @@ pub(crate) fn check_files<S: Alter>(
         counts: Vec::new(alloc),
         lacks_memory: false,
     };
-    let all = takes_all(
-        conn,
-        EACH_FILE,
-        &mut files,
-    )?;
+    let all = takes_all(conn, EACH_FILE, &mut files)?;
     if files.lacks_memory {
         return Err(StoreError);
     }
@@ -149,11 +145,7 @@ pub(crate) fn check_papers<S: Alter>(conn: &mut Connection<S>, counts: Vec<u16>)
         counts,
         lacks_memory: false,
     };
-    let all = takes_all(
-        conn,
-        EACH_PAPER,
-        &mut papers,
-    )?;
+    let all = takes_all(conn, EACH_PAPER, &mut papers)?;
     if papers.lacks_memory {
         return Err(StoreError);
     }

@@ -46,11 +46,7 @@ fn desk_seen<S: Alter>(conn: &mut Connection<S>) -> Got<Vec<Row>>
     ensures crash { Survives (state S.Store conn.old) (state S.Store conn.new) (λ _. ⊥) }
     ensures calm { conn.new.in_transaction ≡ false }
 {
-    match read_all(
-        conn,
-        READ_DESK,
-        &[],
-    ) {
+    match read_all(conn, READ_DESK, &[]) {
         Ok(rows) => Ok(rows),
         Err(_) => Err(StoreError),
     }

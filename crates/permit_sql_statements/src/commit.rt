@@ -12,7 +12,10 @@ ghost use Rattle.permit_store.specs.declared.change.RowEffect.TheVariants as eff
 ghost use Rattle.permit_sql_rows.specs.Kept.{IsNamed, Keeps, Shows};
 
 use crate::read::read_desk;
-use crate::texts::{ADD_FILE, ADD_INTEREST, ADD_PAPER, ADD_PARCEL, ADD_PARTY, CLOSE_NOTICE, SET_OWNER, WRITE_DESK, WRITE_FILE};
+use crate::texts::{
+    ADD_FILE, ADD_INTEREST, ADD_PAPER, ADD_PARCEL, ADD_PARTY, CLOSE_NOTICE, SET_OWNER, WRITE_DESK,
+    WRITE_FILE,
+};
 use crate::turns::{turn_three, turn_two};
 use permit_base::limits::number_after;
 use permit_base::values::{
@@ -79,13 +82,7 @@ fn add_party<S: Alter>(
 {
     let party = party_values(desk, name, role, digest);
     let office = desk_values(desk);
-    turn_two(
-        conn,
-        ADD_PARTY,
-        &party,
-        WRITE_DESK,
-        &office,
-    )
+    turn_two(conn, ADD_PARTY, &party, WRITE_DESK, &office)
 }
 
 /// Adds a parcel, whose number is the desk's count of parcels.
@@ -108,13 +105,7 @@ fn add_parcel<S: Alter>(
 {
     let parcel = parcel_values(desk, lot, address, owner);
     let office = desk_values(desk);
-    turn_two(
-        conn,
-        ADD_PARCEL,
-        &parcel,
-        WRITE_DESK,
-        &office,
-    )
+    turn_two(conn, ADD_PARCEL, &parcel, WRITE_DESK, &office)
 }
 
 /// Gives a parcel another owner.
@@ -136,13 +127,7 @@ fn set_owner<S: Alter>(
 {
     let pair = pair_values(parcel.get(), owner.get());
     let office = desk_values(desk);
-    turn_two(
-        conn,
-        SET_OWNER,
-        &pair,
-        WRITE_DESK,
-        &office,
-    )
+    turn_two(conn, SET_OWNER, &pair, WRITE_DESK, &office)
 }
 
 /// Adds an interest of a party in a parcel.
@@ -164,13 +149,7 @@ fn add_interest<S: Alter>(
 {
     let pair = pair_values(parcel.get(), party.get());
     let office = desk_values(desk);
-    turn_two(
-        conn,
-        ADD_INTEREST,
-        &pair,
-        WRITE_DESK,
-        &office,
-    )
+    turn_two(conn, ADD_INTEREST, &pair, WRITE_DESK, &office)
 }
 
 /// Adds a file, whose number is the desk's count of files.
@@ -193,13 +172,7 @@ fn add_file<S: Alter>(
 {
     let file = file_values(desk, valuation, description, &fields_of(new));
     let office = desk_values(desk);
-    turn_two(
-        conn,
-        ADD_FILE,
-        &file,
-        WRITE_DESK,
-        &office,
-    )
+    turn_two(conn, ADD_FILE, &file, WRITE_DESK, &office)
 }
 
 /// Sets a file's row.
@@ -247,13 +220,7 @@ fn add_paper<S: Alter>(
     let added = paper_values(file, &now, desk, paper);
     let office = desk_values(desk);
     turn_three(
-        conn,
-        WRITE_FILE,
-        &fields,
-        ADD_PAPER,
-        &added,
-        WRITE_DESK,
-        &office,
+        conn, WRITE_FILE, &fields, ADD_PAPER, &added, WRITE_DESK, &office,
     )
 }
 

@@ -12,7 +12,11 @@ ghost use Rattle.permit_sql_statements.specs.Founding.{founding_statements};
 ghost use Rattle.permit_sql_rows.specs.Kept.{Keeps};
 
 use crate::statements::{Statement, run_all};
-use crate::texts::{ADD_PARTY, CREATE_DESK, CREATE_FILE, CREATE_INTEREST, CREATE_PAPER, CREATE_PARCEL, CREATE_PARTY, FOUND_DESK, INDEX_APPLICANT, INDEX_CELL, INDEX_CONTRACTOR, INDEX_INSPECTOR, INDEX_INTERESTED, INDEX_OWNER, INDEX_PARCEL, INDEX_REVIEWER};
+use crate::texts::{
+    ADD_PARTY, CREATE_DESK, CREATE_FILE, CREATE_INTEREST, CREATE_PAPER, CREATE_PARCEL,
+    CREATE_PARTY, FOUND_DESK, INDEX_APPLICANT, INDEX_CELL, INDEX_CONTRACTOR, INDEX_INSPECTOR,
+    INDEX_INTERESTED, INDEX_OWNER, INDEX_PARCEL, INDEX_REVIEWER,
+};
 use permit_base::words::Role;
 use permit_store::founder::Founder;
 use sqlite::{Alter, Connection, Error, params};

@@ -34,11 +34,7 @@ fn desk_rows<S: Alter>(conn: &mut Connection<S>) -> Got<Vec<Row>>
     ensures crash { (t : Tables) → Keeps t (state S.Store conn.old).now → Survives (state S.Store conn.old) (state S.Store conn.new) (λ _. ⊥) }
     ensures calm { conn.new.in_transaction ≡ false }
 {
-    rows_of(
-        conn,
-        READ_DESK,
-        &[],
-    )
+    rows_of(conn, READ_DESK, &[])
 }
 
 /// The row of the party with the number, if there is one.
@@ -51,11 +47,7 @@ fn party_rows<S: Alter>(conn: &mut Connection<S>, party: PartyId) -> Got<Vec<Row
     ensures crash { (t : Tables) → Keeps t (state S.Store conn.old).now → Survives (state S.Store conn.old) (state S.Store conn.new) (λ _. ⊥) }
     ensures calm { conn.new.in_transaction ≡ false }
 {
-    rows_of(
-        conn,
-        READ_PARTY,
-        params![party.get()],
-    )
+    rows_of(conn, READ_PARTY, params![party.get()])
 }
 
 /// The row of the party that keeps the digest, if there is one.
@@ -68,11 +60,7 @@ fn digest_rows<S: Alter>(conn: &mut Connection<S>, digest: &Digest) -> Got<Vec<R
     ensures crash { (t : Tables) → Keeps t (state S.Store conn.old).now → Survives (state S.Store conn.old) (state S.Store conn.new) (λ _. ⊥) }
     ensures calm { conn.new.in_transaction ≡ false }
 {
-    rows_of(
-        conn,
-        FIND_PARTY,
-        params![digest.as_str()],
-    )
+    rows_of(conn, FIND_PARTY, params![digest.as_str()])
 }
 
 /// The row of the parcel with the number, if there is one.
@@ -85,11 +73,7 @@ fn parcel_rows<S: Alter>(conn: &mut Connection<S>, parcel: ParcelId) -> Got<Vec<
     ensures crash { (t : Tables) → Keeps t (state S.Store conn.old).now → Survives (state S.Store conn.old) (state S.Store conn.new) (λ _. ⊥) }
     ensures calm { conn.new.in_transaction ≡ false }
 {
-    rows_of(
-        conn,
-        READ_PARCEL,
-        params![parcel.get()],
-    )
+    rows_of(conn, READ_PARCEL, params![parcel.get()])
 }
 
 /// The row of the parcel of the lot, if there is one.
@@ -102,11 +86,7 @@ fn lot_rows<S: Alter>(conn: &mut Connection<S>, lot: &Lot) -> Got<Vec<Row>>
     ensures crash { (t : Tables) → Keeps t (state S.Store conn.old).now → Survives (state S.Store conn.old) (state S.Store conn.new) (λ _. ⊥) }
     ensures calm { conn.new.in_transaction ≡ false }
 {
-    rows_of(
-        conn,
-        FIND_PARCEL,
-        params![lot.as_str()],
-    )
+    rows_of(conn, FIND_PARCEL, params![lot.as_str()])
 }
 
 /// A row for each interest of the party in the parcel.
@@ -123,11 +103,7 @@ fn interest_rows<S: Alter>(
     ensures crash { (t : Tables) → Keeps t (state S.Store conn.old).now → Survives (state S.Store conn.old) (state S.Store conn.new) (λ _. ⊥) }
     ensures calm { conn.new.in_transaction ≡ false }
 {
-    rows_of(
-        conn,
-        FIND_INTEREST,
-        params![parcel.get(), party.get()],
-    )
+    rows_of(conn, FIND_INTEREST, params![parcel.get(), party.get()])
 }
 
 /// The row of the file with the number, if there is one.
@@ -141,11 +117,7 @@ fn file_rows<S: Alter>(conn: &mut Connection<S>, file: FileId) -> Got<Vec<Row>>
     ensures crash { (t : Tables) → Keeps t (state S.Store conn.old).now → Survives (state S.Store conn.old) (state S.Store conn.new) (λ _. ⊥) }
     ensures calm { conn.new.in_transaction ≡ false }
 {
-    rows_of(
-        conn,
-        READ_FILE,
-        params![file.get()],
-    )
+    rows_of(conn, READ_FILE, params![file.get()])
 }
 
 /// The rows of the papers of the file, in rising number.
@@ -158,11 +130,7 @@ fn paper_rows<S: Alter>(conn: &mut Connection<S>, file: FileId) -> Got<Vec<Row>>
     ensures crash { (t : Tables) → Keeps t (state S.Store conn.old).now → Survives (state S.Store conn.old) (state S.Store conn.new) (λ _. ⊥) }
     ensures calm { conn.new.in_transaction ≡ false }
 {
-    rows_of(
-        conn,
-        READ_PAPERS,
-        params![file.get()],
-    )
+    rows_of(conn, READ_PAPERS, params![file.get()])
 }
 
 /// A row for each paper of the number that is an open notice of the file.
@@ -179,11 +147,7 @@ fn notice_rows<S: Alter>(
     ensures crash { (t : Tables) → Keeps t (state S.Store conn.old).now → Survives (state S.Store conn.old) (state S.Store conn.new) (λ _. ⊥) }
     ensures calm { conn.new.in_transaction ≡ false }
 {
-    rows_of(
-        conn,
-        FIND_NOTICE,
-        params![file.get(), number.get()],
-    )
+    rows_of(conn, FIND_NOTICE, params![file.get(), number.get()])
 }
 
 /// The first row as a typed value, if there is a row.
