@@ -14,6 +14,7 @@ use Rattle.permit_base.specs.declared.words.Timing.{Timing}
 use Rattle.permit_core.specs.Views.{row_stage, row_timing}
 use Rattle.permit_model.specs.History.{History}
 use Rattle.permit_model.specs.Caller.{Party}
+use Rattle.permit_model.specs.Parcels as Parcels
 use Rattle.permit_model.specs.Parcels.{Parcel, parcel_numbered}
 use Rattle.permit_model.specs.Files.{Filing, CaseFile, filings, case_file, case_files, case_numbered}
 use Rattle.permit_model.specs.Facts.{parcel_facts, file_facts}
@@ -32,6 +33,28 @@ found_number_by id k x y rest false e found ih = ih found
 pub found_number : {A : Type 0} (id : A → ℕ) (k : ℕ) (xs : List A) (y : A) → find (λ x. id x == k) xs ≡ Some y → id y ≡ k
 found_number id k [] y found = cc
 found_number id k (x ∷ xs) y found = found_number_by id k x y (find (λ z. id z == k) xs) (id x == k) refl found (found_number id k xs y)
+
+-- a parcel whose owner is found
+pub record IsOwned (h : History) (id : ℕ) : Type 0 where
+  pub land : Parcel
+  pub found : parcel_numbered h id ≡ Some land
+
+owned_by : (h : History) (id owner : ℕ) (o : Option Parcel) → parcel_numbered h id ≡ o → Some owner ≡ option_map (λ (p : Parcel). p.owner) o → IsOwned h id
+owned_by h id owner None e found = cc
+owned_by h id owner (Some land) e found = record { land = land; found = e }
+
+pub parcel_owned : (h : History) (id owner : ℕ) → Some owner ≡ Parcels.owner h id → IsOwned h id
+parcel_owned h id owner found = owned_by h id owner (parcel_numbered h id) refl found
+
+ownerless : (h : History) (id : ℕ) (o : Option Parcel) → parcel_numbered h id ≡ o → None ≡ option_map (λ (p : Parcel). p.owner) o → parcel_numbered h id ≡ None
+ownerless h id None e found = e
+ownerless h id (Some land) e found = cc
+
+-- the filing's parcel isn't there
+pub file_unplaced : (policy : Policy) (h : History) (day : ℕ) (caller : Party) (parcel : ℕ) (kind : Kind) (valuation : ℕ) (description : List ℕ) → None ≡ Parcels.owner h parcel →
+    outcome_by_request policy h day caller (File parcel kind valuation description) ≡ refused h refusal.Record
+file_unplaced policy h day caller parcel kind valuation description none =
+    ap (λ (o : Option Parcel). outcome_by_facts policy h day caller (File parcel kind valuation description) (option_map (λ (p : Parcel). parcel_facts h caller parcel New action.File) o)) (ownerless h parcel (parcel_numbered h parcel) refl none)
 
 -- the filing's parcel is there
 pub file_judged : (policy : Policy) (h : History) (day : ℕ) (caller : Party) (parcel : ℕ) (kind : Kind) (valuation : ℕ) (description : List ℕ) (land : Parcel) → parcel_numbered h parcel ≡ Some land →

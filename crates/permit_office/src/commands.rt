@@ -41,12 +41,12 @@ fn named<S: Store>(store: &mut S, parcel: ParcelId, command: &Command) -> Got<Op
     let Some(party) = named_party(command) else {
         return Ok(None);
     };
-    let Some(found) = store.party(party)? else {
+    let Some(role) = store.role(party)? else {
         return Ok(None);
     };
     let has_interest = store.interest(parcel, party)?;
     Ok(Some(NamedParty {
-        role: found.role,
+        role,
         has_interest,
     }))
 }

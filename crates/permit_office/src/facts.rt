@@ -3,7 +3,6 @@
 ghost use Rattle.std.specs.Prelude.{◌≡◌, Option, Some, None, IfOk};
 ghost use Rattle.permit_model.specs.History.{History};
 ghost use Rattle.permit_model.specs.Parcels;
-ghost use Rattle.permit_model.specs.Parcels.{parcel_numbered};
 ghost use Rattle.permit_model.specs.Files.{CaseFile};
 ghost use Rattle.permit_model.specs.Facts.{file_facts, parcel_facts};
 ghost use Rattle.permit_model.specs.Tables.{Tables, tables, state_of};
@@ -13,28 +12,29 @@ use permit_base::values::{Day, ParcelId, PartyId};
 use permit_base::words::{Action, Relations, Stage, Timing};
 use permit_core::state::FileState;
 use permit_policy::Facts;
-use permit_store::rows::{Parcel, Party};
+use permit_store::rows::Party;
 use permit_store::store::{Got, Store};
 
-/// The facts of a request on a parcel.
+/// The facts of a request on a parcel of this owner.
 pub(crate) fn facts_on_parcel<S: Store>(
     store: &mut S,
     caller: &Party,
-    land: &Parcel,
+    parcel: ParcelId,
+    owner: PartyId,
     word: Stage,
     action: Action,
 ) -> Got<Facts>
-    ensures facts { (S.view store.new).doubt ≡ 0 → (h : History) → (S.view store.old).holds (tables h) → parcel_numbered h land.now.id ≡ Some land.now
-        → IfOk result (λ f. f ≡ parcel_facts h caller.now land.now.id word action) }
+    ensures facts { (S.view store.new).doubt ≡ 0 → (h : History) → (S.view store.old).holds (tables h) → Parcels.owner h parcel ≡ Some owner
+        → IfOk result (λ f. f ≡ parcel_facts h caller.now parcel word action) }
     ensures read { OnlyReads (S.view store.old) (S.view store.new) result }
 {
-    let conflict = store.interest(land.id, caller.id)?;
+    let conflict = store.interest(parcel, caller.id)?;
     Ok(Facts {
         role: caller.role,
         relations: Relations {
             applicant: false,
             contractor: false,
-            owner: land.owner.get() == caller.id.get(),
+            owner: owner.get() == caller.id.get(),
             assigned_reviewer: false,
             assigned_inspector: false,
             conflict,
@@ -46,24 +46,13 @@ pub(crate) fn facts_on_parcel<S: Store>(
     })
 }
 
-/// The owner of a parcel, if it is there.
-fn owner_of<S: Store>(store: &mut S, parcel: ParcelId) -> Got<Option<PartyId>>
-    ensures owner { (S.view store.new).doubt ≡ 0 → (h : History) → (S.view store.old).holds (tables h) → IfOk result (λ o. o ≡ Parcels.owner h parcel) }
-    ensures read { OnlyReads (S.view store.old) (S.view store.new) result }
-{
-    match store.parcel(parcel)? {
-        Some(land) => Ok(Some(land.owner)),
-        None => Ok(None),
-    }
-}
-
 /// The owner of the parcel of a file.
 pub(crate) fn owner_on<S: Store>(store: &mut S, state: &FileState) -> Got<Option<PartyId>>
     ensures owner { (S.view store.new).doubt ≡ 0 → (h : History) (file : CaseFile) → (S.view store.old).holds (tables h) → state.now ≡ state_of file
         → IfOk result (λ o. o ≡ Parcels.owner h file.filing.parcel) }
     ensures read { OnlyReads (S.view store.old) (S.view store.new) result }
 {
-    owner_of(store, state.parcel())
+    store.owner(state.parcel())
 }
 
 /// The facts of a request on a file whose parcel has this owner.

@@ -39,10 +39,10 @@ pub(crate) fn file<S: Store>(
     ensures attempt { IsAttempt NoRow (S.view store.old) (S.view store.new) result }
     ensures own { IfOk result IsOwn }
 {
-    let Some(land) = store.parcel(parcel)? else {
+    let Some(owner) = store.owner(parcel)? else {
         return Ok(Reply::Refused(Refusal::Record));
     };
-    let facts = facts_on_parcel(store, caller, &land, Stage::New, Action::File)?;
+    let facts = facts_on_parcel(store, caller, parcel, owner, Stage::New, Action::File)?;
     if let Some(name) = policy.denial(&facts) {
         return Ok(Reply::Refused(Refusal::Denied(name)));
     }

@@ -5,7 +5,8 @@ ghost use Rattle.std.specs.List.{list_any};
 ghost use Rattle.permit_base.specs.declared.request.Request.TheVariants as request;
 ghost use Rattle.permit_model.specs.Caller;
 ghost use Rattle.permit_model.specs.History.{History, last_day};
-ghost use Rattle.permit_model.specs.Parcels.{parcel_numbered, parcels};
+ghost use Rattle.permit_model.specs.Parcels;
+ghost use Rattle.permit_model.specs.Parcels.{parcels};
 ghost use Rattle.permit_base.specs.declared.refusal.Reason.TheVariants.{Taken};
 ghost use Rattle.permit_model.specs.Admission.{first_failing, reason_against};
 ghost use Rattle.permit_model.specs.Tables.{Tables, tables, desk_of};
@@ -22,7 +23,7 @@ use permit_base::refusal::{Reason, Refusal};
 use permit_base::values::{Day, Lot, ParcelId, PartyId, Text};
 use permit_base::words::{Action, Stage};
 use permit_policy::{Facts, Policy};
-use permit_store::rows::{Change, Desk, Parcel, Party};
+use permit_store::rows::{Change, Desk, Party};
 use permit_store::store::{Got, Store};
 
 /// Whether there is a parcel of that lot.
@@ -110,10 +111,10 @@ pub(crate) fn declare<S: Store>(
     ensures attempt { IsAttempt NoRow (S.view store.old) (S.view store.new) result }
     ensures own { IfOk result IsOwn }
 {
-    let Some(land) = store.parcel(parcel)? else {
+    let Some(owner) = store.owner(parcel)? else {
         return Ok(Reply::Refused(Refusal::Record));
     };
-    let facts = facts_on_parcel(store, caller, &land, Stage::Office, Action::Declare)?;
+    let facts = facts_on_parcel(store, caller, parcel, owner, Stage::Office, Action::Declare)?;
     if let Some(name) = policy.denial(&facts) {
         return Ok(Reply::Refused(Refusal::Denied(name)));
     }
@@ -123,17 +124,22 @@ pub(crate) fn declare<S: Store>(
 }
 
 /// What stands against a transfer, which makes no record with a number.
-fn admit_transfer<S: Store>(store: &mut S, land: &Parcel, to: PartyId) -> Got<Admitted>
+fn admit_transfer<S: Store>(
+    store: &mut S,
+    parcel: ParcelId,
+    owner: PartyId,
+    to: PartyId,
+) -> Got<Admitted>
     ensures reason { (S.view store.new).doubt ≡ 0 → (h : History) (day caller : ℕ) → (S.view store.old).holds (tables h)
-        → parcel_numbered h land.now.id ≡ Some land.now
-        → IfOk result (λ r. reason_in r ≡ reason_against h day caller (request.Transfer land.now.id to)) }
+        → Parcels.owner h parcel ≡ Some owner
+        → IfOk result (λ r. reason_in r ≡ reason_against h day caller (request.Transfer parcel to)) }
     ensures number { IfOk result (λ r. IfOk r (λ number. number ≡ None)) }
     ensures read { OnlyReads (S.view store.old) (S.view store.new) result }
 {
     if !is_party(store, to)? {
         return Ok(Err(Reason::Person));
     }
-    if land.owner.get() == to.get() {
+    if owner.get() == to.get() {
         return Ok(Err(Reason::Taken));
     }
     Ok(Ok(None))
@@ -153,14 +159,14 @@ pub(crate) fn transfer<S: Store>(
     ensures attempt { IsAttempt NoRow (S.view store.old) (S.view store.new) result }
     ensures own { IfOk result IsOwn }
 {
-    let Some(land) = store.parcel(parcel)? else {
+    let Some(owner) = store.owner(parcel)? else {
         return Ok(Reply::Refused(Refusal::Record));
     };
-    let facts = facts_on_parcel(store, caller, &land, Stage::Office, Action::Transfer)?;
+    let facts = facts_on_parcel(store, caller, parcel, owner, Stage::Office, Action::Transfer)?;
     if let Some(name) = policy.denial(&facts) {
         return Ok(Reply::Refused(Refusal::Denied(name)));
     }
-    let admitted = admit_transfer(store, &land, to)?;
+    let admitted = admit_transfer(store, parcel, owner, to)?;
     carry_out(
         store,
         admitted,

@@ -38,8 +38,8 @@ pub(crate) fn is_party<S: Store>(store: &mut S, party: PartyId) -> Got<bool>
     ensures there { (S.view store.new).doubt ≡ 0 → (h : History) → (S.view store.old).holds (tables h) → IfOk result (λ b. b ≡ Caller.is_party h party) }
     ensures read { OnlyReads (S.view store.old) (S.view store.new) result }
 {
-    let found = store.party(party)?;
-    Ok(found.is_some())
+    let role = store.role(party)?;
+    Ok(role.is_some())
 }
 
 /// The number of a new party, or what stands against it.

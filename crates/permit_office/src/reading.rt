@@ -61,7 +61,14 @@ pub(crate) fn read_parcel<S: Store>(
     let Some(land) = store.parcel(parcel)? else {
         return Ok(Reply::Refused(Refusal::Record));
     };
-    let facts = facts_on_parcel(store, caller, &land, Stage::Office, Action::ReadParcel)?;
+    let facts = facts_on_parcel(
+        store,
+        caller,
+        parcel,
+        land.owner,
+        Stage::Office,
+        Action::ReadParcel,
+    )?;
     if let Some(name) = policy.denial(&facts) {
         return Ok(Reply::Refused(Refusal::Denied(name)));
     }

@@ -17,13 +17,14 @@ ghost use Rattle.permit_sql.specs.Found.{KeepsTyped};
 use crate::open::check;
 use permit_base::route::Route;
 use permit_base::values::{Day, Digest, FileId, Lot, PaperNumber, ParcelId, PartyId};
+use permit_base::words::Role;
 use permit_core::state::FileState;
 use permit_core::taker::Taker;
 use permit_sql_statements::commit::commit_in;
 use permit_sql_statements::create::create_in;
 use permit_sql_statements::read::{
-    find_parcel, find_party, has_interest, has_open_notice, read_desk, read_file, read_papers,
-    read_parcel, read_party, read_state,
+    find_parcel, find_party, has_interest, has_open_notice, read_desk, read_file, read_owner,
+    read_papers, read_parcel, read_party, read_role, read_state,
 };
 use permit_sql_statements::select::{each_found, each_of_any_found, select_found};
 use permit_store::founder::Founder;
@@ -198,9 +199,23 @@ impl<S: Alter> Store for SqlStore<S> {
         }
     }
 
+    fn role(&mut self, party: PartyId) -> Got<Option<Role>> {
+        match read_role(&mut self.conn, party) {
+            Ok(role) => Ok(role),
+            Err(_) => self.fail(),
+        }
+    }
+
     fn parcel(&mut self, parcel: ParcelId) -> Got<Option<Parcel>> {
         match read_parcel(&mut self.conn, parcel) {
             Ok(parcel) => Ok(parcel),
+            Err(_) => self.fail(),
+        }
+    }
+
+    fn owner(&mut self, parcel: ParcelId) -> Got<Option<PartyId>> {
+        match read_owner(&mut self.conn, parcel) {
+            Ok(owner) => Ok(owner),
             Err(_) => self.fail(),
         }
     }

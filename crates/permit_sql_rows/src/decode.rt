@@ -19,6 +19,7 @@ use crate::fields::{
 };
 use crate::schema::VERSION;
 use permit_base::values::{ParcelId, PartyId};
+use permit_base::words::Role;
 use permit_core::restore::StateFields;
 use permit_core::state::FileState;
 use permit_store::rows::{Desk, FileRow, Found, Paper, Parcel, Party};
@@ -67,6 +68,13 @@ pub fn party_in(row: &Row) -> Option<Party>
     party_of(row).ok()
 }
 
+/// The role in a party's row.
+pub fn role_in(row: &Row) -> Option<Role>
+    ensures { (is : TheParty) → row.now ≡ shown_party is → IfSome result (λ r. r ≡ is.role) }
+{
+    role(row, 2)
+}
+
 /// A parcel's row.
 pub fn parcel_of(row: &Row) -> Read<Parcel>
     ensures read { (is : TheParcel) → row.now ≡ shown_parcel is → IfOk result (λ p. p ≡ is) }
@@ -87,6 +95,13 @@ pub fn parcel_in(row: &Row) -> Option<Parcel>
     ensures { (is : TheParcel) → row.now ≡ shown_parcel is → IfSome result (λ p. p ≡ is) }
 {
     parcel_of(row).ok()
+}
+
+/// The owner in a parcel's row.
+pub fn owner_in(row: &Row) -> Option<PartyId>
+    ensures { (is : TheParcel) → row.now ≡ shown_parcel is → IfSome result (λ o. o ≡ is.owner) }
+{
+    party_number(row, 3)
 }
 
 /// The parcel and the party of an interest's row.

@@ -17,8 +17,11 @@ use crate::texts::{
     READ_PARCEL, READ_PARTY,
 };
 use permit_base::values::{Digest, FileId, Lot, PaperNumber, ParcelId, PartyId};
+use permit_base::words::Role;
 use permit_core::state::FileState;
-use permit_sql_rows::decode::{desk_in, file_in, paper_in, parcel_in, party_in, state_in};
+use permit_sql_rows::decode::{
+    desk_in, file_in, owner_in, paper_in, parcel_in, party_in, role_in, state_in,
+};
 use permit_store::rows::{Desk, FileRow, Paper, Parcel, Party};
 use permit_store::store::{Got, StoreError};
 use sqlite::{Alter, Connection, Row, params};
@@ -196,6 +199,32 @@ fn file_state(row: &Row) -> Option<FileState>
     state_in(row)
 }
 
+/// The role in the first row, if there is a row.
+fn first_role(rows: &[Row]) -> Got<Option<Role>>
+    ensures { (found : Option TheParty) → slice_get rows.now 0 ≡ option_map shown_party found → IfOk result (λ x. x ≡ option_map (λ p. p.role) found) }
+{
+    match rows.get(0) {
+        None => Ok(None),
+        Some(row) => match role_in(row) {
+            Some(role) => Ok(Some(role)),
+            None => Err(StoreError),
+        },
+    }
+}
+
+/// The owner in the first row, if there is a row.
+fn first_owner(rows: &[Row]) -> Got<Option<PartyId>>
+    ensures { (found : Option TheParcel) → slice_get rows.now 0 ≡ option_map shown_parcel found → IfOk result (λ x. x ≡ option_map (λ p. p.owner) found) }
+{
+    match rows.get(0) {
+        None => Ok(None),
+        Some(row) => match owner_in(row) {
+            Some(owner) => Ok(Some(owner)),
+            None => Err(StoreError),
+        },
+    }
+}
+
 /// The state in the first row, if there is a row.
 fn first_state(rows: &[Row]) -> Got<Option<FileState>>
     ensures { (found : Option TheRow) → IfSome found (λ f. IsNamed f.state) → slice_get rows.now 0 ≡ option_map shown_file found → IfOk result (λ x. x ≡ option_map (λ f. f.state) found) }
@@ -250,6 +279,20 @@ pub fn read_party<S: Alter>(conn: &mut Connection<S>, party: PartyId) -> Got<Opt
     first_party(&rows)
 }
 
+/// The role of the party with the number, read of its row without a copy of its name.
+pub fn read_role<S: Alter>(conn: &mut Connection<S>, party: PartyId) -> Got<Option<Role>>
+    requires calm { conn.old.in_transaction ≡ false }
+    ensures found { (t : Tables) → HasCleanDisk (state S.Store conn.new) → Shows t (state S.Store conn.old) → IfOk result (λ r. r ≡ option_map (λ p. p.role) (find (λ p. p.id == party) t.parties)) }
+    ensures kept { (t : Tables) → HasCleanDisk (state S.Store conn.new) → Shows t (state S.Store conn.old) → Shows t (state S.Store conn.new) }
+    ensures open { HasCleanDisk (state S.Store conn.new) → OnOk result (IsTrue (state S.Store conn.new).is_open) }
+    ensures doubt { doubt (state S.Store conn.old).is_clean ≤ doubt (state S.Store conn.new).is_clean }
+    ensures crash { (t : Tables) → Keeps t (state S.Store conn.old).now → Survives (state S.Store conn.old) (state S.Store conn.new) (λ _. ⊥) }
+    ensures calm { conn.new.in_transaction ≡ false }
+{
+    let rows = party_rows(conn, party)?;
+    first_role(&rows)
+}
+
 /// The party that keeps the digest.
 pub fn find_party<S: Alter>(conn: &mut Connection<S>, digest: &Digest) -> Got<Option<Party>>
     requires calm { conn.old.in_transaction ≡ false }
@@ -276,6 +319,20 @@ pub fn read_parcel<S: Alter>(conn: &mut Connection<S>, parcel: ParcelId) -> Got<
 {
     let rows = parcel_rows(conn, parcel)?;
     first_parcel(&rows)
+}
+
+/// The owner of the parcel with the number, read of its row without a copy of its texts.
+pub fn read_owner<S: Alter>(conn: &mut Connection<S>, parcel: ParcelId) -> Got<Option<PartyId>>
+    requires calm { conn.old.in_transaction ≡ false }
+    ensures found { (t : Tables) → HasCleanDisk (state S.Store conn.new) → Shows t (state S.Store conn.old) → IfOk result (λ o. o ≡ option_map (λ p. p.owner) (find (λ p. p.id == parcel) t.parcels)) }
+    ensures kept { (t : Tables) → HasCleanDisk (state S.Store conn.new) → Shows t (state S.Store conn.old) → Shows t (state S.Store conn.new) }
+    ensures open { HasCleanDisk (state S.Store conn.new) → OnOk result (IsTrue (state S.Store conn.new).is_open) }
+    ensures doubt { doubt (state S.Store conn.old).is_clean ≤ doubt (state S.Store conn.new).is_clean }
+    ensures crash { (t : Tables) → Keeps t (state S.Store conn.old).now → Survives (state S.Store conn.old) (state S.Store conn.new) (λ _. ⊥) }
+    ensures calm { conn.new.in_transaction ≡ false }
+{
+    let rows = parcel_rows(conn, parcel)?;
+    first_owner(&rows)
 }
 
 /// The parcel of the lot.

@@ -147,11 +147,19 @@ impl Store for PlainStore {
         }
     }
 
+    fn role(&mut self, party: PartyId) -> Got<Option<Role>> {
+        Ok(find::role_of(&self.parties, party))
+    }
+
     fn parcel(&mut self, parcel: ParcelId) -> Got<Option<Parcel>> {
         match find::find_parcel(&self.parcels, parcel) {
             Ok(found) => Ok(found),
             Err(_) => self.fail(),
         }
+    }
+
+    fn owner(&mut self, parcel: ParcelId) -> Got<Option<PartyId>> {
+        Ok(find::owner_of(&self.parcels, parcel))
     }
 
     fn parcel_by_lot(&mut self, lot: &Lot) -> Got<Option<Parcel>> {

@@ -11,6 +11,7 @@ ghost use Rattle.permit_store.specs.Handing.{AreAmong, AreFound, AreHanded, Hand
 use crate::rows::{Change, Desk, FileRow, Found, Paper, Parcel, Party};
 use permit_base::route::Route;
 use permit_base::values::{Day, Digest, FileId, Lot, PaperNumber, ParcelId, PartyId};
+use permit_base::words::Role;
 use permit_core::state::FileState;
 use permit_core::taker::Taker;
 
@@ -73,9 +74,23 @@ pub trait Store {
         ensures read { IsRead (view self.old) (view self.new) result }
         ensures crash { (t : Tables) → crash self.old self.new t (λ _. ⊥) };
 
+    /// The role of the party of the number, with none of the row's texts.
+    fn role(&mut self, party: PartyId) -> Got<Option<Role>>
+        ensures found { (view self.new).doubt ≡ 0 → (t : Tables) → (view self.old).holds t
+            → IfOk result (λ r. r ≡ option_map (λ p. p.role) (find (λ p. p.id == party) t.parties)) }
+        ensures read { IsRead (view self.old) (view self.new) result }
+        ensures crash { (t : Tables) → crash self.old self.new t (λ _. ⊥) };
+
     /// The parcel of the number.
     fn parcel(&mut self, parcel: ParcelId) -> Got<Option<Parcel>>
         ensures found { (view self.new).doubt ≡ 0 → (t : Tables) → (view self.old).holds t → IfOk result (λ p. p ≡ find (λ p. p.id == parcel) t.parcels) }
+        ensures read { IsRead (view self.old) (view self.new) result }
+        ensures crash { (t : Tables) → crash self.old self.new t (λ _. ⊥) };
+
+    /// The owner of the parcel of the number, with none of the row's texts.
+    fn owner(&mut self, parcel: ParcelId) -> Got<Option<PartyId>>
+        ensures found { (view self.new).doubt ≡ 0 → (t : Tables) → (view self.old).holds t
+            → IfOk result (λ o. o ≡ option_map (λ p. p.owner) (find (λ p. p.id == parcel) t.parcels)) }
         ensures read { IsRead (view self.old) (view self.new) result }
         ensures crash { (t : Tables) → crash self.old self.new t (λ _. ⊥) };
 

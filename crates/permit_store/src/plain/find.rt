@@ -7,6 +7,7 @@ ghost use Rattle.permit_store.specs.Plain.{papers_at, AreInPlace};
 use crate::plain::kept::Kept;
 use crate::rows::{FileRow, Interest, Paper, Parcel, Party};
 use permit_base::values::{Digest, FileId, Lot, PaperNumber, ParcelId, PartyId};
+use permit_base::words::Role;
 use permit_core::state::FileState;
 use std::alloc::{AllocError, Global};
 
@@ -26,6 +27,16 @@ fn party_with<'a>(parties: &'a [Party], digest: &Digest) -> Option<&'a Party>
         let party: &Party = party;
         party.digest == *digest
     })
+}
+
+/// The role of the party of the number.
+pub(crate) fn role_of(parties: &[Party], id: PartyId) -> Option<Role>
+    ensures { result ≡ option_map (λ p. p.role) (find (λ p. p.id == id) parties.now) }
+{
+    match party_numbered(parties, id) {
+        None => None,
+        Some(party) => Some(party.role),
+    }
 }
 
 fn parcel_numbered(parcels: &[Parcel], id: ParcelId) -> Option<&Parcel>
@@ -59,7 +70,8 @@ fn parcel_with<'a>(parcels: &'a [Parcel], lot: &Lot) -> Option<&'a Parcel>
 /// The place of the file of the number: the files are numbered from 1 without a gap.
 pub(crate) fn place_of(files: &[Kept], id: FileId) -> Option<usize>
     requires places { AreInPlace files.now }
-    ensures { IfSome result (λ place. (id ≡ 1 + place) × (place < length files.now)) }
+    ensures some { IfSome result (λ place. (id ≡ 1 + place) × (place < length files.now)) }
+    ensures none { result ≡ None → length files.now < id }
 {
     let place = id.get() as usize - 1;
     if place < files.len() {

@@ -3,8 +3,6 @@ use Rattle.permit_base.specs.declared.request.Request.TheVariants.{Declare}
 use Rattle.permit_base.specs.declared.words.Stage.TheVariants.{Office}
 use Rattle.permit_base.specs.declared.words.Action.TheVariants as action
 use Rattle.permit_model.specs.Caller.{Party}
-use Rattle.permit_model.specs.Parcels.{Parcel, parcels, parcel_numbered}
-use Rattle.std.specs.Prelude.{Some}
 use Rattle.permit_model.specs.Tables.{tables}
 use Rattle.permit_model.specs.Facts.{Facts, parcel_facts}
 use Rattle.permit_model.specs.Admission.{first_failing}
@@ -12,41 +10,39 @@ use Rattle.permit_base.specs.declared.refusal.Reason.TheVariants.{Taken}
 use Rattle.permit_model.specs.Policy.{decision}
 use Rattle.permit_model.specs.Machine.{entry_of}
 use Rattle.permit_office.proofs.Deciding.{denied_outcome, allowed_outcome, interest_suits, none_against, number_is}
-use Rattle.permit_office.proofs.Finding.{found_number, declare_judged}
+use Rattle.permit_office.proofs.Finding.{parcel_owned, declare_judged}
 use Rattle.permit_office.proofs.Tables.{interest_more}
 use Rattle.permit_office.proofs.land.declare.Goals as goal
 
 pub returns-in-Some-denial-clause-model : goal.returns-in-Some-denial-clause-model
 returns-in-Some-denial-clause-model g c = λ doubt h held t party.
-    let late : (g.S.Store.view c.parcel.new.self).doubt ≡ 0 = omega arith in
+    let late : (g.S.Store.view c.owner.new.self).doubt ≡ 0 = omega arith in
     let a = c.args in
-    let found = sym c.in-Some.is ∙ c.in_ok-land.ensures.found late (tables h) held in
-    let named = found_number (λ (p : Parcel). p.id) a.parcel (parcels h) c.in-Some.land (sym found) in
-    let kept = c.parcel.ensures.read.kept (tables h) held in
-    let there : parcel_numbered h c.in-Some.land.id ≡ Some c.in-Some.land = ap (parcel_numbered h) named ∙ sym found in
-    let facts = rw named at (c.in_ok-facts.ensures.facts doubt h kept there) in
+    let found = sym c.in-Some.is ∙ c.in_ok-owner.ensures.found late (tables h) held in
+    let owned = parcel_owned h a.parcel c.in-Some.owner found in
+    let kept = c.owner.ensures.read.kept (tables h) held in
+    let facts = c.in_ok-facts.ensures.facts doubt h kept (sym found) in
     let denied = rw facts at (sym c.in-Some-denial.is ∙ c.denial.ensures) in
-    rw (declare_judged a.policy.now h a.day a.caller.now a.parcel c.in-Some.land (sym found)
+    rw (declare_judged a.policy.now h a.day a.caller.now a.parcel owned.land owned.found
     ∙ denied_outcome a.policy.now h a.day a.caller.now (Declare a.parcel) (decision a.policy.now (parcel_facts h a.caller.now a.parcel Office action.Declare)) c.in-Some-denial.name denied)
     (inl (refl, c.facts_on_parcel.ensures.read.kept (tables h) kept))
 
 pub returns-clause-model : goal.returns-clause-model
 returns-clause-model g c = λ doubt h held t party.
-    let late : (g.S.Store.view c.parcel.new.self).doubt ≡ 0 = omega arith in
+    let late : (g.S.Store.view c.owner.new.self).doubt ≡ 0 = omega arith in
     let later : (g.S.Store.view c.facts_on_parcel.new.store).doubt ≡ 0 = omega arith in
     let a = c.args in
-    let found = sym c.in-Some.is ∙ c.in_ok-land.ensures.found late (tables h) held in
-    let named = found_number (λ (p : Parcel). p.id) a.parcel (parcels h) c.in-Some.land (sym found) in
-    let kept = c.parcel.ensures.read.kept (tables h) held in
-    let there : parcel_numbered h c.in-Some.land.id ≡ Some c.in-Some.land = ap (parcel_numbered h) named ∙ sym found in
-    let facts = rw named at (c.in_ok-facts.ensures.facts later h kept there) in
+    let found = sym c.in-Some.is ∙ c.in_ok-owner.ensures.found late (tables h) held in
+    let owned = parcel_owned h a.parcel c.in-Some.owner found in
+    let kept = c.owner.ensures.read.kept (tables h) held in
+    let facts = c.in_ok-facts.ensures.facts later h kept (sym found) in
     let allowed = rw facts at (sym c.in_default-denial.is ∙ c.denial.ensures) in
     let kept_2 = c.facts_on_parcel.ensures.read.kept (tables h) kept in
     let caller = ap (λ (p : Party). p.id) c.caller.view_is in
     let reason = c.admit_declaration-admitted.ensures.reason ∙ ap (λ (f : Facts). first_failing ((f.relations.conflict, Taken) ∷ [])) (c.facts.view_is ∙ facts) in
     let done = c.carry_out.ensures.model h (entry_of h a.day a.caller.now.id (Declare a.parcel)) kept_2
-    (λ number is_ok. let s = interest_suits h a.day a.caller.now.id a.parcel c.in-Some.land (sym found) party (sym reason ∙ none_against _ number is_ok) in
+    (λ number is_ok. let s = interest_suits h a.day a.caller.now.id a.parcel owned.land owned.found party (sym reason ∙ none_against _ number is_ok) in
     (number_is _ number _ c.admit_declaration-admitted.ensures.number is_ok, record { suits = rw caller s; in_time = t }, rw caller (interest_more h a.day a.caller.now.id a.parcel))) in
-    rw (declare_judged a.policy.now h a.day a.caller.now a.parcel c.in-Some.land (sym found)
+    rw (declare_judged a.policy.now h a.day a.caller.now a.parcel owned.land owned.found
     ∙ allowed_outcome a.policy.now h a.day a.caller.now (Declare a.parcel) (decision a.policy.now (parcel_facts h a.caller.now a.parcel Office action.Declare)) allowed)
     (rw reason at done)

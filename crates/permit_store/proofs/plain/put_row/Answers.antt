@@ -11,7 +11,7 @@ returns-clause-rows c =
     let files = c.args.files.now in
     let i = c.in-Some.place in
     let d = c.index-files-place.result in
-    let at = c.in-Some.ensures in
+    let at = c.in-Some.ensures.some in
     λ ok. rw (c.renew.ensures.made ok) (rows_at c.args.file 1 i c.args.state files d (renewed c.args.file c.args.state c.args.day c.args.effect.now (get_or files i d)) refl at.0 at.1 (numbered_from (λ k. k.row.id) 1 files c.requires.places))
 
 pub returns-clause-papers : goal.returns-clause-papers
@@ -19,7 +19,7 @@ returns-clause-papers c =
     let files = c.args.files.now in
     let i = c.in-Some.place in
     let d = c.index-files-place.result in
-    let at = c.in-Some.ensures in
+    let at = c.in-Some.ensures.some in
     let first = is_place (λ k. k.row.id) 1 c.args.file i files d at.0 at.1 (numbered_from (λ k. k.row.id) 1 files c.requires.places) in
     λ ok f. rw (c.renew.ensures.made ok, papers_at_place c.args.file files i d first at.1)
     (papers_put c.args.file f files i d (renewed c.args.file c.args.state c.args.day c.args.effect.now (get_or files i d)) refl first at.1)
@@ -28,6 +28,6 @@ pub returns-clause-places : goal.returns-clause-places
 returns-clause-places c =
     let files = c.args.files.now in
     let i = c.in-Some.place in
-    let at = c.in-Some.ensures in
+    let at = c.in-Some.ensures.some in
     numbers_set (λ k. k.row.id) files i c.index-files-place.result c.renew.new.kept c.renew.ensures.number at.1
     ∙ c.requires.places ∙ ap (range_with_len 1) (sym (length-set files i c.renew.new.kept))
