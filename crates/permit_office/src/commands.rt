@@ -45,10 +45,7 @@ fn named<S: Store>(store: &mut S, parcel: ParcelId, command: &Command) -> Got<Op
         return Ok(None);
     };
     let has_interest = store.interest(parcel, party)?;
-    Ok(Some(NamedParty {
-        role,
-        has_interest,
-    }))
+    Ok(Some(NamedParty { role, has_interest }))
 }
 
 /// Whether the paper that a command names is an open notice of the file.

@@ -162,7 +162,14 @@ pub(crate) fn transfer<S: Store>(
     let Some(owner) = store.owner(parcel)? else {
         return Ok(Reply::Refused(Refusal::Record));
     };
-    let facts = facts_on_parcel(store, caller, parcel, owner, Stage::Office, Action::Transfer)?;
+    let facts = facts_on_parcel(
+        store,
+        caller,
+        parcel,
+        owner,
+        Stage::Office,
+        Action::Transfer,
+    )?;
     if let Some(name) = policy.denial(&facts) {
         return Ok(Reply::Refused(Refusal::Denied(name)));
     }

@@ -1,13 +1,13 @@
 //! A row that a query shows as a typed value.
 
-ghost use Rattle.std.specs.Prelude.{◌≡◌, [], ◌∷◌, ◌++◌, List, map, Option, option_map, slice_get, IfOk, IfErr, IfSome, IsSome};
+ghost use Rattle.std.specs.Prelude.{◌≡◌, Bool, [], ◌∷◌, ◌++◌, List, map, Option, option_map, slice_get, IfOk, IfErr, IfSome, IsSome};
 ghost use Rattle.permit_model.specs.Caller.{Party as TheParty};
 ghost use Rattle.permit_model.specs.Parcels.{Parcel as TheParcel, Interest as TheInterest};
 ghost use Rattle.permit_model.specs.Tables.{Desk as TheDesk, FileRow as TheRow, State as TheState, Paper as ThePaper};
 ghost use Rattle.permit_model.specs.Routes.{Found as TheFound};
 ghost use Rattle.permit_model.specs.SoundState.{IsSoundState};
 ghost use Rattle.sqlite.specs.declared.types.Value.{Value};
-ghost use Rattle.permit_sql_rows.specs.Rows.{int, shown_desk, shown_party, shown_parcel, shown_file, shown_found, shown_interest, shown_paper};
+ghost use Rattle.permit_sql_rows.specs.Rows.{int, flag, shown_desk, shown_party, shown_parcel, shown_file, shown_found, shown_interest, shown_paper};
 ghost use Rattle.permit_sql_rows.specs.Kept.{IsNamed};
 ghost use Rattle.permit_sql_rows.specs.Typed.{firsts, IsObject, IsDesk, IsParty, IsParcel, IsInterest, IsPaper, IsState, IsFile, ShowsState};
 
@@ -102,6 +102,13 @@ pub fn owner_in(row: &Row) -> Option<PartyId>
     ensures { (is : TheParcel) → row.now ≡ shown_parcel is → IfSome result (λ o. o ≡ is.owner) }
 {
     party_number(row, 3)
+}
+
+/// The truth value in a row of one column.
+pub fn truth_in(row: &Row) -> Option<bool>
+    ensures { (is : Bool) → row.now ≡ flag is ∷ [] → IfSome result (λ b. b ≡ is) }
+{
+    truth(row, 0)
 }
 
 /// The parcel and the party of an interest's row.

@@ -1,14 +1,16 @@
 -- What the texts by one relation alone mean.
-use Rattle.std.proofs.Common.{refl, [], ◌∷◌, ℕ, true}
+use Rattle.std.proofs.Common.{◌≡◌, refl, ap, subst, List, [], ◌∷◌, ℕ, true, Some}
+use Rattle.std.specs.Prelude.{unwrap_or}
 use Rattle.sqlite_tied.specs.Compute.{everything}
 use Rattle.sqlite.specs.Listing.{understood}
 use Rattle.sqlite_sql.specs.Term.{col}
-use Rattle.sqlite_sql.specs.Query.{Query, inner, left}
+use Rattle.sqlite_sql.specs.Query.{Query, inner, left, end}
 use Rattle.permit_base.specs.declared.words.Relation.{Relation}
 use Rattle.permit_base.specs.declared.words.Relation.TheVariants.{Applicant, Contractor, Owner, AssignedReviewer, AssignedInspector, Conflict}
-use Rattle.permit_sql_statements.specs.Selected.{text_alone}
+use Rattle.permit_sql_statements.specs.Selected.{text_alone, text_without}
+use Rattle.permit_sql_statements.specs.declared.question.TheConstants.{AS_APPLICANT_WITHOUT, AS_CONTRACTOR_WITHOUT, AS_OWNER_WITHOUT, AS_REVIEWER_WITHOUT, AS_INSPECTOR_WITHOUT}
 use Rattle.permit_sql_statements.proofs.Lookups.{plain_query, equals}
-use Rattle.permit_sql_statements.proofs.RouteTexts.{declared, shows, its_parcel, counts_one, led_by_interest, shown_collations, Means}
+use Rattle.permit_sql_statements.proofs.RouteTexts.{declared, shows, shows_without, its_parcel, counts_one, led_by_interest, shown_collations, Means}
 
 -- by a column of the file
 abbrev pub column_alone : ℕ → Query
@@ -36,3 +38,51 @@ means_alone Owner = (refl, (refl, refl), refl)
 means_alone AssignedReviewer = (refl, (refl, refl), refl)
 means_alone AssignedInspector = (refl, (refl, refl), refl)
 means_alone Conflict = (refl, (refl, refl), refl)
+
+-- ---- for a caller who has declared no interest
+
+abbrev pub column_without : ℕ → Query
+column_without place = plain_query (inner 7 (left 3 its_parcel end)) (equals (col 1 place) (col 0 0) ∷ []) (shows_without 1 2) []
+
+abbrev pub owner_without : Query
+owner_without = plain_query (inner 3 (inner 7 end)) (equals (col 2 2) (col 1 0) ∷ equals (col 1 4) (col 0 0) ∷ []) (shows_without 2 1) []
+
+-- there is no text by conflict
+abbrev pub query_without : Relation → Query
+query_without Applicant = column_without 3
+query_without Contractor = column_without 4
+query_without Owner = owner_without
+query_without AssignedReviewer = column_without 5
+query_without AssignedInspector = column_without 6
+query_without Conflict = conflict_alone
+
+means_applicant_without : Means AS_APPLICANT_WITHOUT.now (column_without 3)
+unfolding understood everything
+means_applicant_without = (refl, (refl, refl), refl)
+
+means_contractor_without : Means AS_CONTRACTOR_WITHOUT.now (column_without 4)
+unfolding understood everything
+means_contractor_without = (refl, (refl, refl), refl)
+
+means_owner_without : Means AS_OWNER_WITHOUT.now owner_without
+unfolding understood everything
+means_owner_without = (refl, (refl, refl), refl)
+
+means_reviewer_without : Means AS_REVIEWER_WITHOUT.now (column_without 5)
+unfolding understood everything
+means_reviewer_without = (refl, (refl, refl), refl)
+
+means_inspector_without : Means AS_INSPECTOR_WITHOUT.now (column_without 6)
+unfolding understood everything
+means_inspector_without = (refl, (refl, refl), refl)
+
+some_same : (a b : List ℕ) → Some a ≡ Some b → a ≡ b
+some_same a b is = ap (λ o. unwrap_or o b) is
+
+pub means_without : (r : Relation) (text : List ℕ) → text_without r ≡ Some text → Means text (query_without r)
+means_without Applicant text is = subst (λ x. Means x (column_without 3)) (some_same AS_APPLICANT_WITHOUT.now text is) means_applicant_without
+means_without Contractor text is = subst (λ x. Means x (column_without 4)) (some_same AS_CONTRACTOR_WITHOUT.now text is) means_contractor_without
+means_without Owner text is = subst (λ x. Means x owner_without) (some_same AS_OWNER_WITHOUT.now text is) means_owner_without
+means_without AssignedReviewer text is = subst (λ x. Means x (column_without 5)) (some_same AS_REVIEWER_WITHOUT.now text is) means_reviewer_without
+means_without AssignedInspector text is = subst (λ x. Means x (column_without 6)) (some_same AS_INSPECTOR_WITHOUT.now text is) means_inspector_without
+means_without Conflict text is = cc

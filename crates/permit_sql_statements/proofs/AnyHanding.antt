@@ -1,7 +1,7 @@
 -- The rows of an answer that were handed out, as rows that any of several selections finds.
-use Rattle.std.proofs.Common.{◌≡◌, inl, inr, ℕ, ◌<◌, Bool, true, false, cond, List, [], ◌∷◌, filter, map, Some, Result, refl, sym, ap, subst, ◌∙◌, true≢false, IsPermutation}
+use Rattle.std.proofs.Common.{◌≡◌, inl, inr, ℕ, ◌<◌, Bool, true, false, cond, eqb, List, [], ◌∷◌, filter, map, Some, Result, refl, sym, ap, subst, ◌∙◌, true≢false, IsPermutation}
 use Rattle.std.specs.Prelude.{◌&&◌, ◌||◌}
-use Rattle.std.specs.List.{AllByRecursion}
+use Rattle.std.specs.List.{AllByRecursion, list_any}
 use Rattle.std.proofs.lemmas.List.Sorted.{IsPermutation-refl}
 use Rattle.sqlite.specs.declared.types.Value.TheVariants.{Null}
 use Rattle.sqlite_value.specs.Order.{Row}
@@ -24,13 +24,13 @@ use Rattle.permit_sql_rows.specs.Schema.{office_schema}
 use Rattle.permit_sql_rows.specs.Kept.{Keeps, Shows}
 use Rattle.permit_sql_rows.specs.Rows.{int}
 use Rattle.permit_sql_statements.specs.Gave.{Gave}
-use Rattle.permit_sql_statements.specs.declared.question.TheConstants.{EVERY}
-use Rattle.permit_sql_statements.specs.Selected.{ShowWhere, ShowsEach, leader, relation_of, text_alone}
-use Rattle.permit_sql_statements.proofs.AloneTexts.{query_alone, means_alone}
+use Rattle.permit_sql_statements.specs.declared.question.TheConstants.{EVERY, EVERY_WITHOUT}
+use Rattle.permit_sql_statements.specs.Selected.{ShowWhere, ShowsEach, ShowsEachWithout, text_without, leader, relation_of, text_alone}
+use Rattle.permit_sql_statements.proofs.AloneTexts.{query_alone, means_alone, query_without, means_without}
 use Rattle.permit_sql_statements.proofs.Handing.{handed_where}
-use Rattle.permit_sql_statements.proofs.RouteAnswers.{route_shown}
-use Rattle.permit_sql_statements.proofs.RouteShows.{alone_shown}
-use Rattle.permit_sql_statements.proofs.RouteTexts.{every_query, means_for}
+use Rattle.permit_sql_statements.proofs.RouteAnswers.{route_shown, every_without_shown}
+use Rattle.permit_sql_statements.proofs.RouteShows.{alone_shown, alone_without}
+use Rattle.permit_sql_statements.proofs.RouteTexts.{every_query, every_without, means_for, means_every_without}
 
 -- ---- a relation by which each of the selections is looked up
 
@@ -107,7 +107,35 @@ module _ (t : Tables) (caller : ℕ) (there : 0 < caller) (day : ℕ) (routes : 
     filter_within (is_found_by_any routes caller day) (λ found. holds (relations_found caller found) r) (λ found h. asked_by_any caller day r found routes all h) _,
   )
 
+  -- the same for a caller who has declared no interest
+  module _ (none : list_any (λ i. eqb i.party caller) t.interests ≡ false) where
+    has_shown_without : (r : Relation) (text : List ℕ) → text_without r ≡ Some text → (old new : State) → Keeps t old.now → (rows : List Row) → Shown text (int caller ∷ int 0 ∷ []) old new rows → ShowWhere rows (λ given. IsPermutation given (having r))
+    has_shown_without r text is old new k rows h =
+        let m = means_without r text is in
+        let read = reads_as text (int caller ∷ int 0 ∷ []) old new office_schema k.schema _ m.0 m.1 m.2 rows h in
+        alone_without caller there t (overlay old.now.trees []) k.keyed k.rows.parcels k.rows.interests k.rows.files none r text is rows (read.answer Null)
+
+    all_shown_without : (old new : State) → Keeps t old.now → (rows : List Row) → Shown EVERY_WITHOUT.now (int caller ∷ int 0 ∷ []) old new rows → ShowWhere rows (λ given. IsPermutation given (found_by Every caller day t))
+    all_shown_without old new k rows h = let it = every_without_shown t caller there none day old new k rows h in record { given = it.given; are = it.are.same; shown = it.shown; named = it.named }
+
+    pub handed_among_without : (text : List ℕ) → ShowsEachWithout routes text → {E : Type 0} (result : Result Bool E) (old new : State) (given : List Found) → Shows t old → Gave result text (int caller ∷ int 0 ∷ []) old new given
+        → (shown : List Found) × AreAmong result given shown × (filter (is_found_by_any routes caller day) shown ≡ found_by_any routes caller day t)
+    handed_among_without text (inl is) result old new given shows gave = (
+      found_by Every caller day t,
+      handed_where t EVERY_WITHOUT.now (int caller ∷ int 0 ∷ []) every_without means_every_without (λ given. IsPermutation given (found_by Every caller day t)) (found_by Every caller day t) (IsPermutation-refl _) all_shown_without result old new given shows (rw is at gave),
+      filter_within (is_found_by_any routes caller day) (is_found Every caller day) (λ found h. refl) _,
+    )
+    handed_among_without text (inr (r, all, is)) result old new given shows gave = (
+      having r,
+      handed_where t text (int caller ∷ int 0 ∷ []) (query_without r) (means_without r text is) (λ given. IsPermutation given (having r)) (having r) (IsPermutation-refl _) (has_shown_without r text is) result old new given shows gave,
+      filter_within (is_found_by_any routes caller day) (λ found. holds (relations_found caller found) r) (λ found h. asked_by_any caller day r found routes all h) _,
+    )
+
 -- the text is plain in a database that keeps the tables
 pub any_plain : (t : Tables) (db : Database) (routes : List Route) (text : List ℕ) → ShowsEach routes text → Keeps t db → IsPlain (understood db.schema text)
 any_plain t db routes text (inl is) k = subst (λ s. IsPlain (understood s text)) (sym k.schema) (subst (λ x. IsPlain (understood office_schema x)) (sym is) (means_for Every).1)
 any_plain t db routes text (inr (r, all, is)) k = subst (λ s. IsPlain (understood s text)) (sym k.schema) (subst (λ x. IsPlain (understood office_schema x)) (sym is) (means_alone r).1)
+
+pub any_plain_without : (t : Tables) (db : Database) (routes : List Route) (text : List ℕ) → ShowsEachWithout routes text → Keeps t db → IsPlain (understood db.schema text)
+any_plain_without t db routes text (inl is) k = subst (λ s. IsPlain (understood s text)) (sym k.schema) (subst (λ x. IsPlain (understood office_schema x)) (sym is) means_every_without.1)
+any_plain_without t db routes text (inr (r, all, is)) k = subst (λ s. IsPlain (understood s text)) (sym k.schema) (means_without r text is).1

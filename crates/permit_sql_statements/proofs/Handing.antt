@@ -1,6 +1,7 @@
 -- The rows of an answer that were handed out, as the rows that a selection finds.
-use Rattle.std.proofs.Common.{◌≡◌, inl, inr, ℕ, ◌<◌, Bool, true, false, List, [], ◌∷◌, ◌++◌, map, Result, Ok, Err, refl, sym, ap, ap₂, subst, ◌∙◌, append-nil}
-use Rattle.std.specs.Prelude.{IsTrue}
+use Rattle.std.proofs.Common.{◌≡◌, inl, inr, ℕ, ◌<◌, Bool, true, false, eqb, List, [], ◌∷◌, ◌++◌, map, Result, Ok, Err, refl, sym, ap, ap₂, subst, ◌∙◌, append-nil}
+use Rattle.std.specs.Prelude.{IsTrue, IsErr}
+use Rattle.std.specs.List.{list_any}
 use Rattle.std.proofs.lemmas.List.Sorted.{IsPermutation-refl}
 use Rattle.sqlite_value.specs.Order.{Row}
 use Rattle.sqlite_sql.specs.Query.{Query}
@@ -11,16 +12,18 @@ use Rattle.sqlite.specs.Listing.{understood, reads_listing, IsSourceOf}
 use Rattle.sqlite.specs.State.{State, IsStatement, IsUnchanged, Begins, Shown}
 use Rattle.sqlite.proofs.Callers.{command_of, EndsIn, IsPlain, begins_shown}
 use Rattle.permit_base.specs.declared.route.Route.{Route}
+use Rattle.permit_base.specs.declared.route.Route.TheVariants.{Every}
 use Rattle.permit_model.specs.Tables.{Tables}
 use Rattle.permit_model.specs.Routes.{Found, found_by}
-use Rattle.permit_store.specs.Handing.{AreFound, AreHanded, IsLeft}
+use Rattle.permit_store.specs.Handing.{AreAmong, AreFound, AreHanded, IsLeft, Took}
 use Rattle.permit_sql_rows.specs.Kept.{Keeps, Shows}
-use Rattle.permit_sql_rows.specs.Rows.{shown_found}
+use Rattle.permit_sql_rows.specs.Rows.{int, shown_found}
+use Rattle.permit_sql_statements.specs.declared.question.TheConstants.{EVERY_WITHOUT}
 use Rattle.permit_sql_statements.specs.Gave.{AreReadAs, Gave}
 use Rattle.permit_sql_statements.specs.Selected.{AreNamed, ShowWhere, text_for, params_for}
 use Rattle.permit_sql_statements.proofs.KeptLemmas.{shown_open}
-use Rattle.permit_sql_statements.proofs.RouteTexts.{Means, query_for, means_for, plain_for}
-use Rattle.permit_sql_statements.proofs.RouteAnswers.{route_shown}
+use Rattle.permit_sql_statements.proofs.RouteTexts.{Means, every_without, query_for, means_for, means_every_without, plain_for}
+use Rattle.permit_sql_statements.proofs.RouteAnswers.{route_shown, every_without_shown}
 
 -- where rows begin those that show what is found, what they were read as begins that
 read_back : (rows more : List Row) (given all : List Found) → AreReadAs rows given → AreNamed all → rows ++ more ≡ map shown_found all → (rest : List Found) × (all ≡ given ++ rest) × (more ≡ map shown_found rest)
@@ -88,3 +91,36 @@ pub handed_shown : (t : Tables) (caller : ℕ) → 0 < caller → (route : Route
 handed_shown t caller there route day =
     handed_where t (text_for route) (params_for route caller day) (query_for route) (means_for route) (λ given. AreFound t given (found_by route caller day t)) (found_by route caller day t)
     (record { same = IsPermutation-refl _; order = λ _. refl }) (route_shown t caller there route day)
+
+-- of every file, to a caller who has declared no interest
+pub handed_without : (t : Tables) (caller : ℕ) → 0 < caller → list_any (λ i. eqb i.party caller) t.interests ≡ false → (day : ℕ) {E : Type 0} (result : Result Bool E) (old new : State) (given : List Found) → Shows t old
+    → Gave result EVERY_WITHOUT.now (int caller ∷ int 0 ∷ []) old new given → AreHanded t result given (found_by Every caller day t)
+handed_without t caller there none day =
+    handed_where t EVERY_WITHOUT.now (int caller ∷ int 0 ∷ []) every_without means_every_without (λ given. AreFound t given (found_by Every caller day t)) (found_by Every caller day t)
+    (record { same = IsPermutation-refl _; order = λ _. refl }) (every_without_shown t caller there none day)
+
+pub plain_without : (t : Tables) (db : Database) → Keeps t db → IsPlain (understood db.schema EVERY_WITHOUT.now)
+plain_without t db k = subst (λ s. IsPlain (understood s EVERY_WITHOUT.now)) (sym k.schema) means_every_without.1
+
+-- ---- a call that failed before the first row
+
+module _ {E : Type 0} (result : Result Bool E) (failed : IsErr result) where
+  pub none_taken : {T : Type 0} (took : T → Found → T → Bool → Type 0) (taker : T) → Took took [] taker taker result
+  none_taken took taker = go result failed
+    where
+      go : (r : Result Bool E) → IsErr r → Took took [] taker taker r
+      go (Ok b) e = cc
+      go (Err x) e = refl
+
+  all_left : (found : List Found) → IsLeft result found
+  all_left found = go result failed
+    where
+      go : (r : Result Bool E) → IsErr r → IsLeft r found
+      go (Ok b) e = cc
+      go (Err x) e = tt
+
+  pub none_handed : (t : Tables) (found : List Found) → AreHanded t result [] found
+  none_handed t found = (found, all_left found, record { same = IsPermutation-refl _; order = λ _. refl })
+
+  pub none_among : (found : List Found) → AreAmong result [] found
+  none_among found = (found, all_left found, IsPermutation-refl _)

@@ -6,13 +6,13 @@ use Rattle.sqlite.specs.declared.types.Value.TheVariants.{Int}
 use Rattle.sqlite_value.specs.declared.keys.Collation.TheVariants.{Binary}
 use Rattle.sqlite_value.specs.Keys.{ascending}
 use Rattle.sqlite_sql.specs.Term.{Term, lit, col}
-use Rattle.sqlite_sql.specs.Query.{Query, inner, end}
+use Rattle.sqlite_sql.specs.Query.{Query, inner, counted, end}
 use Rattle.sqlite_schema.specs.declared.program.Program.{Program}
 use Rattle.sqlite_schema.specs.declared.command.Command.{Command}
 use Rattle.sqlite_schema.specs.declared.command.Command.TheVariants.{Select}
 use Rattle.sqlite.proofs.Callers.{command_of, IsPlain}
 use Rattle.permit_sql_rows.specs.Schema.{office_schema}
-use Rattle.permit_sql_statements.specs.declared.texts.TheConstants.{READ_DESK, READ_PARTY, FIND_PARTY, READ_PARCEL, FIND_PARCEL, FIND_INTEREST, READ_FILE, READ_PAPERS, FIND_NOTICE}
+use Rattle.permit_sql_statements.specs.declared.texts.TheConstants.{READ_DESK, READ_PARTY, FIND_PARTY, READ_PARCEL, FIND_PARCEL, FIND_INTEREST, FIND_INTERESTED, READ_FILE, READ_PAPERS, FIND_NOTICE}
 use Rattle.permit_sql_statements.proofs.Lookups.{plain_query, equals}
 
 abbrev pub alone : Query → Program
@@ -115,6 +115,21 @@ find_interest_plain = (refl, refl)
 pub find_interest_unlisted : reads_listing office_schema FIND_INTEREST.now ≡ false
 unfolding understood everything
 find_interest_unlisted = refl
+
+abbrev pub find_interested_query : Query
+find_interested_query = plain_query (counted 1 (inner 5 end) (equals (col 1 2) (col 0 0) ∷ []) end) [] (col 1 0 ∷ []) []
+
+pub find_interested_is : command_of (understood office_schema FIND_INTERESTED.now) ≡ Select (alone find_interested_query) (names_of (command_of (understood office_schema FIND_INTERESTED.now)))
+unfolding understood everything
+find_interested_is = refl
+
+pub find_interested_plain : IsPlain (understood office_schema FIND_INTERESTED.now)
+unfolding understood everything
+find_interested_plain = (refl, refl)
+
+pub find_interested_unlisted : reads_listing office_schema FIND_INTERESTED.now ≡ false
+unfolding understood everything
+find_interested_unlisted = refl
 
 abbrev pub read_file_query : Query
 read_file_query = plain_query (inner 7 end) (equals (col 1 0) (col 0 0) ∷ []) (col 1 0 ∷ columns_of 19 2) ([])

@@ -1,5 +1,6 @@
 -- What the calls of a selection answer.
-use Rattle.std.proofs.Common.{◌≡◌, get_or, take, ℕ, zero, suc, ◌+◌, ◌<◌, List, [], ◌∷◌, ◌++◌, map, length, refl, ap, ap₂, subst, ◌∙◌, arith}
+use Rattle.std.proofs.Common.{◌≡◌, get_or, take, ℕ, zero, suc, ◌+◌, ◌<◌, false, eqb, List, [], ◌∷◌, ◌++◌, map, length, refl, ap, ap₂, subst, ◌∙◌, arith}
+use Rattle.std.specs.List.{list_any}
 use Rattle.sqlite.specs.declared.types.Value.TheVariants.{Null}
 use Rattle.sqlite_value.specs.Order.{Row}
 use Rattle.sqlite_value.specs.declared.value.ValueRef.{ValueRef}
@@ -18,9 +19,10 @@ use Rattle.permit_model.specs.Routes.{Found, found_by}
 use Rattle.permit_sql_rows.specs.Schema.{office_schema}
 use Rattle.permit_sql_rows.specs.Kept.{Keeps, IsNamed}
 use Rattle.permit_sql_rows.specs.Rows.{shown_found, int}
+use Rattle.permit_sql_statements.specs.declared.question.TheConstants.{EVERY_WITHOUT}
 use Rattle.permit_sql_statements.specs.Selected.{text_for, params_for, params_by, all_params, count_for, count_by, leader, follower, cell_params, AreNamed, ShowFound}
-use Rattle.permit_sql_statements.proofs.RouteTexts.{means_for}
-use Rattle.permit_sql_statements.proofs.RouteShows.{answer_shown}
+use Rattle.permit_sql_statements.proofs.RouteTexts.{means_for, means_every_without}
+use Rattle.permit_sql_statements.proofs.RouteShows.{answer_shown, every_answer_without}
 
 -- ---- the parameters that a text takes
 
@@ -60,6 +62,14 @@ module _ (t : Tables) (caller : ℕ) (there : 0 < caller) (route : Route) (day :
       let m = means_for route in
       let read = reads_as (text_for route) (params_for route caller day) old new office_schema k.schema _ m.0 m.1 m.2 rows h in
       answer_shown caller there t (overlay old.now.trees []) k.keyed k.rows.parcels k.rows.interests k.rows.files route day rows (read.answer Null)
+
+-- every file, to a caller who has declared no interest
+pub every_without_shown : (t : Tables) (caller : ℕ) → 0 < caller → list_any (λ i. eqb i.party caller) t.interests ≡ false → (day : ℕ) (old new : State) (k : Keeps t old.now) (rows : List Row)
+    → Shown EVERY_WITHOUT.now (int caller ∷ int 0 ∷ []) old new rows → ShowFound t rows (found_by Every caller day t)
+every_without_shown t caller there none day old new k rows h =
+    let m = means_every_without in
+    let read = reads_as EVERY_WITHOUT.now (int caller ∷ int 0 ∷ []) old new office_schema k.schema _ m.0 m.1 m.2 rows h in
+    every_answer_without caller there t (overlay old.now.trees []) k.keyed k.rows.parcels k.rows.interests k.rows.files none day rows (read.answer Null)
 
 -- ---- the rows that were read so far
 

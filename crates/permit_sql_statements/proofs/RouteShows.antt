@@ -17,7 +17,7 @@ use Rattle.sqlite_sql.specs.declared.ops.CompareOp.TheVariants.{Eq}
 use Rattle.sqlite_sql.specs.Group.{IsPartition}
 use Rattle.sqlite_sql.specs.Term.{Term, Env, col, holds, eval_all}
 use Rattle.sqlite_sql.specs.Ops.{binary, is_true}
-use Rattle.sqlite_sql.specs.Query.{Query, Join, inner, left, IsAnswer, Output, output, key_cmp, matches}
+use Rattle.sqlite_sql.specs.Query.{Query, Join, inner, left, end, IsAnswer, Output, output, key_cmp, matches}
 use Rattle.sqlite_trees.specs.Tree.{Trees, IsAscending}
 use Rattle.sqlite_keyed.proofs.ListLemmas.{IsPermutation-flat_map, flat_map-map, flat_map_same_on, map-flat_map, filter-map, filter_same, slice_get-filter, none_from_any, none_counted, ascending_weaker}
 use Rattle.permit_base.specs.declared.words.Stage.{Stage}
@@ -36,14 +36,14 @@ use Rattle.permit_model.specs.Tables.{Tables, FileRow}
 use Rattle.permit_model.specs.Routes.{Found, found_row, found_by, has_interest_in, relations_found, is_found, is_kept_in}
 use Rattle.permit_sql_rows.specs.Kept.{AreKeyed}
 use Rattle.permit_sql_rows.specs.Rows.{int, or_null, flag, shown_found, parcel_row, file_row, shown_interest, shown_file}
-use Rattle.permit_sql_statements.specs.Selected.{first_deadline, next_deadline, leader, follower, cell_params, params_by, params_for, ShowWhere, ShowFound}
+use Rattle.permit_sql_statements.specs.Selected.{text_without, first_deadline, next_deadline, leader, follower, cell_params, params_by, params_for, ShowWhere, ShowFound}
 use Rattle.permit_sql_statements.proofs.Lookups.{plain_query, equals, answers, put_all_out, eq_is}
 use Rattle.permit_sql_statements.proofs.Permuted.{one_order, has_is}
 use Rattle.permit_sql_statements.proofs.Distinct.{copies_of, once_each}
-use Rattle.permit_sql_statements.proofs.RouteTexts.{declared, shown_collations, led_by_interest, second, within, within_plus, shows, in_order, its_parcel, counts_one, counts_two, every_query, whole_query, direct_query, owner_query, conflict_query, query_by, query_for}
-use Rattle.permit_sql_statements.proofs.AloneTexts.{column_alone, owner_alone, conflict_alone, query_alone}
+use Rattle.permit_sql_statements.proofs.RouteTexts.{declared, shown_collations, led_by_interest, second, within, within_plus, shows, shows_without, in_order, its_parcel, counts_one, counts_two, every_query, every_without, whole_query, direct_query, owner_query, conflict_query, query_by, query_for}
+use Rattle.permit_sql_statements.proofs.AloneTexts.{column_alone, owner_alone, conflict_alone, query_alone, column_without, owner_without, query_without}
 use Rattle.permit_sql_statements.proofs.Truths.{beside_row, kept_is, kept_plus, led_is, party_is, owner_is, flag_is, has_second, second_is, and_false, and_all, same_number, led, led_alone, led_as_two}
-use Rattle.permit_sql_statements.proofs.Selecting.{declares, any_declares, counted_is, parcel_found, turned, of_one, out, unkeyed, plain_unkeyed, shows_among, shows_found}
+use Rattle.permit_sql_statements.proofs.Selecting.{declares, any_declares, counted_is, undeclared, parcel_found, turned, of_one, out, unkeyed, plain_unkeyed, shows_among, shows_found}
 
 -- ---- lists of at most one value
 
@@ -180,10 +180,10 @@ module _ (caller : ℕ) (there : 0 < caller) (t : Tables) (db : Trees) (keyed : 
     shown_as f = ap (λ v. (int f.id ∷ [], shown_file f ++ v ∷ flag (conflict f) ∷ [])) (owner_shown (parcel_of f))
 
     -- what a query over the files puts out, each beside its parcel
-    module _ (rest : Join) (terms : List Term) (order : List (Term × Key)) (w : FileRow → Env) (ends : (f : FileRow) → matches db terms rest (params ∷ file_row f ∷ beside_row (parcel_of f) ∷ []) ≡ cond (list_all (holds (w f)) terms) (w f ∷ []) [])
-        (puts : FileRow → Output) (put : (f : FileRow) → (eval_all (map (λ k. k.0) order) (w f), eval_all (shows 1 2 3) (w f)) ≡ puts f) (test : FileRow → Bool) (tests : (f : FileRow) → list_all (holds (w f)) terms ≡ test f) where
+    module _ (rest : Join) (terms showing : List Term) (order : List (Term × Key)) (w : FileRow → Env) (ends : (f : FileRow) → matches db terms rest (params ∷ file_row f ∷ beside_row (parcel_of f) ∷ []) ≡ cond (list_all (holds (w f)) terms) (w f ∷ []) [])
+        (puts : FileRow → Output) (put : (f : FileRow) → (eval_all (map (λ k. k.0) order) (w f), eval_all showing (w f)) ≡ puts f) (test : FileRow → Bool) (tests : (f : FileRow) → list_all (holds (w f)) terms ≡ test f) where
       abbrev file_query : Query
-      file_query = plain_query (inner 7 (left 3 its_parcel rest)) terms (shows 1 2 3) order
+      file_query = plain_query (inner 7 (left 3 its_parcel rest)) terms showing order
 
       abbrev put_out : Row → List Output
       put_out r = map (output file_query) (matches db terms (left 3 its_parcel rest) (params ∷ r ∷ []))
@@ -195,7 +195,7 @@ module _ (caller : ℕ) (there : 0 < caller) (t : Tables) (db : Trees) (keyed : 
 
       pub by_files : (rows : List Row) → IsAnswer file_query db params rows → IsPut order (map puts (filter test t.files)) rows
       by_files rows a =
-          let got = answers (inner 7 (left 3 its_parcel rest)) terms (shows 1 2 3) order db params rows a in
+          let got = answers (inner 7 (left 3 its_parcel rest)) terms showing order db params rows a in
           let all = subst (λ l. IsPermutation l (flat_map put_out (db 7))) (put_all_out put_out file_row test puts out_is t.files) (IsPermutation-flat_map put_out _ _ files) in
           let over : map (output file_query) (matches db terms (inner 7 (left 3 its_parcel rest)) (params ∷ [])) ≡ flat_map put_out (db 7) =
           map-flat_map (output file_query) (λ r. matches db terms (left 3 its_parcel rest) (params ∷ r ∷ [])) (db 7) in
@@ -287,14 +287,29 @@ module _ (caller : ℕ) (there : 0 < caller) (t : Tables) (db : Trees) (keyed : 
 
     pub by_one_count : (terms : List Term) (test : FileRow → Bool) → ((f : FileRow) → list_all (holds (w_one f)) terms ≡ test f) → (rows : List Row) → IsAnswer (plain_query (inner 7 (left 3 its_parcel (counts_one 1 3))) terms (shows 1 2 3) (in_order 1)) db params rows
         → ShowFound t rows (map (found_row t caller) (filter test t.files))
-    by_one_count terms test tests rows a = as_shown 1 test rows (by_files (counts_one 1 3) terms (in_order 1) w_one (λ f. one_end terms f (beside_row (parcel_of f))) (out t caller) shown_as test tests rows a)
+    by_one_count terms test tests rows a = as_shown 1 test rows (by_files (counts_one 1 3) terms (shows 1 2 3) (in_order 1) w_one (λ f. one_end terms f (beside_row (parcel_of f))) (out t caller) shown_as test tests rows a)
 
     pub by_two_counts : (terms : List Term) (test : FileRow → Bool) → ((f : FileRow) → list_all (holds (w_two f)) terms ≡ test f) → (rows : List Row) → IsAnswer (plain_query (inner 7 (left 3 its_parcel (counts_two 1 3 4))) terms (shows 1 2 3) (in_order 1)) db params rows
         → ShowFound t rows (map (found_row t caller) (filter test t.files))
-    by_two_counts terms test tests rows a = as_shown 1 test rows (by_files (counts_two 1 3 4) terms (in_order 1) w_two (λ f. two_end terms f (beside_row (parcel_of f))) (out t caller) shown_as test tests rows a)
+    by_two_counts terms test tests rows a = as_shown 1 test rows (by_files (counts_two 1 3 4) terms (shows 1 2 3) (in_order 1) w_two (λ f. two_end terms f (beside_row (parcel_of f))) (out t caller) shown_as test tests rows a)
 
   pub every_shown : (rows : List Row) → IsAnswer every_query db (int caller ∷ []) rows → ShowFound t rows (map (found_row t caller) (filter (λ f. true) t.files))
   every_shown = by_one_count [] [] (λ f. true) (λ f. refl)
+
+  -- ---- for a caller who has declared no interest
+
+  module _ (none : list_any (λ i. eqb i.party caller) t.interests ≡ false) where
+    no_conflict : (f : FileRow) → false ≡ conflict f
+    no_conflict f = sym (undeclared f.state.parcel caller t.interests none)
+
+    abbrev w_none : FileRow → Env
+    w_none f = params (int 0 ∷ []) ∷ file_row f ∷ beside_row (parcel_of f) ∷ []
+
+    none_shown : (f : FileRow) → (int f.id ∷ [], shown_file f ++ column (beside_row (parcel_of f)) 4 ∷ flag false ∷ []) ≡ out t caller f
+    none_shown f = ap (λ b. (int f.id ∷ [], shown_file f ++ column (beside_row (parcel_of f)) 4 ∷ flag b ∷ [])) (no_conflict f) ∙ shown_as [] f
+
+    every_shown_without : (rows : List Row) → IsAnswer every_without db (int caller ∷ int 0 ∷ []) rows → ShowFound t rows (map (found_row t caller) (filter (λ f. true) t.files))
+    every_shown_without rows a = as_shown 1 (λ f. true) rows (by_files (int 0 ∷ []) end [] (shows_without 1 2) (in_order 1) w_none (λ f. refl) (out t caller) none_shown (λ f. true) (λ f. refl) rows a)
 
   -- ---- the rows of a cell
 
@@ -393,6 +408,9 @@ module _ (caller : ℕ) (there : 0 < caller) (t : Tables) (db : Trees) (keyed : 
   answer_shown (Cell (Two x c) s b timing) day rows a =
       as_found (Cell (Two x c) s b timing) day rows _ (λ f. ap (λ k. is_kept_in s b timing day f.state && k) (led_as_two x c (set_of f))) (led_shown day s b timing (leader x c) (suc (relation_code (follower x c))) rows a)
 
+  pub every_answer_without : list_any (λ i. eqb i.party caller) t.interests ≡ false → (day : ℕ) (rows : List Row) → IsAnswer every_without db (int caller ∷ int 0 ∷ []) rows → ShowFound t rows (found_by Every caller day t)
+  every_answer_without none day rows a = as_found Every day rows (λ f. true) (λ f. refl) (every_shown_without none rows a)
+
   -- ---- by one relation alone
 
   abbrev ShowTested : (FileRow → Bool) → List Row → Type 0
@@ -408,7 +426,7 @@ module _ (caller : ℕ) (there : 0 < caller) (t : Tables) (db : Trees) (keyed : 
   column_shown : (place : ℕ) (test : FileRow → Bool) → ((f : FileRow) → holds (params [] ∷ file_row f ∷ []) (equals (col 1 place) (col 0 0)) ≡ test f) → (rows : List Row) → IsAnswer (column_alone place) db (params []) rows → ShowTested test rows
   column_shown place test tests rows a =
       let terms = equals (col 1 place) (col 0 0) ∷ [] in
-      as_tested test rows (by_files [] (counts_one 1 3) terms [] (w_one []) (λ f. one_end [] terms f (beside_row (parcel_of f))) (unkeyed t caller) unkeyed_as test (λ f. and_all _ ∙ tests f) rows a)
+      as_tested test rows (by_files [] (counts_one 1 3) terms (shows 1 2 3) [] (w_one []) (λ f. one_end [] terms f (beside_row (parcel_of f))) (unkeyed t caller) unkeyed_as test (λ f. and_all _ ∙ tests f) rows a)
 
   interest_shown : (rows : List Row) → IsAnswer conflict_alone db (params []) rows → ShowTested conflict rows
   interest_shown rows a = as_tested conflict rows (by_interest [] (declared 2 1) [] (unkeyed t caller) (λ f i. unkeyed_as f) (λ f. refl) (λ f. true) (λ f i. sym (and_all _)) rows a)
@@ -454,6 +472,42 @@ module _ (caller : ℕ) (there : 0 < caller) (t : Tables) (db : Trees) (keyed : 
   tested_shown relation.AssignedReviewer = column_shown 5 (λ f. (set_of f).assigned_reviewer) (λ f. party_is f.state.reviewer caller there)
   tested_shown relation.AssignedInspector = column_shown 6 (λ f. (set_of f).assigned_inspector) (λ f. party_is f.state.inspector caller there)
   tested_shown relation.Conflict = interest_shown
+
+  -- the same for a caller who has declared no interest
+  module _ (none : list_any (λ i. eqb i.party caller) t.interests ≡ false) where
+    none_unkeyed : (f : FileRow) → ([], shown_file f ++ column (beside_row (parcel_of f)) 4 ∷ flag false ∷ []) ≡ unkeyed t caller f
+    none_unkeyed f = ap (λ b. ([], shown_file f ++ column (beside_row (parcel_of f)) 4 ∷ flag b ∷ [])) (no_conflict none f) ∙ unkeyed_as f
+
+    column_shown_without : (place : ℕ) (test : FileRow → Bool) → ((f : FileRow) → holds (params [] ∷ file_row f ∷ []) (equals (col 1 place) (col 0 0)) ≡ test f) → (rows : List Row) → IsAnswer (column_without place) db (params (int 0 ∷ [])) rows → ShowTested test rows
+    column_shown_without place test tests rows a =
+        as_tested test rows (by_files (int 0 ∷ []) end (equals (col 1 place) (col 0 0) ∷ []) (shows_without 1 2) [] (w_none none) (λ f. refl) (unkeyed t caller) none_unkeyed test (λ f. and_all _ ∙ tests f) rows a)
+
+    owned_without : (f : FileRow) (p : Parcel) → map (output owner_without) (matches db (owned_terms f) end (params (int 0 ∷ []) ∷ parcel_row p ∷ file_row f ∷ [])) ≡ cond (eqb p.id f.state.parcel) (cond (is_owned f (Some p)) (out_with f (Some p) ∷ []) []) []
+    owned_without f p =
+        let w = params (int 0 ∷ []) ∷ parcel_row p ∷ file_row f ∷ [] in
+        let b = list_all (holds w) (owned_terms f) in
+        let tests : b ≡ (eqb p.id f.state.parcel && is_owned f (Some p)) = ap₂ ◌&&◌ (same_number f.state.parcel p.id) (and_all _ ∙ eq_is p.owner caller) in
+        let put : output owner_without w ≡ out_with f (Some p) = ap (λ c. ([], shown_found (record { row = f; owner = Some p.owner; conflict = c }))) (no_conflict none f) in
+        map_one (output owner_without) b w ∙ ap₂ (λ b o. cond b (o ∷ []) []) tests put ∙ nested (eqb p.id f.state.parcel) (is_owned f (Some p)) (out_with f (Some p))
+
+    its_owner_without : (f : FileRow) → flat_map (λ p. map (output owner_without) (matches db (owned_terms f) end (params (int 0 ∷ []) ∷ p ∷ file_row f ∷ []))) (db 3) ≡ cond (is_owned f (parcel_of f)) (unkeyed t caller f ∷ []) []
+    its_owner_without f = of_parcels f (λ o. cond (is_owned f o) (out_with f o ∷ []) []) refl (λ o. at_most_one (is_owned f o) (out_with f o)) (λ p. map (output owner_without) (matches db (owned_terms f) end (params (int 0 ∷ []) ∷ p ∷ file_row f ∷ []))) (owned_without f)
+
+    owner_shown_without : (rows : List Row) → IsAnswer owner_without db (params (int 0 ∷ [])) rows → ShowTested (λ f. (set_of f).owner) rows
+    owner_shown_without rows a =
+        as_tested (λ f. (set_of f).owner) rows (by_pairs (int 0 ∷ []) 3 end (equals (col 2 2) (col 1 0) ∷ equals (col 1 4) (col 0 0) ∷ []) (shows_without 2 1) [] (unkeyed t caller) (λ f. (set_of f).owner) its_owner_without rows a)
+
+    tested_without : (r : Relation) (text : List ℕ) → text_without r ≡ Some text → (rows : List Row) → IsAnswer (query_without r) db (params (int 0 ∷ [])) rows → ShowTested (λ f. has (set_of f) r) rows
+    tested_without relation.Applicant text is = column_shown_without 3 (λ f. (set_of f).applicant) (λ f. eq_is f.state.applicant caller)
+    tested_without relation.Contractor text is = column_shown_without 4 (λ f. (set_of f).contractor) (λ f. party_is f.state.contractor caller there)
+    tested_without relation.Owner text is = owner_shown_without
+    tested_without relation.AssignedReviewer text is = column_shown_without 5 (λ f. (set_of f).assigned_reviewer) (λ f. party_is f.state.reviewer caller there)
+    tested_without relation.AssignedInspector text is = column_shown_without 6 (λ f. (set_of f).assigned_inspector) (λ f. party_is f.state.inspector caller there)
+    tested_without relation.Conflict text is = cc
+
+    pub alone_without : (r : Relation) (text : List ℕ) → text_without r ≡ Some text → (rows : List Row) → IsAnswer (query_without r) db (params (int 0 ∷ [])) rows
+        → ShowWhere rows (λ given. IsPermutation given (filter (λ found. has (relations_found caller found) r) (map (found_row t caller) t.files)))
+    alone_without r text is rows a = subst (λ l. ShowWhere rows (λ given. IsPermutation given l)) (sym (filter-map (λ found. has (relations_found caller found) r) (found_row t caller) t.files)) (tested_without r text is rows a)
 
   -- the answer to the text of a relation shows the rows to which the caller has it, in some order
   pub alone_shown : (r : Relation) (rows : List Row) → IsAnswer (query_alone r) db (params []) rows

@@ -19,7 +19,7 @@ use Rattle.permit_base.specs.declared.route.By.TheVariants.{Whole, One, Two}
 use Rattle.permit_base.specs.declared.route.Route.{Route}
 use Rattle.permit_base.specs.declared.route.Route.TheVariants.{Every, Cell}
 use Rattle.permit_sql_rows.specs.Schema.{office_schema}
-use Rattle.permit_sql_statements.specs.declared.question.TheConstants.{EVERY, WHOLE}
+use Rattle.permit_sql_statements.specs.declared.question.TheConstants.{EVERY, EVERY_WITHOUT, WHOLE}
 use Rattle.permit_sql_statements.specs.Selected.{text_by, text_for, leader}
 use Rattle.permit_sql_statements.proofs.Lookups.{plain_query, equals}
 use Rattle.permit_sql_statements.proofs.QueryTexts.{alone, names_of}
@@ -53,10 +53,17 @@ within_plus file =
     ∷ op2 (Compare Ge Binary) (after_plus (col file 12)) (col 0 3) ∷ op2 (Compare Lt Binary) (after_plus (col file 12)) (col 0 4) ∷ []
 
 -- what is shown, by the same slots
-abbrev pub shows : ℕ → ℕ → ℕ → List Term
-shows file parcel count =
+abbrev pub shows_with : ℕ → ℕ → Term → List Term
+shows_with file parcel interest =
     col file 0 ∷ col file 2 ∷ col file 3 ∷ col file 4 ∷ col file 5 ∷ col file 6 ∷ col file 7 ∷ col file 8 ∷ col file 9 ∷ col file 10 ∷ col file 11 ∷ col file 12 ∷ col file 13 ∷ col file 14 ∷ col file 15 ∷ col file 16
-    ∷ col file 17 ∷ col file 18 ∷ col file 19 ∷ col file 20 ∷ col parcel 4 ∷ col count 0 ∷ []
+    ∷ col file 17 ∷ col file 18 ∷ col file 19 ∷ col file 20 ∷ col parcel 4 ∷ interest ∷ []
+
+abbrev pub shows : ℕ → ℕ → ℕ → List Term
+shows file parcel count = shows_with file parcel (col count 0)
+
+-- for a caller who has declared no interest, of whom none is looked for
+abbrev pub shows_without : ℕ → ℕ → List Term
+shows_without file parcel = shows_with file parcel (col 0 1)
 
 -- a collation for each of these
 abbrev pub shown_collations : List Collation
@@ -79,6 +86,9 @@ counts_two file slot next = counted 1 (inner 5 end) (declared file slot) (counts
 
 abbrev pub every_query : Query
 every_query = plain_query (inner 7 (left 3 its_parcel (counts_one 1 3))) [] (shows 1 2 3) (in_order 1)
+
+abbrev pub every_without : Query
+every_without = plain_query (inner 7 (left 3 its_parcel end)) [] (shows_without 1 2) (in_order 1)
 
 abbrev pub whole_query : Query
 whole_query = plain_query (inner 7 (left 3 its_parcel (counts_one 1 3))) (within 1) (shows 1 2 3) (in_order 1)
@@ -129,6 +139,10 @@ means_by Conflict = (refl, (refl, refl), refl)
 means_every : Means EVERY.now every_query
 unfolding understood everything
 means_every = (refl, (refl, refl), refl)
+
+pub means_every_without : Means EVERY_WITHOUT.now every_without
+unfolding understood everything
+means_every_without = (refl, (refl, refl), refl)
 
 means_whole : Means WHOLE.now whole_query
 unfolding understood everything

@@ -40,20 +40,14 @@ long_map f (x ∷ xs) = ap suc (long_map f xs)
 abbrev pub declares : ℕ → ℕ → Row → Bool
 declares parcel caller r = is_true (binary (Compare Eq Binary) (column r 1) (int parcel)) && (is_true (binary (Compare Eq Binary) (column r 2) (int caller)) && true)
 
-module _ (parcel caller : ℕ) where
-  cut : (r : Row) → declares parcel caller r ≡ declares parcel caller (Null ∷ drop 1 r)
-  cut [] = refl
-  cut (x ∷ r) = refl
-
-  declared_is : (i : Interest) → declares parcel caller (Null ∷ shown_interest i) ≡ (eqb i.parcel parcel && eqb i.party caller)
-  declared_is i = ap₂ ◌&&◌ (eq_is i.parcel parcel) (one_test _ ∙ eq_is i.party caller)
-
-  long_matches : {A : Type 0} (env : Row → A) (rows : List Row) → length (flat_map (λ r. cond (declares parcel caller r) (env r ∷ []) []) rows) ≡ length (filter (declares parcel caller) rows)
+-- by a test of the rows that is one of the interests
+module _ (passes : Row → Bool) (test : Interest → Bool) (cut : (r : Row) → passes r ≡ passes (Null ∷ drop 1 r)) (is : (i : Interest) → passes (Null ∷ shown_interest i) ≡ test i) where
+  long_matches : {A : Type 0} (env : Row → A) (rows : List Row) → length (flat_map (λ r. cond (passes r) (env r ∷ []) []) rows) ≡ length (filter passes rows)
   long_matches env [] = refl
-  long_matches env (r ∷ rows) = go (declares parcel caller r) (long_matches env rows)
+  long_matches env (r ∷ rows) = go (passes r) (long_matches env rows)
     where
-      go : (b : Bool) → length (flat_map (λ r. cond (declares parcel caller r) (env r ∷ []) []) rows) ≡ length (filter (declares parcel caller) rows)
-          → length (cond b (env r ∷ []) [] ++ flat_map (λ r. cond (declares parcel caller r) (env r ∷ []) []) rows) ≡ length (cond b (r ∷ filter (declares parcel caller) rows) (filter (declares parcel caller) rows))
+      go : (b : Bool) → length (flat_map (λ r. cond (passes r) (env r ∷ []) []) rows) ≡ length (filter passes rows)
+          → length (cond b (env r ∷ []) [] ++ flat_map (λ r. cond (passes r) (env r ∷ []) []) rows) ≡ length (cond b (r ∷ filter passes rows) (filter passes rows))
       go true e = ap suc e
       go false e = e
 
@@ -64,18 +58,40 @@ module _ (parcel caller : ℕ) where
   at_most_one (suc n) false h = let other : eqb (suc n) 0 ≡ false = grind (arith, nat_tests) in absurd (true≢false (sym h ∙ other))
 
   -- one is counted where there is one
-  pub counted_is : {A : Type 0} (env : Row → A) (interests : List Interest) (rows : List Row) → IsPermutation (map shown_interest interests) (map (drop 1) rows)
-      → int (min 1 (length (flat_map (λ r. cond (declares parcel caller r) (env r ∷ []) []) rows))) ≡ flag (list_any (λ i. eqb i.parcel parcel && eqb i.party caller) interests)
-  counted_is env interests rows same =
-      let part : Row → Bool = λ s. declares parcel caller (Null ∷ s) in
-      let test : Interest → Bool = λ i. eqb i.parcel parcel && eqb i.party caller in
-      let left : length (filter part (map (drop 1) rows)) ≡ length (filter (declares parcel caller) rows) =
+  pub counted_by : {A : Type 0} (env : Row → A) (interests : List Interest) (rows : List Row) → IsPermutation (map shown_interest interests) (map (drop 1) rows)
+      → int (min 1 (length (flat_map (λ r. cond (passes r) (env r ∷ []) []) rows))) ≡ flag (list_any test interests)
+  counted_by env interests rows same =
+      let part : Row → Bool = λ s. passes (Null ∷ s) in
+      let left : length (filter part (map (drop 1) rows)) ≡ length (filter passes rows) =
       ap length (filter-map part (drop 1) rows ∙ ap (map (drop 1)) (filter_same _ _ (λ r. sym (cut r)) rows)) ∙ long_map (drop 1) _ in
       let right : length (filter part (map shown_interest interests)) ≡ length (filter test interests) =
-      ap length (filter-map part shown_interest interests ∙ ap (map shown_interest) (filter_same _ _ declared_is interests)) ∙ long_map shown_interest _ in
+      ap length (filter-map part shown_interest interests ∙ ap (map shown_interest) (filter_same _ _ is interests)) ∙ long_map shown_interest _ in
       let moved : length (filter part (map (drop 1) rows)) ≡ length (filter part (map shown_interest interests)) = length_permutation _ _ (IsPermutation-filter part _ _ same) in
-      let many : length (flat_map (λ r. cond (declares parcel caller r) (env r ∷ []) []) rows) ≡ length (filter test interests) = long_matches env rows ∙ sym left ∙ moved ∙ right in
+      let many : length (flat_map (λ r. cond (passes r) (env r ∷ []) []) rows) ≡ length (filter test interests) = long_matches env rows ∙ sym left ∙ moved ∙ right in
       ap (λ n. int (min 1 n)) many ∙ at_most_one (length (filter test interests)) (list_any test interests) (none_counted test interests)
+
+module _ (parcel caller : ℕ) where
+  cut : (r : Row) → declares parcel caller r ≡ declares parcel caller (Null ∷ drop 1 r)
+  cut [] = refl
+  cut (x ∷ r) = refl
+
+  declared_is : (i : Interest) → declares parcel caller (Null ∷ shown_interest i) ≡ (eqb i.parcel parcel && eqb i.party caller)
+  declared_is i = ap₂ ◌&&◌ (eq_is i.parcel parcel) (one_test _ ∙ eq_is i.party caller)
+
+  pub counted_is : {A : Type 0} (env : Row → A) (interests : List Interest) (rows : List Row) → IsPermutation (map shown_interest interests) (map (drop 1) rows)
+      → int (min 1 (length (flat_map (λ r. cond (declares parcel caller r) (env r ∷ []) []) rows))) ≡ flag (list_any (λ i. eqb i.parcel parcel && eqb i.party caller) interests)
+  counted_is = counted_by (declares parcel caller) (λ i. eqb i.parcel parcel && eqb i.party caller) cut declared_is
+
+  -- of a caller who has declared none
+  pub undeclared : (interests : List Interest) → list_any (λ i. eqb i.party caller) interests ≡ false → list_any (λ i. eqb i.parcel parcel && eqb i.party caller) interests ≡ false
+  undeclared [] none = refl
+  undeclared (i ∷ interests) none = go (eqb i.parcel parcel) (eqb i.party caller) none (undeclared interests)
+    where
+      go : (a b : Bool) → (b || list_any (λ i. eqb i.party caller) interests) ≡ false → (list_any (λ i. eqb i.party caller) interests ≡ false → list_any (λ i. eqb i.parcel parcel && eqb i.party caller) interests ≡ false)
+          → ((a && b) || list_any (λ i. eqb i.parcel parcel && eqb i.party caller) interests) ≡ false
+      go a true h more = absurd (true≢false h)
+      go true false h more = more h
+      go false false h more = more h
 
   any_of : {A : Type 0} (f : A → Row) (p : Row → Bool) (q : A → Bool) → ((x : A) → q x ≡ p (f x)) → (xs : List A) → list_any q xs ≡ list_any p (map f xs)
   any_of f p q same [] = refl

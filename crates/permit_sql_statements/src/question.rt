@@ -1,12 +1,12 @@
 //! What a selection asks of the database: a text and the values of its parameters.
 
-ghost use Rattle.std.specs.Prelude.{◌≡◌, suc, IfSome};
+ghost use Rattle.std.specs.Prelude.{◌≡◌, suc, Some, IfSome};
 ghost use Rattle.std.specs.List.{AllByRecursion};
 ghost use Rattle.sqlite.specs.Values.{bound, bound_value};
 ghost use Rattle.sqlite_value.specs.Value.{owned};
 ghost use Rattle.permit_model.specs.Codes.{stage_code, relation_code};
 ghost use Rattle.permit_sql_statements.specs.Selected;
-ghost use Rattle.permit_sql_statements.specs.Selected.{ShowsEach};
+ghost use Rattle.permit_sql_statements.specs.Selected.{ShowsEach, ShowsEachWithout};
 
 use permit_base::route::{By, Route};
 use permit_base::values::{Day, PartyId};
@@ -59,6 +59,25 @@ pub(crate) const AS_INSPECTOR: &str =
 
 pub(crate) const AS_CONFLICT: &str =
     "SELECT DISTINCT file.id, file.parcel, applicant, contractor, reviewer, inspector, kind, valuation, description, filed, stage, deadline, done, request, requested, ask, stopped, notices, papers, temporary, parcel.owner, EXISTS (SELECT 1 FROM interest WHERE interest.parcel = file.parcel AND interest.party = ?1) FROM interest JOIN file ON interest.parcel = file.parcel LEFT JOIN parcel ON parcel.id = file.parcel WHERE interest.party = ?1";
+
+// For a caller who has declared no interest none is looked for: the second parameter, 0, stands in its place.
+pub(crate) const EVERY_WITHOUT: &str =
+    "SELECT file.id, file.parcel, applicant, contractor, reviewer, inspector, kind, valuation, description, filed, stage, deadline, done, request, requested, ask, stopped, notices, papers, temporary, parcel.owner, ?2 FROM file LEFT JOIN parcel ON parcel.id = file.parcel ORDER BY file.id";
+
+pub(crate) const AS_APPLICANT_WITHOUT: &str =
+    "SELECT file.id, file.parcel, applicant, contractor, reviewer, inspector, kind, valuation, description, filed, stage, deadline, done, request, requested, ask, stopped, notices, papers, temporary, parcel.owner, ?2 FROM file LEFT JOIN parcel ON parcel.id = file.parcel WHERE applicant = ?1";
+
+pub(crate) const AS_CONTRACTOR_WITHOUT: &str =
+    "SELECT file.id, file.parcel, applicant, contractor, reviewer, inspector, kind, valuation, description, filed, stage, deadline, done, request, requested, ask, stopped, notices, papers, temporary, parcel.owner, ?2 FROM file LEFT JOIN parcel ON parcel.id = file.parcel WHERE contractor = ?1";
+
+pub(crate) const AS_OWNER_WITHOUT: &str =
+    "SELECT file.id, file.parcel, applicant, contractor, reviewer, inspector, kind, valuation, description, filed, stage, deadline, done, request, requested, ask, stopped, notices, papers, temporary, parcel.owner, ?2 FROM parcel JOIN file ON file.parcel = parcel.id WHERE parcel.owner = ?1";
+
+pub(crate) const AS_REVIEWER_WITHOUT: &str =
+    "SELECT file.id, file.parcel, applicant, contractor, reviewer, inspector, kind, valuation, description, filed, stage, deadline, done, request, requested, ask, stopped, notices, papers, temporary, parcel.owner, ?2 FROM file LEFT JOIN parcel ON parcel.id = file.parcel WHERE reviewer = ?1";
+
+pub(crate) const AS_INSPECTOR_WITHOUT: &str =
+    "SELECT file.id, file.parcel, applicant, contractor, reviewer, inspector, kind, valuation, description, filed, stage, deadline, done, request, requested, ask, stopped, notices, papers, temporary, parcel.owner, ?2 FROM file LEFT JOIN parcel ON parcel.id = file.parcel WHERE inspector = ?1";
 
 /// The text by the relation that leads.
 fn text_by(relation: Relation) -> &'static str
@@ -151,6 +170,32 @@ pub(crate) fn text_of_any(routes: &[Route]) -> &'static str
     match shared_relation(routes) {
         Some(relation) => text_alone(relation),
         None => EVERY,
+    }
+}
+
+/// The text by the relation alone for a caller who has declared no interest. There is none by conflict, which finds
+/// nothing for such a caller.
+fn text_without(relation: Relation) -> Option<&'static str>
+    ensures { IfSome result (λ text. Selected.text_without relation ≡ Some text.now) }
+{
+    match relation {
+        Relation::Applicant => Some(AS_APPLICANT_WITHOUT),
+        Relation::Contractor => Some(AS_CONTRACTOR_WITHOUT),
+        Relation::Owner => Some(AS_OWNER_WITHOUT),
+        Relation::AssignedReviewer => Some(AS_REVIEWER_WITHOUT),
+        Relation::AssignedInspector => Some(AS_INSPECTOR_WITHOUT),
+        Relation::Conflict => None,
+    }
+}
+
+/// The text that shows all rows of several selections to a caller who has declared no interest, and may show others, if
+/// there is one. Its parameters are the caller and 0.
+pub(crate) fn text_of_any_without(routes: &[Route]) -> Option<&'static str>
+    ensures { IfSome result (λ text. ShowsEachWithout routes.now text.now) }
+{
+    match shared_relation(routes) {
+        Some(relation) => text_without(relation),
+        None => Some(EVERY_WITHOUT),
     }
 }
 

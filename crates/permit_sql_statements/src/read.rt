@@ -1,6 +1,6 @@
 //! What is read of the tables, over a connection.
 
-ghost use Rattle.std.specs.Prelude.{◌≡◌, ◌≤◌, IsTrue, ◌==◌, ◌&&◌, false, not, List, [], ◌∷◌, ◌++◌, map, filter, find, length, option_map, slice_get, bytes_eq, Option, IfOk, OnOk, IfSome};
+ghost use Rattle.std.specs.Prelude.{◌≡◌, ◌≤◌, Bool, IsTrue, ◌==◌, ◌&&◌, false, not, List, [], ◌∷◌, ◌++◌, map, filter, find, length, option_map, slice_get, bytes_eq, Option, IfOk, OnOk, IfSome};
 ghost use Rattle.std.specs.List.{list_any};
 ghost use Rattle.sqlite_trees.specs.View.{doubt};
 ghost use Rattle.sqlite.specs.State.{HasCleanDisk, Survives};
@@ -8,19 +8,19 @@ ghost use Rattle.sqlite.specs.Held.{state};
 ghost use Rattle.permit_model.specs.Caller.{Party as TheParty};
 ghost use Rattle.permit_model.specs.Parcels.{Parcel as TheParcel};
 ghost use Rattle.permit_model.specs.Tables.{Tables, Desk as TheDesk, FileRow as TheRow, Paper as ThePaper};
-ghost use Rattle.permit_sql_rows.specs.Rows.{shown_desk, shown_party, shown_parcel, shown_file, shown_paper};
+ghost use Rattle.permit_sql_rows.specs.Rows.{flag, shown_desk, shown_party, shown_parcel, shown_file, shown_paper};
 ghost use Rattle.permit_sql_rows.specs.Kept.{Keeps, Shows, IsNamed};
 
 use crate::query::rows_of;
 use crate::texts::{
-    FIND_INTEREST, FIND_NOTICE, FIND_PARCEL, FIND_PARTY, READ_DESK, READ_FILE, READ_PAPERS,
-    READ_PARCEL, READ_PARTY,
+    FIND_INTEREST, FIND_INTERESTED, FIND_NOTICE, FIND_PARCEL, FIND_PARTY, READ_DESK, READ_FILE,
+    READ_PAPERS, READ_PARCEL, READ_PARTY,
 };
 use permit_base::values::{Digest, FileId, Lot, PaperNumber, ParcelId, PartyId};
 use permit_base::words::Role;
 use permit_core::state::FileState;
 use permit_sql_rows::decode::{
-    desk_in, file_in, owner_in, paper_in, parcel_in, party_in, role_in, state_in,
+    desk_in, file_in, owner_in, paper_in, parcel_in, party_in, role_in, state_in, truth_in,
 };
 use permit_store::rows::{Desk, FileRow, Paper, Parcel, Party};
 use permit_store::store::{Got, StoreError};
@@ -107,6 +107,19 @@ fn interest_rows<S: Alter>(
     ensures calm { conn.new.in_transaction ≡ false }
 {
     rows_of(conn, FIND_INTEREST, params![parcel.get(), party.get()])
+}
+
+/// A row that says whether the party has declared an interest.
+fn interested_rows<S: Alter>(conn: &mut Connection<S>, party: PartyId) -> Got<Vec<Row>>
+    requires calm { conn.old.in_transaction ≡ false }
+    ensures found { (t : Tables) → HasCleanDisk (state S.Store conn.new) → Shows t (state S.Store conn.old) → IfOk result (λ rows. rows.items ≡ (flag (list_any (λ i. i.party == party) t.interests) ∷ []) ∷ []) }
+    ensures kept { (t : Tables) → HasCleanDisk (state S.Store conn.new) → Shows t (state S.Store conn.old) → Shows t (state S.Store conn.new) }
+    ensures open { HasCleanDisk (state S.Store conn.new) → OnOk result (IsTrue (state S.Store conn.new).is_open) }
+    ensures doubt { doubt (state S.Store conn.old).is_clean ≤ doubt (state S.Store conn.new).is_clean }
+    ensures crash { (t : Tables) → Keeps t (state S.Store conn.old).now → Survives (state S.Store conn.old) (state S.Store conn.new) (λ _. ⊥) }
+    ensures calm { conn.new.in_transaction ≡ false }
+{
+    rows_of(conn, FIND_INTERESTED, params![party.get()])
 }
 
 /// The row of the file with the number, if there is one.
@@ -220,6 +233,19 @@ fn first_owner(rows: &[Row]) -> Got<Option<PartyId>>
         None => Ok(None),
         Some(row) => match owner_in(row) {
             Some(owner) => Ok(Some(owner)),
+            None => Err(StoreError),
+        },
+    }
+}
+
+/// The truth value in the one row.
+fn first_truth(rows: &[Row]) -> Got<bool>
+    ensures { (is : Bool) → rows.now ≡ (flag is ∷ []) ∷ [] → IfOk result (λ b. b ≡ is) }
+{
+    match rows.get(0) {
+        None => Err(StoreError),
+        Some(row) => match truth_in(row) {
+            Some(is) => Ok(is),
             None => Err(StoreError),
         },
     }
@@ -365,6 +391,20 @@ pub fn has_interest<S: Alter>(
 {
     let rows = interest_rows(conn, parcel, party)?;
     Ok(rows.len() != 0)
+}
+
+/// Whether the party has declared an interest in any parcel.
+pub(crate) fn is_interested<S: Alter>(conn: &mut Connection<S>, party: PartyId) -> Got<bool>
+    requires calm { conn.old.in_transaction ≡ false }
+    ensures found { (t : Tables) → HasCleanDisk (state S.Store conn.new) → Shows t (state S.Store conn.old) → IfOk result (λ b. b ≡ list_any (λ i. i.party == party) t.interests) }
+    ensures kept { (t : Tables) → HasCleanDisk (state S.Store conn.new) → Shows t (state S.Store conn.old) → Shows t (state S.Store conn.new) }
+    ensures open { HasCleanDisk (state S.Store conn.new) → OnOk result (IsTrue (state S.Store conn.new).is_open) }
+    ensures doubt { doubt (state S.Store conn.old).is_clean ≤ doubt (state S.Store conn.new).is_clean }
+    ensures crash { (t : Tables) → Keeps t (state S.Store conn.old).now → Survives (state S.Store conn.old) (state S.Store conn.new) (λ _. ⊥) }
+    ensures calm { conn.new.in_transaction ≡ false }
+{
+    let rows = interested_rows(conn, party)?;
+    first_truth(&rows)
 }
 
 /// The row of the file with the number.

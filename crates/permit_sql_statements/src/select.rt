@@ -1,22 +1,26 @@
 //! The file rows that a selection finds, all at once or one at a time.
 
-ghost use Rattle.std.specs.Prelude.{◌≡◌, ◌≤◌, ◌++◌, [], ◌∷◌, List, false, IsTrue, map, length, IfOk, OnOk};
+ghost use Rattle.std.specs.Prelude.{◌≡◌, ◌≤◌, ◌++◌, [], ◌∷◌, List, false, IsTrue, filter, map, length, IfOk, OnOk};
 ghost use Rattle.sqlite_trees.specs.View.{doubt};
 ghost use Rattle.sqlite.specs.State.{HasCleanDisk, Survives};
 ghost use Rattle.sqlite.specs.Given.{IsPlain};
 ghost use Rattle.sqlite.specs.Listing.{understood};
 ghost use Rattle.sqlite.specs.Values.{bound};
 ghost use Rattle.sqlite.specs.Held.{state};
+ghost use Rattle.permit_base.specs.declared.route.Route.TheVariants.{Every};
 ghost use Rattle.permit_model.specs.Tables.{Tables};
 ghost use Rattle.permit_model.specs.Routes.{Found as TheFound, found_by};
-ghost use Rattle.permit_store.specs.Handing.{AreAmong, AreFound, AreHanded, Took, found_by_any, more_handed};
+ghost use Rattle.permit_store.specs.Handing.{AreAmong, AreFound, AreHanded, Took, found_by_any, is_found_by_any, more_handed};
 ghost use Rattle.permit_sql_rows.specs.Kept.{IsFine, Keeps, Shows};
 ghost use Rattle.permit_sql_rows.specs.Rows.{shown_found};
 ghost use Rattle.permit_sql_statements.specs.Selected.{AreNamed, ShowFound};
 ghost use Rattle.permit_sql_statements.specs.Gave.{Gave};
 
 use crate::query::rows_of;
-use crate::question::{count_of, text_of, text_of_any, values_of};
+use crate::question::{
+    EVERY_WITHOUT, count_of, text_of, text_of_any, text_of_any_without, values_of,
+};
+use crate::read::is_interested;
 use permit_base::route::Route;
 use permit_base::values::{Day, PartyId};
 use permit_core::taker::Taker;
@@ -110,7 +114,7 @@ fn hand_rows<S: Alter, T: Taker<Found>>(
     ensures same { IsFine (state S.Store conn.new) → IsPlain (understood conn.old.schema sql.now) → (state S.Store conn.new).now ≡ (state S.Store conn.old).now }
     ensures open { HasCleanDisk (state S.Store conn.new) → OnOk result (IsTrue (state S.Store conn.new).is_open) }
     ensures doubt { doubt (state S.Store conn.old).is_clean ≤ doubt (state S.Store conn.new).is_clean }
-    ensures crash { IsPlain (understood conn.old.schema sql.now) → Survives (state S.Store conn.old) (state S.Store conn.new) (λ _. ⊥) }
+    ensures crash { (HasCleanDisk (state S.Store conn.new) → IsPlain (understood conn.old.schema sql.now)) → Survives (state S.Store conn.old) (state S.Store conn.new) (λ _. ⊥) }
     ensures calm { conn.new.in_transaction ≡ false }
 {
     let before = *handed;
@@ -137,6 +141,62 @@ fn hand_rows<S: Alter, T: Taker<Found>>(
     Err(StoreError)
 }
 
+/// Hands the rows that the selection's text finds, of which a look for an interest is a part.
+fn each_by_text<S: Alter, T: Taker<Found>>(
+    conn: &mut Connection<S>,
+    route: &Route,
+    caller: PartyId,
+    day: Day,
+    handed: &mut u64,
+    taker: &mut T,
+) -> Got<bool>
+    requires calm { conn.old.in_transaction ≡ false }
+    ensures handed { (given : List TheFound) × Took T.took given taker.old taker.new result × (handed.new ≡ more_handed (length given) handed.old)
+        × ((t : Tables) → HasCleanDisk (state S.Store conn.new) → Shows t (state S.Store conn.old) → AreHanded t result given (found_by route.now caller day t)) }
+    ensures kept { (t : Tables) → HasCleanDisk (state S.Store conn.new) → Shows t (state S.Store conn.old) → Shows t (state S.Store conn.new) }
+    ensures open { HasCleanDisk (state S.Store conn.new) → OnOk result (IsTrue (state S.Store conn.new).is_open) }
+    ensures doubt { doubt (state S.Store conn.old).is_clean ≤ doubt (state S.Store conn.new).is_clean }
+    ensures crash { (t : Tables) → (HasCleanDisk (state S.Store conn.new) → Keeps t (state S.Store conn.old).now) → Survives (state S.Store conn.old) (state S.Store conn.new) (λ _. ⊥) }
+    ensures calm { conn.new.in_transaction ≡ false }
+{
+    // Its number isn't 0, which stands for none in a row.
+    let _id = caller.get();
+    let values = values_of(route, caller, day);
+    hand_rows(
+        conn,
+        text_of(route),
+        &values[..count_of(route)],
+        handed,
+        taker,
+    )
+}
+
+/// Hands every file's row: for a caller who has declared no interest none is looked for at each.
+fn each_of_every<S: Alter, T: Taker<Found>>(
+    conn: &mut Connection<S>,
+    caller: PartyId,
+    day: Day,
+    handed: &mut u64,
+    taker: &mut T,
+) -> Got<bool>
+    requires calm { conn.old.in_transaction ≡ false }
+    ensures handed { (given : List TheFound) × Took T.took given taker.old taker.new result × (handed.new ≡ more_handed (length given) handed.old)
+        × ((t : Tables) → HasCleanDisk (state S.Store conn.new) → Shows t (state S.Store conn.old) → AreHanded t result given (found_by Every caller day t)) }
+    ensures kept { (t : Tables) → HasCleanDisk (state S.Store conn.new) → Shows t (state S.Store conn.old) → Shows t (state S.Store conn.new) }
+    ensures open { HasCleanDisk (state S.Store conn.new) → OnOk result (IsTrue (state S.Store conn.new).is_open) }
+    ensures doubt { doubt (state S.Store conn.old).is_clean ≤ doubt (state S.Store conn.new).is_clean }
+    ensures crash { (t : Tables) → Keeps t (state S.Store conn.old).now → Survives (state S.Store conn.old) (state S.Store conn.new) (λ _. ⊥) }
+    ensures calm { conn.new.in_transaction ≡ false }
+{
+    let before = *handed;
+    prove!(before <= u64::MAX);
+    if is_interested(conn, caller)? {
+        return each_by_text(conn, &Route::Every, caller, day, handed, taker);
+    }
+    let params = [number(caller.get()), number(0)];
+    hand_rows(conn, EVERY_WITHOUT, &params, handed, taker)
+}
+
 /// Hands the rows that the selection finds for the caller on the day to the taker, one at a time and in rising number,
 /// until it asks to stop, and counts each that it took. True says that it took them all.
 pub fn each_found<S: Alter, T: Taker<Found>>(
@@ -156,13 +216,75 @@ pub fn each_found<S: Alter, T: Taker<Found>>(
     ensures crash { (t : Tables) → Keeps t (state S.Store conn.old).now → Survives (state S.Store conn.old) (state S.Store conn.new) (λ _. ⊥) }
     ensures calm { conn.new.in_transaction ≡ false }
 {
+    match *route {
+        Route::Every => each_of_every(conn, caller, day, handed, taker),
+        Route::Cell { .. } => each_by_text(conn, route, caller, day, handed, taker),
+    }
+}
+
+/// Hands the rows of the answer that any of the selections finds for the caller on the day, as `hand_rows` does.
+fn hand_sifted<S: Alter, T: Taker<Found>>(
+    conn: &mut Connection<S>,
+    sql: &str,
+    params: &[ValueRef<'_>],
+    routes: &[Route],
+    caller: PartyId,
+    day: Day,
+    handed: &mut u64,
+    taker: &mut T,
+) -> Got<bool>
+    requires calm { conn.old.in_transaction ≡ false }
+    ensures handed { (given : List TheFound) × Took T.took (filter (is_found_by_any routes.now caller day) given) taker.old taker.new result
+        × (handed.new ≡ more_handed (length (filter (is_found_by_any routes.now caller day) given)) handed.old)
+        × (HasCleanDisk (state S.Store conn.new) → (IsTrue (state S.Store conn.old).is_open → IsPlain (understood conn.old.schema sql.now)) → Gave result sql.now (bound params.now) (state S.Store conn.old) (state S.Store conn.new) given) }
+    ensures fine { IsFine (state S.Store conn.new) → IsFine (state S.Store conn.old) }
+    ensures same { IsFine (state S.Store conn.new) → IsPlain (understood conn.old.schema sql.now) → (state S.Store conn.new).now ≡ (state S.Store conn.old).now }
+    ensures open { HasCleanDisk (state S.Store conn.new) → OnOk result (IsTrue (state S.Store conn.new).is_open) }
+    ensures doubt { doubt (state S.Store conn.old).is_clean ≤ doubt (state S.Store conn.new).is_clean }
+    ensures crash { (HasCleanDisk (state S.Store conn.new) → IsPlain (understood conn.old.schema sql.now)) → Survives (state S.Store conn.old) (state S.Store conn.new) (λ _. ⊥) }
+    ensures calm { conn.new.in_transaction ≡ false }
+{
+    // Counts also the rows that none of the selections finds, so it isn't what was handed out.
+    let mut seen = 0;
+    let mut sieve = Sieve {
+        routes,
+        caller,
+        day,
+        taker,
+        passed: 0,
+    };
+    let all = hand_rows(conn, sql, params, &mut seen, &mut sieve);
+    *handed = handed.wrapping_add(sieve.passed);
+    all
+}
+
+/// Hands the rows that any of the selections finds, by a text of which a look for an interest is a part.
+fn each_by_any_text<S: Alter, T: Taker<Found>>(
+    conn: &mut Connection<S>,
+    routes: &[Route],
+    caller: PartyId,
+    day: Day,
+    handed: &mut u64,
+    taker: &mut T,
+) -> Got<bool>
+    requires calm { conn.old.in_transaction ≡ false }
+    ensures handed { (given : List TheFound) × Took T.took given taker.old taker.new result × (handed.new ≡ more_handed (length given) handed.old)
+        × ((t : Tables) → HasCleanDisk (state S.Store conn.new) → Shows t (state S.Store conn.old) → AreAmong result given (found_by_any routes.now caller day t)) }
+    ensures kept { (t : Tables) → HasCleanDisk (state S.Store conn.new) → Shows t (state S.Store conn.old) → Shows t (state S.Store conn.new) }
+    ensures open { HasCleanDisk (state S.Store conn.new) → OnOk result (IsTrue (state S.Store conn.new).is_open) }
+    ensures doubt { doubt (state S.Store conn.old).is_clean ≤ doubt (state S.Store conn.new).is_clean }
+    ensures crash { (t : Tables) → (HasCleanDisk (state S.Store conn.new) → Keeps t (state S.Store conn.old).now) → Survives (state S.Store conn.old) (state S.Store conn.new) (λ _. ⊥) }
+    ensures calm { conn.new.in_transaction ≡ false }
+{
     // Its number isn't 0, which stands for none in a row.
-    let _id = caller.get();
-    let values = values_of(route, caller, day);
-    hand_rows(
+    let params = [number(caller.get())];
+    hand_sifted(
         conn,
-        text_of(route),
-        &values[..count_of(route)],
+        text_of_any(routes),
+        &params,
+        routes,
+        caller,
+        day,
         handed,
         taker,
     )
@@ -187,18 +309,14 @@ pub fn each_of_any_found<S: Alter, T: Taker<Found>>(
     ensures crash { (t : Tables) → Keeps t (state S.Store conn.old).now → Survives (state S.Store conn.old) (state S.Store conn.new) (λ _. ⊥) }
     ensures calm { conn.new.in_transaction ≡ false }
 {
-    // Its number isn't 0, which stands for none in a row.
-    let params = [number(caller.get())];
-    // Counts also the rows that none of the selections finds, so it isn't what was handed out.
-    let mut seen = 0;
-    let mut sieve = Sieve {
-        routes,
-        caller,
-        day,
-        taker,
-        passed: 0,
+    let before = *handed;
+    prove!(before <= u64::MAX);
+    let Some(text) = text_of_any_without(routes) else {
+        return each_by_any_text(conn, routes, caller, day, handed, taker);
     };
-    let all = hand_rows(conn, text_of_any(routes), &params, &mut seen, &mut sieve);
-    *handed = handed.wrapping_add(sieve.passed);
-    all
+    if is_interested(conn, caller)? {
+        return each_by_any_text(conn, routes, caller, day, handed, taker);
+    }
+    let params = [number(caller.get()), number(0)];
+    hand_sifted(conn, text, &params, routes, caller, day, handed, taker)
 }

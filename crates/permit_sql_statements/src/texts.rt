@@ -74,6 +74,9 @@ pub const FIND_PARCEL: &str = "SELECT id, lot, address, owner FROM parcel WHERE 
 /// A row for each interest of the party in the parcel.
 pub const FIND_INTEREST: &str = "SELECT 1 FROM interest WHERE parcel = ?1 AND party = ?2";
 
+/// Whether there is an interest of the party.
+pub const FIND_INTERESTED: &str = "SELECT EXISTS (SELECT 1 FROM interest WHERE party = ?1)";
+
 /// The file with the number.
 pub const READ_FILE: &str =
     "SELECT id, parcel, applicant, contractor, reviewer, inspector, kind, valuation, description, filed, stage, deadline, done, request, requested, ask, stopped, notices, papers, temporary FROM file WHERE id = ?1";

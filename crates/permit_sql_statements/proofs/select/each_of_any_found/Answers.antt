@@ -1,43 +1,69 @@
-use Rattle.std.proofs.Common.{◌≡◌, ℕ, ◌+◌, ◌%◌, ◌^◌, [], ◌∷◌, length, filter, refl, sym, ap, subst, ◌∙◌, rules, arith}
+use Rattle.std.proofs.Common.{[], ◌∷◌, filter, sym, ap, ap₂, subst, ◌∙◌, arith}
+use Rattle.sqlite.specs.State.{HasCleanDisk}
 use Rattle.sqlite.specs.Held.{state}
-use Rattle.permit_store.specs.Handing.{AreAmong, Took, is_found_by_any, more_handed}
-use Rattle.permit_store.proofs.Sieving.{passed_on, among}
+use Rattle.permit_store.specs.Handing.{AreAmong, is_found_by_any}
+use Rattle.permit_store.proofs.Sieving.{among}
 use Rattle.permit_sql_rows.specs.Kept.{Keeps}
 use Rattle.permit_sql_rows.specs.Rows.{int}
 use Rattle.permit_sql_statements.specs.Gave.{Gave}
-use Rattle.permit_sql_statements.proofs.AnyHanding.{handed_among, any_plain}
+use Rattle.permit_sql_statements.proofs.AnyHanding.{handed_among_without, any_plain_without}
+use Rattle.permit_sql_statements.proofs.Handing.{none_taken, none_among}
+use Rattle.permit_sql_statements.proofs.KeptLemmas.{survives_both}
+use Rattle.permit_sql_statements.proofs.Reading.{none_counted}
 use Rattle.permit_sql_statements.proofs.select.each_of_any_found.Goals as goal
 
--- a count that went up by what was passed on
-counted : (more passed before after : ℕ) → passed ≡ more_handed more 0 → after ≡ (before + passed) % 2 ^ 64 → after ≡ more_handed more before
-counted more passed before after e f = omega arith
+pub returns-in_err-is_interested-clause-handed : goal.returns-in_err-is_interested-clause-handed
+returns-in_err-is_interested-clause-handed g c =
+    let failed = c.from_residual.ensures.0 in
+    ([], none_taken c.from_residual.result failed g.T.Taker.took _, none_counted c.args.handed.now (omega (arith, c.if-prove.false)), λ t clean there. none_among c.from_residual.result failed _)
+
+pub returns-then-branch-clause-handed : goal.returns-then-branch-clause-handed
+returns-then-branch-clause-handed g c =
+    let it = c.each_by_any_text-then-branch.ensures.handed in
+    (it.0, it.1, it.2, λ t clean there. it.3 t clean (c.is_interested.ensures.kept t (omega (arith, c.each_by_any_text-then-branch.ensures.doubt, clean)) there))
+
+pub returns-then-branch-clause-kept : goal.returns-then-branch-clause-kept
+returns-then-branch-clause-kept g c t clean there =
+    c.each_by_any_text-then-branch.ensures.kept t clean (c.is_interested.ensures.kept t (omega (arith, c.each_by_any_text-then-branch.ensures.doubt, clean)) there)
+
+pub returns-then-branch-clause-crash : goal.returns-then-branch-clause-crash
+returns-then-branch-clause-crash g c t k =
+    survives_both _ _ _ (c.is_interested.ensures.crash t k) (c.each_by_any_text-then-branch.ensures.crash t (λ clean.
+    let late : HasCleanDisk (state g.S.Store c.is_interested.new.conn) = omega (arith, c.each_by_any_text-then-branch.ensures.doubt, clean) in
+    c.is_interested.ensures.kept t late (λ opened. k) (c.in_ok-is_interested.ensures.open late)))
 
 pub returns-clause-handed : goal.returns-clause-handed
 returns-clause-handed g c =
-    let old = state g.S.Store c.args.conn.now in
-    let new = state g.S.Store c.hand_rows-all.new.conn in
+    let mid = state g.S.Store c.is_interested.new.conn in
+    let new = state g.S.Store c.hand_sifted.new.conn in
     let routes = c.args.routes.now in
-    let text = c.text_of_any.result.now in
-    let it = c.hand_rows-all.ensures.handed in
-    let test = is_found_by_any routes c.args.caller c.args.day in
-    let on = passed_on g.T.Taker.took routes c.args.caller c.args.day c.hand_rows-all.result it.0 _ c.hand_rows-all.new.taker (omega arith) (refl, refl, refl) it.1 in
-    let named = on.same in (
+    let text = c.in-Some.text.now in
+    let it = c.hand_sifted.ensures.handed in
+    let test = is_found_by_any routes c.args.caller c.args.day in (
       filter test it.0,
-      subst (λ x. Took g.T.Taker.took (filter test it.0) c.args.taker.now x c.hand_rows-all.result) (search rules) on.taken,
-      counted (length (filter test it.0)) c.hand_rows-all.new.taker.passed c.args.handed.now _ on.passed refl,
+      it.1,
+      it.2,
       λ t clean there.
-          let gave = it.3 clean (λ opened. any_plain t old.now routes text c.text_of_any.ensures (there opened)) in
-          let asked = ap (λ v. v ∷ []) (c.number.ensures ∙ ap int c.get.ensures.same) in
-          let all = handed_among t c.args.caller c.get.ensures.within.0 c.args.day routes text c.text_of_any.ensures c.hand_rows-all.result old new it.0 there
-          (subst (λ p. Gave c.hand_rows-all.result text p old new it.0) asked gave) in
-          subst (AreAmong c.hand_rows-all.result (filter test it.0)) all.2 (among c.hand_rows-all.result test it.0 all.1.0 all.0 all.1.1 all.1.2),
+          let late : HasCleanDisk (state g.S.Store c.is_interested.new.conn) = omega (arith, c.hand_sifted.ensures.doubt, clean) in
+          let shows = c.is_interested.ensures.kept t late there in
+          let none = sym (c.in_ok-is_interested.ensures.found t late there) ∙ c.if-branch.false in
+          let asked = ap₂ (λ v w. v ∷ w ∷ []) (c.number.ensures ∙ ap int c.get.ensures.same) c.number-2.ensures in
+          let gave = it.3 clean (λ opened. any_plain_without t mid.now routes text c.in-Some.ensures (shows opened)) in
+          let all = handed_among_without t c.args.caller c.get.ensures.within.0 c.args.day routes none text c.in-Some.ensures c.hand_sifted.result mid new it.0 shows
+          (subst (λ p. Gave c.hand_sifted.result text p mid new it.0) asked gave) in
+          subst (AreAmong c.hand_sifted.result (filter test it.0)) all.2 (among c.hand_sifted.result test it.0 all.1.0 all.0 all.1.1 all.1.2),
     )
 
 pub returns-clause-kept : goal.returns-clause-kept
 returns-clause-kept g c t clean there = λ opened.
-    let old = state g.S.Store c.args.conn.now in
-    let k = there (c.hand_rows-all.ensures.fine (clean, opened)).1 in
-    subst (Keeps t) (sym (c.hand_rows-all.ensures.same (clean, opened) (any_plain t old.now c.args.routes.now c.text_of_any.result.now c.text_of_any.ensures k))) k
+    let mid = state g.S.Store c.is_interested.new.conn in
+    let shows = c.is_interested.ensures.kept t (omega (arith, c.hand_sifted.ensures.doubt, clean)) there in
+    let k = shows (c.hand_sifted.ensures.fine (clean, opened)).1 in
+    subst (Keeps t) (sym (c.hand_sifted.ensures.same (clean, opened) (any_plain_without t mid.now c.args.routes.now c.in-Some.text.now c.in-Some.ensures k))) k
 
 pub returns-clause-crash : goal.returns-clause-crash
-returns-clause-crash g c t k = c.hand_rows-all.ensures.crash (any_plain t (state g.S.Store c.args.conn.now).now c.args.routes.now c.text_of_any.result.now c.text_of_any.ensures k)
+returns-clause-crash g c t k =
+    let mid = state g.S.Store c.is_interested.new.conn in
+    survives_both _ _ _ (c.is_interested.ensures.crash t k) (c.hand_sifted.ensures.crash (λ clean.
+    let late : HasCleanDisk (state g.S.Store c.is_interested.new.conn) = omega (arith, c.hand_sifted.ensures.doubt, clean) in
+    any_plain_without t mid.now c.args.routes.now c.in-Some.text.now c.in-Some.ensures (c.is_interested.ensures.kept t late (λ opened. k) (c.in_ok-is_interested.ensures.open late))))

@@ -14,11 +14,14 @@ use Rattle.permit_sql_statements.proofs.KeptLemmas.{shown_open, shown_still, fai
 use Rattle.permit_sql_statements.proofs.Reading.{read_more, begins_since, shown_since, took_more, none_counted, one_counted}
 use Rattle.permit_sql_statements.proofs.select.hand_rows.Goals as goal
 
-commits_nothing : (sql : List ℕ) (params : Row) (old new : State) → IsPlain (understood old.now.schema sql) → Survives old new (CommitsShowing sql params old) → Survives old new (λ _. ⊥)
-commits_nothing sql params old new plain = survives_weaker old new _ _ (λ _ db. never_commits sql params old db plain)
+commits_nothing : (sql : List ℕ) (params : Row) (old new : State) → (HasCleanDisk new → IsPlain (understood old.now.schema sql)) → Survives old new (CommitsShowing sql params old) → Survives old new (λ _. ⊥)
+commits_nothing sql params old new plain = survives_weaker old new _ _ (λ clean db. never_commits sql params old db (plain clean))
 
-survives_more : (a b c : State) → Survives a b (λ _. ⊥) → Survives b c (λ _. ⊥) → Survives a c (λ _. ⊥)
-survives_more a b c = survives_then a b c _ _ (λ _. ⊥) (λ _ db none. none) (λ _ db none. none)
+survives_more : (sql : List ℕ) (params : Row) (a b c : State) → Survives a b (CommitsShowing sql params a) → Survives b c (λ _. ⊥) → Survives a c (CommitsShowing sql params a)
+survives_more sql params a b c = survives_then a b c _ _ (CommitsShowing sql params a) (λ _ db h. h) (λ _ db none. absurd none)
+
+ended : (sql : List ℕ) (params : Row) (old mid now end : State) → Survives old mid (CommitsShowing sql params old) → Survives mid now (λ _. ⊥) → now ≡ end → (HasCleanDisk end → IsPlain (understood old.now.schema sql)) → Survives old end (λ _. ⊥)
+ended sql params old mid now end was moved same plain = commits_nothing sql params old end plain (subst (λ s. Survives old s (CommitsShowing sql params old)) same (survives_more sql params old mid now was moved))
 
 begun_open : {S : Type 0} (g : Ghosts S) (sql : List ℕ) (params : Row) (old new : Held S) → HasBegun g sql params old new → IsTrue (state g old).is_open × IsTrue (state g new).is_open
 begun_open g sql params old new (inl h) = (h.1.0.was_open, h.1.0.is_open)
@@ -64,7 +67,7 @@ rows-init g c =
     let made = c.in-Ok.ensures in (
       refl,
       made.survives.clean,
-      λ plain. commits_nothing sql params _ _ plain made.survives,
+      made.survives,
       made.mode c.requires.calm,
       [],
       refl,
@@ -156,13 +159,29 @@ returns-then-not-take-clause-handed g c =
           record { rows = it.1 ++ row ∷ []; are = (here.0, begins_since sql params old (state g.S.Store now) (it.1 ++ row ∷ []) still.0.now_is begins); shown = read_more it.1 was.4 row found it.3 c.in-Some-found_in.ensures },
     )
 
+pub returns-in_default-next-clause-crash : goal.returns-in_default-next-clause-crash
+returns-in_default-next-clause-crash g c plain =
+    let now = c.next.follows.lender-at-none.conn.now in
+    let same : now ≡ c.conn-in_default-next-1.given.0 = search rules in
+    ended c.args.sql.now (bound c.args.params.now) (state g.S.Store c.args.conn.now) (state g.S.Store c.rows.rows.conn.now) (state g.S.Store now) _ c.rows.invariant.2 c.next.follows.holds-at-none.survives (ap (state g.S.Store) same) plain
+
+pub returns-in_default-next-2-clause-crash : goal.returns-in_default-next-2-clause-crash
+returns-in_default-next-2-clause-crash g c plain =
+    let now = c.next.follows.lender-at-none.conn.now in
+    let same : now ≡ c.conn-in_default-next-2-1.given.0 = search rules in
+    ended c.args.sql.now (bound c.args.params.now) (state g.S.Store c.args.conn.now) (state g.S.Store c.rows.rows.conn.now) (state g.S.Store now) _ c.rows.invariant.2 c.next.follows.holds-at-none.survives (ap (state g.S.Store) same) plain
+
+pub returns-in_default-found_in-clause-crash : goal.returns-in_default-found_in-clause-crash
+returns-in_default-found_in-clause-crash g c plain =
+    let now = c.next.follows.lender-at-none.conn.now in
+    let same : now ≡ c.conn-in_default-found_in-1.given.0 = search rules in
+    ended c.args.sql.now (bound c.args.params.now) (state g.S.Store c.args.conn.now) (state g.S.Store c.rows.rows.conn.now) (state g.S.Store now) _ c.rows.invariant.2 c.next.follows.holds-at-none.survives (ap (state g.S.Store) same) plain
+
 pub returns-then-not-take-clause-crash : goal.returns-then-not-take-clause-crash
 returns-then-not-take-clause-crash g c plain =
-    let moved = c.next.follows.holds-at-none in
     let now = c.next.follows.lender-at-none.conn.now in
     let same : now ≡ c.conn-then-not-take-1.given.0 = search rules in
-    let old = state g.S.Store c.args.conn.now in
-    subst (λ h. Survives old (state g.S.Store h) (λ _. ⊥)) same (survives_more old (state g.S.Store c.rows.rows.conn.now) (state g.S.Store now) (c.rows.invariant.2 plain) moved.survives)
+    ended c.args.sql.now (bound c.args.params.now) (state g.S.Store c.args.conn.now) (state g.S.Store c.rows.rows.conn.now) (state g.S.Store now) _ c.rows.invariant.2 c.next.follows.holds-at-none.survives (ap (state g.S.Store) same) plain
 
 pub rows-preserved : goal.rows-preserved
 rows-preserved g c =
@@ -175,7 +194,7 @@ rows-preserved g c =
     let row = c.in-Some.row.now in (
       search rules,
       omega (arith, was.1, moved.survives.clean),
-      λ plain. survives_more old mid (state g.S.Store now) (was.2 plain) moved.survives,
+      survives_more c.args.sql.now (bound c.args.params.now) old mid (state g.S.Store now) was.2 moved.survives,
       moved.mode was.3,
       was.4 ++ found ∷ [],
       took_more g.T.Taker.took was.4 found c.args.taker.now c.rows.taker c.take.new.self was.5 (rw c.if-not-take.false at c.take.ensures),

@@ -1,0 +1,30 @@
+use Rattle.std.proofs.Common.{sym, subst, subst₂}
+use Rattle.sqlite.specs.Held.{state}
+use Rattle.permit_sql_rows.specs.Kept.{Keeps}
+use Rattle.permit_sql_statements.specs.Gave.{Gave}
+use Rattle.permit_sql_statements.proofs.RouteAnswers.{asked}
+use Rattle.permit_sql_statements.proofs.Handing.{plain_in, handed_shown}
+use Rattle.permit_sql_statements.proofs.select.each_by_text.Goals as goal
+
+pub returns-clause-handed : goal.returns-clause-handed
+returns-clause-handed g c =
+    let old = state g.S.Store c.args.conn.now in
+    let new = state g.S.Store c.hand_rows.new.conn in
+    let it = c.hand_rows.ensures.handed in
+    let params = asked c.args.route.now c.args.caller c.args.day c.count_of.result c.values_of-values.result c.count_of.ensures c.values_of-values.ensures in (
+      it.0,
+      it.1,
+      it.2,
+      λ t clean there.
+          let gave = it.3 clean (λ opened. plain_in t old.now c.args.route.now c.text_of.result.now c.text_of.ensures (there opened)) in
+          handed_shown t c.args.caller c.get-id.ensures.within.0 c.args.route.now c.args.day c.hand_rows.result old new it.0 there (subst₂ (λ s p. Gave c.hand_rows.result s p old new it.0) c.text_of.ensures params gave),
+    )
+
+pub returns-clause-kept : goal.returns-clause-kept
+returns-clause-kept g c t clean there = λ opened.
+    let old = state g.S.Store c.args.conn.now in
+    let k = there (c.hand_rows.ensures.fine (clean, opened)).1 in
+    subst (Keeps t) (sym (c.hand_rows.ensures.same (clean, opened) (plain_in t old.now c.args.route.now c.text_of.result.now c.text_of.ensures k))) k
+
+pub returns-clause-crash : goal.returns-clause-crash
+returns-clause-crash g c t k = c.hand_rows.ensures.crash (λ clean. plain_in t (state g.S.Store c.args.conn.now).now c.args.route.now c.text_of.result.now c.text_of.ensures (k clean))
