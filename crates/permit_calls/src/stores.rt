@@ -48,6 +48,7 @@ fn parties_are_found(rt: HostRuntime) -> Result<(), Fail> {
     let mut store = founded(rt.alloc())?;
     let (name, role) = first_party(&mut store)?;
     assert!(rt; name.as_str() == "Chief" && role == Role::Official);
+    assert!(rt; store.role(party(1)?)? == Some(Role::Official));
     assert_eq!(rt; party_of_token(&mut store, rt.alloc())?, 1);
     Ok(())
 }
@@ -56,7 +57,9 @@ fn parties_are_found(rt: HostRuntime) -> Result<(), Fail> {
 fn founding_adds_nothing_else(rt: HostRuntime) -> Result<(), Fail> {
     let mut store = founded(rt.alloc())?;
     let lot = lot(rt.alloc(), "A-1")?;
+    assert!(rt; store.role(party(2)?)?.is_none());
     assert!(rt; store.parcel(parcel(1)?)?.is_none());
+    assert!(rt; store.owner(parcel(1)?)?.is_none());
     assert!(rt; store.parcel_by_lot(&lot)?.is_none());
     assert!(rt; !store.interest(parcel(1)?, party(1)?)?);
     assert!(rt; store.file(file(1)?)?.is_none());

@@ -137,6 +137,17 @@ fn owner_of<S: Store>(store: &mut S, number: u32) -> Result<u32, Fail> {
     )
 }
 
+fn role_alone<S: Store>(store: &mut S, number: u32) -> Result<Option<Role>, Fail> {
+    Ok(store.role(party(number)?)?)
+}
+
+fn owner_alone<S: Store>(store: &mut S, number: u32) -> Result<Option<u32>, Fail> {
+    match store.owner(parcel(number)?)? {
+        Some(owner) => Ok(Some(owner.get())),
+        None => Ok(None),
+    }
+}
+
 fn parcel_of<S: Store>(store: &mut S, alloc: Global) -> Result<u32, Fail> {
     let found = store
         .parcel_by_lot(&lot(alloc, "A-1")?)?
@@ -214,6 +225,8 @@ fn a_party_is_added(rt: HostRuntime) -> Result<(), Fail> {
     assert_eq!(rt; desk(&mut store)?, (19701, 2, 0, 0));
     assert_eq!(rt; second_party(&mut store, rt.alloc())?, 2);
     assert!(rt; role_of(&mut store, 2)? == Role::Clerk);
+    assert!(rt; role_alone(&mut store, 2)? == Some(Role::Clerk));
+    assert!(rt; role_alone(&mut store, 3)?.is_none());
     Ok(())
 }
 
@@ -224,6 +237,8 @@ fn land_changes_hands(rt: HostRuntime) -> Result<(), Fail> {
     add_parcel(&mut store, rt.alloc())?;
     give_parcel(&mut store)?;
     assert_eq!(rt; owner_of(&mut store, 1)?, 2);
+    assert!(rt; owner_alone(&mut store, 1)? == Some(2));
+    assert!(rt; owner_alone(&mut store, 2)?.is_none());
     assert_eq!(rt; parcel_of(&mut store, rt.alloc())?, 1);
     Ok(())
 }
