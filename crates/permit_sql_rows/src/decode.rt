@@ -70,7 +70,8 @@ pub fn party_in(row: &Row) -> Option<Party>
 
 /// The role in a party's row.
 pub fn role_in(row: &Row) -> Option<Role>
-    ensures { (is : TheParty) → row.now ≡ shown_party is → IfSome result (λ r. r ≡ is.role) }
+    ensures read { (is : TheParty) → row.now ≡ shown_party is → IfSome result (λ r. r ≡ is.role) }
+    ensures some { (is : TheParty) → row.now ≡ shown_party is → IsSome result }
 {
     role(row, 2)
 }
@@ -99,14 +100,16 @@ pub fn parcel_in(row: &Row) -> Option<Parcel>
 
 /// The owner in a parcel's row.
 pub fn owner_in(row: &Row) -> Option<PartyId>
-    ensures { (is : TheParcel) → row.now ≡ shown_parcel is → IfSome result (λ o. o ≡ is.owner) }
+    ensures read { (is : TheParcel) → row.now ≡ shown_parcel is → IfSome result (λ o. o ≡ is.owner) }
+    ensures some { (is : TheParcel) → IsObject is.owner → row.now ≡ shown_parcel is → IsSome result }
 {
     party_number(row, 3)
 }
 
 /// The truth value in a row of one column.
 pub fn truth_in(row: &Row) -> Option<bool>
-    ensures { (is : Bool) → row.now ≡ flag is ∷ [] → IfSome result (λ b. b ≡ is) }
+    ensures read { (is : Bool) → row.now ≡ flag is ∷ [] → IfSome result (λ b. b ≡ is) }
+    ensures some { (is : Bool) → row.now ≡ flag is ∷ [] → IsSome result }
 {
     truth(row, 0)
 }

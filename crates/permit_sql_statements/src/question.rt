@@ -1,6 +1,7 @@
 //! What a selection asks of the database: a text and the values of its parameters.
 
-ghost use Rattle.std.specs.Prelude.{◌≡◌, suc, Some, IfSome};
+ghost use Rattle.std.specs.Prelude.{◌≡◌, suc, Some, None, option_map, IfSome};
+ghost use Rattle.permit_base.specs.declared.words.Relation.TheVariants.{Conflict};
 ghost use Rattle.std.specs.List.{AllByRecursion};
 ghost use Rattle.sqlite.specs.Values.{bound, bound_value};
 ghost use Rattle.sqlite_value.specs.Value.{owned};
@@ -176,7 +177,7 @@ pub(crate) fn text_of_any(routes: &[Route]) -> &'static str
 /// The text by the relation alone for a caller who has declared no interest. There is none by conflict, which finds
 /// nothing for such a caller.
 fn text_without(relation: Relation) -> Option<&'static str>
-    ensures { IfSome result (λ text. Selected.text_without relation ≡ Some text.now) }
+    ensures { option_map (λ text. text.now) result ≡ Selected.text_without relation }
 {
     match relation {
         Relation::Applicant => Some(AS_APPLICANT_WITHOUT),
@@ -191,7 +192,8 @@ fn text_without(relation: Relation) -> Option<&'static str>
 /// The text that shows all rows of several selections to a caller who has declared no interest, and may show others, if
 /// there is one. Its parameters are the caller and 0.
 pub(crate) fn text_of_any_without(routes: &[Route]) -> Option<&'static str>
-    ensures { IfSome result (λ text. ShowsEachWithout routes.now text.now) }
+    ensures some { IfSome result (λ text. ShowsEachWithout routes.now text.now) }
+    ensures none { result ≡ None → AllByRecursion (λ route. Selected.relation_of route ≡ Some Conflict) routes.now }
 {
     match shared_relation(routes) {
         Some(relation) => text_without(relation),

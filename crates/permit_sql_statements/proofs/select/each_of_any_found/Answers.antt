@@ -48,8 +48,8 @@ returns-clause-handed g c =
           let shows = c.is_interested.ensures.kept t late there in
           let none = sym (c.in_ok-is_interested.ensures.found t late there) ∙ c.if-branch.false in
           let asked = ap₂ (λ v w. v ∷ w ∷ []) (c.number.ensures ∙ ap int c.get.ensures.same) c.number-2.ensures in
-          let gave = it.3 clean (λ opened. any_plain_without t mid.now routes text c.in-Some.ensures (shows opened)) in
-          let all = handed_among_without t c.args.caller c.get.ensures.within.0 c.args.day routes none text c.in-Some.ensures c.hand_sifted.result mid new it.0 shows
+          let gave = it.3 clean (λ opened. any_plain_without t mid.now routes text c.in-Some.ensures.some (shows opened)) in
+          let all = handed_among_without t c.args.caller c.get.ensures.within.0 c.args.day routes none text c.in-Some.ensures.some c.hand_sifted.result mid new it.0 shows
           (subst (λ p. Gave c.hand_sifted.result text p mid new it.0) asked gave) in
           subst (AreAmong c.hand_sifted.result (filter test it.0)) all.2 (among c.hand_sifted.result test it.0 all.1.0 all.0 all.1.1 all.1.2),
     )
@@ -59,11 +59,11 @@ returns-clause-kept g c t clean there = λ opened.
     let mid = state g.S.Store c.is_interested.new.conn in
     let shows = c.is_interested.ensures.kept t (omega (arith, c.hand_sifted.ensures.doubt, clean)) there in
     let k = shows (c.hand_sifted.ensures.fine (clean, opened)).1 in
-    subst (Keeps t) (sym (c.hand_sifted.ensures.same (clean, opened) (any_plain_without t mid.now c.args.routes.now c.in-Some.text.now c.in-Some.ensures k))) k
+    subst (Keeps t) (sym (c.hand_sifted.ensures.same (clean, opened) (any_plain_without t mid.now c.args.routes.now c.in-Some.text.now c.in-Some.ensures.some k))) k
 
 pub returns-clause-crash : goal.returns-clause-crash
 returns-clause-crash g c t k =
     let mid = state g.S.Store c.is_interested.new.conn in
     survives_both _ _ _ (c.is_interested.ensures.crash t k) (c.hand_sifted.ensures.crash (λ clean.
     let late : HasCleanDisk (state g.S.Store c.is_interested.new.conn) = omega (arith, c.hand_sifted.ensures.doubt, clean) in
-    any_plain_without t mid.now c.args.routes.now c.in-Some.text.now c.in-Some.ensures (c.is_interested.ensures.kept t late (λ opened. k) (c.in_ok-is_interested.ensures.open late))))
+    any_plain_without t mid.now c.args.routes.now c.in-Some.text.now c.in-Some.ensures.some (c.is_interested.ensures.kept t late (λ opened. k) (c.in_ok-is_interested.ensures.open late))))
