@@ -7,6 +7,8 @@ ghost use Rattle.permit_model.specs.Tables.{Desk as TheDesk, FileRow as TheRow, 
 ghost use Rattle.permit_model.specs.Routes.{Found as TheFound};
 ghost use Rattle.permit_model.specs.SoundState.{IsSoundState};
 ghost use Rattle.sqlite.specs.declared.types.Value.{Value};
+ghost use Rattle.sqlite_value.specs.Order.{column};
+ghost use Rattle.permit_model.specs.Codes.{role_code};
 ghost use Rattle.permit_sql_rows.specs.Rows.{int, flag, shown_desk, shown_party, shown_parcel, shown_file, shown_found, shown_interest, shown_paper};
 ghost use Rattle.permit_sql_rows.specs.Kept.{IsNamed};
 ghost use Rattle.permit_sql_rows.specs.Typed.{firsts, IsObject, IsDesk, IsParty, IsParcel, IsInterest, IsPaper, IsState, IsFile, ShowsState};
@@ -71,6 +73,7 @@ pub fn party_in(row: &Row) -> Option<Party>
 /// The role in a party's row.
 pub fn role_in(row: &Row) -> Option<Role>
     ensures read { (is : TheParty) → row.now ≡ shown_party is → IfSome result (λ r. r ≡ is.role) }
+    ensures back { IfSome result (λ r. column row.now 2 ≡ int (role_code r)) }
     ensures some { (is : TheParty) → row.now ≡ shown_party is → IsSome result }
 {
     role(row, 2)
@@ -101,6 +104,7 @@ pub fn parcel_in(row: &Row) -> Option<Parcel>
 /// The owner in a parcel's row.
 pub fn owner_in(row: &Row) -> Option<PartyId>
     ensures read { (is : TheParcel) → row.now ≡ shown_parcel is → IfSome result (λ o. o ≡ is.owner) }
+    ensures back { IfSome result (λ o. (column row.now 3 ≡ int o) × IsObject o) }
     ensures some { (is : TheParcel) → IsObject is.owner → row.now ≡ shown_parcel is → IsSome result }
 {
     party_number(row, 3)
@@ -109,6 +113,7 @@ pub fn owner_in(row: &Row) -> Option<PartyId>
 /// The truth value in a row of one column.
 pub fn truth_in(row: &Row) -> Option<bool>
     ensures read { (is : Bool) → row.now ≡ flag is ∷ [] → IfSome result (λ b. b ≡ is) }
+    ensures back { IfSome result (λ b. column row.now 0 ≡ flag b) }
     ensures some { (is : Bool) → row.now ≡ flag is ∷ [] → IsSome result }
 {
     truth(row, 0)
