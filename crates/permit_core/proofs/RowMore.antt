@@ -1,6 +1,6 @@
 -- The row of a file after one more command is what the command makes of its row.
 use Rattle.std.proofs.Common.{◌≡◌, ◌≤◌, ℕ, ◌+◌, ◌-◌, Bool, true, false, not, cond, List, [], ◌∷◌, length, refl, sym, ◌∙◌, ap, arith, length-append}
-use Rattle.std.specs.Prelude.{Option, None, Some, unwrap_or, option_map, filter, ◌==◌, if◌then◌else◌}
+use Rattle.std.specs.Prelude.{Option, None, Some, unwrap_or, option_map, filter, ◌==◌, ◌&&◌, ◌||◌, if◌then◌else◌}
 use Rattle.std.specs.List.{cons_option}
 use Rattle.std.proofs.lemmas.Bool.{eq-eqb}
 use Rattle.permit_base.specs.declared.words.Kind.{Kind}
@@ -10,9 +10,10 @@ use Rattle.permit_base.specs.declared.request.Command.{Command}
 use Rattle.permit_base.specs.declared.request.Command.TheVariants.{Reject, Issue, AskExtension, GrantExtension, RefuseExtension, BeginWork, RequestInspection, ApproveStep, Notice, ClearNotice, Stop, Lift, Revoke, Certify}
 use Rattle.permit_base.specs.declared.request.Request.TheVariants.{File, OnFile}
 use Rattle.permit_model.specs.Search.{add_last, has_number}
+use Rattle.permit_model.specs.Effects.{effects}
 use Rattle.permit_model.specs.History.{Entry, History, last_day}
 use Rattle.permit_model.specs.Files.{Filing, Act, CaseFile, act_of, acts_on, filings, case_file, case_numbered}
-use Rattle.permit_model.specs.Work.{approved_steps, step_approved, pending_step, requested_day, pending_ask, open_notices, is_stopped, makes_paper, paper_count}
+use Rattle.permit_model.specs.Work.{approved_steps, pending_step, requested_day, pending_ask, open_notices, is_stopped, makes_paper, paper_count}
 use Rattle.permit_model.specs.Deadline.{deadline}
 use Rattle.permit_model.specs.Admission.{first_failing, file_tests, tests_on, reason_against}
 use Rattle.permit_model.specs.Tables.{State, state_of}
@@ -26,11 +27,11 @@ use Rattle.permit_model.proofs.Fronts.{are_numbered}
 use Rattle.permit_model.proofs.Deadlines as deadlines
 use Rattle.permit_model.proofs.Deadlines.{act_by, case_of, tests_passed, unanchored, deadline_more}
 use Rattle.permit_core.specs.Views.{filed_by}
-use Rattle.permit_core.specs.RowAfter.{deadline_after, done_after, request_after, requested_after, ask_after, stopped_after, notices_after, papers_after, row_after, file_after}
+use Rattle.permit_core.specs.RowAfter.{deadline_after, done_after, requested_after, notices_after, papers_after, row_after, file_after}
 
 -- ---- the deadline
 
-same_deadline : (command : Command) (day : ℕ) (ask old : Option ℕ) → deadlines.deadline_after command day ask old ≡ deadline_after command day ask old
+same_deadline : (command : Command) (day : ℕ) (ask old : Option ℕ) → deadlines.deadline_after command day ask old ≡ deadline_after (effects command).grants (effects command).stage (effects command).anchor day ask old
 same_deadline Issue day ask old = refl
 same_deadline BeginWork day ask old = refl
 same_deadline (RequestInspection step) day ask old = refl
@@ -45,23 +46,23 @@ same_deadline _ day ask old = refl
 
 -- ---- steps, requests and asks
 
-done_more : (command : Command) (steps : List Step) → length (add_last steps (step_approved command)) ≡ done_after command (length steps)
+done_more : (command : Command) (steps : List Step) → length (add_last steps (effects command).step) ≡ done_after (effects command).step (length steps)
 done_more (ApproveStep step) steps = length-append steps (step ∷ [])
 done_more _ steps = refl
 
-request_more : (caller day : ℕ) (command : Command) (number : Option ℕ) (before : List Act) → pending_step (act_by caller day command number ∷ before) ≡ request_after command (pending_step before)
+request_more : (caller day : ℕ) (command : Command) (number : Option ℕ) (before : List Act) → pending_step (act_by caller day command number ∷ before) ≡ unwrap_or (effects command).request (pending_step before)
 request_more caller day (RequestInspection step) number before = refl
 request_more caller day (ApproveStep step) number before = refl
 request_more caller day (Notice text) number before = refl
 request_more caller day _ number before = refl
 
-requested_more : (caller day : ℕ) (command : Command) (number : Option ℕ) (before : List Act) → requested_day (act_by caller day command number ∷ before) ≡ requested_after day command (requested_day before)
+requested_more : (caller day : ℕ) (command : Command) (number : Option ℕ) (before : List Act) → requested_day (act_by caller day command number ∷ before) ≡ requested_after day (effects command).request (requested_day before)
 requested_more caller day (RequestInspection step) number before = refl
 requested_more caller day (ApproveStep step) number before = refl
 requested_more caller day (Notice text) number before = refl
 requested_more caller day _ number before = refl
 
-ask_more : (caller day : ℕ) (command : Command) (number : Option ℕ) (before : List Act) → pending_ask (act_by caller day command number ∷ before) ≡ ask_after command (pending_ask before)
+ask_more : (caller day : ℕ) (command : Command) (number : Option ℕ) (before : List Act) → pending_ask (act_by caller day command number ∷ before) ≡ unwrap_or (effects command).ask (pending_ask before)
 ask_more caller day (AskExtension days text) number before = refl
 ask_more caller day GrantExtension number before = refl
 ask_more caller day (RefuseExtension text) number before = refl
@@ -70,7 +71,7 @@ ask_more caller day _ number before = refl
 
 -- ---- stop work orders
 
-stopped_more : (filing : Filing) (caller day : ℕ) (command : Command) (number : Option ℕ) (before : List Act) → WereAdmitted filing before → is_stopped (act_by caller day command number ∷ before) ≡ stopped_after command (is_stopped before)
+stopped_more : (filing : Filing) (caller day : ℕ) (command : Command) (number : Option ℕ) (before : List Act) → WereAdmitted filing before → is_stopped (act_by caller day command number ∷ before) ≡ ((effects command).stops || (not (effects command).lifts && is_stopped before))
 stopped_more filing caller day (Stop text conditions) number before all = stopped_by_order filing caller day text conditions number before all
 stopped_more filing caller day Lift number before all = released_by_lift filing caller day number before all
 stopped_more filing caller day _ number before all = refl
@@ -98,7 +99,7 @@ pub notices_few : (filing : Filing) (acts : List Act) → WereAdmitted filing ac
 notices_few filing acts w = falling_few (paper_count acts) (open_notices acts) (open_fall acts (are_numbered filing acts w))
 
 counted_after : (filing : Filing) (caller day : ℕ) (command : Command) (number : Option ℕ) (before : List Act) → WasAdmitted filing (act_by caller day command number) before → WereAdmitted filing before →
-    length (open_after command number (open_notices before)) ≡ notices_after command (length (open_notices before))
+    length (open_after command number (open_notices before)) ≡ notices_after (effects command).notice (effects command).cleared (length (open_notices before))
 counted_after filing caller day (Notice text) number before w all = rw (w.numbered) (omega arith)
 counted_after filing caller day (ClearNotice paper) number before w all =
     let there : has_number (open_notices before) paper ≡ true = not_false (has_number (open_notices before) paper) (tests_passed filing (act_by caller day (ClearNotice paper) number) before w).1.0 in
@@ -106,7 +107,7 @@ counted_after filing caller day (ClearNotice paper) number before w all =
 counted_after filing caller day _ number before w all = refl
 
 notices_more : (filing : Filing) (caller day : ℕ) (command : Command) (number : Option ℕ) (before : List Act) → WasAdmitted filing (act_by caller day command number) before → WereAdmitted filing before →
-    length (open_notices (act_by caller day command number ∷ before)) ≡ notices_after command (length (open_notices before))
+    length (open_notices (act_by caller day command number ∷ before)) ≡ notices_after (effects command).notice (effects command).cleared (length (open_notices before))
 notices_more filing caller day command number before w all =
     ap length (open_more caller day command number before (fresh filing caller day command number before w all)) ∙ counted_after filing caller day command number before w all
 

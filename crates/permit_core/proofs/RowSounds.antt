@@ -15,6 +15,7 @@ use Rattle.permit_base.specs.declared.request.Command.TheVariants.{StartReview, 
 use Rattle.permit_core.specs.declared.people.People.{People}
 use Rattle.permit_model.specs.Codes.{is_stage, is_stage_among}
 use Rattle.permit_model.specs.Days.{is_past}
+use Rattle.permit_model.specs.Effects.{effects}
 use Rattle.permit_model.specs.Steps.{required_steps}
 use Rattle.permit_model.specs.Facts.{past_stage}
 use Rattle.permit_model.specs.Work.{makes_paper}
@@ -175,13 +176,13 @@ sound_more day _ s people f p = record { stored = f.stored; few = f.few; stands 
 
 -- with any count of papers, and a count of notices that is the one after the command wherever it fits
 sound_counted : (day : ℕ) (command : Command) (s : State) (people : People) (notices papers : ℕ) → Sound s → AllPass (row_tests day s people command) →
-    (FitsNotice command s.notices → notices ≡ notices_after command s.notices) → Sound (record (row_after day command s) { notices = notices; papers = papers })
+    (FitsNotice (effects command).notice s.notices → notices ≡ notices_after (effects command).notice (effects command).cleared s.notices) → Sound (record (row_after day command s) { notices = notices; papers = papers })
 sound_counted day (Notice text) s people notices papers f p h =
     let g : Sound (row_after day (Notice text) s) = sound_more day (Notice text) s people f p in
     record { stored = g.stored; few = g.few; stands = g.stands; request = g.request; dated = g.dated; over = not_over s.stage stage.Working _ (row_was_in day s stage.Working refl p.0) refl; free = g.free }
 sound_counted day command s people notices papers f p h =
     let g : Sound (row_after day command s) = sound_more day command s people f p in
-    let e : notices ≡ notices_after command s.notices = h tt in
+    let e : notices ≡ notices_after (effects command).notice (effects command).cleared s.notices = h (λ x. cc) in
     record {
       stored = g.stored;
       few = g.few;
@@ -193,7 +194,7 @@ sound_counted day command s people notices papers f p h =
     }
 
 pub sound_after : (day : ℕ) (command : Command) (s : State) (notices papers : ℕ) → IsSoundState s → IsAdmitted day s command →
-    (FitsNotice command s.notices → notices ≡ notices_after command s.notices) → IsSoundState (record (row_after day command s) { notices = notices; papers = papers })
+    (FitsNotice (effects command).notice s.notices → notices ≡ notices_after (effects command).notice (effects command).cleared s.notices) → IsSoundState (record (row_after day command s) { notices = notices; papers = papers })
 sound_after day command s notices papers sound admitted h =
     sound_whole (record (row_after day command s) { notices = notices; papers = papers })
     (sound_counted day command s admitted.0 notices papers (sound_facts s sound) (all_pass (row_tests day s admitted.0 command) admitted.1) h)
@@ -212,11 +213,11 @@ few_steps Occupancy = lit≤ tt
 pub few_done : (s : State) → IsSoundState s → s.done < 255
 few_done s sound = omega (arith, few_steps s.kind, leb-true s.done (length (required_steps s.kind)) (sound_facts s sound).few)
 
-fits_grant : (day : ℕ) (command : Command) (s : State) (people : People) → AllPass (row_tests day s people command) → FitsGrant command s.ask s.deadline
-fits_grant day GrantExtension s people p = omega (arith, not_below latest_deadline (unwrap_or s.deadline 0 + unwrap_or s.ask 0) p.1.1.1.0)
-fits_grant day _ s people p = tt
+fits_grant : (day : ℕ) (command : Command) (s : State) (people : People) → AllPass (row_tests day s people command) → FitsGrant (effects command).grants s.ask s.deadline
+fits_grant day GrantExtension s people p = λ e. omega (arith, not_below latest_deadline (unwrap_or s.deadline 0 + unwrap_or s.ask 0) p.1.1.1.0)
+fits_grant day _ s people p = λ e. cc
 
-pub grant_fits : (day : ℕ) (command : Command) (s : State) → IsAdmitted day s command → FitsGrant command s.ask s.deadline
+pub grant_fits : (day : ℕ) (command : Command) (s : State) → IsAdmitted day s command → FitsGrant (effects command).grants s.ask s.deadline
 grant_fits day command s admitted = fits_grant day command s admitted.0 (all_pass (row_tests day s admitted.0 command) admitted.1)
 
 -- a command that makes a paper finds fewer than the most papers
@@ -239,6 +240,6 @@ room_by day _ s people p e = cc
 pub room : (day : ℕ) (command : Command) (s : State) → IsAdmitted day s command → makes_paper command ≡ true → s.papers < most_papers
 room day command s admitted e = leb-false most_papers s.papers (room_by day command s admitted.0 (all_pass (row_tests day s admitted.0 command) admitted.1) e)
 
-pub notice_fits : (day : ℕ) (command : Command) (s : State) → IsAdmitted day s command → s.notices ≤ s.papers → FitsNotice command s.notices
-notice_fits day (Notice text) s admitted few = omega (arith, few, room day (Notice text) s admitted refl)
-notice_fits day _ s admitted few = tt
+pub notice_fits : (day : ℕ) (command : Command) (s : State) → IsAdmitted day s command → s.notices ≤ s.papers → FitsNotice (effects command).notice s.notices
+notice_fits day (Notice text) s admitted few = λ e. omega (arith, few, room day (Notice text) s admitted refl)
+notice_fits day _ s admitted few = λ e. cc

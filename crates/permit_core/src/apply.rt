@@ -1,13 +1,12 @@
 //! What an admitted command makes of a file's state.
 
-ghost use Rattle.std.specs.Prelude.{◌≡◌, ◌≤◌, ◌<◌, ◌+◌, ◌^◌, ◌∷◌, ℕ, true, None, Some, unwrap_or, option_map};
+ghost use Rattle.std.specs.Prelude.{◌≡◌, ◌≤◌, ◌<◌, ◌+◌, ◌^◌, ◌∷◌, ℕ, true, None, Some, unwrap_or, option_map, not, ◌||◌, ◌&&◌};
 ghost use Rattle.permit_base.specs.declared.request.Request.TheVariants.{OnFile};
 ghost use Rattle.std.specs.Option.{option_or};
 ghost use Rattle.permit_model.specs.History.{History, last_day};
 ghost use Rattle.permit_model.specs.Files.{CaseFile, case_numbered};
-ghost use Rattle.permit_model.specs.People.{contractor_named, reviewer_named, inspector_named};
-ghost use Rattle.permit_model.specs.Work.{temporary_told, makes_paper};
-ghost use Rattle.permit_model.specs.BaseStage.{stage_given};
+ghost use Rattle.permit_model.specs.Effects.{effects};
+ghost use Rattle.permit_model.specs.Work.{makes_paper};
 ghost use Rattle.permit_model.specs.Admission.{reason_against};
 ghost use Rattle.permit_model.specs.Machine.{IsHistory, entry_of};
 ghost use Rattle.permit_model.specs.Tables.{state_of};
@@ -24,97 +23,37 @@ use permit_base::words::{Stage, Step};
 
 /// The contractor after a command.
 fn contractor_after(contractor: Option<PartyId>, command: &Command) -> Option<PartyId>
-    ensures { result ≡ option_or (contractor_named command.now) contractor }
+    ensures { result ≡ option_or (effects command.now).contractor contractor }
 {
     match command {
         Command::NameContractor { party } => Some(*party),
-        Command::AssignReviewer { .. }
-        | Command::AssignInspector { .. }
-        | Command::StartReview
-        | Command::Return { .. }
-        | Command::Resubmit { .. }
-        | Command::ApprovePlans
-        | Command::Reject { .. }
-        | Command::Issue
-        | Command::AskExtension { .. }
-        | Command::GrantExtension
-        | Command::RefuseExtension { .. }
-        | Command::BeginWork
-        | Command::RequestInspection { .. }
-        | Command::ApproveStep { .. }
-        | Command::Notice { .. }
-        | Command::ClearNotice { .. }
-        | Command::Stop { .. }
-        | Command::Lift
-        | Command::Revoke { .. }
-        | Command::Temporary { .. }
-        | Command::Certify => contractor,
+        _ => contractor,
     }
 }
 
 /// The reviewer after a command.
 fn reviewer_after(reviewer: Option<PartyId>, command: &Command) -> Option<PartyId>
-    ensures { result ≡ option_or (reviewer_named command.now) reviewer }
+    ensures { result ≡ option_or (effects command.now).reviewer reviewer }
 {
     match command {
         Command::AssignReviewer { party } => Some(*party),
-        Command::AssignInspector { .. }
-        | Command::NameContractor { .. }
-        | Command::StartReview
-        | Command::Return { .. }
-        | Command::Resubmit { .. }
-        | Command::ApprovePlans
-        | Command::Reject { .. }
-        | Command::Issue
-        | Command::AskExtension { .. }
-        | Command::GrantExtension
-        | Command::RefuseExtension { .. }
-        | Command::BeginWork
-        | Command::RequestInspection { .. }
-        | Command::ApproveStep { .. }
-        | Command::Notice { .. }
-        | Command::ClearNotice { .. }
-        | Command::Stop { .. }
-        | Command::Lift
-        | Command::Revoke { .. }
-        | Command::Temporary { .. }
-        | Command::Certify => reviewer,
+        _ => reviewer,
     }
 }
 
 /// The inspector after a command.
 fn inspector_after(inspector: Option<PartyId>, command: &Command) -> Option<PartyId>
-    ensures { result ≡ option_or (inspector_named command.now) inspector }
+    ensures { result ≡ option_or (effects command.now).inspector inspector }
 {
     match command {
         Command::AssignInspector { party } => Some(*party),
-        Command::AssignReviewer { .. }
-        | Command::NameContractor { .. }
-        | Command::StartReview
-        | Command::Return { .. }
-        | Command::Resubmit { .. }
-        | Command::ApprovePlans
-        | Command::Reject { .. }
-        | Command::Issue
-        | Command::AskExtension { .. }
-        | Command::GrantExtension
-        | Command::RefuseExtension { .. }
-        | Command::BeginWork
-        | Command::RequestInspection { .. }
-        | Command::ApproveStep { .. }
-        | Command::Notice { .. }
-        | Command::ClearNotice { .. }
-        | Command::Stop { .. }
-        | Command::Lift
-        | Command::Revoke { .. }
-        | Command::Temporary { .. }
-        | Command::Certify => inspector,
+        _ => inspector,
     }
 }
 
 /// The stored stage after a command.
 fn stage_after(stage: Stage, command: &Command) -> Stage
-    ensures { result ≡ unwrap_or (stage_given command.now) stage }
+    ensures { result ≡ unwrap_or (effects command.now).stage stage }
 {
     match command {
         Command::StartReview | Command::Resubmit { .. } => Stage::Review,
@@ -126,19 +65,7 @@ fn stage_after(stage: Stage, command: &Command) -> Stage
         Command::ApproveStep { step: Step::Final } => Stage::Finaled,
         Command::Revoke { .. } => Stage::Revoked,
         Command::Certify => Stage::Certified,
-        Command::AssignReviewer { .. }
-        | Command::AssignInspector { .. }
-        | Command::NameContractor { .. }
-        | Command::AskExtension { .. }
-        | Command::GrantExtension
-        | Command::RefuseExtension { .. }
-        | Command::RequestInspection { .. }
-        | Command::ApproveStep { .. }
-        | Command::Notice { .. }
-        | Command::ClearNotice { .. }
-        | Command::Stop { .. }
-        | Command::Lift
-        | Command::Temporary { .. } => stage,
+        _ => stage,
     }
 }
 
@@ -160,7 +87,7 @@ fn deadline_after(
     ask: Option<Days>,
     deadline: Option<u32>,
 ) -> Option<u32>
-    ensures { FitsGrant command.now ask deadline → result ≡ RowAfter.deadline_after command.now day ask deadline }
+    ensures { FitsGrant (effects command.now).grants ask deadline → result ≡ RowAfter.deadline_after (effects command.now).grants (effects command.now).stage (effects command.now).anchor day ask deadline }
 {
     match command {
         Command::Issue => Some(day.get() + TERM),
@@ -173,19 +100,7 @@ fn deadline_after(
         | Command::RequestInspection { .. }
         | Command::ApproveStep { .. }
         | Command::Notice { .. } => Some(moved_by_activity(day, deadline)),
-        Command::AssignReviewer { .. }
-        | Command::AssignInspector { .. }
-        | Command::NameContractor { .. }
-        | Command::StartReview
-        | Command::Return { .. }
-        | Command::Resubmit { .. }
-        | Command::ApprovePlans
-        | Command::AskExtension { .. }
-        | Command::RefuseExtension { .. }
-        | Command::ClearNotice { .. }
-        | Command::Stop { .. }
-        | Command::Lift
-        | Command::Temporary { .. } => deadline,
+        _ => deadline,
     }
 }
 
@@ -205,177 +120,66 @@ fn extended(deadline: Option<u32>, ask: Option<Days>) -> Option<u32>
 
 /// How many steps are approved after a command: at most 5, since the command was admitted.
 fn done_after(done: u8, command: &Command) -> u8
-    ensures { done < 255 → result ≡ RowAfter.done_after command.now done }
+    ensures { done < 255 → result ≡ RowAfter.done_after (effects command.now).step done }
 {
     match command {
         Command::ApproveStep { .. } => done.saturating_add(1),
-        Command::AssignReviewer { .. }
-        | Command::AssignInspector { .. }
-        | Command::NameContractor { .. }
-        | Command::StartReview
-        | Command::Return { .. }
-        | Command::Resubmit { .. }
-        | Command::ApprovePlans
-        | Command::Reject { .. }
-        | Command::Issue
-        | Command::AskExtension { .. }
-        | Command::GrantExtension
-        | Command::RefuseExtension { .. }
-        | Command::BeginWork
-        | Command::RequestInspection { .. }
-        | Command::Notice { .. }
-        | Command::ClearNotice { .. }
-        | Command::Stop { .. }
-        | Command::Lift
-        | Command::Revoke { .. }
-        | Command::Temporary { .. }
-        | Command::Certify => done,
+        _ => done,
     }
 }
 
 /// The pending request after a command.
 fn request_after(request: Option<Step>, command: &Command) -> Option<Step>
-    ensures { result ≡ RowAfter.request_after command.now request }
+    ensures { result ≡ unwrap_or (effects command.now).request request }
 {
     match command {
         Command::RequestInspection { step } => Some(*step),
         Command::ApproveStep { .. } | Command::Notice { .. } => None,
-        Command::AssignReviewer { .. }
-        | Command::AssignInspector { .. }
-        | Command::NameContractor { .. }
-        | Command::StartReview
-        | Command::Return { .. }
-        | Command::Resubmit { .. }
-        | Command::ApprovePlans
-        | Command::Reject { .. }
-        | Command::Issue
-        | Command::AskExtension { .. }
-        | Command::GrantExtension
-        | Command::RefuseExtension { .. }
-        | Command::BeginWork
-        | Command::ClearNotice { .. }
-        | Command::Stop { .. }
-        | Command::Lift
-        | Command::Revoke { .. }
-        | Command::Temporary { .. }
-        | Command::Certify => request,
+        _ => request,
     }
 }
 
 /// The day of the pending request after a command of the day.
 fn requested_after(requested: Option<Day>, day: Day, command: &Command) -> Option<Day>
-    ensures { result ≡ RowAfter.requested_after day command.now requested }
+    ensures { result ≡ RowAfter.requested_after day (effects command.now).request requested }
 {
     match command {
         Command::RequestInspection { .. } => Some(day),
         Command::ApproveStep { .. } | Command::Notice { .. } => None,
-        Command::AssignReviewer { .. }
-        | Command::AssignInspector { .. }
-        | Command::NameContractor { .. }
-        | Command::StartReview
-        | Command::Return { .. }
-        | Command::Resubmit { .. }
-        | Command::ApprovePlans
-        | Command::Reject { .. }
-        | Command::Issue
-        | Command::AskExtension { .. }
-        | Command::GrantExtension
-        | Command::RefuseExtension { .. }
-        | Command::BeginWork
-        | Command::ClearNotice { .. }
-        | Command::Stop { .. }
-        | Command::Lift
-        | Command::Revoke { .. }
-        | Command::Temporary { .. }
-        | Command::Certify => requested,
+        _ => requested,
     }
 }
 
 /// The pending ask after a command.
 fn ask_after(ask: Option<Days>, command: &Command) -> Option<Days>
-    ensures { result ≡ RowAfter.ask_after command.now ask }
+    ensures { result ≡ unwrap_or (effects command.now).ask ask }
 {
     match command {
         Command::AskExtension { days, .. } => Some(*days),
         Command::GrantExtension | Command::RefuseExtension { .. } | Command::Issue => None,
-        Command::AssignReviewer { .. }
-        | Command::AssignInspector { .. }
-        | Command::NameContractor { .. }
-        | Command::StartReview
-        | Command::Return { .. }
-        | Command::Resubmit { .. }
-        | Command::ApprovePlans
-        | Command::Reject { .. }
-        | Command::BeginWork
-        | Command::RequestInspection { .. }
-        | Command::ApproveStep { .. }
-        | Command::Notice { .. }
-        | Command::ClearNotice { .. }
-        | Command::Stop { .. }
-        | Command::Lift
-        | Command::Revoke { .. }
-        | Command::Temporary { .. }
-        | Command::Certify => ask,
+        _ => ask,
     }
 }
 
 /// Whether a stop work order stands after a command.
 fn stopped_after(stopped: bool, command: &Command) -> bool
-    ensures { result ≡ RowAfter.stopped_after command.now stopped }
+    ensures { result ≡ ((effects command.now).stops || (not (effects command.now).lifts && stopped)) }
 {
     match command {
         Command::Stop { .. } => true,
         Command::Lift => false,
-        Command::AssignReviewer { .. }
-        | Command::AssignInspector { .. }
-        | Command::NameContractor { .. }
-        | Command::StartReview
-        | Command::Return { .. }
-        | Command::Resubmit { .. }
-        | Command::ApprovePlans
-        | Command::Reject { .. }
-        | Command::Issue
-        | Command::AskExtension { .. }
-        | Command::GrantExtension
-        | Command::RefuseExtension { .. }
-        | Command::BeginWork
-        | Command::RequestInspection { .. }
-        | Command::ApproveStep { .. }
-        | Command::Notice { .. }
-        | Command::ClearNotice { .. }
-        | Command::Revoke { .. }
-        | Command::Temporary { .. }
-        | Command::Certify => stopped,
+        _ => stopped,
     }
 }
 
 /// How many notices are open after a command: no more than papers.
 fn notices_after(notices: u16, command: &Command) -> u16
-    ensures { FitsNotice command.now notices → result ≡ RowAfter.notices_after command.now notices }
+    ensures { FitsNotice (effects command.now).notice notices → result ≡ RowAfter.notices_after (effects command.now).notice (effects command.now).cleared notices }
 {
     match command {
         Command::Notice { .. } => notices.saturating_add(1),
         Command::ClearNotice { .. } => notices.saturating_sub(1),
-        Command::AssignReviewer { .. }
-        | Command::AssignInspector { .. }
-        | Command::NameContractor { .. }
-        | Command::StartReview
-        | Command::Return { .. }
-        | Command::Resubmit { .. }
-        | Command::ApprovePlans
-        | Command::Reject { .. }
-        | Command::Issue
-        | Command::AskExtension { .. }
-        | Command::GrantExtension
-        | Command::RefuseExtension { .. }
-        | Command::BeginWork
-        | Command::RequestInspection { .. }
-        | Command::ApproveStep { .. }
-        | Command::Stop { .. }
-        | Command::Lift
-        | Command::Revoke { .. }
-        | Command::Temporary { .. }
-        | Command::Certify => notices,
+        _ => notices,
     }
 }
 
@@ -391,31 +195,11 @@ fn papers_after(papers: u16, command: &Command) -> u16
 
 /// The day until which the last temporary certificate runs, after a command of the day.
 fn temporary_after(temporary: Option<u32>, day: Day, command: &Command) -> Option<u32>
-    ensures { result ≡ option_or (temporary_told command.now day) temporary }
+    ensures { result ≡ option_or (option_map (λ days. day + days) (effects command.now).temporary) temporary }
 {
     match command {
         Command::Temporary { days, .. } => Some(day.get() + days.get()),
-        Command::AssignReviewer { .. }
-        | Command::AssignInspector { .. }
-        | Command::NameContractor { .. }
-        | Command::StartReview
-        | Command::Return { .. }
-        | Command::Resubmit { .. }
-        | Command::ApprovePlans
-        | Command::Reject { .. }
-        | Command::Issue
-        | Command::AskExtension { .. }
-        | Command::GrantExtension
-        | Command::RefuseExtension { .. }
-        | Command::BeginWork
-        | Command::RequestInspection { .. }
-        | Command::ApproveStep { .. }
-        | Command::Notice { .. }
-        | Command::ClearNotice { .. }
-        | Command::Stop { .. }
-        | Command::Lift
-        | Command::Revoke { .. }
-        | Command::Certify => temporary,
+        _ => temporary,
     }
 }
 

@@ -4,6 +4,7 @@ ghost use Rattle.std.specs.Prelude.{◌≡◌, ◌+◌, [], Some, unwrap_or};
 ghost use Rattle.std.specs.Option.{option_copied};
 ghost use Rattle.permit_model.specs.Search.{when};
 ghost use Rattle.permit_model.specs.Files.{CaseFile};
+ghost use Rattle.permit_model.specs.Effects.{effects};
 ghost use Rattle.permit_model.specs.Work;
 ghost use Rattle.permit_model.specs.Work.{makes_paper};
 ghost use Rattle.permit_model.specs.Machine;
@@ -34,21 +35,13 @@ pub fn paper_sort(command: &Command) -> Option<PaperSort>
         Command::Revoke { .. } => Some(PaperSort::Revoked),
         Command::Temporary { .. } => Some(PaperSort::Temporary),
         Command::Certify => Some(PaperSort::Certificate),
-        Command::AssignReviewer { .. }
-        | Command::AssignInspector { .. }
-        | Command::NameContractor { .. }
-        | Command::StartReview
-        | Command::ApprovePlans
-        | Command::BeginWork
-        | Command::RequestInspection { .. }
-        | Command::ApproveStep { .. }
-        | Command::ClearNotice { .. } => None,
+        _ => None,
     }
 }
 
 /// The text of the paper that a command makes; a permit, a grant, a lift and a certificate have none.
 pub fn paper_text(command: &Command) -> Option<&Text>
-    ensures { unwrap_or (option_copied result) [] ≡ Tables.paper_text command.now }
+    ensures { unwrap_or (option_copied result) [] ≡ (effects command.now).text }
 {
     match command {
         Command::Return { text }
@@ -60,49 +53,17 @@ pub fn paper_text(command: &Command) -> Option<&Text>
         | Command::Stop { text, .. }
         | Command::Revoke { text }
         | Command::Temporary { text, .. } => Some(text),
-        Command::AssignReviewer { .. }
-        | Command::AssignInspector { .. }
-        | Command::NameContractor { .. }
-        | Command::StartReview
-        | Command::ApprovePlans
-        | Command::Issue
-        | Command::GrantExtension
-        | Command::BeginWork
-        | Command::RequestInspection { .. }
-        | Command::ApproveStep { .. }
-        | Command::ClearNotice { .. }
-        | Command::Lift
-        | Command::Certify => None,
+        _ => None,
     }
 }
 
 /// The conditions for resuming work that a stop work order states (IBC 2018, section 115); no other paper has any.
 pub fn paper_terms(command: &Command) -> Option<&Text>
-    ensures { unwrap_or (option_copied result) [] ≡ Tables.paper_terms command.now }
+    ensures { unwrap_or (option_copied result) [] ≡ (effects command.now).terms }
 {
     match command {
         Command::Stop { conditions, .. } => Some(conditions),
-        Command::AssignReviewer { .. }
-        | Command::AssignInspector { .. }
-        | Command::NameContractor { .. }
-        | Command::StartReview
-        | Command::Return { .. }
-        | Command::Resubmit { .. }
-        | Command::ApprovePlans
-        | Command::Reject { .. }
-        | Command::Issue
-        | Command::AskExtension { .. }
-        | Command::GrantExtension
-        | Command::RefuseExtension { .. }
-        | Command::BeginWork
-        | Command::RequestInspection { .. }
-        | Command::ApproveStep { .. }
-        | Command::Notice { .. }
-        | Command::ClearNotice { .. }
-        | Command::Lift
-        | Command::Revoke { .. }
-        | Command::Temporary { .. }
-        | Command::Certify => None,
+        _ => None,
     }
 }
 
@@ -129,25 +90,7 @@ impl FileState {
                 Some(days) => days.get(),
                 None => 0,
             },
-            Command::AssignReviewer { .. }
-            | Command::AssignInspector { .. }
-            | Command::NameContractor { .. }
-            | Command::StartReview
-            | Command::Return { .. }
-            | Command::Resubmit { .. }
-            | Command::ApprovePlans
-            | Command::Reject { .. }
-            | Command::Issue
-            | Command::RefuseExtension { .. }
-            | Command::BeginWork
-            | Command::RequestInspection { .. }
-            | Command::ApproveStep { .. }
-            | Command::Notice { .. }
-            | Command::ClearNotice { .. }
-            | Command::Stop { .. }
-            | Command::Lift
-            | Command::Revoke { .. }
-            | Command::Certify => 0,
+            _ => 0,
         }
     }
 }

@@ -36,25 +36,7 @@ pub fn named_party(command: &Command) -> Option<PartyId>
         Command::AssignReviewer { party } => Some(*party),
         Command::AssignInspector { party } => Some(*party),
         Command::NameContractor { party } => Some(*party),
-        Command::StartReview
-        | Command::Return { .. }
-        | Command::Resubmit { .. }
-        | Command::ApprovePlans
-        | Command::Reject { .. }
-        | Command::Issue
-        | Command::AskExtension { .. }
-        | Command::GrantExtension
-        | Command::RefuseExtension { .. }
-        | Command::BeginWork
-        | Command::RequestInspection { .. }
-        | Command::ApproveStep { .. }
-        | Command::Notice { .. }
-        | Command::ClearNotice { .. }
-        | Command::Stop { .. }
-        | Command::Lift
-        | Command::Revoke { .. }
-        | Command::Temporary { .. }
-        | Command::Certify => None,
+        _ => None,
     }
 }
 
@@ -64,26 +46,6 @@ pub fn named_paper(command: &Command) -> Option<PaperNumber>
 {
     match command {
         Command::ClearNotice { paper } => Some(*paper),
-        Command::AssignReviewer { .. }
-        | Command::AssignInspector { .. }
-        | Command::NameContractor { .. }
-        | Command::StartReview
-        | Command::Return { .. }
-        | Command::Resubmit { .. }
-        | Command::ApprovePlans
-        | Command::Reject { .. }
-        | Command::Issue
-        | Command::AskExtension { .. }
-        | Command::GrantExtension
-        | Command::RefuseExtension { .. }
-        | Command::BeginWork
-        | Command::RequestInspection { .. }
-        | Command::ApproveStep { .. }
-        | Command::Notice { .. }
-        | Command::Stop { .. }
-        | Command::Lift
-        | Command::Revoke { .. }
-        | Command::Temporary { .. }
-        | Command::Certify => None,
+        _ => None,
     }
 }

@@ -9,9 +9,10 @@ use Rattle.permit_base.specs.declared.request.Command.TheVariants.{GrantExtensio
 use Rattle.std.specs.Option.{option_or}
 use Rattle.permit_model.specs.Search.{latest}
 use Rattle.permit_model.specs.Days.{term, greatest}
+use Rattle.permit_model.specs.Effects.{effects}
 use Rattle.permit_model.specs.Files.{Filing, Act, CaseFile}
 use Rattle.permit_model.specs.Work.{pending_ask, notices_given, is_cleared, open_notices}
-use Rattle.permit_model.specs.BaseStage.{stage_given, base_stage}
+use Rattle.permit_model.specs.BaseStage.{base_stage}
 use Rattle.permit_model.specs.Deadline.{extended, anchor_reaches, deadline}
 use Rattle.std.proofs.lemmas.Bool.{eqb-true, ne_eqb}
 use Rattle.permit_base.specs.declared.request.Request.TheVariants.{OnFile}
@@ -32,8 +33,8 @@ unwrap_or-option_or None b d = refl
 unwrap_or-option_or (Some x) b d = refl
 
 -- an act gives its stage, or leaves the one before
-pub base_stage-more : (act : Act) (acts : List Act) → base_stage (act ∷ acts) ≡ unwrap_or (stage_given act.command) (base_stage acts)
-base_stage-more act acts = unwrap_or-option_or (stage_given act.command) (latest (λ a. stage_given a.command) acts) stage.Filed
+pub base_stage-more : (act : Act) (acts : List Act) → base_stage (act ∷ acts) ≡ unwrap_or ((effects act.command).stage) (base_stage acts)
+base_stage-more act acts = unwrap_or-option_or ((effects act.command).stage) (latest (λ a. (effects a.command).stage) acts) stage.Filed
 
 -- ---- the deadline
 

@@ -9,10 +9,11 @@ use Rattle.permit_base.specs.declared.words.Stage.TheVariants as stage
 use Rattle.permit_base.specs.declared.request.Command.{Command}
 use Rattle.permit_base.specs.declared.request.Command.TheVariants.{StartReview, Return, Resubmit, ApprovePlans, Reject, Issue, GrantExtension, BeginWork, RequestInspection, ApproveStep, Notice, Revoke, Certify}
 use Rattle.permit_model.specs.Days.{term, greatest}
+use Rattle.permit_model.specs.Effects.{effects}
 use Rattle.permit_model.specs.Files.{Filing, Act, CaseFile}
 use Rattle.permit_model.specs.Work.{pending_ask}
 use Rattle.permit_model.specs.BaseStage.{base_stage}
-use Rattle.permit_model.specs.Deadline.{days_granted, is_anchor, extended, filing_reach, anchor_reaches, deadline_in, deadline}
+use Rattle.permit_model.specs.Deadline.{days_granted, extended, filing_reach, anchor_reaches, deadline_in, deadline}
 use Rattle.permit_model.specs.Admission.{file_tests}
 use Rattle.permit_model.proofs.Appending.{extended-zero, greatest-extended}
 use Rattle.permit_model.proofs.Projection.{last_touched, WasAdmitted, WereAdmitted}
@@ -107,7 +108,7 @@ plus_zero : (n : ℕ) → n + 0 ≡ n
 plus_zero n = omega arith
 
 -- a command that is no activity and grants nothing leaves the deadline of its stage
-deadline_in_kept : (s : Stage) (filed : ℕ) (act : Act) (before : List Act) → is_anchor act.command ≡ false → days_granted act.command before ≡ 0 → deadline_in s filed (act ∷ before) ≡ deadline_in s filed before
+deadline_in_kept : (s : Stage) (filed : ℕ) (act : Act) (before : List Act) → (effects act.command).anchor ≡ false → days_granted act.command before ≡ 0 → deadline_in s filed (act ∷ before) ≡ deadline_in s filed before
 deadline_in_kept stage.Filed filed act before quiet none = rw none (ap Some (plus_zero (filing_reach filed before)))
 deadline_in_kept stage.Review filed act before quiet none = rw none (ap Some (plus_zero (filing_reach filed before)))
 deadline_in_kept stage.Returned filed act before quiet none = rw none (ap Some (plus_zero (filing_reach filed before)))

@@ -14,9 +14,10 @@ use Rattle.permit_base.specs.declared.request.Command.TheVariants.{StartReview, 
 use Rattle.permit_model.specs.Codes.{step_code, is_step, is_stage_among}
 use Rattle.permit_model.specs.Steps.{required_steps, next_step}
 use Rattle.permit_model.specs.History.{History}
+use Rattle.permit_model.specs.Effects.{effects}
 use Rattle.permit_model.specs.Files.{Filing, Act, CaseFile, case_numbered}
 use Rattle.permit_model.specs.Work.{approved_steps, Inspection, pending_inspection, pending_step, open_notices, is_stopped}
-use Rattle.permit_model.specs.BaseStage.{stage_given, base_stage}
+use Rattle.permit_model.specs.BaseStage.{base_stage}
 use Rattle.permit_model.specs.Days.{greatest}
 use Rattle.permit_model.specs.Deadline.{extended, anchor_reaches, deadline_in, days_granted}
 use Rattle.permit_model.specs.Facts.{stage_on}
@@ -32,7 +33,7 @@ use Rattle.permit_model.proofs.Deadlines.{act_by, case_of, tests_passed}
 
 -- ---- a stored stage
 
-stored_more : (command : Command) (s : Stage) → is_stored s ≡ true → is_stored (unwrap_or (stage_given command) s) ≡ true
+stored_more : (command : Command) (s : Stage) → is_stored s ≡ true → is_stored (unwrap_or ((effects command).stage) s) ≡ true
 stored_more (ApproveStep Final) s ih = refl
 stored_more (ApproveStep step) s ih = ih
 stored_more StartReview s ih = refl

@@ -5,16 +5,17 @@ use Rattle.std.proofs.lemmas.Bool.{ltb-false as not_below, ltb-true as below, lt
 use Rattle.permit_base.specs.declared.request.Command.{Command}
 use Rattle.permit_base.specs.declared.request.Command.TheVariants.{Stop, Lift}
 use Rattle.permit_model.specs.Search.{how_many}
+use Rattle.permit_model.specs.Effects.{effects}
 use Rattle.permit_model.specs.Files.{Filing, Act}
-use Rattle.permit_model.specs.Work.{is_stop, is_lift, is_stopped}
+use Rattle.permit_model.specs.Work.{is_stopped}
 use Rattle.permit_model.proofs.Projection.{WasAdmitted, WereAdmitted}
 use Rattle.permit_model.proofs.Deadlines.{act_by, tests_passed}
 
 abbrev pub stops : List Act → ℕ
-stops acts = how_many (λ act. is_stop act.command) acts
+stops acts = how_many (λ act. (effects act.command).stops) acts
 
 abbrev pub lifts : List Act → ℕ
-lifts acts = how_many (λ act. is_lift act.command) acts
+lifts acts = how_many (λ act. (effects act.command).lifts) acts
 
 -- as many orders as lifts, or one more
 abbrev pub TakeTurns : List Act → Type 0

@@ -6,6 +6,7 @@ pub mod History
 pub mod Parcels
 pub mod Caller
 pub mod Files
+pub mod Effects
 pub mod People
 pub mod Work
 pub mod BaseStage

@@ -1,5 +1,5 @@
 -- The rows that the tables keep, read off the history.
-use Rattle.std.specs.Prelude.{ℕ, Bool, true, false, ◌&&◌, List, [], ◌∷◌, map, filter, ◌==◌, length, Option, None, option_map, unwrap_or, slice_get}
+use Rattle.std.specs.Prelude.{ℕ, Bool, true, false, ◌&&◌, List, [], ◌∷◌, map, filter, ◌==◌, length, Option, None, option_map, unwrap_or, slice_get, if◌then◌else◌}
 use Rattle.permit_base.specs.declared.words.Kind.{Kind}
 use Rattle.permit_base.specs.declared.words.Step.{Step}
 use Rattle.permit_base.specs.declared.words.Stage.{Stage}
@@ -7,18 +7,18 @@ use Rattle.permit_base.specs.declared.words.Timing.{Timing}
 use Rattle.permit_base.specs.declared.words.PaperSort.{PaperSort}
 use Rattle.permit_base.specs.declared.words.PaperSort.TheVariants as sort
 use Rattle.permit_base.specs.declared.request.Command.{Command}
-use Rattle.permit_base.specs.declared.request.Command.TheVariants.{AssignReviewer, AssignInspector, NameContractor, StartReview, Return, Resubmit, ApprovePlans, Reject, Issue, AskExtension, GrantExtension, RefuseExtension, BeginWork, RequestInspection, ApproveStep, Notice, ClearNotice, Stop, Lift, Revoke, Temporary, Certify}
 use Rattle.permit_base.specs.declared.request.Request.TheVariants.{AddParty, AddParcel, Transfer, Declare, ReadParcel, File, ReadFile, ListFiles, Register, OnFile}
 use Rattle.permit_model.specs.Search.{add_last, has_number}
 use Rattle.permit_model.specs.Steps.{required_steps}
 use Rattle.permit_model.specs.History.{Deed, Founding, Accepted, Entry, History, last_day}
 use Rattle.permit_model.specs.Caller.{Party, parties}
 use Rattle.permit_model.specs.Parcels.{Parcel, parcels, Interest, interests}
+use Rattle.permit_model.specs.Effects.{effects}
 use Rattle.permit_model.specs.Files.{Act, act_of, acts_on, CaseFile, case_files}
 use Rattle.permit_model.specs.People.{contractor, reviewer, inspector}
 use Rattle.permit_model.specs.Work.{approved_steps, pending_step, requested_day, pending_ask, open_notices, is_stopped, temporary_until, paper_sort, paper_count}
 use Rattle.permit_model.specs.BaseStage.{base_stage}
-use Rattle.permit_model.specs.Deadline.{deadline, days_granted}
+use Rattle.permit_model.specs.Deadline.{deadline}
 use Rattle.permit_model.specs.Facts.{stage_on, timing_of}
 
 -- ---- files
@@ -106,78 +106,15 @@ pub record Paper : Type 0 where
 
 -- the days of a paper: those asked, granted or given, else 0
 abbrev pub paper_days : Command → List Act → ℕ
-paper_days (AskExtension days text) before = days
-paper_days (Temporary days text) before = days
-paper_days (AssignReviewer party) before = 0
-paper_days (AssignInspector party) before = 0
-paper_days (NameContractor party) before = 0
-paper_days StartReview before = 0
-paper_days (Return text) before = 0
-paper_days (Resubmit text) before = 0
-paper_days ApprovePlans before = 0
-paper_days (Reject text) before = 0
-paper_days Issue before = 0
-paper_days GrantExtension before = days_granted GrantExtension before
-paper_days (RefuseExtension text) before = 0
-paper_days BeginWork before = 0
-paper_days (RequestInspection step) before = 0
-paper_days (ApproveStep step) before = 0
-paper_days (Notice text) before = 0
-paper_days (ClearNotice paper) before = 0
-paper_days (Stop text conditions) before = 0
-paper_days Lift before = 0
-paper_days (Revoke text) before = 0
-paper_days Certify before = 0
+paper_days command before = if (effects command).grants then unwrap_or (pending_ask before) 0 else (effects command).days
 
 -- the text that a command gives its paper
 abbrev pub paper_text : Command → List ℕ
-paper_text (Return text) = text
-paper_text (Resubmit text) = text
-paper_text (Reject text) = text
-paper_text (AskExtension days text) = text
-paper_text (RefuseExtension text) = text
-paper_text (Notice text) = text
-paper_text (Stop text conditions) = text
-paper_text (Revoke text) = text
-paper_text (Temporary days text) = text
-paper_text (AssignReviewer party) = []
-paper_text (AssignInspector party) = []
-paper_text (NameContractor party) = []
-paper_text StartReview = []
-paper_text ApprovePlans = []
-paper_text Issue = []
-paper_text GrantExtension = []
-paper_text BeginWork = []
-paper_text (RequestInspection step) = []
-paper_text (ApproveStep step) = []
-paper_text (ClearNotice paper) = []
-paper_text Lift = []
-paper_text Certify = []
+paper_text command = (effects command).text
 
 -- the conditions for resuming that a stop work order states
 abbrev pub paper_terms : Command → List ℕ
-paper_terms (Stop text conditions) = conditions
-paper_terms (AssignReviewer party) = []
-paper_terms (AssignInspector party) = []
-paper_terms (NameContractor party) = []
-paper_terms StartReview = []
-paper_terms (Return text) = []
-paper_terms (Resubmit text) = []
-paper_terms ApprovePlans = []
-paper_terms (Reject text) = []
-paper_terms Issue = []
-paper_terms (AskExtension days text) = []
-paper_terms GrantExtension = []
-paper_terms (RefuseExtension text) = []
-paper_terms BeginWork = []
-paper_terms (RequestInspection step) = []
-paper_terms (ApproveStep step) = []
-paper_terms (Notice text) = []
-paper_terms (ClearNotice paper) = []
-paper_terms Lift = []
-paper_terms (Revoke text) = []
-paper_terms (Temporary days text) = []
-paper_terms Certify = []
+paper_terms command = (effects command).terms
 
 -- whether the paper is a correction notice
 abbrev pub is_notice : PaperSort → Bool
