@@ -3,6 +3,7 @@
 //! What works on a database is generic over its store, and the file is named in two functions alone: each call of a
 //! generic function at the file's store costs the prover half a minute.
 
+use permit_args::plan::ServeWords;
 use permit_base::request::Filter;
 use permit_base::values::{Day, Token};
 use permit_base::words::RegisterKind;
@@ -19,7 +20,6 @@ use permit_subcommands::asking::ask;
 use permit_subcommands::days::RunDays;
 use permit_subcommands::failure::Failure;
 use permit_subcommands::listing::{list, write_register};
-use permit_words::plan::ServeWords;
 use sqlite::{Alter, Connection, Error, ErrorCode};
 use std::alloc::Global;
 use std::fs::File;

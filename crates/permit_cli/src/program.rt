@@ -2,11 +2,18 @@
 
 ghost use Rattle.std.specs.Prelude.{◌≡◌, ◌≤◌, ◌⊎◌, IfErr, IfOk, None, Some};
 ghost use Rattle.permit_import.specs.declared.refused.RefusalWord.TheVariants.{Store};
-ghost use Rattle.permit_words.specs.FactsText.{facts_in, pieces};
+ghost use Rattle.permit_args.specs.FactsText.{facts_in, pieces};
 ghost use Rattle.permit_subcommands.specs.Failures.{failure_status, plain, IsStatusOf};
 ghost use Rattle.permit_subcommands.specs.declared.failure.Failure.TheVariants as failure;
 
 use crate::database::{Done, Question, Work, serve_at, work_at};
+use permit_args::checking::{dead_text, explained_text, rules_text};
+use permit_args::facts::read_facts;
+use permit_args::plan::{
+    ActWords, Check, CheckPolicyWords, ImportWords, InitWords, ListWords, OfficeWords, Plan,
+    PlanFault, RegisterWords, ServeWords,
+};
+use permit_args::words::{plan, words_given};
 use permit_base::request::Filter;
 use permit_policy::text::read_policy;
 use permit_policy::{Facts, Policy};
@@ -17,13 +24,6 @@ use permit_subcommands::failure::{Failure, status_after};
 use permit_subcommands::founding::founder;
 use permit_subcommands::listing::listing_text;
 use permit_subcommands::request::{caller, request};
-use permit_words::checking::{dead_text, explained_text, rules_text};
-use permit_words::facts::read_facts;
-use permit_words::plan::{
-    ActWords, Check, CheckPolicyWords, ImportWords, InitWords, ListWords, OfficeWords, Plan,
-    PlanFault, RegisterWords, ServeWords,
-};
-use permit_words::words::{plan, words_given};
 use std::alloc::Global;
 use std::fs::{self, File};
 use std::io::Write;

@@ -7,12 +7,12 @@ ghost use Rattle.permit_hall.specs.Runs.{Entry};
 ghost use Rattle.permit_hall.specs.OneHistory.{OneHistory};
 
 use crate::connections::{Connections, doors};
+use permit_args::plan::ServeWords;
 use permit_base::values::Day;
 use permit_hall::doors::run_hall;
 use permit_office::office::Office;
 use permit_store::store::Store;
 use permit_subcommands::failure::Failure;
-use permit_words::plan::ServeWords;
 use std::io::{self, Write};
 use std::net::{SocketAddr, TcpListener};
 use std::sync::Wait;

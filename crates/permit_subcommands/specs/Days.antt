@@ -3,7 +3,7 @@ use Rattle.std.specs.Prelude.{◌≡◌, ◌⊎◌, ℕ, Bool, false, IsTrue, Is
 use Rattle.jiff_tz.specs.PosixReader.{read_whole}
 use Rattle.permit_subcommands.specs.declared.failure.Failure.{Failure}
 use Rattle.permit_subcommands.specs.declared.failure.Failure.TheVariants.{Day, Zone}
-use Rattle.permit_words.specs.declared.plan.DayWords.{DayWords}
+use Rattle.permit_args.specs.declared.plan.DayWords.{DayWords}
 
 -- a POSIX rule, whole
 abbrev pub is_zone : List ℕ → Bool

@@ -10,8 +10,8 @@ use Rattle.permit_import.specs.Refusals.{refused_line}
 use Rattle.permit_import.specs.declared.refused.Refused.TheVariants.{Plain}
 use Rattle.permit_import.specs.declared.refused.RefusalWord.{RefusalWord}
 use Rattle.permit_import.specs.declared.refused.RefusalWord.TheVariants.{Store}
-use Rattle.permit_words.specs.declared.plan.PlanFault.{PlanFault}
-use Rattle.permit_words.specs.declared.plan.PlanFault.TheVariants as planning
+use Rattle.permit_args.specs.declared.plan.PlanFault.{PlanFault}
+use Rattle.permit_args.specs.declared.plan.PlanFault.TheVariants as planning
 use Rattle.permit_subcommands.specs.declared.failure.Failure.{Failure}
 use Rattle.permit_subcommands.specs.declared.failure.Failure.TheVariants.{Refused, File, Policy, Facts, Database, Day, Zone, Listen, Output}
 

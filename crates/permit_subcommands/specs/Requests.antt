@@ -6,7 +6,7 @@ use Rattle.permit_base.specs.Texts.{is_token}
 use Rattle.permit_subcommands.specs.Failures.{plain}
 use Rattle.permit_import.specs.declared.refused.RefusalWord.TheVariants.{Caller, Store, Syntax}
 use Rattle.permit_subcommands.specs.declared.failure.Failure.{Failure}
-use Rattle.permit_words.specs.declared.plan.ActWords.{ActWords}
+use Rattle.permit_args.specs.declared.plan.ActWords.{ActWords}
 
 -- a byte from 0x21 to 0x7E
 abbrev pub is_printed : ℕ → Bool

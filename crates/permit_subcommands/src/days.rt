@@ -11,10 +11,10 @@ ghost use Rattle.permit_subcommands.specs.declared.failure.Failure.TheVariants a
 use crate::failure::Failure;
 use jiff::Timestamp;
 use jiff::tz::TimeZone;
+use permit_args::plan::DayWords;
 use permit_base::values::Day;
 use permit_days::dates::read_date;
 use permit_days::instants::day_of;
-use permit_words::plan::DayWords;
 use std::time::Clock;
 
 /// The day that a date names.

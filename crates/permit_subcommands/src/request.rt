@@ -9,8 +9,8 @@ ghost use Rattle.permit_import.specs.declared.refused.RefusalWord.TheVariants.{C
 
 use crate::failure::Failure;
 use crate::refused::RefusalWord;
+use permit_args::plan::ActWords;
 use permit_base::values::Token;
-use permit_words::plan::ActWords;
 use std::alloc::{AllocError, Global};
 
 /// Whether each byte is printed and no space.

@@ -1,0 +1,13 @@
+-- Facts have six parts.
+use Rattle.std.proofs.Common.{◌≡◌, ℕ, List, [], ◌∷◌, None, length, refl}
+use Rattle.permit_args.specs.FactsText.{facts_in}
+
+pub other_count : (parts : List (List ℕ)) → (length parts ≡ 6 → ⊥) → facts_in parts ≡ None
+other_count [] other = refl
+other_count (a ∷ []) other = refl
+other_count (a ∷ b ∷ []) other = refl
+other_count (a ∷ b ∷ c ∷ []) other = refl
+other_count (a ∷ b ∷ c ∷ d ∷ []) other = refl
+other_count (a ∷ b ∷ c ∷ d ∷ e ∷ []) other = refl
+other_count (a ∷ b ∷ c ∷ d ∷ e ∷ f ∷ []) other = absurd (other refl)
+other_count (a ∷ b ∷ c ∷ d ∷ e ∷ f ∷ g ∷ more) other = refl

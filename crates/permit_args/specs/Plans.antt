@@ -1,0 +1,200 @@
+-- The subcommands as simple commands of the command line library, and the plan that their words give.
+use Rattle.std.specs.Prelude.{◌≡◌, List, [], ◌∷◌, ℕ, Bool, Option, None, Some, true, false, IfSome, IsSomeAnd, IsTrue, MatchOption, option_map, codes, decimal, bytes_eq, ◌≤◌}
+use Rattle.std.specs.Option.{option_map_or}
+use Rattle.std.specs.Borrow.{Bor}
+use Rattle.clap.specs.Words.{App, Row, Rule, Text, first_of, matches_of, new_app, new_rule, with_rule}
+use Rattle.clap.specs.declared.builder.ArgAction.TheVariants.{Set, SetTrue}
+use Rattle.permit_base.specs.Stages.{is_file_stage}
+use Rattle.permit_base.specs.Words.{register_word, stage_word}
+use Rattle.permit_base.specs.declared.words.Stage.{Stage}
+use Rattle.permit_args.specs.declared.plan.Check.{Check}
+use Rattle.permit_args.specs.declared.plan.Check.TheVariants.{Rules, Dead, Facts}
+use Rattle.permit_args.specs.declared.plan.CheckPolicyWords.{CheckPolicyWords}
+use Rattle.permit_args.specs.declared.plan.DayWords.{DayWords}
+use Rattle.permit_args.specs.declared.plan.InitWords.{InitWords}
+use Rattle.permit_args.specs.declared.plan.OfficeWords.{OfficeWords}
+use Rattle.permit_args.specs.declared.plan.ActWords.{ActWords}
+use Rattle.permit_args.specs.declared.plan.ListWords.{ListWords}
+use Rattle.permit_args.specs.declared.plan.RegisterWords.{RegisterWords}
+use Rattle.permit_args.specs.declared.plan.ImportWords.{ImportWords}
+use Rattle.permit_args.specs.declared.plan.ServeWords.{ServeWords}
+use Rattle.permit_args.specs.declared.plan.Plan.{Plan}
+use Rattle.permit_args.specs.declared.plan.Plan.TheVariants as plan
+
+-- ---- the subcommands
+
+-- an option with a value, which may be left out
+abbrev pub optional_option : Text → Rule
+optional_option name = record (new_rule name) { long = Some name; value_names = 1; action = Some Set }
+
+-- an option with a value, which has to be there
+abbrev pub required_option : Text → Rule
+required_option name = record (optional_option name) { required = true }
+
+-- an option without a value
+abbrev pub flag : Text → Rule
+flag name = record (new_rule name) { long = Some name; action = Some SetTrue }
+
+-- a word by its place, which may be left out
+abbrev pub optional_word : Text → Rule
+optional_word name = record (new_rule name) { value_names = 1; action = Some Set }
+
+-- a word by its place, which has to be there
+abbrev pub required_word : Text → Rule
+required_word name = record (optional_word name) { required = true }
+
+-- the options for the day
+abbrev pub with_days : App → App
+with_days app = with_rule (with_rule app (optional_option (codes "day"))) (optional_option (codes "zone"))
+
+-- the options for the office that is asked
+abbrev pub with_office : App → App
+with_office app = with_days (with_rule (with_rule (with_rule app
+    (required_option (codes "db"))) (required_option (codes "policy"))) (required_option (codes "token")))
+
+-- the subcommand that reads a policy
+unfoldable pub check_policy_app : App
+check_policy_app = with_rule (with_rule (with_rule (new_app (codes "check-policy"))
+    (required_option (codes "policy"))) (flag (codes "dead"))) (optional_option (codes "facts"))
+
+-- the subcommand that founds an office
+unfoldable pub init_app : App
+init_app = with_days (with_rule (with_rule (with_rule (new_app (codes "init"))
+    (required_option (codes "db"))) (required_option (codes "name"))) (required_option (codes "token")))
+
+-- the subcommand that has the office serve one request
+unfoldable pub act_app : App
+act_app = with_rule (with_rule (with_rule (with_office (new_app (codes "act")))
+    (required_word (codes "method"))) (required_word (codes "path"))) (optional_word (codes "body"))
+
+-- the subcommand that lists files
+unfoldable pub list_app : App
+list_app = with_rule (with_office (new_app (codes "list"))) (optional_option (codes "stage"))
+
+-- the subcommand that writes a register
+unfoldable pub register_app : App
+register_app = with_rule (with_office (new_app (codes "register"))) (required_word (codes "name"))
+
+-- the subcommand that imports parcels
+unfoldable pub import_app : App
+import_app = with_rule (with_office (new_app (codes "import"))) (required_word (codes "file"))
+
+-- the subcommand that serves the office
+unfoldable pub serve_app : App
+serve_app = with_rule (with_rule (with_rule (with_days (with_rule (with_rule (new_app (codes "serve"))
+    (required_option (codes "db"))) (required_option (codes "policy"))))
+    (required_option (codes "listen"))) (optional_option (codes "workers"))) (optional_option (codes "connections"))
+
+-- ---- what their words give
+
+-- the text of a value that may be left out
+abbrev pub text_of : Option (Bor Text) → Option Text
+text_of = option_map (λ s. s.now)
+
+-- the day and the zone that were found
+pub record IsDaysOf (rows : List Row) (words : DayWords) : Type 0 where
+  pub day : first_of (codes "day") rows ≡ text_of words.day
+  pub zone : first_of (codes "zone") rows ≡ text_of words.zone
+
+-- whether an option without a value was given
+abbrev pub is_given : Text → List Row → Bool
+is_given name rows = option_map_or (bytes_eq (codes "true")) (first_of name rows) false
+
+-- what is said of a policy: its dead rules or how it decides for some facts, not both, and without either its rules
+abbrev pub IsCheckOf : List Row → Check → Type 0
+IsCheckOf rows Rules = (is_given (codes "dead") rows ≡ false) × (first_of (codes "facts") rows ≡ None)
+IsCheckOf rows Dead = (is_given (codes "dead") rows ≡ true) × (first_of (codes "facts") rows ≡ None)
+IsCheckOf rows (Facts text) = (is_given (codes "dead") rows ≡ false) × (first_of (codes "facts") rows ≡ Some text.now)
+
+-- the policy that was found, and what is said of it
+pub record IsCheckPolicyOf (rows : List Row) (words : CheckPolicyWords) : Type 0 where
+  pub policy : first_of (codes "policy") rows ≡ Some words.policy.now
+  pub check : IsCheckOf rows words.check
+
+-- the founding that was found
+pub record IsInitOf (rows : List Row) (words : InitWords) : Type 0 where
+  pub db : first_of (codes "db") rows ≡ Some words.db.now
+  pub name : first_of (codes "name") rows ≡ Some words.name.now
+  pub token : first_of (codes "token") rows ≡ Some words.token.now
+  pub days : IsDaysOf rows words.days
+
+-- the office that was found
+pub record IsOfficeOf (rows : List Row) (words : OfficeWords) : Type 0 where
+  pub db : first_of (codes "db") rows ≡ Some words.db.now
+  pub policy : first_of (codes "policy") rows ≡ Some words.policy.now
+  pub token : first_of (codes "token") rows ≡ Some words.token.now
+  pub days : IsDaysOf rows words.days
+
+-- the request that was found
+pub record IsActOf (rows : List Row) (words : ActWords) : Type 0 where
+  pub office : IsOfficeOf rows words.office
+  pub method : first_of (codes "method") rows ≡ Some words.method.now
+  pub path : first_of (codes "path") rows ≡ Some words.path.now
+  pub body : first_of (codes "body") rows ≡ text_of words.body
+
+-- the stage that was found, by its word, is one that a file can be in
+pub record IsStageOf (rows : List Row) (stage : Option Stage) : Type 0 where
+  pub word : first_of (codes "stage") rows ≡ option_map stage_word stage
+  pub within : IfSome stage (λ s. IsTrue (is_file_stage s))
+
+-- the listing that was found
+pub record IsListOf (rows : List Row) (words : ListWords) : Type 0 where
+  pub office : IsOfficeOf rows words.office
+  pub stage : IsStageOf rows words.stage
+
+-- the register that was found, by its word
+pub record IsRegisterOf (rows : List Row) (words : RegisterWords) : Type 0 where
+  pub office : IsOfficeOf rows words.office
+  pub name : first_of (codes "name") rows ≡ Some (register_word words.kind)
+
+-- the import that was found
+pub record IsImportOf (rows : List Row) (words : ImportWords) : Type 0 where
+  pub office : IsOfficeOf rows words.office
+  pub file : first_of (codes "file") rows ≡ Some words.file.now
+
+-- a number from 1 to the greatest, as it is written out
+pub record IsCountOf (greatest : ℕ) (text : Text) (n : ℕ) : Type 0 where
+  pub spelled : text ≡ decimal n
+  pub least : 1 ≤ n
+  pub most : n ≤ greatest
+
+-- the most workers that serve at once
+abbrev pub most_workers : ℕ
+most_workers = 8
+
+-- the most connections after which a worker ends
+abbrev pub most_connections : ℕ
+most_connections = 99999
+
+-- workers as many as are given, and without the option 4
+abbrev pub IsWorkersOf : List Row → ℕ → Type 0
+IsWorkersOf rows workers = MatchOption (first_of (codes "workers") rows) (workers ≡ 4) (λ text. IsCountOf most_workers text workers)
+
+-- a worker ends after the connections that are given, and without the option never
+abbrev pub IsConnectionsOf : List Row → Option ℕ → Type 0
+IsConnectionsOf rows None = first_of (codes "connections") rows ≡ None
+IsConnectionsOf rows (Some n) = IsSomeAnd (first_of (codes "connections") rows) (λ text. IsCountOf most_connections text n)
+
+-- the serving that was found
+pub record IsServeOf (rows : List Row) (words : ServeWords) : Type 0 where
+  pub db : first_of (codes "db") rows ≡ Some words.db.now
+  pub policy : first_of (codes "policy") rows ≡ Some words.policy.now
+  pub days : IsDaysOf rows words.days
+  pub listen : first_of (codes "listen") rows ≡ Some words.listen.now
+  pub workers : IsWorkersOf rows words.workers
+  pub connections : IsConnectionsOf rows words.connections
+
+abbrev pub first_word : List (List ℕ) → Option (List ℕ)
+first_word [] = None
+first_word (word ∷ words) = Some word
+
+-- no words give the plan to print the name; else the first word names the subcommand, whose options and words the rest give
+abbrev pub IsPlanOf : List (List ℕ) → Plan → Type 0
+IsPlanOf words plan.Name = words ≡ []
+IsPlanOf words (plan.CheckPolicy checked) = (first_word words ≡ Some (codes "check-policy")) × IsCheckPolicyOf (matches_of check_policy_app words) checked
+IsPlanOf words (plan.Init founding) = (first_word words ≡ Some (codes "init")) × IsInitOf (matches_of init_app words) founding
+IsPlanOf words (plan.Act request) = (first_word words ≡ Some (codes "act")) × IsActOf (matches_of act_app words) request
+IsPlanOf words (plan.List listing) = (first_word words ≡ Some (codes "list")) × IsListOf (matches_of list_app words) listing
+IsPlanOf words (plan.Register register) = (first_word words ≡ Some (codes "register")) × IsRegisterOf (matches_of register_app words) register
+IsPlanOf words (plan.Import imported) = (first_word words ≡ Some (codes "import")) × IsImportOf (matches_of import_app words) imported
+IsPlanOf words (plan.Serve serving) = (first_word words ≡ Some (codes "serve")) × IsServeOf (matches_of serve_app words) serving

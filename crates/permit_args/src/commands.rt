@@ -1,0 +1,282 @@
+//! The subcommands, as the command line library is told of them.
+
+ghost use Rattle.std.specs.Prelude.{◌≡◌, IfOk, codes, false};
+ghost use Rattle.clap.specs.Words.{app_of, new_app, rule_of};
+ghost use Rattle.permit_args.specs.Plans.{act_app, check_policy_app, flag, import_app, init_app, list_app, optional_option, optional_word, register_app, required_option, required_word, serve_app, with_days, with_office};
+
+use clap::{Arg, ArgAction, Command};
+use std::alloc::{AllocError, Global};
+
+/// The subcommand of this name, whose usage names the program too, and whose help says what it does and shows an example.
+fn subcommand<'a>(
+    alloc: Global,
+    name: &'a str,
+    usage: &str,
+    about: &'a str,
+    example: &'a str,
+) -> Result<Command<'a>, AllocError>
+    ensures { IfOk result (λ c. app_of c ≡ new_app name.now) }
+{
+    let command = Command::new(alloc, name).bin_name(usage)?;
+    Ok(command.about(about).after_help(example))
+}
+
+/// A word by its place, which may be left out.
+fn word<'a>(alloc: Global, name: &'a str, value: &'a str, help: &'a str) -> Arg<'a>
+    ensures rule { rule_of result ≡ optional_word name.now }
+    ensures own { result.global ≡ false }
+{
+    Arg::new(alloc, name)
+        .value_name(value)
+        .help(help)
+        .action(ArgAction::Set)
+}
+
+/// A word by its place, which has to be there.
+fn required_word<'a>(alloc: Global, name: &'a str, value: &'a str, help: &'a str) -> Arg<'a>
+    ensures rule { rule_of result ≡ required_word name.now }
+    ensures own { result.global ≡ false }
+{
+    word(alloc, name, value, help).required(true)
+}
+
+/// An option, `--NAME VALUE`, which may be left out.
+fn option<'a>(alloc: Global, name: &'a str, value: &'a str, help: &'a str) -> Arg<'a>
+    ensures rule { rule_of result ≡ optional_option name.now }
+    ensures own { result.global ≡ false }
+{
+    word(alloc, name, value, help).long(name)
+}
+
+/// An option, `--NAME VALUE`, which has to be there.
+fn required_option<'a>(alloc: Global, name: &'a str, value: &'a str, help: &'a str) -> Arg<'a>
+    ensures rule { rule_of result ≡ required_option name.now }
+    ensures own { result.global ≡ false }
+{
+    option(alloc, name, value, help).required(true)
+}
+
+/// An option that takes no value.
+fn flag<'a>(alloc: Global, name: &'a str, help: &'a str) -> Arg<'a>
+    ensures rule { rule_of result ≡ flag name.now }
+    ensures own { result.global ≡ false }
+{
+    Arg::new(alloc, name)
+        .long(name)
+        .help(help)
+        .action(ArgAction::SetTrue)
+}
+
+/// The option for the database's path.
+fn database<'a>(alloc: Global) -> Arg<'a>
+    ensures rule { rule_of result ≡ required_option (codes "db") }
+    ensures own { result.global ≡ false }
+{
+    required_option(alloc, "db", "DB", "The database's path")
+}
+
+/// The option for the policy's path.
+fn policy<'a>(alloc: Global) -> Arg<'a>
+    ensures rule { rule_of result ≡ required_option (codes "policy") }
+    ensures own { result.global ≡ false }
+{
+    required_option(alloc, "policy", "POLICY", "The policy's path")
+}
+
+/// The subcommand with the words for the day.
+fn with_days<'a>(alloc: Global, command: Command<'a>) -> Result<Command<'a>, AllocError>
+    ensures { IfOk result (λ c. app_of c ≡ with_days (app_of command.entry)) }
+{
+    command
+        .arg(option(
+            alloc,
+            "day",
+            "DAY",
+            "The day, as YYYY-MM-DD, in place of the clock's",
+        ))?
+        .arg(option(
+            alloc,
+            "zone",
+            "ZONE",
+            "The clock's zone, as a POSIX rule; UTC0 without it",
+        ))
+}
+
+/// The subcommand with the options for the office that is asked.
+fn with_office<'a>(alloc: Global, command: Command<'a>) -> Result<Command<'a>, AllocError>
+    ensures { IfOk result (λ c. app_of c ≡ with_office (app_of command.entry)) }
+{
+    let command = command.arg(database(alloc))?.arg(policy(alloc))?.arg(required_option(
+        alloc,
+        "token",
+        "TOKEN",
+        "The caller's token",
+    ))?;
+    with_days(alloc, command)
+}
+
+/// The subcommand that reads a policy.
+pub(crate) fn check_policy<'a>(alloc: Global) -> Result<Command<'a>, AllocError>
+    ensures { IfOk result (λ command. app_of command ≡ check_policy_app) }
+{
+    subcommand(
+        alloc,
+        "check-policy",
+        "permit check-policy",
+        "Reads a policy and says how many rules it has, which of them are dead, or how it decides",
+        "Example: permit check-policy --policy policy.toml --facts clerk,-,list,filed,no,near",
+    )?
+    .arg(policy(alloc))?
+    .arg(flag(
+        alloc,
+        "dead",
+        "Names the rules that decide for no facts, in their order",
+    ))?
+    .arg(option(
+        alloc,
+        "facts",
+        "FACTS",
+        "Tells how the policy decides: ROLE,RELATIONS,ACTION,STAGE,STOPPED,TIMING, where RELATIONS are joined by + or - for none, and STOPPED is yes or no",
+    ))
+}
+
+/// The subcommand that founds an office.
+pub(crate) fn init<'a>(alloc: Global) -> Result<Command<'a>, AllocError>
+    ensures { IfOk result (λ command. app_of command ≡ init_app) }
+{
+    let command = subcommand(
+        alloc,
+        "init",
+        "permit init",
+        "Founds an office in a database",
+        "Example: permit init --db office.db --name Chief --token abcdefghijklmnop",
+    )?
+    .arg(database(alloc))?
+    .arg(required_option(alloc, "name", "NAME", "The first official's name"))?
+    .arg(required_option(alloc, "token", "TOKEN", "The first official's token"))?;
+    with_days(alloc, command)
+}
+
+/// The subcommand that has the office serve one request.
+pub(crate) fn act<'a>(alloc: Global) -> Result<Command<'a>, AllocError>
+    ensures { IfOk result (λ command. app_of command ≡ act_app) }
+{
+    let command = subcommand(
+        alloc,
+        "act",
+        "permit act",
+        "Has the office serve one request, and prints the answer's body",
+        "Example: permit act GET /files/1 --db office.db --policy policy.toml --token abcdefghijklmnop",
+    )?;
+    with_office(alloc, command)?
+        .arg(required_word(alloc, "method", "METHOD", "The request's method"))?
+        .arg(required_word(alloc, "path", "PATH", "The request's path"))?
+        .arg(word(alloc, "body", "BODY", "The request's body, in JSON"))
+}
+
+/// The subcommand that lists files.
+pub(crate) fn list<'a>(alloc: Global) -> Result<Command<'a>, AllocError>
+    ensures { IfOk result (λ command. app_of command ≡ list_app) }
+{
+    let command = subcommand(
+        alloc,
+        "list",
+        "permit list",
+        "Prints the numbers of the files that the caller may list, one a line, and how many rows were read for them",
+        "Example: permit list --stage review --db office.db --policy policy.toml --token abcdefghijklmnop",
+    )?;
+    with_office(alloc, command)?.arg(option(
+        alloc,
+        "stage",
+        "STAGE",
+        "Only the files in this stage: filed, review, returned, approved, rejected, issued, working, revoked, finaled, certified, abandoned or lapsed",
+    ))
+}
+
+/// The subcommand that writes a register.
+pub(crate) fn register<'a>(alloc: Global) -> Result<Command<'a>, AllocError>
+    ensures { IfOk result (λ command. app_of command ≡ register_app) }
+{
+    let command = subcommand(
+        alloc,
+        "register",
+        "permit register",
+        "Prints a register of the files that the caller may list",
+        "Example: permit register deadlines --db office.db --policy policy.toml --token abcdefghijklmnop",
+    )?;
+    with_office(alloc, command)?.arg(required_word(
+        alloc,
+        "name",
+        "NAME",
+        "The register: files, deadlines or inspections",
+    ))
+}
+
+/// The subcommand that imports parcels.
+pub(crate) fn import<'a>(alloc: Global) -> Result<Command<'a>, AllocError>
+    ensures { IfOk result (λ command. app_of command ≡ import_app) }
+{
+    let command = subcommand(
+        alloc,
+        "import",
+        "permit import",
+        "Adds the parcels of a file of comma-separated records, and says of each record what became of it",
+        "Example: permit import parcels.csv --db office.db --policy policy.toml --token abcdefghijklmnop",
+    )?;
+    with_office(alloc, command)?.arg(required_word(
+        alloc,
+        "file",
+        "FILE",
+        "The records' path; the first record is lot,address,owner",
+    ))
+}
+
+/// The subcommand that serves the office.
+pub(crate) fn serve<'a>(alloc: Global) -> Result<Command<'a>, AllocError>
+    ensures { IfOk result (λ command. app_of command ≡ serve_app) }
+{
+    let command = subcommand(
+        alloc,
+        "serve",
+        "permit serve",
+        "Serves the office's HTTP requests on an address, until it is stopped",
+        "Example: permit serve --listen 127.0.0.1:8080 --db office.db --policy policy.toml",
+    )?
+    .arg(database(alloc))?
+    .arg(policy(alloc))?;
+    with_days(alloc, command)?
+        .arg(required_option(
+            alloc,
+            "listen",
+            "LISTEN",
+            "The address to listen on, as 127.0.0.1:8080; port 0 takes a free one",
+        ))?
+        .arg(option(
+            alloc,
+            "workers",
+            "WORKERS",
+            "How many connections are served at once, 1 to 8; 4 without it",
+        ))?
+        .arg(option(
+            alloc,
+            "connections",
+            "CONNECTIONS",
+            "After how many connections a worker ends, 1 to 99999; never without it",
+        ))
+}
+
+/// The program with all its subcommands, for help and for words that begin with none of them.
+pub(crate) fn program<'a>(alloc: Global) -> Result<Command<'a>, AllocError> {
+    Command::new(alloc, "permit")
+        .bin_name("permit")?
+        .about("A city's building permits and inspections")
+        .no_binary_name(true)
+        .subcommand_required(true)
+        .subcommand(check_policy(alloc)?)?
+        .subcommand(init(alloc)?)?
+        .subcommand(act(alloc)?)?
+        .subcommand(list(alloc)?)?
+        .subcommand(register(alloc)?)?
+        .subcommand(import(alloc)?)?
+        .subcommand(serve(alloc)?)
+}

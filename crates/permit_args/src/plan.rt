@@ -1,0 +1,161 @@
+//! What the program is to do, or why it does nothing.
+
+ghost use Rattle.std.specs.Prelude.{◌≡◌};
+
+use permit_base::request::FileStage;
+use permit_base::words::RegisterKind;
+use std::alloc::AllocError;
+
+/// What the program is to do. Each text is a word of the command line, not yet read; a stage and a register's name are.
+#[derive(Clone, Copy, PartialEq, Drop)]
+pub enum Plan<'a> {
+    /// No words: the program prints its name.
+    Name,
+    /// Reads a policy and says what it comes to.
+    CheckPolicy(CheckPolicyWords<'a>),
+    /// Founds an office in a database.
+    Init(InitWords<'a>),
+    /// Has the office serve one request.
+    Act(ActWords<'a>),
+    /// Lists the files that the caller may list.
+    List(ListWords<'a>),
+    /// Writes a register.
+    Register(RegisterWords<'a>),
+    /// Adds the parcels of a file of records.
+    Import(ImportWords<'a>),
+    /// Serves the office over TCP.
+    Serve(ServeWords<'a>),
+}
+
+/// Which policy is read, and what is said of it.
+#[derive(Clone, Copy, PartialEq, Drop)]
+pub struct CheckPolicyWords<'a> {
+    /// The policy's path.
+    pub policy: &'a str,
+    /// What is said of it.
+    pub check: Check<'a>,
+}
+
+/// What is said of a policy.
+#[derive(Clone, Copy, PartialEq, Drop)]
+pub enum Check<'a> {
+    /// How many rules it has.
+    Rules,
+    /// The same, and the rules that decide for no facts.
+    Dead,
+    /// How it decides for the facts of this text.
+    Facts(&'a str),
+}
+
+/// Which day it is.
+#[derive(Clone, Copy, PartialEq, Drop)]
+pub struct DayWords<'a> {
+    /// A date, which goes before the clock.
+    pub day: Option<&'a str>,
+    /// The zone in which the clock is read, as a POSIX rule; without one it is `UTC0`. It has to be one beside a date too.
+    pub zone: Option<&'a str>,
+}
+
+/// Who founds an office, where and when.
+#[derive(Clone, Copy, PartialEq, Drop)]
+pub struct InitWords<'a> {
+    /// The database's path.
+    pub db: &'a str,
+    /// The first official's name.
+    pub name: &'a str,
+    /// The first official's token.
+    pub token: &'a str,
+    /// The founding day.
+    pub days: DayWords<'a>,
+}
+
+/// Which office is asked, by whom and when.
+#[derive(Clone, Copy, PartialEq, Drop)]
+pub struct OfficeWords<'a> {
+    /// The database's path.
+    pub db: &'a str,
+    /// The policy's path.
+    pub policy: &'a str,
+    /// The caller's token.
+    pub token: &'a str,
+    /// The day on which the office is asked.
+    pub days: DayWords<'a>,
+}
+
+/// One request, and the office that serves it.
+#[derive(Clone, Copy, PartialEq, Drop)]
+pub struct ActWords<'a> {
+    /// The office that is asked.
+    pub office: OfficeWords<'a>,
+    /// The request's method.
+    pub method: &'a str,
+    /// The request's path.
+    pub path: &'a str,
+    /// The request's body; without one it is empty.
+    pub body: Option<&'a str>,
+}
+
+/// Which files are listed.
+#[derive(Clone, Copy, PartialEq, Drop)]
+pub struct ListWords<'a> {
+    /// The office that is asked.
+    pub office: OfficeWords<'a>,
+    /// The stage that they are in on the day; without one all files are listed.
+    pub stage: Option<FileStage>,
+}
+
+/// Which register is written.
+#[derive(Clone, Copy, PartialEq, Drop)]
+pub struct RegisterWords<'a> {
+    /// The office that is asked.
+    pub office: OfficeWords<'a>,
+    /// The register.
+    pub kind: RegisterKind,
+}
+
+/// Which records are imported.
+#[derive(Clone, Copy, PartialEq, Drop)]
+pub struct ImportWords<'a> {
+    /// The office that is asked.
+    pub office: OfficeWords<'a>,
+    /// The path of the file of records.
+    pub file: &'a str,
+}
+
+/// Which office is served, on what days and where, and by how many workers.
+#[derive(Clone, Copy, PartialEq, Drop)]
+pub struct ServeWords<'a> {
+    /// The database's path.
+    pub db: &'a str,
+    /// The policy's path.
+    pub policy: &'a str,
+    /// The day of all requests; without a date the clock is asked at each of them.
+    pub days: DayWords<'a>,
+    /// The address on which connections are taken: a host or its number, and a port.
+    pub listen: &'a str,
+    /// How many workers serve connections, each one at a time: 1 to 8.
+    pub workers: u32,
+    /// After how many connections a worker ends, 1 to 99999; without it never.
+    pub connections: Option<u32>,
+}
+
+/// Why words give no plan.
+#[derive(Drop)]
+pub enum PlanFault {
+    /// The words ask for help, which is this text.
+    Help(String),
+    /// The words are bad; the text says why.
+    Words(String),
+    /// Want of memory.
+    Memory,
+}
+
+impl From<AllocError> for PlanFault {
+    ghost use Rattle.permit_args.specs.declared.plan.PlanFault.TheVariants.{Memory};
+
+    ghost from_gives = { λ _ fault. fault ≡ Memory };
+
+    fn from(_error: AllocError) -> PlanFault {
+        PlanFault::Memory
+    }
+}
