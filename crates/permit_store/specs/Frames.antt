@@ -1,6 +1,8 @@
 -- What contracts see of a store, and what its calls leave as it was.
 use Rattle.std.specs.Prelude.{◌≡◌, ◌≤◌, ℕ, Option, Result, OnOk, OnErr, ⊤}
-use Rattle.permit_model.specs.Tables.{Tables}
+use Rattle.permit_model.specs.History.{History}
+use Rattle.permit_model.specs.Tables.{Tables, tables}
+use Rattle.permit_model.specs.Machine.{IsHistory}
 use Rattle.permit_store.specs.Counts.{next_count, failed_after, handed_after}
 
 pub record StoreView : Type 1 where
@@ -17,6 +19,14 @@ pub record StoreView : Type 1 where
 -- It can be read, and so doesn't hold any tables whatever: all that it holds have one desk.
 abbrev pub HasOneDesk : StoreView → Type 0
 HasOneDesk s = (t u : Tables) → s.holds t → s.holds u → t.desk ≡ u.desk
+
+-- Said of all tables that the store held before, where it is without doubt afterwards.
+abbrev pub OverTables : StoreView → StoreView → (Tables → Type 0) → Type 0
+OverTables old new said = new.doubt ≡ 0 → (t : Tables) → old.holds t → said t
+
+-- Said of every history whose tables the store held before, where it is without doubt afterwards.
+abbrev pub OverHistory : StoreView → StoreView → (History → Type 0) → Type 0
+OverHistory old new said = new.doubt ≡ 0 → (h : History) → IsHistory h → old.holds (tables h) → said h
 
 -- What is read stays, and no doubt goes. After a success a store that is without doubt can be read, where that was sure.
 -- A failure counts, no commit was called, and this is the count of file rows handed out.
