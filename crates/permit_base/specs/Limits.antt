@@ -33,9 +33,13 @@ most_cents = 9999999999999
 abbrev pub is_day : ℕ → Bool
 is_day = is_between 0 latest_day
 
+-- the most days that a request names
+abbrev pub most_days : ℕ
+most_days = 365
+
 -- days of an extension or of a temporary certificate
 abbrev pub is_days : ℕ → Bool
-is_days = is_between 1 365
+is_days = is_between 1 most_days
 
 -- the numbers of a file's papers
 abbrev pub is_paper_number : ℕ → Bool

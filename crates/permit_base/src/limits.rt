@@ -1,4 +1,4 @@
-//! The greatest numbers.
+//! The numbers of the rules: how many records there are at most, and how many days each thing has.
 
 ghost use Rattle.std.specs.Prelude.{◌≡◌, ◌+◌, ◌<◌, nat_lt, if◌then◌else◌, Some, None};
 ghost use Rattle.permit_base.specs.Limits.{most_records};
@@ -17,6 +17,24 @@ pub const LATEST_DEADLINE: u32 = 200000;
 
 /// The greatest amount, in cents.
 pub const MOST_CENTS: u64 = 9999999999999;
+
+/// The most days that a request names: those of an extension or of a temporary certificate.
+pub const MOST_DAYS: u32 = 365;
+
+/// The days that a filing, an issue and each activity give (IBC 2018, sections 105.3.2 and 105.5).
+pub const TERM: u32 = 180;
+
+/// The most days left before a deadline that is near.
+pub const NEAR_DAYS: u32 = 30;
+
+/// The most days of an extension before the permit is issued (IBC 2018, section 105.3.2).
+pub const LONGEST_REVIEW_EXTENSION: u32 = 90;
+
+/// The most days of an extension once the permit is issued (IBC 2018, section 105.5).
+pub const LONGEST_PERMIT_EXTENSION: u32 = 180;
+
+/// The most days of a temporary certificate.
+pub const LONGEST_TEMPORARY: u32 = 180;
 
 /// The number of the record behind so many of its kind, where there may be one more.
 pub fn number_after(count: u32) -> Option<u32>
