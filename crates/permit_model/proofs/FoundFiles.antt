@@ -18,7 +18,7 @@ use Rattle.permit_base.specs.declared.route.Route.TheVariants as route
 use Rattle.permit_base.specs.Words.{all_relations}
 use Rattle.permit_model.specs.Codes.{is_stage, is_timing, timing_code}
 use Rattle.permit_model.specs.Search.{how_many}
-use Rattle.permit_model.specs.Days.{timing_on, is_past}
+use Rattle.permit_model.specs.Days.{near_days, timing_on, is_past}
 use Rattle.permit_model.specs.History.{History}
 use Rattle.permit_model.specs.Caller.{Party}
 use Rattle.permit_model.specs.Files.{CaseFile}
@@ -156,7 +156,7 @@ abbrev pub fits : Stage → Timing → Bool
 fits s t = if is_timed s then not (is_timing Untimed t) else is_timing Untimed t
 
 -- each kept cell is there once, and no other
-kept_cell_once : (s : Stage) (b : Bool) (t : Timing) → how_many (marks s b t) kept_cells ≡ bit (is_stored s && fits s t)
+pub kept_cell_once : (s : Stage) (b : Bool) (t : Timing) → how_many (marks s b t) kept_cells ≡ bit (is_stored s && fits s t)
 kept_cell_once stage.Filed false Untimed = refl
 kept_cell_once stage.Filed false Past = refl
 kept_cell_once stage.Filed false Near = refl
@@ -184,7 +184,7 @@ untimed_never false false = refl
 fits_by : (timed : Bool) (day : ℕ) (deadline : Option ℕ) → (if timed then is_some deadline else is_none deadline) ≡ true →
     (if timed then not (is_timing Untimed (timing_on day deadline)) else is_timing Untimed (timing_on day deadline)) ≡ true
 fits_by true day None e = cc
-fits_by true day (Some d) e = untimed_never (nat_lt d day) (nat_le d (day + 30))
+fits_by true day (Some d) e = untimed_never (nat_lt d day) (nat_le d (day + near_days))
 fits_by false day None e = refl
 fits_by false day (Some d) e = cc
 
@@ -195,7 +195,7 @@ past_only false false = refl
 
 past_timing : (day : ℕ) (deadline : Option ℕ) → is_timing Past (timing_on day deadline) ≡ is_past day deadline
 past_timing day None = refl
-past_timing day (Some d) = past_only (nat_lt d day) (nat_le d (day + 30))
+past_timing day (Some d) = past_only (nat_lt d day) (nat_le d (day + near_days))
 
 -- the cell in which the row is kept
 abbrev pub kept_cell : ℕ → State → Cell

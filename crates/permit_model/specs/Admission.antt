@@ -14,6 +14,7 @@ use Rattle.permit_base.specs.declared.request.Request.{Request}
 use Rattle.permit_base.specs.declared.request.Request.TheVariants.{AddParty, AddParcel, Transfer, Declare, ReadParcel, File, ReadFile, ListFiles, Register, OnFile}
 use Rattle.permit_base.specs.Limits.{latest_deadline, most_records, most_papers}
 use Rattle.permit_base.specs.Digests.{digest_of}
+use Rattle.permit_model.specs.Days.{longest_review_extension, longest_permit_extension, longest_temporary}
 use Rattle.permit_model.specs.Search.{is_the_party, has_number}
 use Rattle.permit_model.specs.Codes.{is_step, is_stage_among}
 use Rattle.permit_model.specs.Steps.{has_certificates}
@@ -88,7 +89,7 @@ days_above limit days = (nat_lt limit days, reason.Days)
 
 -- the most days that may be asked in a stage
 abbrev pub ask_limit : Stage → ℕ
-ask_limit s = if is_stage_among permit_stages s then 180 else 90
+ask_limit s = if is_stage_among permit_stages s then longest_permit_extension else longest_review_extension
 
 -- an ask is pending
 abbrev pub ask_pending : CaseFile → Test
@@ -167,7 +168,7 @@ file_tests h day file (ClearNotice paper) = not_in day file (stage.Working ∷ [
 file_tests h day file (Stop text conditions) = not_in day file stoppable_stages ∷ stopped file ∷ papers_full file ∷ []
 file_tests h day file Lift = not_in day file stoppable_stages ∷ not_stopped file ∷ papers_full file ∷ []
 file_tests h day file (Revoke text) = not_in day file revocable_stages ∷ papers_full file ∷ []
-file_tests h day file (Temporary days text) = not_in day file (stage.Working ∷ []) ∷ stopped file ∷ days_above 180 days ∷ notice_open file ∷ no_certificates file ∷ papers_full file ∷ []
+file_tests h day file (Temporary days text) = not_in day file (stage.Working ∷ []) ∷ stopped file ∷ days_above longest_temporary days ∷ notice_open file ∷ no_certificates file ∷ papers_full file ∷ []
 file_tests h day file Certify = not_in day file (stage.Finaled ∷ []) ∷ stopped file ∷ no_certificates file ∷ papers_full file ∷ []
 
 -- a file that isn't there has no tests: it is refused before

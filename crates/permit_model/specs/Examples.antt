@@ -19,8 +19,9 @@ use Rattle.permit_base.specs.declared.words.Step.{Step}
 use Rattle.permit_base.specs.declared.words.Stage.{Stage}
 use Rattle.permit_base.specs.declared.words.Timing.{Timing}
 use Rattle.permit_base.specs.declared.words.Kind.{Kind}
+use Rattle.permit_base.specs.declared.words.PaperSort.{PaperSort}
 use Rattle.permit_base.specs.declared.refusal.Reason.{Reason}
-use Rattle.permit_model.specs.Tables.{State}
+use Rattle.permit_model.specs.Tables.{State, tables}
 use Rattle.permit_base.specs.declared.words.Relation.TheVariants as relation
 use Rattle.permit_base.specs.declared.words.Action.TheVariants as action
 use Rattle.permit_model.specs.Caller.{Party}
@@ -128,6 +129,10 @@ read_after ts day = shown (read_by_official ts day)
 -- its row
 abbrev pub state_after : List Turn → ℕ → Option State
 state_after ts day = state_shown (read_by_official ts day)
+
+-- the sort, the days, the text and the terms of each paper
+abbrev pub papers_after : List Turn → List (PaperSort × ℕ × List ℕ × List ℕ)
+papers_after ts = map (λ p. (p.sort, p.days, p.text, p.terms)) (tables (after ts opening)).papers
 
 -- the reply to a party's request under a policy
 abbrev pub reply_under : Policy → History → ℕ → ℕ → Request → Reply
@@ -311,6 +316,14 @@ abbrev pub revoking_turns : List Turn
 revoking_turns =
     on_one 1 19981 (Revoke (codes "Void")) ∷ on_one 1 19981 (Revoke (codes "Void"))
     ∷ on_one 1 19981 (Stop (codes "Stop") (codes "Leave")) ∷ on_one 1 19981 (Stop (codes "Stop") (codes "Leave")) ∷ on_one 1 19981 Lift ∷ []
+
+-- an ask is refused, a part occupied, a notice given on a later day than the inspection was requested, work stopped and
+-- the permit revoked
+abbrev pub paper_turns : List Turn
+paper_turns =
+    on_one 5 19811 (AskExtension 5 (codes "Ill")) ∷ on_one 1 19811 (RefuseExtension (codes "No")) ∷ on_one 1 19812 (Temporary 60 (codes "Floor 1"))
+    ∷ on_one 6 19820 (RequestInspection Footing) ∷ on_one 4 19830 (Notice (codes "Cracks"))
+    ∷ on_one 4 19831 (Stop (codes "Unsafe") (codes "Shore it")) ∷ on_one 1 19840 (Revoke (codes "Void")) ∷ []
 
 -- work begun on a day that no type allows, which stands for many extensions
 abbrev pub far_turns : List Turn

@@ -1,6 +1,6 @@
 //! Worked examples of applications: filing, review, extensions and issuance.
 
-ghost use Rattle.std.specs.Prelude.{◌≡◌, ◌∷◌, [], ◌++◌, None, Some, codes, false};
+ghost use Rattle.std.specs.Prelude.{◌≡◌, ◌∷◌, [], ◌++◌, None, Some, codes, false, option_map};
 ghost use Rattle.permit_base.specs.declared.words.Kind.TheVariants.{Construct};
 ghost use Rattle.permit_base.specs.declared.words.Step.TheVariants.{Footing};
 ghost use Rattle.permit_base.specs.declared.words.Stage.TheVariants as stage;
@@ -10,7 +10,7 @@ ghost use Rattle.permit_base.specs.declared.refusal.Reason.TheVariants as reason
 ghost use Rattle.permit_base.specs.declared.request.Command.TheVariants.{ApprovePlans, AskExtension, GrantExtension, BeginWork, RequestInspection, Temporary};
 ghost use Rattle.permit_base.specs.declared.request.Request.TheVariants.{ReadFile};
 ghost use Rattle.permit_model.specs.Days.{timing_on};
-ghost use Rattle.permit_model.specs.Tables.{tables};
+ghost use Rattle.permit_model.specs.Tables.{State, tables};
 ghost use Rattle.permit_model.specs.Machine.{IsHistory};
 ghost use Rattle.permit_model.specs.Examples.{opening, asks, on_one, replies, after, last_reply, done, made, denied, not_admitted, shown, turn, read_after, state_after, begun_file, file_house, house_state, house_shown, extended_house, ask_turns, issued_file, extended_file, begun_extended_file, requested_file, late_grant, returned_file, resubmitted_file, rejected_file, review_of_own, far_file};
 
@@ -28,6 +28,7 @@ pub fn filing_and_abandonment()
 pub fn extension_before_the_deadline()
     ensures replies { replies extended_house opening ≡ made 1 ∷ not_admitted reason.Days ∷ made 1 ∷ made 2 ∷ [] }
     ensures deadline { read_after extended_house 19903 ≡ Some (stage.Filed, timing.Ahead, Some 19993) }
+    ensures none_pending { option_map (λ (s : State). s.ask) (state_after extended_house 19903) ≡ Some None }
     ensures desk { (tables (after extended_house opening)).desk ≡ record { last = 19903; parties = 7; parcels = 2; files = 1 } }
     ensures papers { (tables (after extended_house opening)).papers ≡
         record { file = 1; number = 1; day = 19903; author = 5; sort = sort.Asked; days = 90; text = codes "Ill"; terms = []; is_open = false }

@@ -6,7 +6,7 @@ ghost use Rattle.permit_base.specs.declared.words.Step.TheVariants.{Footing, Sla
 ghost use Rattle.permit_base.specs.declared.words.Stage.TheVariants as stage;
 ghost use Rattle.permit_base.specs.declared.words.Timing.TheVariants as timing;
 ghost use Rattle.permit_base.specs.declared.refusal.Reason.TheVariants as reason;
-ghost use Rattle.permit_base.specs.declared.request.Command.TheVariants.{RequestInspection, Temporary, Certify};
+ghost use Rattle.permit_base.specs.declared.request.Command.TheVariants.{RequestInspection, ApproveStep, Notice, Temporary, Certify};
 ghost use Rattle.permit_model.specs.Tables.{State, Paper, next_in_row, tables};
 ghost use Rattle.permit_model.specs.Examples.{opening, on_one, replies, after, last_reply, done, made, denied, not_admitted, read_after, state_after, begun_file, inspected, interest_turns, notice_given, notice_cleared, one_of_two_cleared, other_cleared, finaled_file, by_official, by_inspector, pending_repair};
 
@@ -22,6 +22,13 @@ pub fn interested_inspector_conflict_at_approval()
 pub fn steps_in_order()
     ensures construct { last_reply (begun_file Construct ++ inspected 19820 Footing) (on_one 6 19830 (RequestInspection Frame)) opening ≡ not_admitted reason.Step }
     ensures alter { last_reply (begun_file Alter) (on_one 6 19830 (RequestInspection Frame)) opening ≡ done }
+{}
+
+/// An approval and a notice are activity too: on 19830, ten days after the inspection was requested, each moves the
+/// deadline to 20010.
+pub fn activity_of_the_inspector()
+    ensures approved { read_after (begun_file Construct ++ on_one 6 19820 (RequestInspection Footing) ∷ on_one 4 19830 (ApproveStep Footing) ∷ []) 19830 ≡ Some (stage.Working, timing.Ahead, Some 20010) }
+    ensures noticed { read_after (begun_file Construct ++ on_one 6 19820 (RequestInspection Footing) ∷ on_one 4 19830 (Notice (codes "Cracks")) ∷ []) 19830 ≡ Some (stage.Working, timing.Ahead, Some 20010) }
 {}
 
 /// A notice closes the request, and while it is open the step isn't approved. The permit is no notice; once the notice

@@ -5,10 +5,11 @@ ghost use Rattle.permit_base.specs.declared.words.Kind.TheVariants.{Construct};
 ghost use Rattle.permit_base.specs.declared.words.Step.TheVariants.{Footing};
 ghost use Rattle.permit_base.specs.declared.words.Stage.TheVariants as stage;
 ghost use Rattle.permit_base.specs.declared.words.Timing.TheVariants as timing;
+ghost use Rattle.permit_base.specs.declared.words.PaperSort.TheVariants as sort;
 ghost use Rattle.permit_base.specs.declared.refusal.Reason.TheVariants as reason;
 ghost use Rattle.permit_base.specs.declared.request.Command.TheVariants.{RequestInspection, Revoke, Temporary};
 ghost use Rattle.permit_model.specs.Tables.{State};
-ghost use Rattle.permit_model.specs.Examples.{opening, on_one, replies, after, last_reply, made, not_admitted, read_after, state_after, begun_file, house_state, stopped_file, lifted_file, issued_file, temporary_turns, revoking_turns};
+ghost use Rattle.permit_model.specs.Examples.{opening, on_one, replies, after, last_reply, made, not_admitted, read_after, state_after, papers_after, begun_file, house_state, stopped_file, lifted_file, issued_file, temporary_turns, revoking_turns, paper_turns};
 
 /// A stop work order and its lift leave the deadline 19990; an inspection is refused while it stands, and activity
 /// after the lift moves the deadline to 20010.
@@ -34,6 +35,16 @@ pub fn temporary_certificates()
       papers = 3;
       temporary = Some 19890;
     }) }
+{}
+
+/// A paper has the days, the text and the terms that its command gives.
+pub fn what_papers_say()
+    ensures papers { papers_after (begun_file Construct ++ paper_turns) ≡
+        (sort.Permit, 0, [], [])
+        ∷ (sort.Asked, 5, codes "Ill", []) ∷ (sort.Refused, 0, codes "No", [])
+        ∷ (sort.Temporary, 60, codes "Floor 1", []) ∷ (sort.Notice, 0, codes "Cracks", [])
+        ∷ (sort.Stop, 0, codes "Unsafe", codes "Shore it") ∷ (sort.Revoked, 0, codes "Void", [])
+        ∷ [] }
 {}
 
 /// A permit under which work never began is revoked once, and has no deadline then; orders may still stop and release
