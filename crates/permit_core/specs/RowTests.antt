@@ -16,6 +16,7 @@ use Rattle.permit_model.specs.Codes.{is_role, is_stage_among}
 use Rattle.permit_model.specs.Steps.{has_certificates}
 use Rattle.permit_model.specs.Admission.{Test, first_failing, reviewing_stages, inspecting_stages, stoppable_stages, revocable_stages, ask_limit, is_the_step, days_above}
 use Rattle.permit_base.specs.Limits.{latest_deadline, most_papers}
+use Rattle.permit_model.specs.Days.{longest_temporary}
 use Rattle.permit_model.specs.BaseStage.{timed_stages}
 use Rattle.permit_model.specs.Tables.{State, next_in_row}
 use Rattle.permit_core.specs.Views.{row_stage}
@@ -120,7 +121,7 @@ row_tests day s people (ClearNotice paper) = not_in day s (stage.Working ∷ [])
 row_tests day s people (Stop text conditions) = not_in day s stoppable_stages ∷ stopped s ∷ papers_full s ∷ []
 row_tests day s people Lift = not_in day s stoppable_stages ∷ not_stopped s ∷ papers_full s ∷ []
 row_tests day s people (Revoke text) = not_in day s revocable_stages ∷ papers_full s ∷ []
-row_tests day s people (Temporary days text) = not_in day s (stage.Working ∷ []) ∷ stopped s ∷ days_above 180 days ∷ notice_open s ∷ no_certificates s ∷ papers_full s ∷ []
+row_tests day s people (Temporary days text) = not_in day s (stage.Working ∷ []) ∷ stopped s ∷ days_above longest_temporary days ∷ notice_open s ∷ no_certificates s ∷ papers_full s ∷ []
 row_tests day s people Certify = not_in day s (stage.Finaled ∷ []) ∷ stopped s ∷ no_certificates s ∷ papers_full s ∷ []
 
 -- the answer to a command: done where nothing stands against it, else the reason

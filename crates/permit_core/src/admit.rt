@@ -17,7 +17,10 @@ ghost use Rattle.permit_core.specs.declared.people.People.{People};
 
 use crate::people::{NamedParty, People};
 use crate::state::FileState;
-use permit_base::limits::{LATEST_DEADLINE, MOST_PAPERS};
+use permit_base::limits::{
+    LATEST_DEADLINE, LONGEST_PERMIT_EXTENSION, LONGEST_REVIEW_EXTENSION, LONGEST_TEMPORARY,
+    MOST_PAPERS,
+};
 use permit_base::refusal::Reason;
 use permit_base::request::Command;
 use permit_base::values::{Day, Days, PartyId};
@@ -50,12 +53,6 @@ const STOPPABLE: [Stage; 5] = [
 
 /// The stages in which a permit is revoked.
 const REVOCABLE: [Stage; 3] = [Stage::Issued, Stage::Working, Stage::Lapsed];
-
-/// The most days of a temporary certificate, and of an extension once the permit is issued (IBC 2018, section 105.5).
-const LONGEST_TERM: u32 = 180;
-
-/// The most days of an extension before the permit is issued (IBC 2018, section 105.3.2).
-const LONGEST_REVIEW_EXTENSION: u32 = 90;
 
 /// A test of a command: whether it fails the command, and the reason that is then answered.
 type Test = (bool, Reason);
@@ -118,7 +115,7 @@ fn ask_limit(stage: Stage) -> u32
     ensures { result ≡ Admission.ask_limit stage }
 {
     match stage {
-        Stage::Issued | Stage::Working => LONGEST_TERM,
+        Stage::Issued | Stage::Working => LONGEST_PERMIT_EXTENSION,
         Stage::Filed
         | Stage::Review
         | Stage::Returned
@@ -355,7 +352,7 @@ impl FileState {
         first_failing(&[
             self.not_in(day, &[Stage::Working]),
             self.order_stands(),
-            (days.get() > LONGEST_TERM, Reason::Days),
+            (days.get() > LONGEST_TEMPORARY, Reason::Days),
             self.notice_open(),
             self.no_certificates(),
             self.papers_full(),

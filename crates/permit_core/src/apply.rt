@@ -16,7 +16,8 @@ ghost use Rattle.permit_core.specs.RowAfter.{row_after, file_after, FitsGrant, F
 
 use crate::paper::paper_sort;
 use crate::restore::StateFields;
-use crate::state::{FileState, TERM};
+use crate::state::FileState;
+use permit_base::limits::TERM;
 use permit_base::request::Command;
 use permit_base::values::{Day, Days, PartyId};
 use permit_base::words::{Stage, Step};

@@ -18,15 +18,10 @@ ghost use Rattle.permit_core.specs.Views.{filed_by, row_stage, row_timing, row_r
 
 use crate::restore::StateFields;
 use crate::steps::step_at;
+use permit_base::limits::{NEAR_DAYS, TERM};
 use permit_base::values::{Day, Days, ParcelId, PartyId};
 use permit_base::words::{Kind, Relations, Stage, Step, Timing};
 use std::marker::Model;
-
-/// The days that a filing, an issue and each activity give (IBC 2018, sections 105.3.2 and 105.5).
-pub(crate) const TERM: u32 = 180;
-
-/// The most days left before a deadline that is near.
-const NEAR: u32 = 30;
 
 /// The row of a file without its number, valuation and description.
 ///
@@ -108,7 +103,7 @@ impl FileState {
         }
     }
 
-    /// The timing on a day: past from the day after the deadline on, near with 0 to 30 days left, ahead with more.
+    /// The timing on a day: past from the day after the deadline on, near with at most [`NEAR_DAYS`] left, ahead with more.
     pub fn timing(&self, day: Day) -> Timing
         ensures row { result ≡ row_timing day self.now }
         ensures model { (file : CaseFile) → self.now ≡ state_of file → result ≡ timing_of day file }
@@ -118,7 +113,7 @@ impl FileState {
             Some(deadline) => {
                 if deadline < day.get() {
                     Timing::Past
-                } else if deadline <= day.get() + NEAR {
+                } else if deadline <= day.get() + NEAR_DAYS {
                     Timing::Near
                 } else {
                     Timing::Ahead

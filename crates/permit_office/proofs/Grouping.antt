@@ -27,7 +27,7 @@ use Rattle.permit_model.specs.Routes.{kept_cells, cell_on_day, route_by, routes_
 use Rattle.permit_model.specs.Tables.{Tables}
 use Rattle.permit_model.proofs.Selecting.{bit, how_many-cons, how_many-map, how_many-append, how_many-none, how_many-filter, some_counted, any_weaker, flat_filter, everywhere, same_selected}
 use Rattle.permit_model.proofs.Members.{IsMember, all_members}
-use Rattle.permit_model.proofs.FoundFiles.{marks, fits}
+use Rattle.permit_model.proofs.FoundFiles.{marks, fits, kept_cell_once}
 use Rattle.permit_store.specs.Handing.{is_found_by_any, found_by_any}
 use Rattle.permit_office.specs.Grouping.{same_relation_of, is_by_one, are_alike, group_of}
 
@@ -294,24 +294,6 @@ counts_all all groups counts caller day x few =
 bit_most : (b : Bool) → bit b ≤ 1
 bit_most true = omega arith
 bit_most false = omega arith
-
-kept_cell_once : (s : Stage) (b : Bool) (t : Timing) → how_many (marks s b t) kept_cells ≡ bit (is_stored s && fits s t)
-kept_cell_once stage.Filed false Untimed = refl
-kept_cell_once stage.Filed false Past = refl
-kept_cell_once stage.Filed false Near = refl
-kept_cell_once stage.Filed false Ahead = refl
-kept_cell_once stage.Filed true Untimed = refl
-kept_cell_once stage.Filed true Past = refl
-kept_cell_once stage.Filed true Near = refl
-kept_cell_once stage.Filed true Ahead = refl
-kept_cell_once _ false Untimed = refl
-kept_cell_once _ false Past = refl
-kept_cell_once _ false Near = refl
-kept_cell_once _ false Ahead = refl
-kept_cell_once _ true Untimed = refl
-kept_cell_once _ true Past = refl
-kept_cell_once _ true Near = refl
-kept_cell_once _ true Ahead = refl
 
 one_relation : (a : Relation) → how_many (is_relation a) all_relations ≡ 1
 one_relation relation.Applicant = refl
