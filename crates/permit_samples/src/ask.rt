@@ -1,4 +1,4 @@
-//! Requests of the rows.
+//! Requests of the scenarios.
 
 use std::test::Fail;
 

@@ -1,4 +1,4 @@
-//! What the crates of tests share: values, the offices of the worked rows, and the rows themselves, each a script of
+//! What the crates of tests share: values, the offices of the scenarios, and the scenarios themselves, each a script of
 //! requests with what is wanted of their answers, which is played in an office over any store.
 #![tactic(auto)]
 
@@ -11,7 +11,7 @@ pub mod makers;
 pub mod offices;
 pub mod opening;
 mod plans;
-pub mod rows;
+pub mod scenarios;
 pub mod script;
 pub mod standard;
 mod unknown_and_missing;

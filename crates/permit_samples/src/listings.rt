@@ -1,7 +1,7 @@
 //! Listings and registers.
 
 use crate::filing::FILED;
-use crate::rows::UnderPolicy;
+use crate::scenarios::UnderPolicy;
 
 /// A listing after the opening alone.
 pub(crate) const NOTHING: &[&str] = &[

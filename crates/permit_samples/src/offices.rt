@@ -1,4 +1,4 @@
-//! The offices of the rows, as they are founded.
+//! The offices of the scenarios, as they are founded.
 
 use crate::ask::TOKENS;
 use crate::makers::{day, digest_of, text};

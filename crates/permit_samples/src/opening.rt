@@ -1,4 +1,4 @@
-//! The opening of the rows: seven parties and two parcels under the standard policy.
+//! The opening of the scenarios: seven parties and two parcels under the standard policy.
 
 /// What party 1 does on the day of the founding: it adds a clerk, a reviewer, an inspector, two of the public and
 /// another inspector, and two parcels of the public's.

@@ -1,4 +1,4 @@
-//! Scripts, in which the rows are written.
+//! Scripts, in which the scenarios are written.
 //!
 //! A line `> PARTY DAY METHOD PATH BODY` is a request. Behind it stand what is wanted of its answer: a line
 //! `< STATUS BODY` gives the answer whole, and a line `~ TEXT` a text that its body has.

@@ -4,7 +4,7 @@ use crate::database::over_database;
 use permit_office::office::Office;
 use permit_samples::offices::{over_vectors, under};
 use permit_samples::opening::OPENING;
-use permit_samples::rows::{self, Row, UnderPolicy};
+use permit_samples::scenarios::{self, Scenario, UnderPolicy};
 use permit_samples::script::{agree, play};
 use permit_store::store::Store;
 use std::alloc::Global;
@@ -33,7 +33,7 @@ fn hold(alloc: Global, scripts: &[&str]) -> Result<(), Fail> {
 }
 
 /// The same for each row alone.
-fn hold_each(alloc: Global, rows: &[Row]) -> Result<(), Fail> {
+fn hold_each(alloc: Global, rows: &[Scenario]) -> Result<(), Fail> {
     for scripts in rows {
         hold(alloc, scripts)?;
     }
@@ -42,38 +42,38 @@ fn hold_each(alloc: Global, rows: &[Row]) -> Result<(), Fail> {
 
 #[test]
 fn filings(rt: HostRuntime) -> Result<(), Fail> {
-    hold_each(rt.alloc(), rows::filings())
+    hold_each(rt.alloc(), scenarios::filings())
 }
 
 #[test]
 fn applications(rt: HostRuntime) -> Result<(), Fail> {
-    hold_each(rt.alloc(), rows::applications())
+    hold_each(rt.alloc(), scenarios::applications())
 }
 
 #[test]
 fn inspections(rt: HostRuntime) -> Result<(), Fail> {
-    hold_each(rt.alloc(), rows::inspections())
+    hold_each(rt.alloc(), scenarios::inspections())
 }
 
 #[test]
 fn orders(rt: HostRuntime) -> Result<(), Fail> {
-    hold_each(rt.alloc(), rows::orders())
+    hold_each(rt.alloc(), scenarios::orders())
 }
 
 #[test]
 fn certificates(rt: HostRuntime) -> Result<(), Fail> {
-    hold_each(rt.alloc(), rows::certificates())
+    hold_each(rt.alloc(), scenarios::certificates())
 }
 
 #[test]
 fn limits_of_text(rt: HostRuntime) -> Result<(), Fail> {
-    let script = rows::limits_of_text(rt.alloc())?;
+    let script = scenarios::limits_of_text(rt.alloc())?;
     hold(rt.alloc(), &[script.as_str()])
 }
 
 #[test]
 fn listings(rt: HostRuntime) -> Result<(), Fail> {
-    hold_each(rt.alloc(), rows::listings())
+    hold_each(rt.alloc(), scenarios::listings())
 }
 
 /// The answers to a row's last script, under its policy.
@@ -89,7 +89,7 @@ fn play_under<S: Store + Drop>(
 #[test]
 fn other_policies(rt: HostRuntime) -> Result<(), Fail> {
     let alloc = rt.alloc();
-    for row in rows::other_policies() {
+    for row in scenarios::other_policies() {
         let served = play_under(alloc, over_vectors(alloc)?, row)?;
         let kept = play_under(alloc, over_database(alloc)?, row)?;
         agree(alloc, served.as_str(), kept.as_str())?;

@@ -1,30 +1,30 @@
-//! The worked rows.
+//! The scenarios.
 
 use crate::{filing, listings, plans, unknown_and_missing, work};
 use std::alloc::Global;
 use std::test::Fail;
 
-/// A row: its scripts, one behind the other. It is played in an office of its own, behind the opening.
-pub type Row = &'static [&'static str];
+/// A scenario: its scripts, one behind the other. It is played in an office of its own, behind the opening.
+pub type Scenario = &'static [&'static str];
 
-/// A row whose last script is played under another policy than the standard one.
+/// A scenario whose last script is played under another policy than the standard one.
 #[derive(Clone, Copy)]
 pub struct UnderPolicy {
     /// The scripts before.
-    pub scripts: Row,
+    pub scripts: Scenario,
     /// The policy's text.
     pub policy: &'static str,
     /// The script under it.
     pub last: &'static str,
 }
 
-const FILINGS: &[Row] = &[
+const FILINGS: &[Scenario] = &[
     unknown_and_missing::UNKNOWN,
     unknown_and_missing::MISSING,
     filing::FILING,
 ];
 
-const APPLICATIONS: &[Row] = &[
+const APPLICATIONS: &[Scenario] = &[
     plans::EXTENSION,
     plans::ARITHMETIC,
     plans::POLICY_FIRST,
@@ -32,18 +32,18 @@ const APPLICATIONS: &[Row] = &[
     plans::ASKS,
 ];
 
-const INSPECTIONS: &[Row] = &[
+const INSPECTIONS: &[Scenario] = &[
     work::CONFLICT,
     work::STEPS_OF_CONSTRUCTION,
     work::STEPS_OF_ALTERATION,
     work::NOTICE,
 ];
 
-const ORDERS: &[Row] = &[work::STOP, work::LAST_DAY, work::DAY_BEHIND, work::REVOKED];
+const ORDERS: &[Scenario] = &[work::STOP, work::LAST_DAY, work::DAY_BEHIND, work::REVOKED];
 
-const CERTIFICATES: &[Row] = &[work::CERTIFICATE, work::NO_CERTIFICATE, work::TEMPORARY];
+const CERTIFICATES: &[Scenario] = &[work::CERTIFICATE, work::NO_CERTIFICATE, work::TEMPORARY];
 
-const LISTINGS: &[Row] = &[listings::NOTHING, listings::WHO_LISTS, listings::REGISTERS];
+const LISTINGS: &[Scenario] = &[listings::NOTHING, listings::WHO_LISTS, listings::REGISTERS];
 
 const ZERO_RULES: UnderPolicy = UnderPolicy {
     scripts: &[filing::FILED],
@@ -64,36 +64,36 @@ const OTHER_POLICIES: &[UnderPolicy] = &[
 ];
 
 /// Filing and abandonment, a caller whom nobody knows, and a record that there is not.
-pub fn filings() -> &'static [Row] {
+pub fn filings() -> &'static [Scenario] {
     FILINGS
 }
 
 /// Applications, their review, extensions and issuance.
-pub fn applications() -> &'static [Row] {
+pub fn applications() -> &'static [Scenario] {
     APPLICATIONS
 }
 
 /// Inspections in their order, a notice, and an inspector with an interest.
-pub fn inspections() -> &'static [Row] {
+pub fn inspections() -> &'static [Scenario] {
     INSPECTIONS
 }
 
 /// A stop work order, the last day to begin work, and a permit that is revoked.
-pub fn orders() -> &'static [Row] {
+pub fn orders() -> &'static [Scenario] {
     ORDERS
 }
 
 /// Certificates of occupancy, temporary ones among them.
-pub fn certificates() -> &'static [Row] {
+pub fn certificates() -> &'static [Scenario] {
     CERTIFICATES
 }
 
 /// Listings and registers: who lists which files.
-pub fn listings() -> &'static [Row] {
+pub fn listings() -> &'static [Scenario] {
     LISTINGS
 }
 
-/// The rows under other policies: no rules, a denial before what another rule allows, and two relations at once.
+/// The scenarios under other policies: no rules, a denial before what another rule allows, and two relations at once.
 pub fn other_policies() -> &'static [UnderPolicy] {
     OTHER_POLICIES
 }
@@ -109,7 +109,7 @@ fn filing_of(alloc: Global, size: usize) -> Result<String, Fail> {
     )?)
 }
 
-/// The script of one row more: a filing with a description past its limit, and one with the longest.
+/// The script of one scenario more: a filing with a description past its limit, and one with the longest.
 pub fn limits_of_text(alloc: Global) -> Result<String, Fail> {
     let long = filing_of(alloc, 2001)?;
     let full = filing_of(alloc, 2000)?;
