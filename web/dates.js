@@ -1,0 +1,48 @@
+// Days as the office counts them, from 1970-01-01, and the office's own day.
+
+const MILLISECONDS = 86_400_000;
+const dateFormat = new Intl.DateTimeFormat(undefined, { dateStyle: 'medium', timeZone: 'UTC' });
+
+// A date as the browser writes it.
+export const dateText = day => dateFormat.format(day * MILLISECONDS);
+
+export const isoDate = day => new Date(day * MILLISECONDS).toISOString().slice(0, 10);
+
+export const dayOfIso = text => Date.parse(text) / MILLISECONDS;
+
+// By so many days the office's day is ahead of the browser's: no route tells the office's, answers do by the way.
+let ahead = 0;
+
+function browserDay() {
+  const now = new Date();
+  return Date.UTC(now.getFullYear(), now.getMonth(), now.getDate()) / MILLISECONDS;
+}
+
+export const today = () => browserDay() + ahead;
+
+// Takes over the day of an answer.
+export function learnDay(day) {
+  ahead = day - browserDay();
+}
+
+// Takes over the nearest day on which a file, as the office showed it, can have its timing.
+export function learnFrom(file) {
+  const day = today();
+  const { deadline, filed, timing } = file;
+  let nearest = Math.max(day, filed);
+  if (timing === 'past') nearest = Math.max(nearest, deadline + 1);
+  if (timing === 'near') nearest = Math.min(Math.max(nearest, deadline - 30), deadline);
+  if (timing === 'ahead') nearest = Math.min(nearest, deadline - 31);
+  if (nearest !== day) learnDay(nearest);
+}
+
+const days = count => `${count} ${count === 1 ? 'day' : 'days'}`;
+
+// How a deadline stands, in words: past and near are words of their own.
+export function leftText(file) {
+  if (file.timing === 'none') return 'no deadline';
+  const left = file.deadline - today();
+  if (file.timing === 'past') return `past by ${days(-left)}`;
+  if (left === 0) return 'near: today is the last day';
+  return file.timing === 'near' ? `near: ${days(left)} left` : `${days(left)} left`;
+}
