@@ -1,5 +1,6 @@
 -- What the spans of a message cover, as its bytes grow.
-use Rattle.std.proofs.Common.{◌≡◌, ℕ, ◌+◌, ◌-◌, ◌≤◌, List, ◌++◌, length, take, drop, map, Bool, Option, Some, None, Ok, codes, IfSome, subst, refl, sym, ap, ◌∙◌, arith}
+use Rattle.std.proofs.Common.{◌≡◌, ℕ, ◌+◌, ◌-◌, ◌≤◌, List, ◌++◌, length, take, drop, map, Bool, Option, Some, None, Ok, codes, IfSome, subst, refl}
+use Rattle.std.proofs.Common.{sym, ap, ◌∙◌, arith}
 use Rattle.std.proofs.lemmas.List.{take-append-le, drop-append-le, take-append-drop, length-take, length-drop, length-append}
 use Rattle.std.specs.Option.{option_map, ForSome}
 use Rattle.httparse.specs.Grammar.{RequestHead, print_request}
@@ -69,9 +70,12 @@ module _ (bytes : List ℕ) (headers : List HeaderSpan) (found : RequestSpans) (
         said = λ body. message_same _ _ _ _ _ _ _ _ body
             (span-take bytes head_limit found.method found.len f.within.method small fits ∙ f.at.method)
             (span-take bytes head_limit found.path found.len f.within.path small fits ∙ f.at.path)
-            (option-take bytes head_limit authorization (length (take head_limit bytes)) within (omega (arith, length-take head_limit bytes)) (omega (arith, length-take head_limit bytes)) ∙ said ∙ ap (λ x. only (values_named (codes "authorization") x)) f.at.fields)
+            (option-take bytes head_limit authorization (length (take head_limit bytes)) within
+            (omega (arith, length-take head_limit bytes)) (omega (arith, length-take head_limit bytes))
+            ∙ said ∙ ap (λ x. only (values_named (codes "authorization") x)) f.at.fields)
             (closed ∙ ap closes f.at.fields);
-        length = sym (ap (judged h.minor) f.at.fields) ∙ ap (λ v. judged v (map (header_bytes (take head_limit bytes)) (take found.headers headers))) (sym f.at.version) ∙ sym judging ∙ ap Ok (sym size);
+        length = sym (ap (judged h.minor) f.at.fields)
+            ∙ ap (λ v. judged v (map (header_bytes (take head_limit bytes)) (take found.headers headers))) (sym f.at.version) ∙ sym judging ∙ ap Ok (sym size);
       }
 
 -- what is covered stays covered as more bytes follow

@@ -1,5 +1,7 @@
 -- Bytes that were read behind the bytes there.
-use Rattle.std.proofs.Common.{append-nil, ◌≡◌, ℕ, Bool, length-append, ◌+◌, ◌≤◌, List, [], ◌∷◌, ◌++◌, length, take, Option, Some, None, refl, sym, ap, ◌∙◌, arith, append_assoc}
+use Rattle.std.proofs.Common.{append-nil, ◌≡◌, ℕ, Bool, length-append, ◌+◌, ◌≤◌, List, [], ◌∷◌, ◌++◌, length, take, Option, Some, None, refl, sym, ap}
+use Rattle.std.proofs.Common.{◌∙◌, arith, append_assoc, subst}
+use Rattle.permit_http.specs.Head.{IsOpen}
 use Rattle.std.proofs.Math.Seq.{take-append-add}
 use Rattle.std.proofs.lemmas.List.{take-append-le, length-take-le}
 use Rattle.std.specs.Io.KnownBytes.{prepend_known, Keeps, Consumes}
@@ -66,3 +68,7 @@ pub filled_nothing : (old new : InboxData) (before after : Option (List ℕ)) �
 filled_nothing old new before after h e =
     let size = simp length-append at (ap length h.grown) in
     h.grown ∙ ap (λ x. old.bytes ++ x) (empty_when h.more (omega (arith, size, e))) ∙ append-nil old.bytes
+
+-- an inbox that is as it was holds bytes that are as open as they were
+pub still : {old new : InboxData} → (IsOpen old.bytes → ⊥) → new ≡ old → IsOpen new.bytes → ⊥
+still {old} {new} nope same now = let P : InboxData → Type 0 = λ i. IsOpen i.bytes in nope (subst P same now)

@@ -1,5 +1,6 @@
 -- What a length of 1 to 9 digits is read as.
-use Rattle.std.proofs.Common.{nat_le, ◌≡◌, ℕ, ◌+◌, ◌-◌, ◌<◌, ◌≤◌, ◌&&◌, List, [], ◌∷◌, ◌++◌, length, take, drop, true, cond, sym, ap, ◌∙◌, arith, rules, Result, Ok, Some, None}
+use Rattle.std.proofs.Common.{nat_le, ◌≡◌, ℕ, ◌+◌, ◌-◌, ◌<◌, ◌≤◌, ◌&&◌, List, [], ◌∷◌, ◌++◌, length, take, drop, true, cond, sym, ap, ◌∙◌, arith}
+use Rattle.std.proofs.Common.{rules, Result, Ok, Some, None}
 use Rattle.std.specs.List.{list_all}
 use Rattle.std.specs.Char.{is_ascii_digit}
 use Rattle.std.specs.Str.{IsAscii, IsUtf8}

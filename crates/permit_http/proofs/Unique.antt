@@ -1,10 +1,13 @@
 -- A stream's beginning means one thing.
-use Rattle.std.proofs.Common.{◌≡◌, ℕ, List, length, take, drop, Result, Ok, Err, inl, inr, sym, ap, ◌∙◌, arith}
+use Rattle.std.proofs.Common.{◌≡◌, ℕ, List, [], append-nil, length, take, drop, subst, Result, Ok, Err, inl, inr, sym, ap, ◌∙◌, arith}
 use Rattle.httparse.specs.Grammar.{RequestHead}
 use Rattle.httparse.proofs.GrammarLemmas.{request_unique}
-use Rattle.permit_http.specs.Head.{HeadAt, judged, pairs_of}
-use Rattle.permit_http.specs.Message.{MessageData, IsMessage, HasFault, LacksBody, IsUnfinished, message_of}
+use Rattle.permit_http.specs.Head.{HeadAt, IsOpen, LacksHead, NeverHasHead, judged, pairs_of}
+use Rattle.permit_http.specs.Message.{MessageData, IsMessage, HasFault, ShowsFault, LacksBody, IsUnfinished, message_of}
+use Rattle.permit_http.specs.Spans.{Covers}
+use Rattle.permit_http.specs.declared.message.MessageSpans.{MessageSpans}
 use Rattle.permit_http.specs.declared.fault.Fault.{Fault}
+use Rattle.permit_http.specs.declared.fault.Fault.TheVariants.{Head}
 
 -- one head, and one rest behind it
 one_head : (bytes after other : List ℕ) (h k : RequestHead) → HeadAt bytes h after → HeadAt bytes k other → (h ≡ k) × (after ≡ other)
@@ -59,3 +62,39 @@ fault_or_unfinished bytes fault x u = elim u [ inl none ↦ none x.0 x.1 x.2 | i
     faulty_or_short y =
         let same = one_head bytes y.1 x.1 y.0 x.0 y.3.head x.2 in
         not_both y.2 fault (one_judgement y.0 x.0 _ _ same.0 y.3.length x.3)
+
+-- bytes that show a fault may wait for no more of a head
+pub shown_not_open : (bytes : List ℕ) (fault : Fault) → ShowsFault bytes fault → IsOpen bytes → ⊥
+shown_not_open bytes fault shown now = elim shown [
+  | inl x ↦ now.0 x.0 x.1 x.2
+  | inr long ↦ absurd (omega (arith, long.2, now.1))
+]
+
+-- the fault that they show is that of a head that is there
+pub shown_of_head : (bytes after : List ℕ) (h : RequestHead) (fault : Fault) → HeadAt bytes h after → ShowsFault bytes fault → HasFault bytes fault
+shown_of_head bytes after h fault there shown = elim shown [
+  | inl x ↦ x
+  | inr long ↦ absurd (long.1 h after there)
+]
+
+-- a head without a fault shows none
+pub covered_shows_none : (bytes : List ℕ) (s : MessageSpans) (h : RequestHead) (fault : Fault) → Covers bytes s h → ShowsFault bytes fault → ⊥
+covered_shows_none bytes s h fault covers shown =
+    let x = shown_of_head bytes (drop s.body.start bytes) h fault covers.head shown in
+    let same = one_head bytes (drop s.body.start bytes) x.1 h x.0 covers.head x.2 in
+    not_both _ fault (one_judgement h x.0 _ _ same.0 covers.length x.3)
+
+-- the fault of a head that is there is the one that the bytes show
+pub shown_is : (bytes after : List ℕ) (h : RequestHead) (fault other : Fault) → HeadAt bytes h after → judged h.minor (pairs_of h) ≡ Err other
+    → ShowsFault bytes fault → other ≡ fault
+shown_is bytes after h fault other there is shown =
+    one_fault bytes other fault (h, after, there, is) (shown_of_head bytes after h fault there shown)
+
+-- where no head can come, the fault that the bytes show is that of the head
+pub shown_of_none : (bytes : List ℕ) (fault : Fault) → NeverHasHead bytes → ShowsFault bytes fault → fault ≡ Head
+shown_of_none bytes fault never shown =
+    let none : LacksHead bytes = subst LacksHead (append-nil bytes) (never []) in
+    elim shown [
+      | inl x ↦ absurd (none x.0 x.1 x.2)
+      | inr long ↦ long.0
+    ]

@@ -1,5 +1,6 @@
 -- The head of a request within the limits, by the grammar of `httparse`, and what its fields say (RFC 9112).
-use Rattle.std.specs.Prelude.{ℕ, ◌≤◌, ◌==◌, ◌&&◌, nat_le, List, [], ◌∷◌, ◌++◌, length, map, filter, Bool, if◌then◌else◌, Option, Some, None, codes, Result, Ok, Err}
+use Rattle.std.specs.Prelude.{ℕ, ◌<◌, ◌≤◌, ◌==◌, ◌&&◌, nat_le, List, [], ◌∷◌, ◌++◌, length, map, filter, Bool, if◌then◌else◌, Option, Some, None}
+use Rattle.std.specs.Prelude.{codes, Result, Ok, Err}
 use Rattle.std.specs.List.{list_all, list_any}
 use Rattle.std.specs.Char.{is_ascii_digit}
 use Rattle.std.specs.Str.{str_eq_ignore_ascii_case}
@@ -30,6 +31,10 @@ pub record HeadAt (bytes : List ℕ) (h : RequestHead) (rest : List ℕ) : Type 
 -- no head within the limits stands there
 abbrev pub LacksHead : List ℕ → Type 0
 LacksHead bytes = (h : RequestHead) (rest : List ℕ) → HeadAt bytes h rest → ⊥
+
+-- no head stands there, and fewer bytes than one may have
+abbrev pub IsOpen : List ℕ → Type 0
+IsOpen bytes = LacksHead bytes × (length bytes < head_limit)
 
 -- no head within the limits can stand there, whatever bytes follow
 abbrev pub NeverHasHead : List ℕ → Type 0

@@ -1,7 +1,7 @@
 -- What a stream's beginning gives: a message and the rest, a fault, or the end.
 use Rattle.std.specs.Prelude.{◌≡◌, ℕ, ◌<◌, ◌≤◌, ◌⊎◌, Bool, List, [], length, take, drop, codes, Option, Ok, Err}
 use Rattle.httparse.specs.Grammar.{RequestHead}
-use Rattle.permit_http.specs.Head.{HeadAt, LacksHead, NeverHasHead, judged, pairs_of, values_named, only, closes}
+use Rattle.permit_http.specs.Head.{HeadAt, LacksHead, NeverHasHead, head_limit, judged, pairs_of, values_named, only, closes}
 use Rattle.permit_http.specs.declared.fault.Fault.{Fault}
 use Rattle.permit_http.specs.declared.fault.Fault.TheVariants.{Head}
 
@@ -45,6 +45,10 @@ IsUnfinished bytes = LacksHead bytes ⊎ LacksBody bytes
 -- the bytes begin with a head that has this fault
 abbrev pub HasFault : List ℕ → Fault → Type 0
 HasFault bytes fault = (h : RequestHead) × (after : List ℕ) × HeadAt bytes h after × (judged h.minor (pairs_of h) ≡ Err fault)
+
+-- the bytes show a fault, whatever comes behind them: a head that is there has it, or none is and no more of one may come
+abbrev pub ShowsFault : List ℕ → Fault → Type 0
+ShowsFault bytes fault = HasFault bytes fault ⊎ ((fault ≡ Head) × LacksHead bytes × (head_limit ≤ length bytes))
 
 -- what the beginning of a stream can give
 pub data Incoming : Type 0 where

@@ -7,7 +7,7 @@ use Rattle.httparse.specs.Spans.{span_bytes, IsWithin, IsRequestAt, IsRequestWit
 use Rattle.httparse.specs.declared.spans.HeaderSpan.{HeaderSpan}
 use Rattle.httparse.specs.declared.spans.RequestSpans.{RequestSpans}
 use Rattle.permit_http.specs.Stream.{InboxData, stream}
-use Rattle.permit_http.specs.Head.{HeadAt, LacksHead, NeverHasHead, judged, pairs_of, head_limit, body_limit}
+use Rattle.permit_http.specs.Head.{HeadAt, IsOpen, NeverHasHead, judged, pairs_of, head_limit, body_limit}
 use Rattle.permit_http.specs.Message.{MessageData, message_of, IsIncoming, IsMessage, nothing, cut, refused}
 use Rattle.permit_http.specs.declared.error.WireError.{WireError}
 use Rattle.permit_http.specs.declared.error.WireError.TheVariants.{ReadFailed, Ended, Fault}
@@ -27,15 +27,15 @@ pub record IsFound (bytes : List ℕ) (headers : List HeaderSpan) (spans : Reque
 -- what a look at the bytes says of a head at their front
 abbrev pub LooksAt : List ℕ → List HeaderSpan → Look → Type 0
 LooksAt bytes headers (Found spans) = (h : RequestHead) × IsFound bytes headers spans h
-LooksAt bytes headers Open = LacksHead bytes × (length bytes < head_limit)
+LooksAt bytes headers Open = IsOpen bytes
 LooksAt bytes headers Never = NeverHasHead bytes
 
 -- what reading for a head gave, with the bytes that are there then and those that the reader has left
 abbrev pub GivesHead : List ℕ → Option (List ℕ) → List HeaderSpan → Sought → Type 0
 GivesHead bytes left headers (sought.Head spans) = (h : RequestHead) × IsFound bytes headers spans h
 GivesHead bytes left headers sought.Refused = NeverHasHead bytes
-GivesHead bytes left headers sought.Ended = LacksHead bytes × IsAtEnd left
-GivesHead bytes left headers sought.Failed = LacksHead bytes
+GivesHead bytes left headers sought.Ended = IsOpen bytes × IsAtEnd left
+GivesHead bytes left headers sought.Failed = IsOpen bytes
 
 -- so many bytes are there, or the input is at its end and they aren't
 abbrev pub GetsTo : ℕ → Bool → List ℕ → Option (List ℕ) → Type 0

@@ -6,7 +6,8 @@ ghost use Rattle.std.specs.Char.{is_ascii_digit};
 ghost use Rattle.std.specs.Str.{str_eq_ignore_ascii_case};
 ghost use Rattle.httparse.specs.Grammar.{RequestHead};
 ghost use Rattle.httparse.specs.Spans.{header_bytes, span_bytes, IsWithin, IsHeaderWithin, IsRequestWithin};
-ghost use Rattle.permit_http.specs.Head.{IsHeadFault, values_named, count_named, only, is_length, length_in, limited, is_served, body_length, judged, closes, pairs_of};
+ghost use Rattle.permit_http.specs.Head.{IsHeadFault, values_named, count_named, only, is_length, length_in, limited, is_served, body_length, judged};
+ghost use Rattle.permit_http.specs.Head.{closes, pairs_of};
 ghost use Rattle.permit_http.specs.Spans.{LooksAt, IsFound, AreOrdered, Covers};
 
 use crate::fault::Fault;

@@ -4,7 +4,7 @@
 //! are, or the first fault of its head. Nothing is copied and no memory is taken: `Inbox::message` lends the parts,
 //! and `Inbox::let_go` drops their bytes, counts the request and says by the inbox whether the connection closes.
 //!
-//! For the layer above: over a reader that tells its bytes, `read_message` gives `Gives`, so at a message
+//! For the layer above: over a reader whose bytes are known, `read_message` gives `Gives`, so at a message
 //! `IsMessage stream (message_at inbox.bytes spans) rest` with the rest still to be read; `message` lends
 //! `message_at inbox.bytes spans`; and after `let_go` the stream is that rest.
 #![tactic(auto)]

@@ -1,10 +1,12 @@
 //! One message of a connection: its parts, lent from the inbox.
 
-ghost use Rattle.std.specs.Prelude.{◌≡◌, ℕ, ◌+◌, ◌||◌, List, ◌++◌, drop, min, nat_le, true, false, ⊤, Ok, None, OnErr, OnOk, IfOk, IfErr, IfSome};
+ghost use Rattle.std.specs.Prelude.{◌≡◌, ℕ, ◌+◌, ◌||◌, List, ◌++◌, drop, min, nat_le, true, false, ⊤, Ok, Err, None, OnErr, OnOk, IfOk, IfErr, IfSome};
 ghost use Rattle.std.specs.Io.KnownBytes.{Keeps};
 ghost use Rattle.permit_http.specs.Stream.{Filled, stream};
 ghost use Rattle.permit_http.specs.Spans.{GivesHead, GivesMessage, Holds, ReadsMessage, message_at, view_of, IsFound};
 ghost use Rattle.permit_http.specs.Errors.{IsOfMessage, StopsAt};
+ghost use Rattle.permit_http.specs.Head.{IsOpen};
+ghost use Rattle.permit_http.specs.Message.{ShowsFault};
 ghost use Rattle.httparse.specs.Grammar.{RequestHead};
 
 use crate::error::WireError;
@@ -53,6 +55,7 @@ impl Inbox {
     fn head<R: Read>(&mut self, reader: &mut R, headers: &mut [HeaderSpan; 32]) -> Sought
         ensures filled { Filled self.old self.new (R.remaining reader.old) (R.remaining reader.new) }
         ensures sought { GivesHead self.new.bytes (R.remaining reader.new) headers.new result }
+        ensures there { (IsOpen self.old.bytes → ⊥) → (self.new ≡ self.old) × (reader.new ≡ reader.old) }
     {
         loop {
             match look_at(self.as_slice(), headers) {
@@ -82,6 +85,8 @@ impl Inbox {
         ensures kind { IfErr result IsOfMessage }
         ensures held { IfOk result (λ o. IfSome o (λ s. Holds self.new s)) }
         ensures some { result ≡ Ok None → ⊥ }
+        ensures refuses { (fault : Fault) → ShowsFault self.old.bytes fault → result ≡ Err (WireError.Fault fault) }
+        ensures at_once { (fault : Fault) → ShowsFault self.old.bytes fault → (self.new ≡ self.old) × (reader.new ≡ reader.old) }
     {
         let parts = match parts_of(self.as_slice(), headers, found) {
             Ok(parts) => parts,
@@ -102,6 +107,8 @@ impl Inbox {
         ensures kind { IfErr result IsOfMessage }
         ensures held { IfOk result (λ o. IfSome o (λ s. Holds self.new s)) }
         ensures ended { result ≡ Ok None → self.new ≡ self.old }
+        ensures refuses { (fault : Fault) → ShowsFault self.old.bytes fault → result ≡ Err (WireError.Fault fault) }
+        ensures at_once { (fault : Fault) → ShowsFault self.old.bytes fault → (self.new ≡ self.old) × (reader.new ≡ reader.old) }
     {
         let mut headers = [EMPTY_HEADER_SPAN; 32];
         match self.head(reader, &mut headers) {
@@ -119,8 +126,8 @@ impl Inbox {
     }
 
     /// Reads until a whole message stands at the front of the inbox, and says where its parts are; `None` where the
-    /// input ends before any byte of it, or the connection is closed. The first fault of a head is told without
-    /// waiting for the body; after any fault the connection is closed. It takes no memory.
+    /// input ends before any byte of it, or the connection is closed. The first fault of a head is reported without
+    /// another read: nothing is waited for behind it; after any fault the connection is closed. It takes no memory.
     pub fn read_message<R: Read>(
         &mut self,
         reader: &mut R,
@@ -133,6 +140,9 @@ impl Inbox {
         ensures kind { IfErr result IsOfMessage }
         ensures held { IfOk result (λ o. IfSome o (λ s. Holds self.new s)) }
         ensures ended { result ≡ Ok None → self.new ≡ self.old }
+        ensures refuses { self.old.closed ≡ false → (fault : Fault) → ShowsFault self.old.bytes fault → result ≡ Err (WireError.Fault fault) }
+        ensures at_once { self.old.closed ≡ false → (fault : Fault) → ShowsFault self.old.bytes fault
+            → (self.new.bytes ≡ self.old.bytes) × (reader.new ≡ reader.old) }
         ensures stays { OnOk result (self.new.closed ≡ self.old.closed) }
         ensures closes { OnErr result (self.new.closed ≡ true) }
         ensures count { self.new.count ≡ self.old.count }

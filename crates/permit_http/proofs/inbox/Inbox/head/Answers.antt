@@ -1,19 +1,19 @@
-use Rattle.std.proofs.Common.{arith, ap, ◌∙◌, Ok, ◌≡◌}
-use Rattle.permit_http.proofs.Filling.{filled_none, filled_on, filled_nothing}
+use Rattle.std.proofs.Common.{arith, ap, ◌∙◌, Ok, ◌≡◌, refl}
+use Rattle.permit_http.proofs.Filling.{filled_none, filled_on, filled_nothing, still}
 use Rattle.permit_http.proofs.inbox.Inbox.head.Goals as goal
 
 pub loop-spans-init : goal.loop-spans-init
-loop-spans-init g c = filled_none _ _
+loop-spans-init g c = record { filled = filled_none _ _; there = λ nope. (refl, refl) }
 
 pub returns-in-Ok-eq0-clause-filled : goal.returns-in-Ok-eq0-clause-filled
-returns-in-Ok-eq0-clause-filled g c = filled_on _ _ _ _ _ _ c.loop-spans.invariant c.fill.ensures.filled
+returns-in-Ok-eq0-clause-filled g c = filled_on _ _ _ _ _ _ c.loop-spans.invariant.filled c.fill.ensures.filled
 
 pub returns-in-Ok-eq0-clause-sought : goal.returns-in-Ok-eq0-clause-sought
 returns-in-Ok-eq0-clause-sought g c =
     let none : c.fill.result ≡ Ok 0 = c.in-Ok-eq0.is ∙ ap Ok c.in-Ok-eq0.field-0-test in
     let size = rw c.in-Ok-eq0.field-0-test at c.in-Ok-eq0.ensures.grows in
     let same = filled_nothing _ _ _ _ c.fill.ensures.filled (omega (arith, size)) in
-    (rw (same, ← c.as_slice.ensures) c.in-Open.ensures.0, c.fill.ensures.end none)
+    (rw (same, ← c.as_slice.ensures) c.in-Open.ensures, c.fill.ensures.end none)
 
 pub loop-spans-smaller : goal.loop-spans-smaller
 loop-spans-smaller g c =
@@ -21,7 +21,10 @@ loop-spans-smaller g c =
     omega (arith, short, c.in-Ok.ensures.grows)
 
 pub loop-spans-preserved : goal.loop-spans-preserved
-loop-spans-preserved g c = filled_on _ _ _ _ _ _ c.loop-spans.invariant c.fill.ensures.filled
+loop-spans-preserved g c = record {
+  filled = filled_on _ _ _ _ _ _ c.loop-spans.invariant.filled c.fill.ensures.filled;
+  there = λ nope. absurd (still nope (c.loop-spans.invariant.there nope).0 (rw c.as_slice.ensures at c.in-Open.ensures));
+}
 
 pub returns-in-Err-clause-filled : goal.returns-in-Err-clause-filled
-returns-in-Err-clause-filled g c = filled_on _ _ _ _ _ _ c.loop-spans.invariant c.fill.ensures.filled
+returns-in-Err-clause-filled g c = filled_on _ _ _ _ _ _ c.loop-spans.invariant.filled c.fill.ensures.filled

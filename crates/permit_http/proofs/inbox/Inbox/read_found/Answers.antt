@@ -1,6 +1,8 @@
-use Rattle.std.proofs.Common.{inr}
+use Rattle.std.proofs.Common.{inr, ap, Err}
 use Rattle.permit_http.proofs.Streams.{on_stream}
 use Rattle.permit_http.proofs.Given.{stops, whole, lacks_body}
+use Rattle.permit_http.proofs.Unique.{covered_shows_none, shown_is}
+use Rattle.permit_http.specs.declared.error.WireError.TheVariants.{Fault}
 use Rattle.permit_http.proofs.inbox.Inbox.read_found.Goals as goal
 
 pub returns-in-Err-clause-gives : goal.returns-in-Err-clause-gives
@@ -43,3 +45,39 @@ returns-in-Err-fill_to-clause-unfinished g c =
     let ordered = rw c.as_slice.ensures at c.in-Ok.ensures.ordered in
     inr (stops c.args.self.now c.fill_to.new.self (g.R.Read.remaining c.args.reader.now) (g.R.Read.remaining c.fill_to.new.reader) c.in-Ok.parts x.0
     c.fill_to.ensures.filled covers ordered c.in-Err-fill_to.ensures.failed)
+
+pub returns-in-Err-clause-refuses : goal.returns-in-Err-clause-refuses
+returns-in-Err-clause-refuses g c = λ fault shown.
+    let x = c.requires.found in
+    let is = c.in-Err.ensures.fault x.0 (rw c.as_slice.ensures x.1) in
+    ap (λ e. Err (Fault e)) (shown_is _ _ x.0 fault _ x.1.head is shown)
+
+pub returns-in-Ok-true-clause-refuses : goal.returns-in-Ok-true-clause-refuses
+returns-in-Ok-true-clause-refuses g c = λ fault shown.
+    let x = c.requires.found in
+    absurd (covered_shows_none _ c.in-Ok.parts x.0 fault (rw c.as_slice.ensures at (c.in-Ok.ensures.parts x.0 (rw c.as_slice.ensures x.1))) shown)
+
+pub returns-in-Ok-true-clause-at_once : goal.returns-in-Ok-true-clause-at_once
+returns-in-Ok-true-clause-at_once g c = λ fault shown.
+    let x = c.requires.found in
+    absurd (covered_shows_none _ c.in-Ok.parts x.0 fault (rw c.as_slice.ensures at (c.in-Ok.ensures.parts x.0 (rw c.as_slice.ensures x.1))) shown)
+
+pub returns-in-Ok-false-clause-refuses : goal.returns-in-Ok-false-clause-refuses
+returns-in-Ok-false-clause-refuses g c = λ fault shown.
+    let x = c.requires.found in
+    absurd (covered_shows_none _ c.in-Ok.parts x.0 fault (rw c.as_slice.ensures at (c.in-Ok.ensures.parts x.0 (rw c.as_slice.ensures x.1))) shown)
+
+pub returns-in-Ok-false-clause-at_once : goal.returns-in-Ok-false-clause-at_once
+returns-in-Ok-false-clause-at_once g c = λ fault shown.
+    let x = c.requires.found in
+    absurd (covered_shows_none _ c.in-Ok.parts x.0 fault (rw c.as_slice.ensures at (c.in-Ok.ensures.parts x.0 (rw c.as_slice.ensures x.1))) shown)
+
+pub returns-in-Err-fill_to-clause-refuses : goal.returns-in-Err-fill_to-clause-refuses
+returns-in-Err-fill_to-clause-refuses g c = λ fault shown.
+    let x = c.requires.found in
+    absurd (covered_shows_none _ c.in-Ok.parts x.0 fault (rw c.as_slice.ensures at (c.in-Ok.ensures.parts x.0 (rw c.as_slice.ensures x.1))) shown)
+
+pub returns-in-Err-fill_to-clause-at_once : goal.returns-in-Err-fill_to-clause-at_once
+returns-in-Err-fill_to-clause-at_once g c = λ fault shown.
+    let x = c.requires.found in
+    absurd (covered_shows_none _ c.in-Ok.parts x.0 fault (rw c.as_slice.ensures at (c.in-Ok.ensures.parts x.0 (rw c.as_slice.ensures x.1))) shown)
