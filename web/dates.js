@@ -10,8 +10,10 @@ export const isoDate = day => new Date(day * MILLISECONDS).toISOString().slice(0
 
 export const dayOfIso = text => Date.parse(text) / MILLISECONDS;
 
-// By so many days the office's day is ahead of the browser's: no route tells the office's, answers do by the way.
+// By so many days the office's day is ahead of the browser's, and when that was learned: no route tells the office's day,
+// answers do by the way.
 let ahead = 0;
+let learned = -Infinity;
 
 function browserDay() {
   const now = new Date();
@@ -23,17 +25,20 @@ export const today = () => browserDay() + ahead;
 // Takes over the day of an answer.
 export function learnDay(day) {
   ahead = day - browserDay();
+  learned = Date.now();
 }
 
+const HOUR = 3_600_000;
+
+export const isDayKnown = () => Date.now() - learned < HOUR;
+
 // Takes over the nearest day on which a file, as the office showed it, can have its timing.
-export function learnFrom(file) {
-  const day = today();
-  const { deadline, filed, timing } = file;
-  let nearest = Math.max(day, filed);
-  if (timing === 'past') nearest = Math.max(nearest, deadline + 1);
-  if (timing === 'near') nearest = Math.min(Math.max(nearest, deadline - 30), deadline);
-  if (timing === 'ahead') nearest = Math.min(nearest, deadline - 31);
-  if (nearest !== day) learnDay(nearest);
+export function agreeWith({ deadline, filed, timing }) {
+  let day = Math.max(today(), filed);
+  if (timing === 'past') day = Math.max(day, deadline + 1);
+  if (timing === 'near') day = Math.min(Math.max(day, deadline - 30), deadline);
+  if (timing === 'ahead') day = Math.min(day, deadline - 31);
+  ahead = day - browserDay();
 }
 
 const days = count => `${count} ${count === 1 ? 'day' : 'days'}`;

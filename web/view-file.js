@@ -3,9 +3,9 @@
 import { read } from './api.js';
 import { dateNode, deadlineNode } from './columns.js';
 import { FILE_COMMANDS, isFirstFor } from './commands.js';
-import { learnFrom } from './dates.js';
 import { el, said } from './dom.js';
 import { foldedForm } from './forms.js';
+import { learnToday } from './today.js';
 import { CLOSED, KINDS, PASSED, REQUIRED, SORTS, STAGES, STEPS, VIEWS, isCertifiable, money, nextOf, party } from './words.js';
 
 function paperBody(paper) {
@@ -121,7 +121,7 @@ function papersSection(file) {
 // `calls` has `again`, which reads the file anew, and `done`, which does so with words for what was accepted.
 export async function fileView(id, view, calls) {
   const file = await read(`/files/${id}`);
-  learnFrom(file);
+  await learnToday([file]);
   const stopped = file.stopped ? ', stopped' : '';
   return el('div', {},
     el('h1', { tabindex: '-1' }, `File ${file.id}: ${KINDS[file.kind]}`),

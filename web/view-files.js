@@ -3,10 +3,10 @@
 
 import { listed } from './api.js';
 import { COLUMNS } from './columns.js';
-import { learnFrom } from './dates.js';
 import { el, freshId } from './dom.js';
 import { whenSignedOut } from './session.js';
 import { makeTable } from './table.js';
+import { learnToday } from './today.js';
 import { KINDS, STAGES, plural } from './words.js';
 
 const { id, kind, description, stage, parcel, applicant, deadline } = COLUMNS;
@@ -26,8 +26,9 @@ export function forgetFiles() {
 
 async function readFiles() {
   if (files === null) {
-    files = await listed();
-    files.forEach(learnFrom);
+    const read = await listed();
+    await learnToday(read);
+    files = read;
   }
   return files;
 }

@@ -2,9 +2,9 @@
 
 import { listed } from './api.js';
 import { COLUMNS } from './columns.js';
-import { learnFrom } from './dates.js';
 import { el } from './dom.js';
 import { makeTable } from './table.js';
+import { learnToday } from './today.js';
 import { VIEWS, isCertifiable, plural } from './words.js';
 
 const { id, kind, description, stage, next, deadline, requested, asked } = COLUMNS;
@@ -81,7 +81,7 @@ async function filesFor({ stages }) {
 
 export async function waitingView(view) {
   const files = await filesFor(WAITING[view]);
-  files.forEach(learnFrom);
+  await learnToday(files);
   const groups = WAITING[view].groups;
   const waits = files.filter(file => groups.some(group => group.has(file))).length;
   return el('div', {},
