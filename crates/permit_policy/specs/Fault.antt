@@ -14,7 +14,7 @@ fault_number fault.Effect = 6
 fault_number fault.List = 7
 fault_number fault.Memory = 8
 
--- want of memory lies in no table
+-- running out of memory lies in no table
 abbrev pub place_of : PolicyFault → ℕ → ℕ
 place_of fault.Memory place = 0
 place_of _ place = place

@@ -45,7 +45,7 @@ impl PolicyFault {
         }
     }
 
-    /// The fault at a place, from 1; want of memory lies in no table.
+    /// The fault at a place, from 1; running out of memory lies in no table.
     pub(crate) fn at(self, place: usize) -> PolicyError
         ensures { result ≡ record { code = self; rule = place_of self place } }
     {
