@@ -69,6 +69,8 @@ function changeView(event) {
 
 function place(view) {
   main.replaceChildren(view);
+  main.removeAttribute('aria-busy');
+  main.dataset.place = location.hash;
   const heading = main.querySelector('h1');
   document.title = `${heading.textContent} · Building permits`;
   heading.focus({ preventScroll: true });
@@ -84,6 +86,7 @@ async function show() {
   drawHead();
   if (session.token() === null) return showSignIn(null);
   const mine = turn;
+  main.setAttribute('aria-busy', 'true');
   const slow = setTimeout(() => { if (mine === turn) main.replaceChildren(el('p', { class: 'none' }, 'The office is asked.')); }, 300);
   try {
     const view = await viewOf(location.hash);

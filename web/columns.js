@@ -11,7 +11,7 @@ export const fileLink = file => el('a', { href: `#/files/${file.id}` }, `File ${
 // A deadline's date with the days that are left.
 export function deadlineNode(file) {
   if (file.deadline === null) return el('span', { class: 'left' }, 'no deadline');
-  return el('span', { class: `left ${file.timing}` }, dateNode(file.deadline), ', ', leftText(file));
+  return el('span', { class: `left ${file.timing}` }, dateNode(file.deadline), ', ', el('span', { class: 'days' }, leftText(file)));
 }
 
 const LATEST = 1_000_000; // Behind every day: what has none comes last.

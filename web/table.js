@@ -5,9 +5,6 @@ import { el } from './dom.js';
 const MARGIN = 8; // Rows drawn above and below those that are seen.
 const NARROW = matchMedia('(max-width: 40rem)');
 
-// The heights of a row, as in style.css.
-const rowHeight = () => (NARROW.matches ? 88 : 44);
-
 function headCell(column, sorted, sort) {
   const { key, label, place } = column;
   const direction = sorted.key === key ? (sorted.down ? 'descending' : 'ascending') : null;
@@ -15,19 +12,22 @@ function headCell(column, sorted, sort) {
   return el('th', { role: 'columnheader', scope: 'col', class: place, 'aria-sort': direction }, content);
 }
 
-function bodyRow(columns, row, index) {
+function bodyRow(columns, row, index, height) {
   const cells = columns.map(({ label, place, cell }) => el('td', { role: 'cell', class: place, 'data-label': label }, cell(row)));
   const line = el('tr', { role: 'row', 'aria-rowindex': String(index + 2), 'data-index': String(index) }, cells);
-  line.style.top = `${index * rowHeight()}px`;
+  line.style.top = `${index * height}px`;
+  line.style.height = `${height}px`;
   return line;
 }
 
 const compare = (left, right) => (left < right ? -1 : left > right ? 1 : 0);
 
 // A column has `key`, `label`, `place` (a class that says where it stands), `cell` (what is shown of a row), and `order`
-// (what rows are sorted by) where it can be sorted by. `kept` is where the sorting and the place in the table stay.
-// The result has the table's element and `show`, which takes other rows.
-export function makeTable({ caption, columns, kept, layout }) {
+// (what rows are sorted by) where it can be sorted by. `kept` is where the sorting and the place in the table stay, and
+// `heights` are those of a row on a wide and on a narrow screen. The result has the table's element, `show`, which takes
+// other rows, and `restore`.
+export function makeTable({ caption, columns, kept, layout, heights }) {
+  const rowHeight = () => heights[NARROW.matches ? 1 : 0];
   const body = el('tbody', { role: 'rowgroup' });
   const head = el('tr', { role: 'row', 'aria-rowindex': '1' });
   const table = el('table', { role: 'table', 'aria-label': caption }, el('thead', { role: 'rowgroup' }, head), body);
@@ -40,7 +40,7 @@ export function makeTable({ caption, columns, kept, layout }) {
     const last = Math.min(rows.length, Math.ceil((element.scrollTop + element.clientHeight) / height) + MARGIN);
     const kept = new Map([...body.children].map(line => [Number(line.dataset.index), line]));
     const lines = [];
-    for (let index = first; index < last; index += 1) lines.push(kept.get(index) ?? bodyRow(columns, rows[index], index));
+    for (let index = first; index < last; index += 1) lines.push(kept.get(index) ?? bodyRow(columns, rows[index], index, height));
     for (const [index, line] of kept) if (index < first || index >= last) line.remove();
     lines.forEach((line, place) => { if (body.children[place] !== line) body.insertBefore(line, body.children[place] ?? null); });
   }
@@ -50,7 +50,6 @@ export function makeTable({ caption, columns, kept, layout }) {
     const focused = body.contains(document.activeElement);
     body.replaceChildren();
     body.style.height = `${rows.length * height}px`;
-    element.style.maxHeight = `min(70vh, ${rows.length * height + 60}px)`;
     table.setAttribute('aria-rowcount', String(rows.length + 1));
     head.replaceChildren(...columns.map(column => headCell(column, kept, sortBy)));
     draw();

@@ -45,7 +45,7 @@ function waySection(file) {
     return el('li', { class: `${how} ${stage}`, 'aria-current': how === 'here' ? 'step' : null },
       el('span', { class: 'stage' }, STAGES[stage]), el('span', { class: 'how' }, words[how]));
   });
-  return el('section', {}, el('h2', {}, 'The way'), el('ol', { class: 'way' }, items));
+  return el('section', {}, el('h2', {}, isCertifiable(file.kind) ? 'The way to the certificate' : 'The way to the final inspection'), el('ol', { class: 'way' }, items));
 }
 
 function stepWords(file, step) {
@@ -107,9 +107,9 @@ function commandsSection(file, view, calls) {
   const ordered = commands => [...commands.filter(admitted), ...commands.filter(command => !admitted(command))];
   const nodes = commands => ordered(commands).map(command => commandNode(command, file, calls));
   return el('section', {}, el('h2', {}, 'What can be done'),
-    el('p', { class: 'hint' }, `What is a part of the ${VIEWS[view].toLowerCase()} comes first. The office decides on each.`),
+    el('p', { class: 'hint' }, `Commands of the ${VIEWS[view].toLowerCase()} come first. The office decides on each.`),
     nodes(first),
-    others.length === 0 ? null : el('details', { class: 'others' }, el('summary', {}, 'What is the part of others'), nodes(others)));
+    others.length === 0 ? null : el('details', { class: 'others' }, el('summary', {}, 'Commands of others'), nodes(others)));
 }
 
 function papersSection(file) {

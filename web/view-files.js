@@ -57,7 +57,7 @@ export async function filesView(again) {
   await readFiles();
   const count = el('p', { role: 'status', class: 'lead' });
   const columns = [id, kind, description, stage, parcel, applicant, deadline];
-  const table = makeTable({ caption: 'Files', columns, kept: kept.table, layout: 'files' });
+  const table = makeTable({ caption: 'Files', columns, kept: kept.table, layout: 'files', heights: [56, 92] });
 
   function show() {
     const shown = narrowed();

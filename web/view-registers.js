@@ -50,7 +50,9 @@ function links(name) {
 export async function registerView(name) {
   const text = await read(`/registers/${name}`);
   const { columns, rows } = parsed(text);
-  const table = makeTable({ caption: `Register of ${name}`, columns, kept: { key: 'FILE', down: false }, layout: `register ${name}` });
+  const heights = [40, 26 * columns.length + 14];
+  const kept = { key: 'FILE', down: false };
+  const table = makeTable({ caption: `Register of ${name}`, columns, kept, layout: `register ${name}`, heights });
   table.show(rows);
   return el('div', {},
     el('h1', { tabindex: '-1' }, `Register: ${REGISTERS[name]}`),

@@ -67,7 +67,8 @@ function groupSection({ title, has, columns, sorted }, files) {
   const mine = files.filter(has);
   const heading = el('h2', {}, `${title} (${mine.length})`);
   if (mine.length === 0) return el('section', {}, heading, el('p', { class: 'none' }, 'Nothing waits here.'));
-  const table = makeTable({ caption: title, columns: [id, kind, description, ...columns], kept: { ...sorted }, layout: 'waiting' });
+  const all = [id, kind, description, ...columns];
+  const table = makeTable({ caption: title, columns: all, kept: { ...sorted }, layout: 'waiting', heights: [56, 118] });
   table.show(mine);
   return el('section', {}, heading, table.element);
 }
