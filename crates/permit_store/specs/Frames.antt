@@ -11,7 +11,7 @@ pub record StoreView : Type 1 where
   -- 0 while what keeps the tables has given back what was written
   pub doubt : ℕ
   -- how many file rows were handed out, how many calls failed, and how many commits were called; these counts have 64
-  -- bits and go round
+  -- bits and wrap
   pub handed : ℕ
   pub failed : ℕ
   pub commits : ℕ

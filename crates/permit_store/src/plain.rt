@@ -84,7 +84,8 @@ impl PlainStore {
     /// The tables after a founding: one party, number 1, an official, on the founding day. It refuses only as
     /// `Store`, where memory is refused.
     pub fn create(alloc: Global, founder: &Founder) -> Result<PlainStore, OpenError>
-        ensures founded { IfOk result (λ s. (⟦<PlainStore as Store>⟧.view s).holds (tables (founding founder.now.name founder.now.digest founder.now.day))) }
+        ensures founded { IfOk result (λ s. (⟦<PlainStore as Store>⟧.view s).holds
+            (tables (founding founder.now.name founder.now.digest founder.now.day))) }
         ensures history { IsHistory (founding founder.now.name founder.now.digest founder.now.day) }
         ensures doubt { IfOk result (λ s. (⟦<PlainStore as Store>⟧.view s).doubt ≡ 0) }
         ensures handed { IfOk result (λ s. (⟦<PlainStore as Store>⟧.view s).handed ≡ 0) }

@@ -151,7 +151,17 @@ impl Model for Paper {
 
     ghost Value = { ThePaper };
 
-    ghost view = { λ p. record { file = p.file; number = p.number; day = p.day; author = p.author; sort = p.sort; days = p.days; text = string_bytes p.text; terms = string_bytes p.terms; is_open = p.is_open } };
+    ghost view = { λ p. record {
+      file = p.file;
+      number = p.number;
+      day = p.day;
+      author = p.author;
+      sort = p.sort;
+      days = p.days;
+      text = string_bytes p.text;
+      terms = string_bytes p.terms;
+      is_open = p.is_open;
+    } };
 }
 
 impl Clone for Paper {

@@ -13,7 +13,7 @@ pub struct Sieve<'a, T> {
     pub caller: PartyId,
     pub day: Day,
     pub taker: &'a mut T,
-    /// How many rows it passed on; the count goes round.
+    /// How many rows it passed on; the count wraps.
     pub passed: u64,
 }
 

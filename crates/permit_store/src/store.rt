@@ -5,7 +5,7 @@ ghost use Rattle.std.specs.List.{list_any};
 ghost use Rattle.permit_model.specs.Routes.{found_by, Found as TheFound};
 ghost use Rattle.permit_model.specs.Tables.{Tables};
 ghost use Rattle.permit_store.specs.Changes.{changed, Fits};
-ghost use Rattle.permit_store.specs.Frames.{StoreView, Reads, IsRead, IsLookUp, IsCommit};
+ghost use Rattle.permit_store.specs.Frames.{StoreView, OverTables, Reads, IsRead, IsLookUp, IsCommit};
 ghost use Rattle.permit_store.specs.Handing.{AreAmong, AreFound, AreHanded, Hands, found_by_any, selected_after};
 
 use crate::rows::{Change, Desk, FileRow, Found, Paper, Parcel, Party};
@@ -57,88 +57,92 @@ pub trait Store {
 
     /// The last day and the counts of parties, parcels and files.
     fn desk(&mut self) -> Got<Desk>
-        ensures found { (view self.new).doubt ≡ 0 → (t : Tables) → (view self.old).holds t → IfOk result (λ d. d ≡ t.desk) }
+        ensures found { OverTables (view self.old) (view self.new) (λ t. IfOk result (λ d. d ≡ t.desk)) }
         ensures read { IsRead (view self.old) (view self.new) result }
         ensures crash { (t : Tables) → crash self.old self.new t (λ _. ⊥) };
 
     /// The party that keeps the digest.
     fn party_by_token(&mut self, digest: &Digest) -> Got<Option<Party>>
-        ensures found { (view self.new).doubt ≡ 0 → (t : Tables) → (view self.old).holds t
-            → IfOk result (λ p. p ≡ find (λ p. bytes_eq p.digest digest.now) t.parties) }
+        ensures found { OverTables (view self.old) (view self.new)
+            (λ t. IfOk result (λ p. p ≡ find (λ p. bytes_eq p.digest digest.now) t.parties)) }
         ensures read { IsRead (view self.old) (view self.new) result }
         ensures crash { (t : Tables) → crash self.old self.new t (λ _. ⊥) };
 
     /// The party of the number.
     fn party(&mut self, party: PartyId) -> Got<Option<Party>>
-        ensures found { (view self.new).doubt ≡ 0 → (t : Tables) → (view self.old).holds t → IfOk result (λ p. p ≡ find (λ p. p.id == party) t.parties) }
+        ensures found { OverTables (view self.old) (view self.new)
+            (λ t. IfOk result (λ p. p ≡ find (λ p. p.id == party) t.parties)) }
         ensures read { IsRead (view self.old) (view self.new) result }
         ensures crash { (t : Tables) → crash self.old self.new t (λ _. ⊥) };
 
     /// The role of the party of the number, with none of the row's texts.
     fn role(&mut self, party: PartyId) -> Got<Option<Role>>
-        ensures found { (view self.new).doubt ≡ 0 → (t : Tables) → (view self.old).holds t
-            → IfOk result (λ r. r ≡ option_map (λ p. p.role) (find (λ p. p.id == party) t.parties)) }
+        ensures found { OverTables (view self.old) (view self.new)
+            (λ t. IfOk result (λ r. r ≡ option_map (λ p. p.role) (find (λ p. p.id == party) t.parties))) }
         ensures read { IsRead (view self.old) (view self.new) result }
         ensures crash { (t : Tables) → crash self.old self.new t (λ _. ⊥) };
 
     /// The parcel of the number.
     fn parcel(&mut self, parcel: ParcelId) -> Got<Option<Parcel>>
-        ensures found { (view self.new).doubt ≡ 0 → (t : Tables) → (view self.old).holds t → IfOk result (λ p. p ≡ find (λ p. p.id == parcel) t.parcels) }
+        ensures found { OverTables (view self.old) (view self.new)
+            (λ t. IfOk result (λ p. p ≡ find (λ p. p.id == parcel) t.parcels)) }
         ensures read { IsRead (view self.old) (view self.new) result }
         ensures crash { (t : Tables) → crash self.old self.new t (λ _. ⊥) };
 
     /// The owner of the parcel of the number, with none of the row's texts.
     fn owner(&mut self, parcel: ParcelId) -> Got<Option<PartyId>>
-        ensures found { (view self.new).doubt ≡ 0 → (t : Tables) → (view self.old).holds t
-            → IfOk result (λ o. o ≡ option_map (λ p. p.owner) (find (λ p. p.id == parcel) t.parcels)) }
+        ensures found { OverTables (view self.old) (view self.new)
+            (λ t. IfOk result (λ o. o ≡ option_map (λ p. p.owner) (find (λ p. p.id == parcel) t.parcels))) }
         ensures read { IsRead (view self.old) (view self.new) result }
         ensures crash { (t : Tables) → crash self.old self.new t (λ _. ⊥) };
 
     /// The parcel of the lot.
     fn parcel_by_lot(&mut self, lot: &Lot) -> Got<Option<Parcel>>
-        ensures found { (view self.new).doubt ≡ 0 → (t : Tables) → (view self.old).holds t
-            → IfOk result (λ p. p ≡ find (λ p. bytes_eq p.lot lot.now) t.parcels) }
+        ensures found { OverTables (view self.old) (view self.new)
+            (λ t. IfOk result (λ p. p ≡ find (λ p. bytes_eq p.lot lot.now) t.parcels)) }
         ensures read { IsRead (view self.old) (view self.new) result }
         ensures crash { (t : Tables) → crash self.old self.new t (λ _. ⊥) };
 
     /// Whether the party has declared an interest in the parcel.
     fn interest(&mut self, parcel: ParcelId, party: PartyId) -> Got<bool>
-        ensures found { (view self.new).doubt ≡ 0 → (t : Tables) → (view self.old).holds t
-            → IfOk result (λ b. b ≡ list_any (λ i. (i.parcel == parcel) && (i.party == party)) t.interests) }
+        ensures found { OverTables (view self.old) (view self.new)
+            (λ t. IfOk result (λ b. b ≡ list_any (λ i. (i.parcel == parcel) && (i.party == party)) t.interests)) }
         ensures read { IsRead (view self.old) (view self.new) result }
         ensures crash { (t : Tables) → crash self.old self.new t (λ _. ⊥) };
 
     /// The row of the file of the number, which counts as handed out.
     fn file(&mut self, file: FileId) -> Got<Option<FileRow>>
-        ensures found { (view self.new).doubt ≡ 0 → (t : Tables) → (view self.old).holds t → IfOk result (λ f. f ≡ find (λ f. f.id == file) t.files) }
+        ensures found { OverTables (view self.old) (view self.new)
+            (λ t. IfOk result (λ f. f ≡ find (λ f. f.id == file) t.files)) }
         ensures read { IsLookUp (view self.old) (view self.new) result }
         ensures crash { (t : Tables) → crash self.old self.new t (λ _. ⊥) };
 
     /// The state of the file of the number, with none of the row's texts. The file counts as handed out.
     fn state(&mut self, file: FileId) -> Got<Option<FileState>>
-        ensures found { (view self.new).doubt ≡ 0 → (t : Tables) → (view self.old).holds t
-            → IfOk result (λ s. s ≡ option_map (λ f. f.state) (find (λ f. f.id == file) t.files)) }
+        ensures found { OverTables (view self.old) (view self.new)
+            (λ t. IfOk result (λ s. s ≡ option_map (λ f. f.state) (find (λ f. f.id == file) t.files))) }
         ensures read { IsLookUp (view self.old) (view self.new) result }
         ensures crash { (t : Tables) → crash self.old self.new t (λ _. ⊥) };
 
     /// The papers of a file, in rising number.
     fn papers(&mut self, file: FileId) -> Got<Vec<Paper>>
-        ensures found { (view self.new).doubt ≡ 0 → (t : Tables) → (view self.old).holds t
-            → IfOk result (λ v. v.items ≡ filter (λ p. p.file == file) t.papers) }
+        ensures found { OverTables (view self.old) (view self.new)
+            (λ t. IfOk result (λ v. v.items ≡ filter (λ p. p.file == file) t.papers)) }
         ensures read { IsRead (view self.old) (view self.new) result }
         ensures crash { (t : Tables) → crash self.old self.new t (λ _. ⊥) };
 
     /// Whether the paper of the number is an open notice of the file.
     fn has_open_notice(&mut self, file: FileId, number: PaperNumber) -> Got<bool>
-        ensures found { (view self.new).doubt ≡ 0 → (t : Tables) → (view self.old).holds t
-            → IfOk result (λ b. b ≡ list_any (λ p. (p.file == file) && (p.is_open && (p.number == number))) t.papers) }
+        ensures found { OverTables (view self.old) (view self.new)
+            (λ t. IfOk result (λ b. b ≡ list_any (λ p. (p.file == file) && (p.is_open && (p.number == number))) t.papers)) }
         ensures read { IsRead (view self.old) (view self.new) result }
         ensures crash { (t : Tables) → crash self.old self.new t (λ _. ⊥) };
 
     /// The file rows that the selection finds for the caller on the day, in rising number, each with its parcel's owner
     /// and whether the caller has an interest in the parcel. Each counts as handed out.
     fn select(&mut self, route: &Route, caller: PartyId, day: Day) -> Got<Vec<Found>>
-        ensures found { (view self.new).doubt ≡ 0 → (t : Tables) → (view self.old).holds t → IfOk result (λ v. AreFound t v.items (found_by route.now caller day t)) }
+        ensures found { OverTables (view self.old) (view self.new)
+            (λ t. IfOk result (λ v. AreFound t v.items (found_by route.now caller day t))) }
         ensures read { Reads ⊤ (selected_after (λ v. length v.items) result (view self.old).handed) (view self.old) (view self.new) result }
         ensures crash { (t : Tables) → crash self.old self.new t (λ _. ⊥) };
 
@@ -153,7 +157,7 @@ pub trait Store {
         taker: &mut T,
     ) -> Got<bool>
         ensures handed { (given : List TheFound) × Hands T.took given (view self.old) (view self.new) taker.old taker.new result
-            × ((view self.new).doubt ≡ 0 → (t : Tables) → (view self.old).holds t → AreHanded t result given (found_by route.now caller day t)) }
+            × OverTables (view self.old) (view self.new) (λ t. AreHanded t result given (found_by route.now caller day t)) }
         ensures crash { (t : Tables) → crash self.old self.new t (λ _. ⊥) };
 
     /// Hands the rows that any of the selections finds to the taker, each once and in any order, one at a time, until it
@@ -166,7 +170,7 @@ pub trait Store {
         taker: &mut T,
     ) -> Got<bool>
         ensures handed { (given : List TheFound) × Hands T.took given (view self.old) (view self.new) taker.old taker.new result
-            × ((view self.new).doubt ≡ 0 → (t : Tables) → (view self.old).holds t → AreAmong result given (found_by_any routes.now caller day t)) }
+            × OverTables (view self.old) (view self.new) (λ t. AreAmong result given (found_by_any routes.now caller day t)) }
         ensures crash { (t : Tables) → crash self.old self.new t (λ _. ⊥) };
 
     /// Makes exactly the change and sets the last day, or answers an error and changes nothing. Of a change that

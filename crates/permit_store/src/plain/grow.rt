@@ -26,7 +26,8 @@ fn number_behind(rows: usize) -> Option<u32>
 
 pub(crate) fn push_party(parties: &mut Vec<Party>, name: &Text, role: Role, digest: &Digest) -> bool
     ensures made { IsTrue result
-        → parties.new.items ≡ parties.old.items ++ (record { id = length parties.old.items + 1; name = name.now; role = role; digest = digest.now }) ∷ [] }
+        → parties.new.items ≡ parties.old.items
+        ++ (record { id = length parties.old.items + 1; name = name.now; role = role; digest = digest.now }) ∷ [] }
     ensures few { length parties.old.items ≤ most_records → length parties.new.items ≤ most_records }
     ensures kept { result ≡ false → parties.new.items ≡ parties.old.items }
 {
@@ -56,7 +57,8 @@ pub(crate) fn push_parcel(
     owner: PartyId,
 ) -> bool
     ensures made { IsTrue result
-        → parcels.new.items ≡ parcels.old.items ++ (record { id = length parcels.old.items + 1; lot = lot.now; address = address.now; owner = owner }) ∷ [] }
+        → parcels.new.items ≡ parcels.old.items
+        ++ (record { id = length parcels.old.items + 1; lot = lot.now; address = address.now; owner = owner }) ∷ [] }
     ensures few { length parcels.old.items ≤ most_records → length parcels.new.items ≤ most_records }
     ensures kept { result ≡ false → parcels.new.items ≡ parcels.old.items }
 {
@@ -91,7 +93,8 @@ pub(crate) fn push_file(
     description: &Text,
 ) -> bool
     ensures made { IsTrue result
-        → files.new.items ≡ files.old.items ++ (record { row = record { id = length files.old.items + 1; state = state; valuation = valuation; description = description.now }; papers = [] }) ∷ [] }
+        → files.new.items ≡ files.old.items
+        ++ (record { row = record { id = length files.old.items + 1; state = state; valuation = valuation; description = description.now }; papers = [] }) ∷ [] }
     ensures few { length files.old.items ≤ most_records → length files.new.items ≤ most_records }
     ensures places { AreInPlace files.old.items → AreInPlace files.new.items }
     ensures kept { result ≡ false → files.new.items ≡ files.old.items }

@@ -39,7 +39,8 @@ impl Selection<'_> {
     /// The row with its owner and the caller's interest, where the selection finds it. What takes longer is looked up
     /// for a row of the cell alone.
     fn find(&self, row: &FileRow) -> Result<Option<Found>, AllocError>
-        ensures { IfOk result (λ found. option_to_list found ≡ filter (Routes.is_found self.now.route self.now.caller self.now.day) (row_seen self.now row.now ∷ [])) }
+        ensures { IfOk result (λ found. option_to_list found
+            ≡ filter (Routes.is_found self.now.route self.now.caller self.now.day) (row_seen self.now row.now ∷ [])) }
     {
         let state = &row.state;
         if !is_in_cell(self.route, self.day, state) {
