@@ -3,7 +3,7 @@ use Rattle.std.specs.Prelude.{◌≡◌, Option, Some, None, Result, Ok, Err}
 use Rattle.permit_routes.specs.declared.fault.BodyFault.{BodyFault}
 use Rattle.permit_routes.specs.declared.fault.BodyFault.TheVariants.{Refused, Memory}
 
--- the result is this meaning, seen by the view; want of memory says nothing of it
+-- the result is this meaning, seen by the view; that memory ran out says nothing of it
 abbrev pub ReadsAs : {A B : Type 0} → (A → B) → Result A BodyFault → Option B → Type 0
 ReadsAs view (Ok x) meaning = meaning ≡ Some (view x)
 ReadsAs view (Err Refused) meaning = meaning ≡ None

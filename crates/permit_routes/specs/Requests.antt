@@ -7,7 +7,8 @@ use Rattle.permit_base.specs.Words.{role_word, all_roles, kind_word, all_kinds}
 use Rattle.permit_base.specs.declared.request.Request.{Request}
 use Rattle.permit_base.specs.declared.request.Request.TheVariants as request
 use Rattle.permit_routes.specs.declared.routing.Target.{Target}
-use Rattle.permit_routes.specs.declared.routing.Target.TheVariants.{Parties, Parcels, Transfer, Declare, ReadParcel, Files, OnFile, ReadFile, ListFiles, Register}
+use Rattle.permit_routes.specs.declared.routing.Target.TheVariants.{Parties, Parcels, Transfer, Declare, ReadParcel, Files, OnFile, ReadFile}
+use Rattle.permit_routes.specs.declared.routing.Target.TheVariants.{ListFiles, Register}
 use Rattle.permit_routes.specs.Commands.{command_of}
 use Rattle.permit_routes.specs.Bodies.{◌>>=◌, object_of, number_at, text_at, word_at}
 

@@ -7,7 +7,8 @@ use Rattle.matchit.specs.Router.{RouteOf}
 use Rattle.permit_routes.specs.declared.routing.Endpoint.{Endpoint}
 use Rattle.permit_routes.specs.declared.routing.Endpoint.TheVariants as endpoint
 use Rattle.permit_routes.specs.declared.routing.Target.{Target}
-use Rattle.permit_routes.specs.declared.routing.Target.TheVariants.{Parties, Parcels, Transfer, Declare, ReadParcel, Files, OnFile, ReadFile, ListFiles, Register}
+use Rattle.permit_routes.specs.declared.routing.Target.TheVariants.{Parties, Parcels, Transfer, Declare, ReadParcel, Files, OnFile, ReadFile}
+use Rattle.permit_routes.specs.declared.routing.Target.TheVariants.{ListFiles, Register}
 use Rattle.permit_base.specs.Limits.{only_if}
 use Rattle.permit_base.specs.Stages.{is_file_stage}
 use Rattle.permit_base.specs.Words.{action_word, all_actions, stage_word, all_stages, register_word, all_registers, named as spelled}

@@ -8,8 +8,8 @@ use std::alloc::{AllocError, Global};
 
 /// The token of a value of the field `Authorization`, or none where it has another form.
 ///
-/// The form is the scheme `Bearer` in any case, one space and the token (RFC 9110, section 11.4). An `Err` is
-/// want of memory for the token.
+/// The form is the scheme `Bearer` in any case, one space and the token (RFC 9110, section 11.4). An `Err` says
+/// that memory for the token ran out.
 pub fn read_token(alloc: Global, value: &[u8]) -> Result<Option<Token>, AllocError>
     ensures { IfOk result (λ token. token ≡ token_of value.now) }
 {

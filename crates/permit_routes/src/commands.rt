@@ -2,7 +2,8 @@
 
 ghost use Rattle.std.specs.Prelude.{◌≡◌};
 ghost use Rattle.permit_routes.specs.Outcome.{ReadsAs, same};
-ghost use Rattle.permit_routes.specs.Commands.{party_in, text_alone, step_in, paper_in, days_and_text, text_and_conditions, bare_command, text_command, command_of};
+ghost use Rattle.permit_routes.specs.Commands.{party_in, text_alone, step_in, paper_in, days_and_text, text_and_conditions, bare_command};
+ghost use Rattle.permit_routes.specs.Commands.{text_command, command_of};
 
 use crate::document::{days_at, object, paper_at, party_at, text_at, word_at};
 use crate::fault::BodyFault;

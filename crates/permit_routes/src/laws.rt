@@ -6,7 +6,7 @@ ghost use Rattle.permit_base.specs.Limits.{is_object_number};
 ghost use Rattle.permit_routes.specs.Ids.{id_in};
 ghost use Rattle.permit_routes.specs.Targets.{target_of};
 ghost use Rattle.permit_base.specs.declared.words.Action.TheVariants.{Issue};
-ghost use Rattle.permit_routes.specs.declared.routing.Target.TheVariants.{Parties, Transfer, Declare, ReadParcel, OnFile, ReadFile, ListFiles, Register};
+ghost use Rattle.permit_routes.specs.declared.routing.Target.TheVariants.{Parties, Parcels, Transfer, Declare, ReadParcel, Files, OnFile, ReadFile, ListFiles, Register};
 ghost use Rattle.permit_base.specs.declared.request.Filter.TheVariants.{All, InStage};
 ghost use Rattle.permit_base.specs.declared.words.Stage.TheVariants.{Review};
 ghost use Rattle.permit_base.specs.declared.words.RegisterKind.TheVariants.{Deadlines};
@@ -14,6 +14,8 @@ ghost use Rattle.permit_base.specs.declared.words.RegisterKind.TheVariants.{Dead
 /// Targets of methods and paths.
 pub fn worked_targets()
     ensures a_party { target_of (codes "POST") (codes "/parties") ≡ Some Parties }
+    ensures a_new_parcel { target_of (codes "POST") (codes "/parcels") ≡ Some Parcels }
+    ensures a_new_file { target_of (codes "POST") (codes "/files") ≡ Some Files }
     ensures a_transfer { target_of (codes "POST") (codes "/parcels/2/transfer") ≡ Some (Transfer 2) }
     ensures an_interest { target_of (codes "POST") (codes "/parcels/2/declare") ≡ Some (Declare 2) }
     ensures a_parcel { target_of (codes "GET") (codes "/parcels/2") ≡ Some (ReadParcel 2) }

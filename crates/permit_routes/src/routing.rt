@@ -176,8 +176,9 @@ fn get_target(alloc: Global, path: &str) -> Result<Option<Target>, AllocError>
 /// The target of a method and a path, or none where they have no route.
 ///
 /// The path is compared byte by byte, and has no query. The number of a parcel or a file is 1 to 99999 without leading
-/// zeros, an action or a register is one of its words, and a stage one that a file can be in; another number or word has no route, nor has a path with a byte that is
-/// not ASCII. Memory is taken for the table of the method's routes alone, and an `Err` is want of it.
+/// zeros, an action or a register is one of its words, and a stage one that a file can be in; another number or word has
+/// no route, nor has a path with a byte that is not ASCII. Memory is taken for the table of the method's routes alone, and
+/// an `Err` says that it ran out.
 pub fn route(alloc: Global, method: &[u8], path: &[u8]) -> Result<Option<Target>, AllocError>
     ensures { IfOk result (λ target. target ≡ target_of method.now path.now) }
 {

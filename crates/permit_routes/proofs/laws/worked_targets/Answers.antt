@@ -7,6 +7,14 @@ pub returns-clause-a_party : goal.returns-clause-a_party
 unfolding matchit_on_literals post_rows get_rows
 returns-clause-a_party c = refl
 
+pub returns-clause-a_new_parcel : goal.returns-clause-a_new_parcel
+unfolding matchit_on_literals post_rows get_rows
+returns-clause-a_new_parcel c = refl
+
+pub returns-clause-a_new_file : goal.returns-clause-a_new_file
+unfolding matchit_on_literals post_rows get_rows
+returns-clause-a_new_file c = refl
+
 pub returns-clause-a_transfer : goal.returns-clause-a_transfer
 unfolding matchit_on_literals post_rows get_rows
 returns-clause-a_transfer c = refl
