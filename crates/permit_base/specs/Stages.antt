@@ -1,7 +1,8 @@
 -- The stages that a file can be in.
 use Rattle.std.specs.Prelude.{Bool, true, false}
 use Rattle.permit_base.specs.declared.words.Stage.{Stage}
-use Rattle.permit_base.specs.declared.words.Stage.TheVariants.{Filed, Review, Returned, Approved, Rejected, Issued, Working, Revoked, Finaled, Certified, Abandoned, Lapsed, New, Office}
+use Rattle.permit_base.specs.declared.words.Stage.TheVariants.{Filed, Review, Returned, Approved, Rejected, Issued, Working, Revoked, Finaled, Certified}
+use Rattle.permit_base.specs.declared.words.Stage.TheVariants.{Abandoned, Lapsed, New, Office}
 
 -- each stage but the words of parcels and parties
 abbrev pub is_file_stage : Stage → Bool

@@ -187,7 +187,8 @@ all_steps =
 -- each stage once
 abbrev pub all_stages : List Stage
 all_stages =
-    stage.Filed ∷ stage.Review ∷ stage.Returned ∷ stage.Approved ∷ stage.Rejected ∷ stage.Issued ∷ stage.Working ∷ stage.Revoked ∷ stage.Finaled ∷ stage.Certified ∷ stage.Abandoned ∷ stage.Lapsed ∷ stage.New ∷ stage.Office ∷ []
+    stage.Filed ∷ stage.Review ∷ stage.Returned ∷ stage.Approved ∷ stage.Rejected ∷ stage.Issued ∷ stage.Working ∷ stage.Revoked ∷ stage.Finaled
+    ∷ stage.Certified ∷ stage.Abandoned ∷ stage.Lapsed ∷ stage.New ∷ stage.Office ∷ []
 
 -- each timing once
 abbrev pub all_timings : List Timing
@@ -202,12 +203,16 @@ all_relations =
 -- each sort of paper once
 abbrev pub all_sorts : List PaperSort
 all_sorts =
-    sort.Permit ∷ sort.Returned ∷ sort.Resubmitted ∷ sort.Rejected ∷ sort.Asked ∷ sort.Granted ∷ sort.Refused ∷ sort.Notice ∷ sort.Stop ∷ sort.Lifted ∷ sort.Revoked ∷ sort.Temporary ∷ sort.Certificate ∷ []
+    sort.Permit ∷ sort.Returned ∷ sort.Resubmitted ∷ sort.Rejected ∷ sort.Asked ∷ sort.Granted ∷ sort.Refused ∷ sort.Notice ∷ sort.Stop ∷ sort.Lifted
+    ∷ sort.Revoked ∷ sort.Temporary ∷ sort.Certificate ∷ []
 
 -- each action once
 abbrev pub all_actions : List Action
 all_actions =
-    action.AddParty ∷ action.AddStaff ∷ action.AddParcel ∷ action.Transfer ∷ action.Declare ∷ action.ReadParcel ∷ action.File ∷ action.Read ∷ action.List ∷ action.AssignReviewer ∷ action.AssignInspector ∷ action.NameContractor ∷ action.StartReview ∷ action.Return ∷ action.Resubmit ∷ action.ApprovePlans ∷ action.Reject ∷ action.Issue ∷ action.AskExtension ∷ action.GrantExtension ∷ action.RefuseExtension ∷ action.BeginWork ∷ action.RequestInspection ∷ action.ApproveStep ∷ action.Notice ∷ action.ClearNotice ∷ action.Stop ∷ action.Lift ∷ action.Revoke ∷ action.Temporary ∷ action.Certify ∷ []
+    action.AddParty ∷ action.AddStaff ∷ action.AddParcel ∷ action.Transfer ∷ action.Declare ∷ action.ReadParcel ∷ action.File ∷ action.Read ∷ action.List
+    ∷ action.AssignReviewer ∷ action.AssignInspector ∷ action.NameContractor ∷ action.StartReview ∷ action.Return ∷ action.Resubmit ∷ action.ApprovePlans
+    ∷ action.Reject ∷ action.Issue ∷ action.AskExtension ∷ action.GrantExtension ∷ action.RefuseExtension ∷ action.BeginWork ∷ action.RequestInspection
+    ∷ action.ApproveStep ∷ action.Notice ∷ action.ClearNotice ∷ action.Stop ∷ action.Lift ∷ action.Revoke ∷ action.Temporary ∷ action.Certify ∷ []
 
 -- each effect once
 abbrev pub all_effects : List Effect
@@ -222,4 +227,5 @@ all_registers =
 -- each reason once
 abbrev pub all_reasons : List Reason
 all_reasons =
-    reason.Stage ∷ reason.Stopped ∷ reason.Person ∷ reason.Interested ∷ reason.Days ∷ reason.Pending ∷ reason.NothingPending ∷ reason.Step ∷ reason.NoticeOpen ∷ reason.NoSuchNotice ∷ reason.Kind ∷ reason.Taken ∷ reason.Full ∷ reason.Far ∷ []
+    reason.Stage ∷ reason.Stopped ∷ reason.Person ∷ reason.Interested ∷ reason.Days ∷ reason.Pending ∷ reason.NothingPending ∷ reason.Step ∷ reason.NoticeOpen
+    ∷ reason.NoSuchNotice ∷ reason.Kind ∷ reason.Taken ∷ reason.Full ∷ reason.Far ∷ []

@@ -7,7 +7,8 @@ use Rattle.permit_base.specs.declared.words.Kind.{Kind}
 use Rattle.permit_base.specs.declared.words.Step.{Step}
 use Rattle.permit_base.specs.declared.words.Step.TheVariants.{Final}
 use Rattle.permit_base.specs.declared.request.Command.{Command}
-use Rattle.permit_base.specs.declared.request.Command.TheVariants.{Reject, Issue, AskExtension, GrantExtension, RefuseExtension, BeginWork, RequestInspection, ApproveStep, Notice, ClearNotice, Stop, Lift, Revoke, Certify}
+use Rattle.permit_base.specs.declared.request.Command.TheVariants.{Reject, Issue, AskExtension, GrantExtension, RefuseExtension, BeginWork, RequestInspection}
+use Rattle.permit_base.specs.declared.request.Command.TheVariants.{ApproveStep, Notice, ClearNotice, Stop, Lift, Revoke, Certify}
 use Rattle.permit_base.specs.declared.request.Request.TheVariants.{File, OnFile}
 use Rattle.permit_model.specs.Search.{add_last, has_number}
 use Rattle.permit_model.specs.Effects.{effects}
@@ -31,7 +32,8 @@ use Rattle.permit_core.specs.RowAfter.{deadline_after, done_after, requested_aft
 
 -- ---- the deadline
 
-same_deadline : (command : Command) (day : ℕ) (ask old : Option ℕ) → deadlines.deadline_after command day ask old ≡ deadline_after (effects command).grants (effects command).stage (effects command).anchor day ask old
+same_deadline : (command : Command) (day : ℕ) (ask old : Option ℕ) → deadlines.deadline_after command day ask old
+    ≡ deadline_after (effects command).grants (effects command).stage (effects command).anchor day ask old
 same_deadline Issue day ask old = refl
 same_deadline BeginWork day ask old = refl
 same_deadline (RequestInspection step) day ask old = refl
@@ -50,19 +52,22 @@ done_more : (command : Command) (steps : List Step) → length (add_last steps (
 done_more (ApproveStep step) steps = length-append steps (step ∷ [])
 done_more _ steps = refl
 
-request_more : (caller day : ℕ) (command : Command) (number : Option ℕ) (before : List Act) → pending_step (act_by caller day command number ∷ before) ≡ unwrap_or (effects command).request (pending_step before)
+request_more : (caller day : ℕ) (command : Command) (number : Option ℕ) (before : List Act) →
+    pending_step (act_by caller day command number ∷ before) ≡ unwrap_or (effects command).request (pending_step before)
 request_more caller day (RequestInspection step) number before = refl
 request_more caller day (ApproveStep step) number before = refl
 request_more caller day (Notice text) number before = refl
 request_more caller day _ number before = refl
 
-requested_more : (caller day : ℕ) (command : Command) (number : Option ℕ) (before : List Act) → requested_day (act_by caller day command number ∷ before) ≡ requested_after day (effects command).request (requested_day before)
+requested_more : (caller day : ℕ) (command : Command) (number : Option ℕ) (before : List Act) →
+    requested_day (act_by caller day command number ∷ before) ≡ requested_after day (effects command).request (requested_day before)
 requested_more caller day (RequestInspection step) number before = refl
 requested_more caller day (ApproveStep step) number before = refl
 requested_more caller day (Notice text) number before = refl
 requested_more caller day _ number before = refl
 
-ask_more : (caller day : ℕ) (command : Command) (number : Option ℕ) (before : List Act) → pending_ask (act_by caller day command number ∷ before) ≡ unwrap_or (effects command).ask (pending_ask before)
+ask_more : (caller day : ℕ) (command : Command) (number : Option ℕ) (before : List Act) →
+    pending_ask (act_by caller day command number ∷ before) ≡ unwrap_or (effects command).ask (pending_ask before)
 ask_more caller day (AskExtension days text) number before = refl
 ask_more caller day GrantExtension number before = refl
 ask_more caller day (RefuseExtension text) number before = refl
@@ -71,7 +76,8 @@ ask_more caller day _ number before = refl
 
 -- ---- stop work orders
 
-stopped_more : (filing : Filing) (caller day : ℕ) (command : Command) (number : Option ℕ) (before : List Act) → WereAdmitted filing before → is_stopped (act_by caller day command number ∷ before) ≡ ((effects command).stops || (not (effects command).lifts && is_stopped before))
+stopped_more : (filing : Filing) (caller day : ℕ) (command : Command) (number : Option ℕ) (before : List Act) → WereAdmitted filing before →
+    is_stopped (act_by caller day command number ∷ before) ≡ ((effects command).stops || (not (effects command).lifts && is_stopped before))
 stopped_more filing caller day (Stop text conditions) number before all = stopped_by_order filing caller day text conditions number before all
 stopped_more filing caller day Lift number before all = released_by_lift filing caller day number before all
 stopped_more filing caller day _ number before all = refl
@@ -98,32 +104,60 @@ falling_few bound (n ∷ ns) f = omega (arith, falling_few (n - 1) ns f.2, f.0, 
 pub notices_few : (filing : Filing) (acts : List Act) → WereAdmitted filing acts → length (open_notices acts) ≤ paper_count acts
 notices_few filing acts w = falling_few (paper_count acts) (open_notices acts) (open_fall acts (are_numbered filing acts w))
 
-counted_after : (filing : Filing) (caller day : ℕ) (command : Command) (number : Option ℕ) (before : List Act) → WasAdmitted filing (act_by caller day command number) before → WereAdmitted filing before →
+counted_after : (filing : Filing) (caller day : ℕ) (command : Command) (number : Option ℕ) (before : List Act) →
+    WasAdmitted filing (act_by caller day command number) before → WereAdmitted filing before →
     length (open_after command number (open_notices before)) ≡ notices_after (effects command).notice (effects command).cleared (length (open_notices before))
 counted_after filing caller day (Notice text) number before w all = rw (w.numbered) (omega arith)
 counted_after filing caller day (ClearNotice paper) number before w all =
-    let there : has_number (open_notices before) paper ≡ true = not_false (has_number (open_notices before) paper) (tests_passed filing (act_by caller day (ClearNotice paper) number) before w).1.0 in
+    let there : has_number (open_notices before) paper ≡ true = not_false (has_number (open_notices before) paper)
+    (tests_passed filing (act_by caller day (ClearNotice paper) number) before w).1.0 in
     omega (arith, length-cleared (paper_count before) paper (open_notices before) (open_fall before (are_numbered filing before all)) there)
 counted_after filing caller day _ number before w all = refl
 
-notices_more : (filing : Filing) (caller day : ℕ) (command : Command) (number : Option ℕ) (before : List Act) → WasAdmitted filing (act_by caller day command number) before → WereAdmitted filing before →
-    length (open_notices (act_by caller day command number ∷ before)) ≡ notices_after (effects command).notice (effects command).cleared (length (open_notices before))
+notices_more : (filing : Filing) (caller day : ℕ) (command : Command) (number : Option ℕ) (before : List Act) →
+    WasAdmitted filing (act_by caller day command number) before → WereAdmitted filing before →
+    length (open_notices (act_by caller day command number ∷ before)) ≡ notices_after (effects command).notice (effects command).cleared
+    (length (open_notices before))
 notices_more filing caller day command number before w all =
-    ap length (open_more caller day command number before (fresh filing caller day command number before w all)) ∙ counted_after filing caller day command number before w all
+    ap length (open_more caller day command number before (fresh filing caller day command number before w all))
+    ∙ counted_after filing caller day command number before w all
 
 -- ---- the whole row
 
-same_row : (a b : State) → a.parcel ≡ b.parcel → a.applicant ≡ b.applicant → a.contractor ≡ b.contractor → a.reviewer ≡ b.reviewer → a.inspector ≡ b.inspector → a.kind ≡ b.kind → a.filed ≡ b.filed → a.stage ≡ b.stage → a.deadline ≡ b.deadline →
-    a.done ≡ b.done → a.request ≡ b.request → a.requested ≡ b.requested → a.ask ≡ b.ask → a.stopped ≡ b.stopped → a.notices ≡ b.notices → a.papers ≡ b.papers → a.temporary ≡ b.temporary → a ≡ b
-same_row a b e1 e2 e3 e4 e5 e6 e7 e8 e9 e10 e11 e12 e13 e14 e15 e16 e17 = λ i. record { parcel = e1 i; applicant = e2 i; contractor = e3 i; reviewer = e4 i; inspector = e5 i; kind = e6 i; filed = e7 i; stage = e8 i; deadline = e9 i; done = e10 i; request = e11 i; requested = e12 i; ask = e13 i; stopped = e14 i; notices = e15 i; papers = e16 i; temporary = e17 i }
+same_row : (a b : State) → a.parcel ≡ b.parcel → a.applicant ≡ b.applicant → a.contractor ≡ b.contractor → a.reviewer ≡ b.reviewer → a.inspector ≡ b.inspector →
+    a.kind ≡ b.kind → a.filed ≡ b.filed → a.stage ≡ b.stage → a.deadline ≡ b.deadline →
+    a.done ≡ b.done → a.request ≡ b.request → a.requested ≡ b.requested → a.ask ≡ b.ask → a.stopped ≡ b.stopped → a.notices ≡ b.notices → a.papers ≡ b.papers →
+    a.temporary ≡ b.temporary → a ≡ b
+same_row a b e1 e2 e3 e4 e5 e6 e7 e8 e9 e10 e11 e12 e13 e14 e15 e16 e17 =
+    λ i. record {
+      parcel = e1 i;
+      applicant = e2 i;
+      contractor = e3 i;
+      reviewer = e4 i;
+      inspector = e5 i;
+      kind = e6 i;
+      filed = e7 i;
+      stage = e8 i;
+      deadline = e9 i;
+      done = e10 i;
+      request = e11 i;
+      requested = e12 i;
+      ask = e13 i;
+      stopped = e14 i;
+      notices = e15 i;
+      papers = e16 i;
+      temporary = e17 i;
+    }
 
-row_of_act : (filing : Filing) (caller day : ℕ) (command : Command) (number : Option ℕ) (before : List Act) → WasAdmitted filing (act_by caller day command number) before → WereAdmitted filing before →
+row_of_act : (filing : Filing) (caller day : ℕ) (command : Command) (number : Option ℕ) (before : List Act) →
+    WasAdmitted filing (act_by caller day command number) before → WereAdmitted filing before →
     state_of (case_of filing (act_by caller day command number ∷ before)) ≡ row_after day command (state_of (case_of filing before))
 row_of_act filing caller day command number before w all =
     same_row (state_of (case_of filing (act_by caller day command number ∷ before))) (row_after day command (state_of (case_of filing before)))
     refl refl refl refl refl refl refl
     (base_stage-more (act_by caller day command number) before)
-    (deadline_more filing caller day command number before w (unanchored filing before all) ∙ same_deadline command day (pending_ask before) (deadline (case_of filing before)))
+    (deadline_more filing caller day command number before w (unanchored filing before all)
+    ∙ same_deadline command day (pending_ask before) (deadline (case_of filing before)))
     (done_more command (approved_steps before))
     (request_more caller day command number before)
     (requested_more caller day command number before)
@@ -134,11 +168,13 @@ row_of_act filing caller day command number before w all =
     refl
 
 -- what an admitted command of a history makes of a file's row
-pub row_more : (h : History) (id day caller : ℕ) (file : CaseFile) (command : Command) → IsHistory h → case_numbered h id ≡ Some file → last_day h ≤ day → reason_against h day caller (OnFile id command) ≡ None →
+pub row_more : (h : History) (id day caller : ℕ) (file : CaseFile) (command : Command) → IsHistory h → case_numbered h id ≡ Some file → last_day h ≤ day →
+    reason_against h day caller (OnFile id command) ≡ None →
     state_of (file_after day command caller file) ≡ row_after day command (state_of file)
 row_more h id day caller file command is there later admitted =
     let done : DoneTo h file = done_to h id file is there in
-    let none : first_failing (file_tests h day file command) ≡ None = sym (ap (λ (o : Option CaseFile). first_failing (tests_on h day o command)) there) ∙ admitted in
+    let none : first_failing (file_tests h day file command) ≡ None = sym (ap (λ (o : Option CaseFile). first_failing (tests_on h day o command)) there)
+    ∙ admitted in
     row_of_act file.filing caller day command (paper_number command (Some file)) file.acts
     (record { history = h; admitted = none; numbered = refl; in_time = omega (arith, done.until, later) }) done.admitted
 
@@ -150,7 +186,8 @@ notices_within h id file is there = notices_few file.filing file.acts (done_to h
 
 -- the entry's act is on the file of its number
 act_added : (h : History) (entry : Entry) (command : Command) (filing : Filing) (b : Bool) → b ≡ true →
-    case_of filing (cons_option (option_map (act_of entry) (if b then Some command else None)) (acts_on filing.id h)) ≡ case_of filing (act_of entry command ∷ acts_on filing.id h)
+    case_of filing (cons_option (option_map (act_of entry) (if b then Some command else None)) (acts_on filing.id h))
+    ≡ case_of filing (act_of entry command ∷ acts_on filing.id h)
 act_added h entry command filing true e = refl
 act_added h entry command filing false e = cc
 
@@ -160,7 +197,8 @@ file_recorded h id day caller command filing named there =
     act_added h (entry_of h day caller (OnFile id command)) command filing (id == filing.id) (eq-eqb id filing.id (sym named))
     ∙ ap (λ (o : Option CaseFile). case_of filing (act_by caller day command (paper_number command o) ∷ acts_on filing.id h)) there
 
-recorded_by : (h : History) (id day caller : ℕ) (file after : CaseFile) (command : Command) (o : Option Filing) → filing_numbered (filings h) id ≡ o → case_numbered h id ≡ Some file → option_map (case_file h) o ≡ Some file →
+recorded_by : (h : History) (id day caller : ℕ) (file after : CaseFile) (command : Command) (o : Option Filing) → filing_numbered (filings h) id ≡ o →
+    case_numbered h id ≡ Some file → option_map (case_file h) o ≡ Some file →
     option_map (case_file (entry_of h day caller (OnFile id command) ∷ h)) o ≡ Some after → after ≡ file_after day command caller file
 recorded_by h id day caller file after command None e there was is = cc
 recorded_by h id day caller file after command (Some filing) e there was is =
@@ -169,7 +207,8 @@ recorded_by h id day caller file after command (Some filing) e there was is =
     sym (ap (λ o. unwrap_or o after) is) ∙ file_recorded h id day caller command filing named (there ∙ sym was) ∙ ap (file_after day command caller) same
 
 -- the file after a command is the file of its number in the history with the entry added
-pub recorded : (h : History) (id day caller : ℕ) (file after : CaseFile) (command : Command) → case_numbered h id ≡ Some file → case_numbered (entry_of h day caller (OnFile id command) ∷ h) id ≡ Some after →
+pub recorded : (h : History) (id day caller : ℕ) (file after : CaseFile) (command : Command) → case_numbered h id ≡ Some file →
+    case_numbered (entry_of h day caller (OnFile id command) ∷ h) id ≡ Some after →
     after ≡ file_after day command caller file
 recorded h id day caller file after command there is = recorded_by h id day caller file after command (filing_numbered (filings h) id) refl there there is
 
@@ -177,7 +216,8 @@ recorded h id day caller file after command there is = recorded_by h id day call
 
 -- the new file is found by the next number, and nothing was done to it
 pub filing_recorded : (h : History) (day caller parcel : ℕ) (kind : Kind) (valuation : ℕ) (description : List ℕ) → IsHistory h →
-    case_numbered (entry_of h day caller (File parcel kind valuation description) ∷ h) (length (filings h) + 1) ≡ Some (filed_by caller parcel kind day (length (filings h) + 1) valuation description)
+    case_numbered (entry_of h day caller (File parcel kind valuation description) ∷ h) (length (filings h) + 1)
+    ≡ Some (filed_by caller parcel kind day (length (filings h) + 1) valuation description)
 filing_recorded h day caller parcel kind valuation description is =
     let n : ℕ = length (filings h) + 1 in
     let new : Filing = (filed_by caller parcel kind day n valuation description).filing in

@@ -11,7 +11,9 @@ use Rattle.permit_base.specs.declared.words.Step.TheVariants.{Final}
 use Rattle.permit_base.specs.declared.words.Stage.{Stage}
 use Rattle.permit_base.specs.declared.words.Stage.TheVariants as stage
 use Rattle.permit_base.specs.declared.request.Command.{Command}
-use Rattle.permit_base.specs.declared.request.Command.TheVariants.{StartReview, Return, Resubmit, ApprovePlans, Reject, Issue, AskExtension, GrantExtension, RefuseExtension, BeginWork, RequestInspection, ApproveStep, Notice, ClearNotice, Stop, Lift, Revoke, Temporary, Certify}
+use Rattle.permit_base.specs.declared.request.Command.TheVariants.{StartReview, Return, Resubmit, ApprovePlans, Reject, Issue, AskExtension, GrantExtension}
+use Rattle.permit_base.specs.declared.request.Command.TheVariants.{RefuseExtension, BeginWork, RequestInspection, ApproveStep, Notice, ClearNotice, Stop, Lift}
+use Rattle.permit_base.specs.declared.request.Command.TheVariants.{Revoke, Temporary, Certify}
 use Rattle.permit_core.specs.declared.people.People.{People}
 use Rattle.permit_model.specs.Codes.{is_stage, is_stage_among}
 use Rattle.permit_model.specs.Days.{is_past}
@@ -46,9 +48,12 @@ parts false b e = cc
 
 pub sound_facts : (s : State) → IsSoundState s → Sound s
 sound_facts s h =
-    let free = parts (is_stored s.stage && nat_le s.done (length (required_steps s.kind)) && deadline_stands s && is_for s.request (next_in_row s) && request_dated s && (not (is_completed s.stage) || is_finished s)) (not (is_certified s.stage) || not s.stopped) h in
-    let over = parts (is_stored s.stage && nat_le s.done (length (required_steps s.kind)) && deadline_stands s && is_for s.request (next_in_row s) && request_dated s) (not (is_completed s.stage) || is_finished s) free.0 in
-    let dated = parts (is_stored s.stage && nat_le s.done (length (required_steps s.kind)) && deadline_stands s && is_for s.request (next_in_row s)) (request_dated s) over.0 in
+    let free = parts (is_stored s.stage && nat_le s.done (length (required_steps s.kind)) && deadline_stands s && is_for s.request (next_in_row s)
+    && request_dated s && (not (is_completed s.stage) || is_finished s)) (not (is_certified s.stage) || not s.stopped) h in
+    let over = parts (is_stored s.stage && nat_le s.done (length (required_steps s.kind)) && deadline_stands s && is_for s.request (next_in_row s)
+    && request_dated s) (not (is_completed s.stage) || is_finished s) free.0 in
+    let dated = parts (is_stored s.stage && nat_le s.done (length (required_steps s.kind)) && deadline_stands s && is_for s.request (next_in_row s))
+    (request_dated s) over.0 in
     let request = parts (is_stored s.stage && nat_le s.done (length (required_steps s.kind)) && deadline_stands s) (is_for s.request (next_in_row s)) dated.0 in
     let stands = parts (is_stored s.stage && nat_le s.done (length (required_steps s.kind))) (deadline_stands s) request.0 in
     let few = parts (is_stored s.stage) (nat_le s.done (length (required_steps s.kind))) stands.0 in
@@ -59,8 +64,10 @@ sound_whole s f = rw (f.stored, f.few, f.stands, f.request, f.dated, f.over, f.f
 
 -- ---- the stage in which a command was admitted
 
-pub row_was_in : (day : ℕ) (s : State) (wanted : Stage) → is_stored wanted ≡ true → not (is_stage_among (wanted ∷ []) (row_stage day s)) ≡ false → s.stage ≡ wanted
-row_was_in day s wanted stored h = unpassed s.stage wanted (is_past day s.deadline) stored (only_one (row_stage day s) wanted (is_stage (row_stage day s) wanted) refl h)
+pub row_was_in : (day : ℕ) (s : State) (wanted : Stage) → is_stored wanted ≡ true → not (is_stage_among (wanted ∷ []) (row_stage day s)) ≡ false →
+    s.stage ≡ wanted
+row_was_in day s wanted stored h = unpassed s.stage wanted (is_past day s.deadline) stored
+    (only_one (row_stage day s) wanted (is_stage (row_stage day s) wanted) refl h)
 
 -- a certified file is neither stopped nor released
 certified_not_stoppable : (s : Stage) (past : Bool) → is_certified s ≡ true → not (is_stage_among stoppable_stages (if past then past_stage s else s)) ≡ true
@@ -68,7 +75,8 @@ certified_not_stoppable stage.Certified true e = refl
 certified_not_stoppable stage.Certified false e = refl
 certified_not_stoppable _ past e = cc
 
-not_certified_by : (day : ℕ) (s : State) (b : Bool) → is_certified s.stage ≡ b → not (is_stage_among stoppable_stages (row_stage day s)) ≡ false → (not b || false) ≡ true
+not_certified_by : (day : ℕ) (s : State) (b : Bool) → is_certified s.stage ≡ b → not (is_stage_among stoppable_stages (row_stage day s)) ≡ false →
+    (not b || false) ≡ true
 not_certified_by day s false e h = refl
 not_certified_by day s true e h = sym h ∙ certified_not_stoppable s.stage (is_past day s.deadline) e
 
@@ -80,7 +88,8 @@ timed s wanted f was t = let e : is_timed s.stage ≡ true = ap is_timed was ∙
 stands_active : (s wanted : Stage) (day : ℕ) → s ≡ wanted → is_timed wanted ≡ true → (if is_timed s then true else false) ≡ true
 stands_active s wanted day was t = let e : is_timed s ≡ true = ap is_timed was ∙ t in rw e refl
 
-stands_granted : (t : Bool) (more : ℕ) (d : Option ℕ) → (if t then is_some d else is_none d) ≡ true → (if t then is_some (option_map (λ (n : ℕ). n + more) d) else is_none (option_map (λ (n : ℕ). n + more) d)) ≡ true
+stands_granted : (t : Bool) (more : ℕ) (d : Option ℕ) → (if t then is_some d else is_none d) ≡ true →
+    (if t then is_some (option_map (λ (n : ℕ). n + more) d) else is_none (option_map (λ (n : ℕ). n + more) d)) ≡ true
 stands_granted t more None h = h
 stands_granted t more (Some n) h = h
 
@@ -111,17 +120,57 @@ none_open notices h = eq-eqb notices 0 (omega (arith, not_below 0 notices h))
 
 sound_more : (day : ℕ) (command : Command) (s : State) (people : People) → Sound s → AllPass (row_tests day s people command) → Sound (row_after day command s)
 sound_more day StartReview s people f p =
-    record { stored = refl; few = f.few; stands = timed s stage.Filed f (row_was_in day s stage.Filed refl p.0) refl; request = f.request; dated = f.dated; over = refl; free = refl }
+    record {
+      stored = refl;
+      few = f.few;
+      stands = timed s stage.Filed f (row_was_in day s stage.Filed refl p.0) refl;
+      request = f.request;
+      dated = f.dated;
+      over = refl;
+      free = refl;
+    }
 sound_more day (Return text) s people f p =
-    record { stored = refl; few = f.few; stands = timed s stage.Review f (row_was_in day s stage.Review refl p.0) refl; request = f.request; dated = f.dated; over = refl; free = refl }
+    record {
+      stored = refl;
+      few = f.few;
+      stands = timed s stage.Review f (row_was_in day s stage.Review refl p.0) refl;
+      request = f.request;
+      dated = f.dated;
+      over = refl;
+      free = refl;
+    }
 sound_more day (Resubmit text) s people f p =
-    record { stored = refl; few = f.few; stands = timed s stage.Returned f (row_was_in day s stage.Returned refl p.0) refl; request = f.request; dated = f.dated; over = refl; free = refl }
+    record {
+      stored = refl;
+      few = f.few;
+      stands = timed s stage.Returned f (row_was_in day s stage.Returned refl p.0) refl;
+      request = f.request;
+      dated = f.dated;
+      over = refl;
+      free = refl;
+    }
 sound_more day ApprovePlans s people f p =
-    record { stored = refl; few = f.few; stands = timed s stage.Review f (row_was_in day s stage.Review refl p.0) refl; request = f.request; dated = f.dated; over = refl; free = refl }
+    record {
+      stored = refl;
+      few = f.few;
+      stands = timed s stage.Review f (row_was_in day s stage.Review refl p.0) refl;
+      request = f.request;
+      dated = f.dated;
+      over = refl;
+      free = refl;
+    }
 sound_more day (Reject text) s people f p = record { stored = refl; few = f.few; stands = refl; request = f.request; dated = f.dated; over = refl; free = refl }
 sound_more day Issue s people f p = record { stored = refl; few = f.few; stands = refl; request = f.request; dated = f.dated; over = refl; free = refl }
 sound_more day GrantExtension s people f p =
-    record { stored = f.stored; few = f.few; stands = stands_granted (is_timed s.stage) (unwrap_or s.ask 0) s.deadline f.stands; request = f.request; dated = f.dated; over = f.over; free = f.free }
+    record {
+      stored = f.stored;
+      few = f.few;
+      stands = stands_granted (is_timed s.stage) (unwrap_or s.ask 0) s.deadline f.stands;
+      request = f.request;
+      dated = f.dated;
+      over = f.over;
+      free = f.free;
+    }
 sound_more day BeginWork s people f p = record { stored = refl; few = f.few; stands = refl; request = f.request; dated = f.dated; over = refl; free = refl }
 sound_more day (RequestInspection step) s people f p =
     let next : next_in_row s ≡ Some step = is_it (next_in_row s) step p.1.1.1.0 in
@@ -159,13 +208,45 @@ sound_more day (ApproveStep step) s people f p =
     }
 sound_more day (Notice text) s people f p =
     let was : s.stage ≡ stage.Working = row_was_in day s stage.Working refl p.0 in
-    record { stored = f.stored; few = f.few; stands = stands_active s.stage stage.Working day was refl; request = refl; dated = refl; over = not_over s.stage stage.Working _ was refl; free = f.free }
+    record {
+      stored = f.stored;
+      few = f.few;
+      stands = stands_active s.stage stage.Working day was refl;
+      request = refl;
+      dated = refl;
+      over = not_over s.stage stage.Working _ was refl;
+      free = f.free;
+    }
 sound_more day (ClearNotice paper) s people f p =
-    record { stored = f.stored; few = f.few; stands = f.stands; request = f.request; dated = f.dated; over = not_over s.stage stage.Working _ (row_was_in day s stage.Working refl p.0) refl; free = f.free }
+    record {
+      stored = f.stored;
+      few = f.few;
+      stands = f.stands;
+      request = f.request;
+      dated = f.dated;
+      over = not_over s.stage stage.Working _ (row_was_in day s stage.Working refl p.0) refl;
+      free = f.free;
+    }
 sound_more day (Stop text conditions) s people f p =
-    record { stored = f.stored; few = f.few; stands = f.stands; request = f.request; dated = f.dated; over = f.over; free = not_certified_by day s (is_certified s.stage) refl p.0 }
+    record {
+      stored = f.stored;
+      few = f.few;
+      stands = f.stands;
+      request = f.request;
+      dated = f.dated;
+      over = f.over;
+      free = not_certified_by day s (is_certified s.stage) refl p.0;
+    }
 sound_more day Lift s people f p =
-    record { stored = f.stored; few = f.few; stands = f.stands; request = f.request; dated = f.dated; over = f.over; free = or-true (not (is_certified s.stage)) }
+    record {
+      stored = f.stored;
+      few = f.few;
+      stands = f.stands;
+      request = f.request;
+      dated = f.dated;
+      over = f.over;
+      free = or-true (not (is_certified s.stage));
+    }
 sound_more day (Revoke text) s people f p = record { stored = refl; few = f.few; stands = refl; request = f.request; dated = f.dated; over = refl; free = refl }
 sound_more day Certify s people f p =
     let e : is_completed s.stage ≡ true = ap is_completed (row_was_in day s stage.Finaled refl p.0) in
@@ -176,10 +257,19 @@ sound_more day _ s people f p = record { stored = f.stored; few = f.few; stands 
 
 -- with any count of papers, and a count of notices that is the one after the command wherever it fits
 sound_counted : (day : ℕ) (command : Command) (s : State) (people : People) (notices papers : ℕ) → Sound s → AllPass (row_tests day s people command) →
-    (FitsNotice (effects command).notice s.notices → notices ≡ notices_after (effects command).notice (effects command).cleared s.notices) → Sound (record (row_after day command s) { notices = notices; papers = papers })
+    (FitsNotice (effects command).notice s.notices → notices ≡ notices_after (effects command).notice (effects command).cleared s.notices) →
+    Sound (record (row_after day command s) { notices = notices; papers = papers })
 sound_counted day (Notice text) s people notices papers f p h =
     let g : Sound (row_after day (Notice text) s) = sound_more day (Notice text) s people f p in
-    record { stored = g.stored; few = g.few; stands = g.stands; request = g.request; dated = g.dated; over = not_over s.stage stage.Working _ (row_was_in day s stage.Working refl p.0) refl; free = g.free }
+    record {
+      stored = g.stored;
+      few = g.few;
+      stands = g.stands;
+      request = g.request;
+      dated = g.dated;
+      over = not_over s.stage stage.Working _ (row_was_in day s stage.Working refl p.0) refl;
+      free = g.free;
+    }
 sound_counted day command s people notices papers f p h =
     let g : Sound (row_after day command s) = sound_more day command s people f p in
     let e : notices ≡ notices_after (effects command).notice (effects command).cleared s.notices = h (λ x. cc) in
@@ -189,12 +279,14 @@ sound_counted day command s people notices papers f p h =
       stands = g.stands;
       request = g.request;
       dated = g.dated;
-      over = subst (λ n. (not (is_completed (row_after day command s).stage) || is_finished (record (row_after day command s) { notices = n; papers = papers })) ≡ true) (sym e) g.over;
+      over = subst (λ n. (not (is_completed (row_after day command s).stage) || is_finished (record (row_after day command s) { notices = n; papers = papers }))
+          ≡ true) (sym e) g.over;
       free = g.free;
     }
 
 pub sound_after : (day : ℕ) (command : Command) (s : State) (notices papers : ℕ) → IsSoundState s → IsAdmitted day s command →
-    (FitsNotice (effects command).notice s.notices → notices ≡ notices_after (effects command).notice (effects command).cleared s.notices) → IsSoundState (record (row_after day command s) { notices = notices; papers = papers })
+    (FitsNotice (effects command).notice s.notices → notices ≡ notices_after (effects command).notice (effects command).cleared s.notices) →
+    IsSoundState (record (row_after day command s) { notices = notices; papers = papers })
 sound_after day command s notices papers sound admitted h =
     sound_whole (record (row_after day command s) { notices = notices; papers = papers })
     (sound_counted day command s admitted.0 notices papers (sound_facts s sound) (all_pass (row_tests day s admitted.0 command) admitted.1) h)
@@ -213,7 +305,8 @@ few_steps Occupancy = lit≤ tt
 pub few_done : (s : State) → IsSoundState s → s.done < 255
 few_done s sound = omega (arith, few_steps s.kind, leb-true s.done (length (required_steps s.kind)) (sound_facts s sound).few)
 
-fits_grant : (day : ℕ) (command : Command) (s : State) (people : People) → AllPass (row_tests day s people command) → FitsGrant (effects command).grants s.ask s.deadline
+fits_grant : (day : ℕ) (command : Command) (s : State) (people : People) → AllPass (row_tests day s people command) →
+    FitsGrant (effects command).grants s.ask s.deadline
 fits_grant day GrantExtension s people p = λ e. omega (arith, not_below latest_deadline (unwrap_or s.deadline 0 + unwrap_or s.ask 0) p.1.1.1.0)
 fits_grant day _ s people p = λ e. cc
 
@@ -221,7 +314,8 @@ pub grant_fits : (day : ℕ) (command : Command) (s : State) → IsAdmitted day 
 grant_fits day command s admitted = fits_grant day command s admitted.0 (all_pass (row_tests day s admitted.0 command) admitted.1)
 
 -- a command that makes a paper finds fewer than the most papers
-room_by : (day : ℕ) (command : Command) (s : State) (people : People) → AllPass (row_tests day s people command) → makes_paper command ≡ true → nat_le most_papers s.papers ≡ false
+room_by : (day : ℕ) (command : Command) (s : State) (people : People) → AllPass (row_tests day s people command) → makes_paper command ≡ true →
+    nat_le most_papers s.papers ≡ false
 room_by day (Return text) s people p e = p.1.0
 room_by day (Resubmit text) s people p e = p.1.0
 room_by day (Reject text) s people p e = p.1.0

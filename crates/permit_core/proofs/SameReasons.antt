@@ -36,7 +36,8 @@ known interest p = record { role = p.role; has_interest = interest }
 -- an interest counts only where the party is there
 assigned_same : (role : Role) (o : Option Party) (off others interest : Bool) →
     first_failing ((off, reason.Stage) ∷ (not (has_role role o), reason.Person) ∷ (others || interest, reason.Interested) ∷ [])
-    ≡ first_failing ((off, reason.Stage) ∷ (not (is_of_role role (option_map (known interest) o)), reason.Person) ∷ (others || is_with_interest (option_map (known interest) o), reason.Interested) ∷ [])
+    ≡ first_failing ((off, reason.Stage) ∷ (not (is_of_role role (option_map (known interest) o)), reason.Person)
+    ∷ (others || is_with_interest (option_map (known interest) o), reason.Interested) ∷ [])
 assigned_same role None off others interest = refl
 assigned_same role (Some p) off others interest = refl
 
@@ -61,17 +62,20 @@ pub same_reason : (h : History) (day : ℕ) (file : CaseFile) (command : Command
     first_failing (file_tests h day file command) ≡ first_failing (row_tests day (state_of file) (people_of h file command) command)
 same_reason h day file (AssignReviewer party) next =
     assigned_same Reviewer (party_numbered h party) (not_in day file reviewing_stages).0
-    ((file.filing.applicant == party) || is_the_party (contractor file.acts) party || is_the_party (owner h file.filing.parcel) party) (has_interest h file.filing.parcel party)
+    ((file.filing.applicant == party) || is_the_party (contractor file.acts) party || is_the_party (owner h file.filing.parcel) party)
+    (has_interest h file.filing.parcel party)
 same_reason h day file (AssignInspector party) next =
     assigned_same Inspector (party_numbered h party) (not_in day file inspecting_stages).0
-    ((file.filing.applicant == party) || is_the_party (contractor file.acts) party || is_the_party (owner h file.filing.parcel) party) (has_interest h file.filing.parcel party)
+    ((file.filing.applicant == party) || is_the_party (contractor file.acts) party || is_the_party (owner h file.filing.parcel) party)
+    (has_interest h file.filing.parcel party)
 same_reason h day file (NameContractor party) next = rw (some_known (has_interest h file.filing.parcel party) (party_numbered h party)) refl
 same_reason h day file (RequestInspection step) next = rw next refl
 same_reason h day file (ClearNotice paper) next = rw (← among_some (open_notices file.acts) paper) refl
 same_reason h day file _ next = refl
 
 -- what stands against a command on a file of a history is read off its row and the people
-pub reason_on_row : (h : History) (id day caller : ℕ) (file : CaseFile) (command : Command) (s : State) (people : People) → IsHistory h → case_numbered h id ≡ Some file → s ≡ state_of file → people ≡ people_of h file command →
+pub reason_on_row : (h : History) (id day caller : ℕ) (file : CaseFile) (command : Command) (s : State) (people : People) → IsHistory h →
+    case_numbered h id ≡ Some file → s ≡ state_of file → people ≡ people_of h file command →
     first_failing (row_tests day s people command) ≡ reason_against h day caller (OnFile id command)
 reason_on_row h id day caller file command s people is there row known =
     ap (λ (r : State). first_failing (row_tests day r people command)) row

@@ -1,5 +1,6 @@
 -- What stands against a command on a file, read off its row and the people about it.
-use Rattle.std.specs.Prelude.{◌≡◌, Result, Ok, Err, ℕ, Bool, false, not, ◌||◌, ◌&&◌, ◌==◌, ◌+◌, nat_lt, nat_le, List, [], ◌∷◌, Option, None, Some, unwrap_or, is_some, is_none}
+use Rattle.std.specs.Prelude.{◌≡◌, Result, Ok, Err, ℕ, Bool, false, not, ◌||◌, ◌&&◌, ◌==◌, ◌+◌, nat_lt, nat_le, List, [], ◌∷◌, Option, None, Some, unwrap_or}
+use Rattle.std.specs.Prelude.{is_some, is_none}
 use Rattle.permit_base.specs.declared.words.Role.{Role}
 use Rattle.permit_base.specs.declared.words.Role.TheVariants.{Reviewer, Inspector}
 use Rattle.permit_base.specs.declared.words.Step.{Step}
@@ -8,13 +9,16 @@ use Rattle.permit_base.specs.declared.words.Stage.TheVariants as stage
 use Rattle.permit_base.specs.declared.refusal.Reason.{Reason}
 use Rattle.permit_base.specs.declared.refusal.Reason.TheVariants as reason
 use Rattle.permit_base.specs.declared.request.Command.{Command}
-use Rattle.permit_base.specs.declared.request.Command.TheVariants.{AssignReviewer, AssignInspector, NameContractor, StartReview, Return, Resubmit, ApprovePlans, Reject, Issue, AskExtension, GrantExtension, RefuseExtension, BeginWork, RequestInspection, ApproveStep, Notice, ClearNotice, Stop, Lift, Revoke, Temporary, Certify}
+use Rattle.permit_base.specs.declared.request.Command.TheVariants.{AssignReviewer, AssignInspector, NameContractor, StartReview, Return, Resubmit, ApprovePlans}
+use Rattle.permit_base.specs.declared.request.Command.TheVariants.{Reject, Issue, AskExtension, GrantExtension, RefuseExtension, BeginWork, RequestInspection}
+use Rattle.permit_base.specs.declared.request.Command.TheVariants.{ApproveStep, Notice, ClearNotice, Stop, Lift, Revoke, Temporary, Certify}
 use Rattle.permit_core.specs.declared.people.NamedParty.{NamedParty}
 use Rattle.permit_core.specs.declared.people.People.{People}
 use Rattle.permit_model.specs.Search.{is_the_party}
 use Rattle.permit_model.specs.Codes.{is_role, is_stage_among}
 use Rattle.permit_model.specs.Steps.{has_certificates}
-use Rattle.permit_model.specs.Admission.{Test, first_failing, reviewing_stages, inspecting_stages, stoppable_stages, revocable_stages, ask_limit, is_the_step, days_above}
+use Rattle.permit_model.specs.Admission.{Test, first_failing, reviewing_stages, inspecting_stages, stoppable_stages, revocable_stages, ask_limit, is_the_step}
+use Rattle.permit_model.specs.Admission.{days_above}
 use Rattle.permit_base.specs.Limits.{latest_deadline, most_papers}
 use Rattle.permit_model.specs.Days.{longest_temporary}
 use Rattle.permit_model.specs.BaseStage.{timed_stages}
@@ -53,7 +57,10 @@ is_with_interest (Some p) = p.has_interest
 
 -- the file's applicant or contractor, the parcel's owner, or one with an interest in the parcel
 abbrev pub interested : State → ℕ → People → Test
-interested s party people = ((s.applicant == party) || is_the_party s.contractor party || is_the_party people.owner party || is_with_interest people.named, reason.Interested)
+interested s party people = (
+  (s.applicant == party) || is_the_party s.contractor party || is_the_party people.owner party || is_with_interest people.named,
+  reason.Interested,
+)
 
 -- an ask for an extension is pending
 abbrev pub ask_pending : State → Test
@@ -121,7 +128,8 @@ row_tests day s people (ClearNotice paper) = not_in day s (stage.Working ∷ [])
 row_tests day s people (Stop text conditions) = not_in day s stoppable_stages ∷ stopped s ∷ papers_full s ∷ []
 row_tests day s people Lift = not_in day s stoppable_stages ∷ not_stopped s ∷ papers_full s ∷ []
 row_tests day s people (Revoke text) = not_in day s revocable_stages ∷ papers_full s ∷ []
-row_tests day s people (Temporary days text) = not_in day s (stage.Working ∷ []) ∷ stopped s ∷ days_above longest_temporary days ∷ notice_open s ∷ no_certificates s ∷ papers_full s ∷ []
+row_tests day s people (Temporary days text) = not_in day s (stage.Working ∷ []) ∷ stopped s ∷ days_above longest_temporary days ∷ notice_open s
+    ∷ no_certificates s ∷ papers_full s ∷ []
 row_tests day s people Certify = not_in day s (stage.Finaled ∷ []) ∷ stopped s ∷ no_certificates s ∷ papers_full s ∷ []
 
 -- the answer to a command: done where nothing stands against it, else the reason

@@ -9,7 +9,8 @@ module _ {T I : Type 0} (took : T → I → T → Bool → Type 0) where
 
   -- a beginning, whose last item was answered false
   abbrev pub StoppedIn : List I → T → T → Type 0
-  StoppedIn all old new = (given : List I) × (last : I) × (rest : List I) × (all ≡ given ++ last ∷ rest) × (mid : T) × TookAll given old mid × took mid last new false
+  StoppedIn all old new = (given : List I) × (last : I) × (rest : List I) × (all ≡ given ++ last ∷ rest) × (mid : T) × TookAll given old mid
+      × took mid last new false
 
   -- a beginning, with each answer true
   abbrev pub BeganOf : List I → T → T → Type 0

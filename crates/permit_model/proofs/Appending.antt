@@ -62,7 +62,8 @@ pub deadline-granted : (file : CaseFile) (caller day : ℕ) (number : Option ℕ
     deadline (with_act file (record { caller = caller; day = day; command = GrantExtension; number = number }))
     ≡ option_map (λ d. d + unwrap_or (pending_ask file.acts) 0) (deadline file)
 deadline-granted file caller day number working =
-    rw (base_stage-more (record { caller = caller; day = day; command = GrantExtension; number = number }) file.acts, working) (greatest-extended (unwrap_or (pending_ask file.acts) 0) (anchor_reaches file.acts))
+    rw (base_stage-more (record { caller = caller; day = day; command = GrantExtension; number = number }) file.acts, working)
+    (greatest-extended (unwrap_or (pending_ask file.acts) 0) (anchor_reaches file.acts))
 
 -- ---- the whole row
 
@@ -87,7 +88,11 @@ case_touched : (caller day id : ℕ) (command : Command) (number : Option ℕ) (
     case_file (command_entry caller day id command number ∷ h) filing
     ≡ touched id (record { caller = caller; day = day; command = command; number = number }) (case_file h filing)
 case_touched caller day id command number h filing = elim (id == filing.id) as (λ b.
-    record { filing = filing; acts = cons_option (option_map (act_of (command_entry caller day id command number)) (if b then Some command else None)) (acts_on filing.id h) }
+    record {
+      filing = filing;
+      acts = cons_option (option_map (act_of (command_entry caller day id command number)) (if b then Some command else None))
+          (acts_on filing.id h);
+    }
     ≡ (if b then with_act (case_file h filing) (record { caller = caller; day = day; command = command; number = number }) else case_file h filing)) [
       | true ↦ refl
       | false ↦ refl
@@ -157,7 +162,8 @@ length-cleared bound paper (n ∷ ns) f there = cleared_here paper n ns (n == pa
 -- one more command keeps the numbers of the notices falling
 fall_more : (caller day : ℕ) (command : Command) (number : Option ℕ) (before : List Act) → number ≡ when (makes_paper command) (paper_count before + 1) →
     FallFrom (paper_count before) (notices_given before) →
-    FallFrom (paper_count (record { caller = caller; day = day; command = command; number = number } ∷ before)) (notices_given (record { caller = caller; day = day; command = command; number = number } ∷ before))
+    FallFrom (paper_count (record { caller = caller; day = day; command = command; number = number } ∷ before))
+    (notices_given (record { caller = caller; day = day; command = command; number = number } ∷ before))
 fall_more caller day (Notice text) number before e f =
     rw e (omega arith, omega arith, FallFrom-more (paper_count before) (paper_count before + 1 - 1) (notices_given before) (omega arith) f)
 fall_more caller day _ number before e f = FallFrom-more (paper_count before) _ (notices_given before) (omega arith) f

@@ -7,7 +7,8 @@ use Rattle.permit_base.specs.declared.words.Step.TheVariants.{Final}
 use Rattle.permit_base.specs.declared.words.Stage.{Stage}
 use Rattle.permit_base.specs.declared.words.Stage.TheVariants as stage
 use Rattle.permit_base.specs.declared.request.Command.{Command}
-use Rattle.permit_base.specs.declared.request.Command.TheVariants.{StartReview, Return, Resubmit, ApprovePlans, Reject, Issue, GrantExtension, BeginWork, RequestInspection, ApproveStep, Notice, Revoke, Certify}
+use Rattle.permit_base.specs.declared.request.Command.TheVariants.{StartReview, Return, Resubmit, ApprovePlans, Reject, Issue, GrantExtension, BeginWork}
+use Rattle.permit_base.specs.declared.request.Command.TheVariants.{RequestInspection, ApproveStep, Notice, Revoke, Certify}
 use Rattle.permit_model.specs.Days.{term, greatest}
 use Rattle.permit_model.specs.Effects.{effects}
 use Rattle.permit_model.specs.Files.{Filing, Act, CaseFile}
@@ -27,7 +28,8 @@ abbrev pub case_of : Filing → List Act → CaseFile
 case_of filing acts = record { filing = filing; acts = acts }
 
 -- all tests of an admitted act passed
-pub tests_passed : (filing : Filing) (act : Act) (before : List Act) → (w : WasAdmitted filing act before) → AllPass (file_tests w.history act.day (case_of filing before) act.command)
+pub tests_passed : (filing : Filing) (act : Act) (before : List Act) → (w : WasAdmitted filing act before) →
+    AllPass (file_tests w.history act.day (case_of filing before) act.command)
 tests_passed filing act before w = all_pass (file_tests w.history act.day (case_of filing before) act.command) w.admitted
 
 -- ---- no anchor before issuance
@@ -48,7 +50,8 @@ stays_empty : (days : ℕ) (acts : List Act) → anchor_reaches acts ≡ [] → 
 stays_empty days acts none = rw none refl
 
 -- after a command of one early stage there is still no anchor
-still_empty : (filing : Filing) (day : ℕ) (before : List Act) (s : Stage) → base_stage before ≡ s → is_early s ≡ true → IsUnanchored before → extended 0 (anchor_reaches before) ≡ []
+still_empty : (filing : Filing) (day : ℕ) (before : List Act) (s : Stage) → base_stage before ≡ s → is_early s ≡ true → IsUnanchored before →
+    extended 0 (anchor_reaches before) ≡ []
 still_empty filing day before s was early ih = stays_empty 0 before (ih (ap is_early was ∙ early))
 
 not_early : (before : List Act) (s : Stage) → base_stage before ≡ s → is_early s ≡ false → is_early (base_stage before) ≡ true → true ≡ false
@@ -57,24 +60,32 @@ not_early before s was late early = sym early ∙ ap is_early was ∙ late
 unanchored_more : (filing : Filing) (caller day : ℕ) (command : Command) (number : Option ℕ) (before : List Act) →
     WasAdmitted filing (act_by caller day command number) before → IsUnanchored before → IsUnanchored (act_by caller day command number ∷ before)
 unanchored_more filing caller day StartReview number before w ih e =
-    still_empty filing day before stage.Filed (was_in day (case_of filing before) stage.Filed refl (tests_passed filing (act_by caller day StartReview number) before w).0) refl ih
+    still_empty filing day before stage.Filed (was_in day (case_of filing before) stage.Filed refl
+    (tests_passed filing (act_by caller day StartReview number) before w).0) refl ih
 unanchored_more filing caller day (Return text) number before w ih e =
-    still_empty filing day before stage.Review (was_in day (case_of filing before) stage.Review refl (tests_passed filing (act_by caller day (Return text) number) before w).0) refl ih
+    still_empty filing day before stage.Review (was_in day (case_of filing before) stage.Review refl
+    (tests_passed filing (act_by caller day (Return text) number) before w).0) refl ih
 unanchored_more filing caller day (Resubmit text) number before w ih e =
-    still_empty filing day before stage.Returned (was_in day (case_of filing before) stage.Returned refl (tests_passed filing (act_by caller day (Resubmit text) number) before w).0) refl ih
+    still_empty filing day before stage.Returned (was_in day (case_of filing before) stage.Returned refl
+    (tests_passed filing (act_by caller day (Resubmit text) number) before w).0) refl ih
 unanchored_more filing caller day ApprovePlans number before w ih e =
-    still_empty filing day before stage.Review (was_in day (case_of filing before) stage.Review refl (tests_passed filing (act_by caller day ApprovePlans number) before w).0) refl ih
+    still_empty filing day before stage.Review (was_in day (case_of filing before) stage.Review refl
+    (tests_passed filing (act_by caller day ApprovePlans number) before w).0) refl ih
 unanchored_more filing caller day (Reject text) number before w ih e =
-    still_empty filing day before stage.Review (was_in day (case_of filing before) stage.Review refl (tests_passed filing (act_by caller day (Reject text) number) before w).0) refl ih
+    still_empty filing day before stage.Review (was_in day (case_of filing before) stage.Review refl
+    (tests_passed filing (act_by caller day (Reject text) number) before w).0) refl ih
 unanchored_more filing caller day Issue number before w ih e = cc
 unanchored_more filing caller day BeginWork number before w ih e = cc
 unanchored_more filing caller day (RequestInspection step) number before w ih e =
-    let bad : true ≡ false = not_early before stage.Working (was_in day (case_of filing before) stage.Working refl (tests_passed filing (act_by caller day (RequestInspection step) number) before w).0) refl e in cc
+    let bad : true ≡ false = not_early before stage.Working (was_in day (case_of filing before) stage.Working refl
+    (tests_passed filing (act_by caller day (RequestInspection step) number) before w).0) refl e in cc
 unanchored_more filing caller day (ApproveStep Final) number before w ih e = cc
 unanchored_more filing caller day (ApproveStep step) number before w ih e =
-    let bad : true ≡ false = not_early before stage.Working (was_in day (case_of filing before) stage.Working refl (tests_passed filing (act_by caller day (ApproveStep step) number) before w).0) refl e in cc
+    let bad : true ≡ false = not_early before stage.Working (was_in day (case_of filing before) stage.Working refl
+    (tests_passed filing (act_by caller day (ApproveStep step) number) before w).0) refl e in cc
 unanchored_more filing caller day (Notice text) number before w ih e =
-    let bad : true ≡ false = not_early before stage.Working (was_in day (case_of filing before) stage.Working refl (tests_passed filing (act_by caller day (Notice text) number) before w).0) refl e in cc
+    let bad : true ≡ false = not_early before stage.Working (was_in day (case_of filing before) stage.Working refl
+    (tests_passed filing (act_by caller day (Notice text) number) before w).0) refl e in cc
 unanchored_more filing caller day (Revoke text) number before w ih e = cc
 unanchored_more filing caller day Certify number before w ih e = cc
 unanchored_more filing caller day _ number before w ih e = stays_empty _ before (ih e)
@@ -108,7 +119,8 @@ plus_zero : (n : ℕ) → n + 0 ≡ n
 plus_zero n = omega arith
 
 -- a command that is no activity and grants nothing leaves the deadline of its stage
-deadline_in_kept : (s : Stage) (filed : ℕ) (act : Act) (before : List Act) → (effects act.command).anchor ≡ false → days_granted act.command before ≡ 0 → deadline_in s filed (act ∷ before) ≡ deadline_in s filed before
+deadline_in_kept : (s : Stage) (filed : ℕ) (act : Act) (before : List Act) → (effects act.command).anchor ≡ false → days_granted act.command before ≡ 0 →
+    deadline_in s filed (act ∷ before) ≡ deadline_in s filed before
 deadline_in_kept stage.Filed filed act before quiet none = rw none (ap Some (plus_zero (filing_reach filed before)))
 deadline_in_kept stage.Review filed act before quiet none = rw none (ap Some (plus_zero (filing_reach filed before)))
 deadline_in_kept stage.Returned filed act before quiet none = rw none (ap Some (plus_zero (filing_reach filed before)))
@@ -125,18 +137,21 @@ deadline_in_granted stage.Working filed caller day number before = greatest-exte
 deadline_in_granted _ filed caller day number before = refl
 
 -- from one stage before issuance to another the deadline stays
-deadline_early : (filing : Filing) (before : List Act) (s : Stage) → base_stage before ≡ s → deadline_in s filing.filed before ≡ Some (filing_reach filing.filed before) →
+deadline_early : (filing : Filing) (before : List Act) (s : Stage) → base_stage before ≡ s →
+    deadline_in s filing.filed before ≡ Some (filing_reach filing.filed before) →
     Some (filing_reach filing.filed before + 0) ≡ deadline (case_of filing before)
 deadline_early filing before s was d = ap Some (plus_zero (filing_reach filing.filed before)) ∙ sym d ∙ ap (λ x. deadline_in x filing.filed before) (sym was)
 
 -- activity in the stages issued and working
-deadline_active : (filing : Filing) (day : ℕ) (before : List Act) (s : Stage) → base_stage before ≡ s → deadline_in s filing.filed before ≡ greatest (anchor_reaches before) →
+deadline_active : (filing : Filing) (day : ℕ) (before : List Act) (s : Stage) → base_stage before ≡ s →
+    deadline_in s filing.filed before ≡ greatest (anchor_reaches before) →
     greatest ((day + term) ∷ extended 0 (anchor_reaches before)) ≡ moved_by_activity day (deadline (case_of filing before))
 deadline_active filing day before s was d =
     rw (extended-zero (anchor_reaches before)) (ap (moved_by_activity day) (sym d ∙ ap (λ x. deadline_in x filing.filed before) (sym was)))
 
 -- the same where the command leaves the stage working
-in_working : (filing : Filing) (day : ℕ) (before after : List Act) → base_stage before ≡ stage.Working → deadline_in stage.Working filing.filed after ≡ greatest ((day + term) ∷ extended 0 (anchor_reaches before)) →
+in_working : (filing : Filing) (day : ℕ) (before after : List Act) → base_stage before ≡ stage.Working →
+    deadline_in stage.Working filing.filed after ≡ greatest ((day + term) ∷ extended 0 (anchor_reaches before)) →
     deadline_in (base_stage before) filing.filed after ≡ moved_by_activity day (deadline (case_of filing before))
 in_working filing day before after was active =
     ap (λ x. deadline_in x filing.filed after) was ∙ active ∙ deadline_active filing day before stage.Working was refl
@@ -146,31 +161,41 @@ pub deadline_more : (filing : Filing) (caller day : ℕ) (command : Command) (nu
     WasAdmitted filing (act_by caller day command number) before → IsUnanchored before →
     deadline (case_of filing (act_by caller day command number ∷ before)) ≡ deadline_after command day (pending_ask before) (deadline (case_of filing before))
 deadline_more filing caller day StartReview number before w early =
-    deadline_early filing before stage.Filed (was_in day (case_of filing before) stage.Filed refl (tests_passed filing (act_by caller day StartReview number) before w).0) refl
+    deadline_early filing before stage.Filed (was_in day (case_of filing before) stage.Filed refl
+    (tests_passed filing (act_by caller day StartReview number) before w).0) refl
 deadline_more filing caller day (Return text) number before w early =
-    deadline_early filing before stage.Review (was_in day (case_of filing before) stage.Review refl (tests_passed filing (act_by caller day (Return text) number) before w).0) refl
+    deadline_early filing before stage.Review (was_in day (case_of filing before) stage.Review refl
+    (tests_passed filing (act_by caller day (Return text) number) before w).0) refl
 deadline_more filing caller day (Resubmit text) number before w early =
-    deadline_early filing before stage.Returned (was_in day (case_of filing before) stage.Returned refl (tests_passed filing (act_by caller day (Resubmit text) number) before w).0) refl
+    deadline_early filing before stage.Returned (was_in day (case_of filing before) stage.Returned refl
+    (tests_passed filing (act_by caller day (Resubmit text) number) before w).0) refl
 deadline_more filing caller day ApprovePlans number before w early =
-    deadline_early filing before stage.Review (was_in day (case_of filing before) stage.Review refl (tests_passed filing (act_by caller day ApprovePlans number) before w).0) refl
+    deadline_early filing before stage.Review (was_in day (case_of filing before) stage.Review refl
+    (tests_passed filing (act_by caller day ApprovePlans number) before w).0) refl
 deadline_more filing caller day (Reject text) number before w early = refl
 deadline_more filing caller day Issue number before w early =
-    let was : base_stage before ≡ stage.Approved = was_in day (case_of filing before) stage.Approved refl (tests_passed filing (act_by caller day Issue number) before w).0 in
+    let was : base_stage before ≡ stage.Approved = was_in day (case_of filing before) stage.Approved refl
+    (tests_passed filing (act_by caller day Issue number) before w).0 in
     let none : anchor_reaches before ≡ [] = early (ap is_early was) in
     rw none (ap Some (omega arith))
 deadline_more filing caller day GrantExtension number before w early = deadline_in_granted (base_stage before) filing.filed caller day number before
 deadline_more filing caller day BeginWork number before w early =
-    deadline_active filing day before stage.Issued (was_in day (case_of filing before) stage.Issued refl (tests_passed filing (act_by caller day BeginWork number) before w).0) refl
+    deadline_active filing day before stage.Issued (was_in day (case_of filing before) stage.Issued refl
+    (tests_passed filing (act_by caller day BeginWork number) before w).0) refl
 deadline_more filing caller day (RequestInspection step) number before w early =
-    in_working filing day before (act_by caller day (RequestInspection step) number ∷ before) (was_in day (case_of filing before) stage.Working refl (tests_passed filing (act_by caller day (RequestInspection step) number) before w).0) refl
+    in_working filing day before (act_by caller day (RequestInspection step) number ∷ before)
+    (was_in day (case_of filing before) stage.Working refl (tests_passed filing (act_by caller day (RequestInspection step) number) before w).0) refl
 deadline_more filing caller day (ApproveStep Final) number before w early = refl
 deadline_more filing caller day (ApproveStep step) number before w early =
-    in_working filing day before (act_by caller day (ApproveStep step) number ∷ before) (was_in day (case_of filing before) stage.Working refl (tests_passed filing (act_by caller day (ApproveStep step) number) before w).0) refl
+    in_working filing day before (act_by caller day (ApproveStep step) number ∷ before)
+    (was_in day (case_of filing before) stage.Working refl (tests_passed filing (act_by caller day (ApproveStep step) number) before w).0) refl
 deadline_more filing caller day (Notice text) number before w early =
-    in_working filing day before (act_by caller day (Notice text) number ∷ before) (was_in day (case_of filing before) stage.Working refl (tests_passed filing (act_by caller day (Notice text) number) before w).0) refl
+    in_working filing day before (act_by caller day (Notice text) number ∷ before)
+    (was_in day (case_of filing before) stage.Working refl (tests_passed filing (act_by caller day (Notice text) number) before w).0) refl
 deadline_more filing caller day (Revoke text) number before w early = refl
 deadline_more filing caller day Certify number before w early = refl
-deadline_more filing caller day command number before w early = deadline_in_kept (base_stage before) filing.filed (act_by caller day command number) before refl refl
+deadline_more filing caller day command number before w early = deadline_in_kept (base_stage before) filing.filed
+    (act_by caller day command number) before refl refl
 
 -- ---- bounds
 
@@ -193,7 +218,8 @@ granted_from : (least ask : ℕ) (old : Option ℕ) → IsFrom least old → IsF
 granted_from least ask None from d e = cc
 granted_from least ask (Some r) from d e = omega (arith, from r refl, same_number (r + ask) d e)
 
-from_more : (filed day : ℕ) (command : Command) (ask old : Option ℕ) → filed ≤ day → IsFrom (filed + term) old → IsFrom (filed + term) (deadline_after command day ask old)
+from_more : (filed day : ℕ) (command : Command) (ask old : Option ℕ) → filed ≤ day → IsFrom (filed + term) old →
+    IsFrom (filed + term) (deadline_after command day ask old)
 from_more filed day GrantExtension ask old later from = granted_from (filed + term) (unwrap_or ask 0) old from
 from_more filed day Issue ask old later from = λ d e. omega (arith, later, same_number (day + term) d e)
 from_more filed day BeginWork ask old later from = active_from filed day old later
@@ -211,7 +237,8 @@ pub deadline_from : (filing : Filing) (acts : List Act) → WereAdmitted filing 
 deadline_from filing [] w = λ d e. omega (arith, same_number (filing.filed + term) d e)
 deadline_from filing (act ∷ before) w =
     rw (deadline_more filing act.caller act.day act.command act.number before w.0 (unanchored filing before w.1))
-    (from_more filing.filed act.day act.command (pending_ask before) (deadline (case_of filing before)) (filed_first filing (act ∷ before) w) (deadline_from filing before w.1))
+    (from_more filing.filed act.day act.command (pending_ask before) (deadline (case_of filing before)) (filed_first filing (act ∷ before) w)
+    (deadline_from filing before w.1))
 
 -- a deadline, where one stands, is at most the last one
 abbrev pub IsWithin : Option ℕ → Type 0
@@ -225,10 +252,12 @@ granted_within : (ask : ℕ) (old : Option ℕ) → nat_lt latest_deadline (unwr
 granted_within ask None near d e = cc
 granted_within ask (Some r) near d e = omega (arith, not_below latest_deadline (r + ask) near, same_number (r + ask) d e)
 
-within_more : (filing : Filing) (caller day : ℕ) (command : Command) (number : Option ℕ) (before : List Act) → WasAdmitted filing (act_by caller day command number) before → day ≤ latest_day →
+within_more : (filing : Filing) (caller day : ℕ) (command : Command) (number : Option ℕ) (before : List Act) →
+    WasAdmitted filing (act_by caller day command number) before → day ≤ latest_day →
     IsWithin (deadline (case_of filing before)) → IsWithin (deadline_after command day (pending_ask before) (deadline (case_of filing before)))
 within_more filing caller day GrantExtension number before w early within =
-    granted_within (unwrap_or (pending_ask before) 0) (deadline (case_of filing before)) (tests_passed filing (act_by caller day GrantExtension number) before w).1.1.1.0
+    granted_within (unwrap_or (pending_ask before) 0) (deadline (case_of filing before))
+    (tests_passed filing (act_by caller day GrantExtension number) before w).1.1.1.0
 within_more filing caller day Issue number before w early within = λ d e. omega (arith, early, same_number (day + term) d e)
 within_more filing caller day BeginWork number before w early within = active_within day (deadline (case_of filing before)) early within
 within_more filing caller day (RequestInspection step) number before w early within = active_within day (deadline (case_of filing before)) early within
@@ -241,7 +270,8 @@ within_more filing caller day Certify number before w early within = λ d e. cc
 within_more filing caller day _ number before w early within = within
 
 -- a deadline is never later than the last one
-pub deadline_within : (filing : Filing) (acts : List Act) → WereAdmitted filing acts → last_touched filing acts ≤ latest_day → IsWithin (deadline (case_of filing acts))
+pub deadline_within : (filing : Filing) (acts : List Act) → WereAdmitted filing acts → last_touched filing acts ≤ latest_day →
+    IsWithin (deadline (case_of filing acts))
 deadline_within filing [] w early = λ d e. omega (arith, early, same_number (filing.filed + term) d e)
 deadline_within filing (act ∷ before) w early =
     rw (deadline_more filing act.caller act.day act.command act.number before w.0 (unanchored filing before w.1))

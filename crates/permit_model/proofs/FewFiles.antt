@@ -16,16 +16,26 @@ filing_more : (before : List Filing) (new : Option Filing) → length before < m
 filing_more before None few = omega (arith, few)
 filing_more before (Some filing) few = omega (arith, few, length-append before (filing ∷ []))
 
-filings_deed : (h : History) (caller day : ℕ) (deed : Deed) (number : Option ℕ) → MayFollow h (record { caller = caller; day = day; deed = deed; number = number }) deed →
+filings_deed : (h : History) (caller day : ℕ) (deed : Deed) (number : Option ℕ) →
+    MayFollow h (record { caller = caller; day = day; deed = deed; number = number }) deed →
     length (filings h) ≤ most_records → length (filings (record { caller = caller; day = day; deed = deed; number = number } ∷ h)) ≤ most_records
 filings_deed h caller day (Founding name digest) number may ih = absurd may
 filings_deed h caller day (Accepted (File parcel kind valuation description)) None may ih = ih
 filings_deed h caller day (Accepted (File parcel kind valuation description)) (Some n) may ih =
-    filing_more (filings h) (Some (record { id = n; parcel = parcel; applicant = caller; kind = kind; valuation = valuation; description = description; filed = day }))
+    filing_more (filings h) (Some (record {
+      id = n;
+      parcel = parcel;
+      applicant = caller;
+      kind = kind;
+      valuation = valuation;
+      description = description;
+      filed = day;
+    }))
     (not_above most_records (length (filings h)) (all_pass (tests h day caller (File parcel kind valuation description)) may.admitted).0)
 filings_deed h caller day (Accepted request) number may ih = ih
 
-filings_first : (caller day : ℕ) (deed : Deed) (number : Option ℕ) → IsFounding (record { caller = caller; day = day; deed = deed; number = number }) deed → length (filings (record { caller = caller; day = day; deed = deed; number = number } ∷ [])) ≤ most_records
+filings_first : (caller day : ℕ) (deed : Deed) (number : Option ℕ) → IsFounding (record { caller = caller; day = day; deed = deed; number = number }) deed →
+    length (filings (record { caller = caller; day = day; deed = deed; number = number } ∷ [])) ≤ most_records
 filings_first caller day (Founding name digest) number is = omega arith
 filings_first caller day (Accepted request) number is = absurd is
 

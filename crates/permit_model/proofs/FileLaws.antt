@@ -30,7 +30,8 @@ pub requested_step_next : OfEachFile (λ h file. (step : Step) → pending_step 
 requested_step_next h id file is there = (fronts file.filing file.acts (done_to h id file is there).admitted).pending
 
 pub steps_within : OfEachFile (λ h file. length (approved_steps file.acts) ≤ length (required_steps file.filing.kind))
-steps_within h id file is there = front_length file.filing.kind (approved_steps file.acts) (fronts file.filing file.acts (done_to h id file is there).admitted).front
+steps_within h id file is there = front_length file.filing.kind (approved_steps file.acts)
+    (fronts file.filing file.acts (done_to h id file is there).admitted).front
 
 pub steps_front : OfEachFile (λ h file. approved_steps file.acts ≡ take (length (approved_steps file.acts)) (required_steps file.filing.kind))
 steps_front h id file is there =
@@ -47,13 +48,17 @@ none_left (n ∷ ns) e = absurd (omega (arith, e))
 work_over : (h : History) (id : ℕ) (file : CaseFile) → IsHistory h → case_numbered h id ≡ Some file → is_completed (base_stage file.acts) ≡ true →
     (approved_steps file.acts ≡ required_steps file.filing.kind) × (open_notices file.acts ≡ [])
 work_over h id file is there over =
-    let done : IsFinishedWork file.filing file.acts = finished file.filing file.acts (done_to h id file is there).admitted over in
-    (steps_front h id file is there ∙ take_all (length (approved_steps file.acts)) (required_steps file.filing.kind) (omega (arith, done.0)), none_left (open_notices file.acts) done.1)
+    let done : IsFinishedWork file.filing file.acts = finished file.filing file.acts (done_to h id file is there).admitted over in (
+      steps_front h id file is there ∙ take_all (length (approved_steps file.acts)) (required_steps file.filing.kind) (omega (arith, done.0)),
+      none_left (open_notices file.acts) done.1,
+    )
 
-pub finaled_finished : OfEachFile (λ h file. base_stage file.acts ≡ stage.Finaled → (approved_steps file.acts ≡ required_steps file.filing.kind) × (open_notices file.acts ≡ []))
+pub finaled_finished : OfEachFile (λ h file. base_stage file.acts ≡ stage.Finaled → (approved_steps file.acts ≡ required_steps file.filing.kind)
+    × (open_notices file.acts ≡ []))
 finaled_finished h id file is there e = work_over h id file is there (ap is_completed e)
 
-pub certified_finished : OfEachFile (λ h file. base_stage file.acts ≡ stage.Certified → (approved_steps file.acts ≡ required_steps file.filing.kind) × (open_notices file.acts ≡ []) × (is_stopped file.acts ≡ false))
+pub certified_finished : OfEachFile (λ h file. base_stage file.acts ≡ stage.Certified → (approved_steps file.acts ≡ required_steps file.filing.kind)
+    × (open_notices file.acts ≡ []) × (is_stopped file.acts ≡ false))
 certified_finished h id file is there e =
     let over = work_over h id file is there (ap is_completed e) in
     (over.0, over.1, unstopped file.filing file.acts (done_to h id file is there).admitted (ap is_certified e))
@@ -66,7 +71,8 @@ exactly_when false None e = refl
 exactly_when false (Some n) e = cc
 
 pub deadline_exactly : OfEachFile (λ h file. is_some (deadline file) ≡ is_timed (base_stage file.acts))
-deadline_exactly h id file is there = exactly_when (is_timed (base_stage file.acts)) (deadline file) (stands_in (base_stage file.acts) file.filing.filed file.acts (anchored file.acts))
+deadline_exactly h id file is there = exactly_when (is_timed (base_stage file.acts)) (deadline file)
+    (stands_in (base_stage file.acts) file.filing.filed file.acts (anchored file.acts))
 
 pub deadline_least : OfEachFile (λ h file. (d : ℕ) → deadline file ≡ Some d → file.filing.filed + term ≤ d)
 deadline_least h id file is there = deadline_from file.filing file.acts (done_to h id file is there).admitted

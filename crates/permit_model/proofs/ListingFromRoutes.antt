@@ -17,8 +17,10 @@ use Rattle.permit_model.specs.Listing.{meets, is_listed, listing}
 use Rattle.permit_model.specs.Opened.{allowed_by}
 use Rattle.permit_model.specs.Routes.{Found, found_row, routes_of, is_found, found_by}
 use Rattle.permit_model.specs.Machine.{IsHistory}
-use Rattle.permit_model.proofs.Members.{IsMember, all_members, member_from, contains_from, Covers, IsGiven, given_by, gives, IsMadeOf, made_of, member_made, passed, kept, OnePasses, one_passes, any_of_member}
-use Rattle.permit_model.proofs.Rising.{IsRising, same_covered, one_number, same_number, ordered_from, thinned_rising, thinned_keeps, thinned_within, mapped_rising, filtered_rising, files_rising}
+use Rattle.permit_model.proofs.Members.{IsMember, all_members, member_from, contains_from, Covers, IsGiven, given_by, gives, IsMadeOf, made_of, member_made}
+use Rattle.permit_model.proofs.Members.{passed, kept, OnePasses, one_passes, any_of_member}
+use Rattle.permit_model.proofs.Rising.{IsRising, same_covered, one_number, same_number, ordered_from, thinned_rising, thinned_keeps, thinned_within}
+use Rattle.permit_model.proofs.Rising.{mapped_rising, filtered_rising, files_rising}
 use Rattle.permit_model.proofs.FoundFiles.{found_facts, found_view, found_file, right_of}
 use Rattle.permit_model.proofs.NoneMissed.{is_selected, found_meets, none_missed}
 
@@ -40,18 +42,21 @@ IsRowOf h caller found = (file : CaseFile) × IsMember file (case_files h) × (f
 
 row_of : (h : History) (caller : ℕ) (found : Found) → IsMember found (map (found_row (tables h) caller) (map file_row (case_files h))) → IsRowOf h caller found
 row_of h caller found m =
-    let row : IsMadeOf (found_row (tables h) caller) found (map file_row (case_files h)) = made_of (found_row (tables h) caller) found (map file_row (case_files h)) m in
+    let row : IsMadeOf (found_row (tables h) caller) found (map file_row (case_files h)) =
+    made_of (found_row (tables h) caller) found (map file_row (case_files h)) m in
     let file : IsMadeOf file_row row.0 (case_files h) = made_of file_row row.0 (case_files h) row.1 in
     (file.0, file.1, ap (found_row (tables h) caller) file.2 ∙ row.2)
 
-listed_by : (policy : Policy) (h : History) (day : ℕ) (caller : Party) (wanted : Filter) (file : CaseFile) → is_selected policy h day caller wanted file ≡ true → allows_found policy day caller (found_file h caller.id file) ≡ true →
+listed_by : (policy : Policy) (h : History) (day : ℕ) (caller : Party) (wanted : Filter) (file : CaseFile) →
+    is_selected policy h day caller wanted file ≡ true → allows_found policy day caller (found_file h caller.id file) ≡ true →
     is_listed policy h day caller wanted file ≡ true
 listed_by policy h day caller wanted file found allow =
     let wants : meets wanted (stage_on day file) (timing_of day file) ≡ true = found_meets policy h day caller wanted file found in
     ap (λ b. b && allows policy (file_facts h day caller file action.List)) wants ∙ allow
 
 -- what is found and allowed is listed
-all_listed : (policy : Policy) (h : History) (day : ℕ) (caller : Party) (wanted : Filter) → Covers (all_views policy h day caller wanted) (listing policy h day caller wanted)
+all_listed : (policy : Policy) (h : History) (day : ℕ) (caller : Party) (wanted : Filter) →
+    Covers (all_views policy h day caller wanted) (listing policy h day caller wanted)
 all_listed policy h day caller wanted = λ v m.
     let routes = routes_of (allowed_by policy caller.role action.List) wanted in
     let by : IsGiven (allowed_views policy day caller (tables h)) v routes = given_by (allowed_views policy day caller (tables h)) v routes m in
@@ -61,13 +66,16 @@ all_listed policy h day caller wanted = λ v m.
     let row : IsRowOf h caller.id made.0 = row_of h caller.id made.0 hit.0 in
     let found : is_selected policy h day caller wanted row.0 ≡ true =
     any_of_member (λ r. is_found r caller.id day (found_file h caller.id row.0)) by.0 routes by.1 (ap (is_found by.0 caller.id day) row.2 ∙ hit.1) in
-    let listed : is_listed policy h day caller wanted row.0 ≡ true = listed_by policy h day caller wanted row.0 found (ap (allows_found policy day caller) row.2 ∙ allow.1) in
+    let listed : is_listed policy h day caller wanted row.0 ≡ true = listed_by policy h day caller wanted row.0 found
+    (ap (allows_found policy day caller) row.2 ∙ allow.1) in
     let shown : file_view day row.0 ≡ v = ap (found_view day) row.2 ∙ made.2 in
     subst (λ w. IsMember w (listing policy h day caller wanted)) shown
-    (member_made (file_view day) row.0 (filter (is_listed policy h day caller wanted) (case_files h)) (kept (is_listed policy h day caller wanted) row.0 (case_files h) row.1 listed))
+    (member_made (file_view day) row.0 (filter (is_listed policy h day caller wanted) (case_files h))
+    (kept (is_listed policy h day caller wanted) row.0 (case_files h) row.1 listed))
 
 -- what is listed is found and allowed
-listed_all : (policy : Policy) (h : History) (day : ℕ) (caller : Party) (wanted : Filter) → Covers (listing policy h day caller wanted) (all_views policy h day caller wanted)
+listed_all : (policy : Policy) (h : History) (day : ℕ) (caller : Party) (wanted : Filter) →
+    Covers (listing policy h day caller wanted) (all_views policy h day caller wanted)
 listed_all policy h day caller wanted = λ v m.
     let routes = routes_of (allowed_by policy caller.role action.List) wanted in
     let made = made_of (file_view day) v (filter (is_listed policy h day caller wanted) (case_files h)) m in
@@ -75,21 +83,26 @@ listed_all policy h day caller wanted = λ v m.
     let there = passed (is_listed policy h day caller wanted) file (case_files h) made.1 in
     let by : OnePasses (λ r. is_found r caller.id day (found_file h caller.id file)) routes =
     one_passes (λ r. is_found r caller.id day (found_file h caller.id file)) routes (none_missed policy h day caller wanted file there.1) in
-    let allow : allows_found policy day caller (found_file h caller.id file) ≡ true = right_of (meets wanted (stage_on day file) (timing_of day file)) (allows policy (file_facts h day caller file action.List)) there.1 in
+    let allow : allows_found policy day caller (found_file h caller.id file) ≡ true =
+    right_of (meets wanted (stage_on day file) (timing_of day file)) (allows policy (file_facts h day caller file action.List)) there.1 in
     let row = member_made (found_row (tables h) caller.id) (file_row file) (map file_row (case_files h)) (member_made file_row file (case_files h) there.0) in
     let hit = kept (is_found by.0 caller.id day) (found_file h caller.id file) (map (found_row (tables h) caller.id) (map file_row (case_files h))) row by.2 in
     let view = member_made (found_view day) (found_file h caller.id file) (filter (allows_found policy day caller) (found_by by.0 caller.id day (tables h)))
     (kept (allows_found policy day caller) (found_file h caller.id file) (found_by by.0 caller.id day (tables h)) hit allow) in
-    gives (allowed_views policy day caller (tables h)) v by.0 routes by.1 (subst (λ w. IsMember w (allowed_views policy day caller (tables h) by.0)) made.2 view)
+    gives (allowed_views policy day caller (tables h)) v by.0 routes by.1
+    (subst (λ w. IsMember w (allowed_views policy day caller (tables h) by.0)) made.2 view)
 
 -- a listing rises by the files' numbers
-pub listing_rising : (policy : Policy) (h : History) (day : ℕ) (caller : Party) (wanted : Filter) → IsHistory h → IsRising (λ (v : FileView). v.row.id) (listing policy h day caller wanted)
+pub listing_rising : (policy : Policy) (h : History) (day : ℕ) (caller : Party) (wanted : Filter) → IsHistory h →
+    IsRising (λ (v : FileView). v.row.id) (listing policy h day caller wanted)
 listing_rising policy h day caller wanted is =
-    mapped_rising (file_view day) (λ (f : CaseFile). f.filing.id) (λ (v : FileView). v.row.id) (λ f. refl) (filter (is_listed policy h day caller wanted) (case_files h))
+    mapped_rising (file_view day) (λ (f : CaseFile). f.filing.id) (λ (v : FileView). v.row.id) (λ f. refl)
+    (filter (is_listed policy h day caller wanted) (case_files h))
     (filtered_rising (λ (f : CaseFile). f.filing.id) (is_listed policy h day caller wanted) (case_files h) (files_rising h is))
 
 -- What rises by number and has the views that the selections find and the rows' own facts allow is the listing.
-pub listing_from_views : (policy : Policy) (h : History) (day : ℕ) (caller : Party) (wanted : Filter) → IsHistory h → (views : List FileView) → IsRising (λ (v : FileView). v.row.id) views →
+pub listing_from_views : (policy : Policy) (h : History) (day : ℕ) (caller : Party) (wanted : Filter) → IsHistory h → (views : List FileView) →
+    IsRising (λ (v : FileView). v.row.id) views →
     Covers views (all_views policy h day caller wanted) → Covers (all_views policy h day caller wanted) views → views ≡ listing policy h day caller wanted
 listing_from_views policy h day caller wanted is views rising there back =
     same_covered (λ (v : FileView). v.row.id) views (listing policy h day caller wanted) rising (listing_rising policy h day caller wanted is)
@@ -107,14 +120,17 @@ listing_from_routes policy h day caller wanted is all views moved rising there b
 
 -- What the selections find and the rows' own facts allow, sorted by number, each once, is the listing.
 pub listing_from_sorted : (policy : Policy) (h : History) (day : ℕ) (caller : Party) (wanted : Filter) → IsHistory h → (sorted : List FileView) →
-    IsPermutation (all_views policy h day caller wanted) sorted → IsNonDecreasingBy (λ (v : FileView). v.row.id) sorted → dedup (same_number (λ (v : FileView). v.row.id)) sorted ≡ listing policy h day caller wanted
+    IsPermutation (all_views policy h day caller wanted) sorted → IsNonDecreasingBy (λ (v : FileView). v.row.id) sorted →
+    dedup (same_number (λ (v : FileView). v.row.id)) sorted ≡ listing policy h day caller wanted
 listing_from_sorted policy h day caller wanted is sorted moved up =
     let whole = all_views policy h day caller wanted in
     let number = λ (v : FileView). v.row.id in
-    let there : Covers sorted whole = λ v m. member_from v whole (Contains-permutation sorted whole v (IsPermutation-sym whole sorted moved) (contains_from v sorted m)) in
+    let there : Covers sorted whole = λ v m. member_from v whole (Contains-permutation sorted whole v (IsPermutation-sym whole sorted moved)
+    (contains_from v sorted m)) in
     let back : Covers whole sorted = λ v m. member_from v sorted (Contains-permutation whole sorted v moved (contains_from v whole m)) in
     let all = all_members (λ v. IsMember v (listing policy h day caller wanted)) sorted (λ v m. all_listed policy h day caller wanted v (there v m)) in
     let keeps : Covers sorted (dedup (same_number number) sorted) =
-    thinned_keeps number (λ v. IsMember v (listing policy h day caller wanted)) (λ v w m n. one_number number (listing policy h day caller wanted) v w (listing_rising policy h day caller wanted is) m n) sorted all in
+    thinned_keeps number (λ v. IsMember v (listing policy h day caller wanted))
+    (λ v w m n. one_number number (listing policy h day caller wanted) v w (listing_rising policy h day caller wanted is) m n) sorted all in
     listing_from_views policy h day caller wanted is (dedup (same_number number) sorted) (thinned_rising number sorted (ordered_from number sorted up))
     (λ v m. there v (thinned_within number sorted v m)) (λ v m. keeps v (back v m))

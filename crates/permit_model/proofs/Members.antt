@@ -1,5 +1,6 @@
 -- Members of lists that are mapped, filtered or joined.
-use Rattle.std.proofs.Common.{◌≡◌, ◌<◌, ◌⊎◌, inl, inr, ℕ, zero, suc, Bool, true, false, cond, List, [], ◌∷◌, ◌++◌, map, length, refl, sym, ◌∙◌, ap, subst, arith, get_or}
+use Rattle.std.proofs.Common.{◌≡◌, ◌<◌, ◌⊎◌, inl, inr, ℕ, zero, suc, Bool, true, false, cond, List, [], ◌∷◌, ◌++◌, map, length, refl, sym, ◌∙◌, ap, subst}
+use Rattle.std.proofs.Common.{arith, get_or}
 use Rattle.std.specs.Prelude.{filter, ◌||◌}
 use Rattle.std.specs.List.{flat_map, list_any, AllByRecursion, Contains}
 
@@ -37,7 +38,8 @@ of_member P y (x ∷ xs) all m = of_first P y x xs all m (of_member P y xs all.1
 abbrev pub Covers : {A : Type 0} → List A → List A → Type 0
 Covers {A} xs ys = (z : A) → IsMember z xs → IsMember z ys
 
-all_by : {A : Type 0} (P : A → Type 0) (x : A) (xs : List A) → ((y : A) → (x ≡ y) ⊎ IsMember y xs → P y) → (((y : A) → IsMember y xs → P y) → AllByRecursion P xs) → P x × AllByRecursion P xs
+all_by : {A : Type 0} (P : A → Type 0) (x : A) (xs : List A) → ((y : A) → (x ≡ y) ⊎ IsMember y xs → P y) →
+    (((y : A) → IsMember y xs → P y) → AllByRecursion P xs) → P x × AllByRecursion P xs
 all_by P x xs each ih = (each x (inl refl), ih (λ y m. each y (inr m)))
 
 -- what holds of each member holds of all
@@ -60,7 +62,8 @@ split_rest : {A : Type 0} (y x : A) (xs ys : List A) → IsMember y xs ⊎ IsMem
 split_rest y x xs ys (inl m) = inl (inr m)
 split_rest y x xs ys (inr m) = inr m
 
-split_first : {A : Type 0} (y x : A) (xs ys : List A) → (x ≡ y) ⊎ IsMember y (xs ++ ys) → (IsMember y (xs ++ ys) → IsMember y xs ⊎ IsMember y ys) → ((x ≡ y) ⊎ IsMember y xs) ⊎ IsMember y ys
+split_first : {A : Type 0} (y x : A) (xs ys : List A) → (x ≡ y) ⊎ IsMember y (xs ++ ys) → (IsMember y (xs ++ ys) → IsMember y xs ⊎ IsMember y ys) →
+    ((x ≡ y) ⊎ IsMember y xs) ⊎ IsMember y ys
 split_first y x xs ys (inl e) ih = inl (inl e)
 split_first y x xs ys (inr m) ih = split_rest y x xs ys (ih m)
 
@@ -72,7 +75,8 @@ in_either y (x ∷ xs) ys m = split_first y x xs ys m (in_either y xs ys)
 abbrev pub IsGiven : {A B : Type 0} → (A → List B) → B → List A → Type 0
 IsGiven {A} f y xs = (x : A) × IsMember x xs × IsMember y (f x)
 
-given_more : {A B : Type 0} (f : A → List B) (y : B) (x : A) (xs : List A) → IsMember y (f x) ⊎ IsMember y (flat_map f xs) → (IsMember y (flat_map f xs) → IsGiven f y xs) → IsGiven f y (x ∷ xs)
+given_more : {A B : Type 0} (f : A → List B) (y : B) (x : A) (xs : List A) → IsMember y (f x) ⊎ IsMember y (flat_map f xs) →
+    (IsMember y (flat_map f xs) → IsGiven f y xs) → IsGiven f y (x ∷ xs)
 given_more f y x xs (inl m) ih = (x, inl refl, m)
 given_more f y x xs (inr m) ih = let found = ih m in (found.0, inr found.1, found.2)
 
@@ -80,7 +84,8 @@ pub given_by : {A B : Type 0} (f : A → List B) (y : B) (xs : List A) → IsMem
 given_by f y [] m = absurd m
 given_by f y (x ∷ xs) m = given_more f y x xs (in_either y (f x) (flat_map f xs) m) (given_by f y xs)
 
-gives_first : {A B : Type 0} (f : A → List B) (y : B) (z x : A) (xs : List A) → (x ≡ z) ⊎ IsMember z xs → IsMember y (f z) → (IsMember z xs → IsMember y (flat_map f xs)) → IsMember y (f x ++ flat_map f xs)
+gives_first : {A B : Type 0} (f : A → List B) (y : B) (z x : A) (xs : List A) → (x ≡ z) ⊎ IsMember z xs → IsMember y (f z) →
+    (IsMember z xs → IsMember y (flat_map f xs)) → IsMember y (f x ++ flat_map f xs)
 gives_first f y z x xs (inl e) m ih = in_left y (f x) (flat_map f xs) (subst (λ a. IsMember y (f a)) (sym e) m)
 gives_first f y z x xs (inr n) m ih = in_right y (f x) (flat_map f xs) (ih n)
 
@@ -94,7 +99,8 @@ gives f y z (x ∷ xs) n m = gives_first f y z x xs n m (λ k. gives f y z xs k 
 abbrev pub IsMadeOf : {A B : Type 0} → (A → B) → B → List A → Type 0
 IsMadeOf {A} f y xs = (x : A) × IsMember x xs × (f x ≡ y)
 
-made_more : {A B : Type 0} (f : A → B) (y : B) (x : A) (xs : List A) → (f x ≡ y) ⊎ IsMember y (map f xs) → (IsMember y (map f xs) → IsMadeOf f y xs) → IsMadeOf f y (x ∷ xs)
+made_more : {A B : Type 0} (f : A → B) (y : B) (x : A) (xs : List A) → (f x ≡ y) ⊎ IsMember y (map f xs) → (IsMember y (map f xs) → IsMadeOf f y xs) →
+    IsMadeOf f y (x ∷ xs)
 made_more f y x xs (inl e) ih = (x, inl refl, e)
 made_more f y x xs (inr m) ih = let found = ih m in (found.0, inr found.1, found.2)
 
@@ -109,7 +115,8 @@ member_made f z (x ∷ xs) (inr m) = inr (member_made f z xs m)
 
 -- ---- filtered lists
 
-passed_first : {A : Type 0} (p : A → Bool) (y x : A) (kept xs : List A) (b : Bool) → p x ≡ b → IsMember y (cond b (x ∷ kept) kept) → (IsMember y kept → IsMember y xs × (p y ≡ true)) → IsMember y (x ∷ xs) × (p y ≡ true)
+passed_first : {A : Type 0} (p : A → Bool) (y x : A) (kept xs : List A) (b : Bool) → p x ≡ b → IsMember y (cond b (x ∷ kept) kept) →
+    (IsMember y kept → IsMember y xs × (p y ≡ true)) → IsMember y (x ∷ xs) × (p y ≡ true)
 passed_first p y x kept xs true e (inl f) ih = (inl f, ap p (sym f) ∙ e)
 passed_first p y x kept xs true e (inr m) ih = let rest = ih m in (inr rest.0, rest.1)
 passed_first p y x kept xs false e m ih = let rest = ih m in (inr rest.0, rest.1)
@@ -119,7 +126,8 @@ pub passed : {A : Type 0} (p : A → Bool) (y : A) (xs : List A) → IsMember y 
 passed p y [] m = absurd m
 passed p y (x ∷ xs) m = passed_first p y x (filter p xs) xs (p x) refl m (passed p y xs)
 
-kept_first : {A : Type 0} (p : A → Bool) (y x : A) (xs kept : List A) (b : Bool) → p x ≡ b → (x ≡ y) ⊎ IsMember y xs → p y ≡ true → (IsMember y xs → IsMember y kept) → IsMember y (cond b (x ∷ kept) kept)
+kept_first : {A : Type 0} (p : A → Bool) (y x : A) (xs kept : List A) (b : Bool) → p x ≡ b → (x ≡ y) ⊎ IsMember y xs → p y ≡ true →
+    (IsMember y xs → IsMember y kept) → IsMember y (cond b (x ∷ kept) kept)
 kept_first p y x xs kept true e (inl f) h ih = inl f
 kept_first p y x xs kept true e (inr m) h ih = inr (ih m)
 kept_first p y x xs kept false e (inl f) h ih = let bad : false ≡ true = sym e ∙ ap p f ∙ h in cc
@@ -135,7 +143,8 @@ kept p y (x ∷ xs) m h = kept_first p y x xs (filter p xs) (p x) refl m h (λ n
 abbrev pub OnePasses : {A : Type 0} → (A → Bool) → List A → Type 0
 OnePasses {A} p xs = (x : A) × IsMember x xs × (p x ≡ true)
 
-passes_more : {A : Type 0} (p : A → Bool) (x : A) (xs : List A) (b : Bool) → p x ≡ b → (b || list_any p xs) ≡ true → (list_any p xs ≡ true → OnePasses p xs) → OnePasses p (x ∷ xs)
+passes_more : {A : Type 0} (p : A → Bool) (x : A) (xs : List A) (b : Bool) → p x ≡ b → (b || list_any p xs) ≡ true → (list_any p xs ≡ true → OnePasses p xs) →
+    OnePasses p (x ∷ xs)
 passes_more p x xs true e h ih = (x, inl refl, e)
 passes_more p x xs false e h ih = let found = ih h in (found.0, inr found.1, found.2)
 
@@ -147,7 +156,8 @@ or_true : (b c : Bool) → c ≡ true → (b || c) ≡ true
 or_true true c e = refl
 or_true false c e = e
 
-any_first : {A : Type 0} (p : A → Bool) (y x : A) (xs : List A) → (x ≡ y) ⊎ IsMember y xs → p y ≡ true → (IsMember y xs → list_any p xs ≡ true) → (p x || list_any p xs) ≡ true
+any_first : {A : Type 0} (p : A → Bool) (y x : A) (xs : List A) → (x ≡ y) ⊎ IsMember y xs → p y ≡ true → (IsMember y xs → list_any p xs ≡ true) →
+    (p x || list_any p xs) ≡ true
 any_first p y x xs (inl e) h ih = ap (λ b. b || list_any p xs) (ap p e ∙ h)
 any_first p y x xs (inr m) h ih = or_true (p x) (list_any p xs) (ih m)
 

@@ -93,7 +93,8 @@ both_swap _ Conflict = refl
 abbrev pub TwoHold : (Relations → Bool) → Relations → Pair → Type 0
 TwoHold may set pair = (allowed_as_two may pair && has_both set pair) ≡ true
 
-two_hold : (may : Relations → Bool) (set : Relations) (a b : Relation) → may (both_of (a, b)) ≡ true → may (only a) ≡ false → may (only b) ≡ false → holds set a ≡ true → holds set b ≡ true → TwoHold may set (a, b)
+two_hold : (may : Relations → Bool) (set : Relations) (a b : Relation) → may (both_of (a, b)) ≡ true → may (only a) ≡ false → may (only b) ≡ false →
+    holds set a ≡ true → holds set b ≡ true → TwoHold may set (a, b)
 two_hold may set a b both first second e f = rw (both, first, second, e, f) refl
 
 pair_is : (a b : Relation) (pair : Pair) (x y : Bool) → is_relation a pair.0 ≡ x → is_relation b pair.1 ≡ y → (x && y) ≡ true → pair ≡ (a, b)
@@ -101,17 +102,21 @@ pair_is a b pair true true e f h = sym (ap (λ r. (r, b)) (same_relation a pair.
 pair_is a b pair true false e f h = cc
 pair_is a b pair false y e f h = cc
 
-either_pair : (a b : Relation) (pair : Pair) (P : Pair → Type 0) → P (a, b) → P (b, a) → (x y : Bool) → (is_relation a pair.0 && is_relation b pair.1) ≡ x → (is_relation b pair.0 && is_relation a pair.1) ≡ y → (x || y) ≡ true → P pair
+either_pair : (a b : Relation) (pair : Pair) (P : Pair → Type 0) → P (a, b) → P (b, a) → (x y : Bool) → (is_relation a pair.0 && is_relation b pair.1) ≡ x →
+    (is_relation b pair.0 && is_relation a pair.1) ≡ y → (x || y) ≡ true → P pair
 either_pair a b pair P here there true y e f h = subst P (sym (pair_is a b pair (is_relation a pair.0) (is_relation b pair.1) refl refl e)) here
 either_pair a b pair P here there false true e f h = subst P (sym (pair_is b a pair (is_relation b pair.0) (is_relation a pair.1) refl refl f)) there
 either_pair a b pair P here there false false e f h = cc
 
 -- two relations that are one would be allowed alone
-pair_by : (may : Relations → Bool) (set : Relations) (a b : Relation) → may (both_of (a, b)) ≡ true → may (only a) ≡ false → may (only b) ≡ false → holds set a ≡ true → holds set b ≡ true →
-    (x y : Bool) → list_any (is_pair a b) all_pairs ≡ x → is_relation a b ≡ y → (x || y) ≡ true → list_any (λ pair. allowed_as_two may pair && has_both set pair) all_pairs ≡ true
+pair_by : (may : Relations → Bool) (set : Relations) (a b : Relation) → may (both_of (a, b)) ≡ true → may (only a) ≡ false → may (only b) ≡ false →
+    holds set a ≡ true → holds set b ≡ true →
+    (x y : Bool) → list_any (is_pair a b) all_pairs ≡ x → is_relation a b ≡ y → (x || y) ≡ true →
+    list_any (λ pair. allowed_as_two may pair && has_both set pair) all_pairs ≡ true
 pair_by may set a b both first second e f true y listed same h =
     any_weaker (is_pair a b) (λ pair. allowed_as_two may pair && has_both set pair)
-    (λ pair found. either_pair a b pair (TwoHold may set) (two_hold may set a b both first second e f) (two_hold may set b a (ap may (both_swap a b) ∙ both) second first f e)
+    (λ pair found. either_pair a b pair (TwoHold may set) (two_hold may set a b both first second e f)
+    (two_hold may set b a (ap may (both_swap a b) ∙ both) second first f e)
     (is_relation a pair.0 && is_relation b pair.1) (is_relation b pair.0 && is_relation a pair.1) refl refl found) all_pairs listed
 pair_by may set a b both first second e f false true listed same h =
     let one : both_of (a, b) ≡ only a = ap (λ r. both_of (a, r)) (sym (same_relation a b same)) ∙ both_same a in
@@ -133,26 +138,35 @@ times_else may set closed =
     let twos = filter (allowed_as_two may) all_pairs in
     let all : ways may ≡ map by.One ones ++ map (λ (pair : Pair). by.Two pair.0 pair.1) twos = rw closed refl in
     let parts = how_many-append (λ b. is_by b set) (map by.One ones) (map (λ (pair : Pair). by.Two pair.0 pair.1) twos) in
-    let first : how_many (λ b. is_by b set) (map by.One ones) ≡ single_times may set = how_many-map by.One (λ b. is_by b set) ones ∙ how_many-filter (λ r. may (only r)) (λ r. holds set r) all_relations in
+    let first : how_many (λ b. is_by b set) (map by.One ones) ≡ single_times may set = how_many-map by.One (λ b. is_by b set) ones
+    ∙ how_many-filter (λ r. may (only r)) (λ r. holds set r) all_relations in
     let second : how_many (λ b. is_by b set) (map (λ (pair : Pair). by.Two pair.0 pair.1) twos) ≡ double_times may set =
     how_many-map (λ (pair : Pair). by.Two pair.0 pair.1) (λ b. is_by b set) twos ∙ how_many-filter (allowed_as_two may) (λ pair. has_both set pair) all_pairs in
-    ap (how_many (λ b. is_by b set)) all ∙ parts ∙ ap (λ n. n + how_many (λ b. is_by b set) (map (λ (pair : Pair). by.Two pair.0 pair.1) twos)) first ∙ ap (λ n. single_times may set + n) second
+    ap (how_many (λ b. is_by b set)) all ∙ parts ∙ ap (λ n. n + how_many (λ b. is_by b set) (map (λ (pair : Pair). by.Two pair.0 pair.1) twos)) first
+    ∙ ap (λ n. single_times may set + n) second
 
 most_by : (may : Relations → Bool) (set : Relations) (b : Bool) → may no_relations ≡ b → times may set ≤ 21
 most_by may set true free = omega (arith, times_open may set free)
 most_by may set false closed =
-    omega (arith, times_else may set closed, how_many-most (λ r. may (only r) && holds set r) all_relations, how_many-most (λ pair. allowed_as_two may pair && has_both set pair) all_pairs)
+    omega (
+      arith,
+      times_else may set closed,
+      how_many-most (λ r. may (only r) && holds set r) all_relations,
+      how_many-most (λ pair. allowed_as_two may pair && has_both set pair) all_pairs,
+    )
 
 -- at most each of the six relations and of the fifteen pairs
 pub times_most : (may : Relations → Bool) (set : Relations) → times may set ≤ 21
 times_most may set = most_by may set (may no_relations) refl
 
-positive_one : (may : Relations → Bool) (set : Relations) (r : Relation) → may no_relations ≡ false → holds set r ≡ true → may (only r) ≡ true → 0 < times may set
+positive_one : (may : Relations → Bool) (set : Relations) (r : Relation) → may no_relations ≡ false → holds set r ≡ true → may (only r) ≡ true →
+    0 < times may set
 positive_one may set r closed held alone =
     let hit : (may (only r) && holds set r) ≡ true = rw (alone, held) refl in
     omega (arith, times_else may set closed, some_counted (λ s. may (only s) && holds set s) all_relations (one_there (λ s. may (only s) && holds set s) r hit))
 
-positive_two : (may : Relations → Bool) (set : Relations) (a b : Relation) → may no_relations ≡ false → holds set a ≡ true → holds set b ≡ true → may (both_of (a, b)) ≡ true → (x y : Bool) → may (only a) ≡ x → may (only b) ≡ y → 0 < times may set
+positive_two : (may : Relations → Bool) (set : Relations) (a b : Relation) → may no_relations ≡ false → holds set a ≡ true → holds set b ≡ true →
+    may (both_of (a, b)) ≡ true → (x y : Bool) → may (only a) ≡ x → may (only b) ≡ y → 0 < times may set
 positive_two may set a b closed e f both true y first second = positive_one may set a closed e first
 positive_two may set a b closed e f both false true first second = positive_one may set b closed f second
 positive_two may set a b closed e f both false false first second =
@@ -175,10 +189,12 @@ positive_by may set true free narrow = omega (arith, times_open may set free)
 positive_by may set false closed (inl free) = let bad : false ≡ true = sym closed ∙ free in cc
 positive_by may set false closed (inr (inl one)) = positive_one may set one.0 closed one.1 one.2
 positive_by may set false closed (inr (inr two)) =
-    positive_two may set two.0 two.1 closed (left_of (holds set two.0) (holds set two.1) two.2) (right_of (holds set two.0) (holds set two.1) two.2) two.3 (may (only two.0)) (may (only two.1)) refl refl
+    positive_two may set two.0 two.1 closed (left_of (holds set two.0) (holds set two.1) two.2) (right_of (holds set two.0) (holds set two.1) two.2) two.3
+    (may (only two.0)) (may (only two.1)) refl refl
 
 -- what is allowed to these relations is selected by some of them
-pub allowed_selected : (policy : Policy) (role : Role) (act : Action) (cell : Cell) (set : Relations) → allowed_by policy role act cell set ≡ true → 0 < times (allowed_by policy role act cell) set
+pub allowed_selected : (policy : Policy) (role : Role) (act : Action) (cell : Cell) (set : Relations) → allowed_by policy role act cell set ≡ true →
+    0 < times (allowed_by policy role act cell) set
 allowed_selected policy role act cell set h =
     positive_by (allowed_by policy role act cell) set (allowed_by policy role act cell no_relations) refl (narrowed policy (cell_facts role act cell set) set h)
 
@@ -192,11 +208,13 @@ kept_file file = (base_stored file.acts, stands_in (base_stage file.acts) file.f
 pub finders_of_file : (policy : Policy) (h : History) (day : ℕ) (caller : Party) (wanted : Filter) (file : CaseFile) →
     how_many (λ r. is_found r caller.id day (found_file h caller.id file)) (routes_of (allowed_by policy caller.role action.List) wanted)
     ≡ times_in (allowed_by policy caller.role action.List) wanted (day_cell day (state_of file)) (relations_to_file h caller.id file)
-finders_of_file policy h day caller wanted file = finders (allowed_by policy caller.role action.List) wanted caller.id day (found_file h caller.id file) (kept_file file)
+finders_of_file policy h day caller wanted file = finders (allowed_by policy caller.role action.List) wanted caller.id day (found_file h caller.id file)
+    (kept_file file)
 
 -- whether some selection of the listing finds the row of the file
 abbrev pub is_selected : Policy → History → ℕ → Party → Filter → CaseFile → Bool
-is_selected policy h day caller wanted file = list_any (λ r. is_found r caller.id day (found_file h caller.id file)) (routes_of (allowed_by policy caller.role action.List) wanted)
+is_selected policy h day caller wanted file = list_any (λ r. is_found r caller.id day (found_file h caller.id file))
+    (routes_of (allowed_by policy caller.role action.List) wanted)
 
 gate_opens : (b : Bool) (n : ℕ) → 0 < cond b n 0 → b ≡ true
 gate_opens true n h = refl
@@ -206,7 +224,8 @@ gate_opens false n h = absurd (omega (arith, h))
 pub found_meets : (policy : Policy) (h : History) (day : ℕ) (caller : Party) (wanted : Filter) (file : CaseFile) →
     is_selected policy h day caller wanted file ≡ true → meets wanted (stage_on day file) (timing_of day file) ≡ true
 found_meets policy h day caller wanted file found =
-    gate_opens (meets wanted (stage_on day file) (timing_of day file)) (times (allowed_by policy caller.role action.List (day_cell day (state_of file))) (relations_to_file h caller.id file))
+    gate_opens (meets wanted (stage_on day file) (timing_of day file))
+    (times (allowed_by policy caller.role action.List (day_cell day (state_of file))) (relations_to_file h caller.id file))
     (subst (λ n. 0 < n) (finders_of_file policy h day caller wanted file)
     (some_counted (λ r. is_found r caller.id day (found_file h caller.id file)) (routes_of (allowed_by policy caller.role action.List) wanted) found))
 
@@ -217,9 +236,12 @@ none_missed policy h day caller wanted file listed =
     let cell = day_cell day (state_of file) in
     let set = relations_to_file h caller.id file in
     let may = allowed_by policy caller.role action.List cell in
-    let wants : meets wanted (stage_on day file) (timing_of day file) ≡ true = left_of (meets wanted (stage_on day file) (timing_of day file)) (allows policy (file_facts h day caller file action.List)) listed in
-    let allow : may set ≡ true = right_of (meets wanted (stage_on day file) (timing_of day file)) (allows policy (file_facts h day caller file action.List)) listed in
-    let count : how_many (λ r. is_found r caller.id day (found_file h caller.id file)) (routes_of (allowed_by policy caller.role action.List) wanted) ≡ times may set =
+    let wants : meets wanted (stage_on day file) (timing_of day file) ≡ true =
+    left_of (meets wanted (stage_on day file) (timing_of day file)) (allows policy (file_facts h day caller file action.List)) listed in
+    let allow : may set ≡ true = right_of (meets wanted (stage_on day file) (timing_of day file))
+    (allows policy (file_facts h day caller file action.List)) listed in
+    let count : how_many (λ r. is_found r caller.id day (found_file h caller.id file)) (routes_of (allowed_by policy caller.role action.List) wanted)
+    ≡ times may set =
     finders_of_file policy h day caller wanted file ∙ ap (λ b. cond b (times may set) 0) wants in
     any_counted (λ r. is_found r caller.id day (found_file h caller.id file)) (routes_of (allowed_by policy caller.role action.List) wanted)
     (subst (λ n. 0 < n) (sym count) (allowed_selected policy caller.role action.List cell set allow))

@@ -35,7 +35,8 @@ taken_here paper n cleared ns true false e ih = rw e ih
 taken_here paper n cleared ns false false e ih = rw e (ap (λ ms. n ∷ ms) ih)
 
 -- one more clearing takes its number away from those that are left
-taken_away : (paper : ℕ) (cleared : ℕ → Bool) (ns : List ℕ) → filter (λ n. not ((n == paper) || cleared n)) ns ≡ filter (λ n. not (n == paper)) (filter (λ n. not (cleared n)) ns)
+taken_away : (paper : ℕ) (cleared : ℕ → Bool) (ns : List ℕ) → filter (λ n. not ((n == paper) || cleared n)) ns
+    ≡ filter (λ n. not (n == paper)) (filter (λ n. not (cleared n)) ns)
 taken_away paper cleared [] = refl
 taken_away paper cleared (n ∷ ns) = taken_here paper n cleared ns (n == paper) (cleared n) refl (taken_away paper cleared ns)
 
@@ -53,7 +54,8 @@ either : (b c : Bool) → (b || c) ≡ true → b ≡ false → c ≡ true
 either true c e f = cc
 either false c e f = e
 
-among_here : (bound n m : ℕ) (ns : List ℕ) (b : Bool) → (n == m) ≡ b → FallFrom bound (n ∷ ns) → (b || has_number ns m) ≡ true → (has_number ns m ≡ true → m ≤ n - 1) → m ≤ bound
+among_here : (bound n m : ℕ) (ns : List ℕ) (b : Bool) → (n == m) ≡ b → FallFrom bound (n ∷ ns) → (b || has_number ns m) ≡ true →
+    (has_number ns m ≡ true → m ≤ n - 1) → m ≤ bound
 among_here bound n m ns true e f there ih = let same : n ≡ m = eqb-true n m e in omega (arith, f.0)
 among_here bound n m ns false e f there ih = let small : m ≤ n - 1 = ih there in omega (arith, f.0)
 
@@ -66,11 +68,15 @@ not_false : (b : Bool) → not b ≡ false → b ≡ true
 not_false true e = refl
 not_false false e = cc
 
-uncleared_more : (filing : Filing) (caller day : ℕ) (command : Command) (made : Option ℕ) (before : List Act) (number : ℕ) → WasAdmitted filing (act_by caller day command made) before → WereAdmitted filing before →
-    paper_count (act_by caller day command made ∷ before) < number → (paper_count before < number → is_cleared before number ≡ false) → is_cleared (act_by caller day command made ∷ before) number ≡ false
+uncleared_more : (filing : Filing) (caller day : ℕ) (command : Command) (made : Option ℕ) (before : List Act) (number : ℕ) →
+    WasAdmitted filing (act_by caller day command made) before → WereAdmitted filing before →
+    paper_count (act_by caller day command made ∷ before) < number → (paper_count before < number → is_cleared before number ≡ false) →
+    is_cleared (act_by caller day command made ∷ before) number ≡ false
 uncleared_more filing caller day (ClearNotice paper) made before number w all above ih =
-    let there : has_number (open_notices before) paper ≡ true = not_false (has_number (open_notices before) paper) (tests_passed filing (act_by caller day (ClearNotice paper) made) before w).1.0 in
-    let small : paper ≤ paper_count before = among_falling (paper_count before) paper (open_notices before) (open_fall before (are_numbered filing before all)) there in
+    let there : has_number (open_notices before) paper ≡ true = not_false (has_number (open_notices before) paper)
+    (tests_passed filing (act_by caller day (ClearNotice paper) made) before w).1.0 in
+    let small : paper ≤ paper_count before = among_falling (paper_count before) paper (open_notices before)
+    (open_fall before (are_numbered filing before all)) there in
     let other : number ≢ paper = omega (arith, small, above) in
     let e : (number == paper) ≡ false = ne_eqb number paper other in
     rw e (ih above)
@@ -79,10 +85,12 @@ uncleared_more filing caller day _ made before number w all above ih = ih (omega
 -- no clearing names a number above the count of papers
 pub uncleared : (filing : Filing) (acts : List Act) (number : ℕ) → WereAdmitted filing acts → paper_count acts < number → is_cleared acts number ≡ false
 uncleared filing [] number w above = refl
-uncleared filing (act ∷ before) number w above = uncleared_more filing act.caller act.day act.command act.number before number w.0 w.1 above (uncleared filing before number w.1)
+uncleared filing (act ∷ before) number w above = uncleared_more filing act.caller act.day act.command act.number before number w.0 w.1 above
+    (uncleared filing before number w.1)
 
 -- an admitted notice has a number that no clearing named
-pub fresh : (filing : Filing) (caller day : ℕ) (command : Command) (number : Option ℕ) (before : List Act) → WasAdmitted filing (act_by caller day command number) before → WereAdmitted filing before → IsFresh before command number
+pub fresh : (filing : Filing) (caller day : ℕ) (command : Command) (number : Option ℕ) (before : List Act) →
+    WasAdmitted filing (act_by caller day command number) before → WereAdmitted filing before → IsFresh before command number
 fresh filing caller day (Notice text) None before w all = tt
 fresh filing caller day (Notice text) (Some n) before w all =
     let next : n ≡ paper_count before + 1 = some_is n (paper_count before + 1) w.numbered in

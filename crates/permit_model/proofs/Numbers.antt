@@ -56,7 +56,8 @@ below_parcel h id (Some n) new named numbered above ih =
     let count : n ≡ length made + 1 = number_is n _ numbered ∙ ap (λ k. k + 1) (length-map made (parcel_now h)) in
     find_none_last (λ (p : Parcel). p.id == id) made (new n) (ih id (omega arith)) (ap (λ k. k == id) (named n) ∙ other_number n id (omega arith))
 
-below_deed : (h : History) (id caller day : ℕ) (deed : Deed) (number : Option ℕ) → MayFollow h (record { caller = caller; day = day; deed = deed; number = number }) deed →
+below_deed : (h : History) (id caller day : ℕ) (deed : Deed) (number : Option ℕ) →
+    MayFollow h (record { caller = caller; day = day; deed = deed; number = number }) deed →
     length (in_order parcel_added (record { caller = caller; day = day; deed = deed; number = number } ∷ h)) < id →
     ((k : ℕ) → length (in_order parcel_added h) < k → find (λ (p : Parcel). p.id == k) (in_order parcel_added h) ≡ None) →
     find (λ (p : Parcel). p.id == id) (in_order parcel_added (record { caller = caller; day = day; deed = deed; number = number } ∷ h)) ≡ None
@@ -72,16 +73,20 @@ below_first id caller day (Founding name digest) number is = refl
 below_first id caller day (Accepted request) number is = absurd is
 
 -- no parcel has a number above their count
-pub parcels_below : (h : History) → IsHistory h → (id : ℕ) → length (in_order parcel_added h) < id → find (λ (p : Parcel). p.id == id) (in_order parcel_added h) ≡ None
+pub parcels_below : (h : History) → IsHistory h → (id : ℕ) → length (in_order parcel_added h) < id →
+    find (λ (p : Parcel). p.id == id) (in_order parcel_added h) ≡ None
 parcels_below [] is id above = refl
 parcels_below (entry ∷ []) is id above = below_first id entry.caller entry.day entry.deed entry.number is
-parcels_below (entry ∷ last ∷ before) is id above = below_deed (last ∷ before) id entry.caller entry.day entry.deed entry.number is.0 above (parcels_below (last ∷ before) is.1)
+parcels_below (entry ∷ last ∷ before) is id above = below_deed (last ∷ before) id entry.caller entry.day entry.deed entry.number is.0 above
+    (parcels_below (last ∷ before) is.1)
 
 -- a parcel that isn't there now wasn't added
 not_there : (h : History) (id : ℕ) → find (λ (p : Parcel). p.id == id) (in_order parcel_added h) ≡ None → parcel_numbered h id ≡ None
-not_there h id none = find_mapped (parcel_now h) (λ (p : Parcel). p.id == id) (λ (p : Parcel). p.id == id) (λ p. refl) (in_order parcel_added h) ∙ ap (option_map (parcel_now h)) none
+not_there h id none = find_mapped (parcel_now h) (λ (p : Parcel). p.id == id) (λ (p : Parcel). p.id == id) (λ p. refl) (in_order parcel_added h)
+    ∙ ap (option_map (parcel_now h)) none
 
-transfer_none : (h : History) (id parcel to : ℕ) (b : Bool) → (parcel == id) ≡ b → find (λ (p : Parcel). p.id == id) (in_order parcel_added h) ≡ None → IsTrue (is_some (parcel_numbered h parcel)) →
+transfer_none : (h : History) (id parcel to : ℕ) (b : Bool) → (parcel == id) ≡ b → find (λ (p : Parcel). p.id == id) (in_order parcel_added h) ≡ None →
+    IsTrue (is_some (parcel_numbered h parcel)) →
     latest (λ (e : Entry). receiver_by id e.deed) h ≡ None → option_or (if b then Some to else None) (latest (λ (e : Entry). receiver_by id e.deed) h) ≡ None
 transfer_none h id parcel to true e none there ih =
     let same : parcel ≡ id = eqb-true parcel id e in
@@ -90,31 +95,38 @@ transfer_none h id parcel to true e none there ih =
     cc
 transfer_none h id parcel to false e none there ih = ih
 
-none_added : (h : History) (id : ℕ) (number : Option ℕ) (new : ℕ → Parcel) → find (λ (p : Parcel). p.id == id) (add_last (in_order parcel_added h) (option_map new number)) ≡ None → find (λ (p : Parcel). p.id == id) (in_order parcel_added h) ≡ None
+none_added : (h : History) (id : ℕ) (number : Option ℕ) (new : ℕ → Parcel) →
+    find (λ (p : Parcel). p.id == id) (add_last (in_order parcel_added h) (option_map new number)) ≡ None →
+    find (λ (p : Parcel). p.id == id) (in_order parcel_added h) ≡ None
 none_added h id None new none = none
 none_added h id (Some n) new none = find_none_front (λ (p : Parcel). p.id == id) (in_order parcel_added h) (new n ∷ []) none
 
-transfers_deed : (h : History) (id caller day : ℕ) (deed : Deed) (number : Option ℕ) → MayFollow h (record { caller = caller; day = day; deed = deed; number = number }) deed →
+transfers_deed : (h : History) (id caller day : ℕ) (deed : Deed) (number : Option ℕ) →
+    MayFollow h (record { caller = caller; day = day; deed = deed; number = number }) deed →
     find (λ (p : Parcel). p.id == id) (in_order parcel_added (record { caller = caller; day = day; deed = deed; number = number } ∷ h)) ≡ None →
     (find (λ (p : Parcel). p.id == id) (in_order parcel_added h) ≡ None → latest (λ (e : Entry). receiver_by id e.deed) h ≡ None) →
     latest (λ (e : Entry). receiver_by id e.deed) (record { caller = caller; day = day; deed = deed; number = number } ∷ h) ≡ None
 transfers_deed h id caller day (Founding name digest) number may none ih = absurd may
-transfers_deed h id caller day (Accepted (Transfer parcel to)) number may none ih = transfer_none h id parcel to (parcel == id) refl none may.record_there (ih none)
+transfers_deed h id caller day (Accepted (Transfer parcel to)) number may none ih =
+    transfer_none h id parcel to (parcel == id) refl none may.record_there (ih none)
 transfers_deed h id caller day (Accepted (AddParcel lot address owner)) None may none ih = ih none
 transfers_deed h id caller day (Accepted (AddParcel lot address owner)) (Some n) may none ih =
     ih (none_added h id (Some n) (λ k. record { id = k; lot = lot; address = address; owner = owner }) none)
 transfers_deed h id caller day (Accepted request) number may none ih = ih none
 
-transfers_first : (id caller day : ℕ) (deed : Deed) (number : Option ℕ) → IsFounding (record { caller = caller; day = day; deed = deed; number = number }) deed →
+transfers_first : (id caller day : ℕ) (deed : Deed) (number : Option ℕ) →
+    IsFounding (record { caller = caller; day = day; deed = deed; number = number }) deed →
     latest (λ (e : Entry). receiver_by id e.deed) (record { caller = caller; day = day; deed = deed; number = number } ∷ []) ≡ None
 transfers_first id caller day (Founding name digest) number is = refl
 transfers_first id caller day (Accepted request) number is = absurd is
 
 -- a parcel that isn't there wasn't transferred
-pub no_transfers : (h : History) → IsHistory h → (id : ℕ) → find (λ (p : Parcel). p.id == id) (in_order parcel_added h) ≡ None → latest (λ (e : Entry). receiver_by id e.deed) h ≡ None
+pub no_transfers : (h : History) → IsHistory h → (id : ℕ) → find (λ (p : Parcel). p.id == id) (in_order parcel_added h) ≡ None →
+    latest (λ (e : Entry). receiver_by id e.deed) h ≡ None
 no_transfers [] is id none = refl
 no_transfers (entry ∷ []) is id none = transfers_first id entry.caller entry.day entry.deed entry.number is
-no_transfers (entry ∷ last ∷ before) is id none = transfers_deed (last ∷ before) id entry.caller entry.day entry.deed entry.number is.0 none (no_transfers (last ∷ before) is.1 id)
+no_transfers (entry ∷ last ∷ before) is id none = transfers_deed (last ∷ before) id entry.caller entry.day entry.deed entry.number is.0 none
+    (no_transfers (last ∷ before) is.1 id)
 
 -- ---- files
 
@@ -127,14 +139,23 @@ below_filing h id n new named numbered above ih =
     let count : n ≡ length (filings h) + 1 = number_is n _ numbered in
     find_none_last (λ (f : Filing). f.id == id) (filings h) new (ih id (omega arith)) (ap (λ k. k == id) named ∙ other_number n id (omega arith))
 
-below_file : (h : History) (id caller day : ℕ) (deed : Deed) (number : Option ℕ) → MayFollow h (record { caller = caller; day = day; deed = deed; number = number }) deed →
+below_file : (h : History) (id caller day : ℕ) (deed : Deed) (number : Option ℕ) →
+    MayFollow h (record { caller = caller; day = day; deed = deed; number = number }) deed →
     length (filings (record { caller = caller; day = day; deed = deed; number = number } ∷ h)) < id →
     ((k : ℕ) → length (filings h) < k → find (λ (f : Filing). f.id == k) (filings h) ≡ None) →
     find (λ (f : Filing). f.id == id) (filings (record { caller = caller; day = day; deed = deed; number = number } ∷ h)) ≡ None
 below_file h id caller day (Founding name digest) number may above ih = absurd may
 below_file h id caller day (Accepted (File parcel kind valuation description)) None may above ih = ih id above
 below_file h id caller day (Accepted (File parcel kind valuation description)) (Some n) may above ih =
-    below_filing h id n (record { id = n; parcel = parcel; applicant = caller; kind = kind; valuation = valuation; description = description; filed = day }) refl may.numbered above ih
+    below_filing h id n (record {
+      id = n;
+      parcel = parcel;
+      applicant = caller;
+      kind = kind;
+      valuation = valuation;
+      description = description;
+      filed = day;
+    }) refl may.numbered above ih
 below_file h id caller day (Accepted request) number may above ih = ih id above
 
 file_first : (id caller day : ℕ) (deed : Deed) (number : Option ℕ) → IsFounding (record { caller = caller; day = day; deed = deed; number = number }) deed →
@@ -146,7 +167,8 @@ file_first id caller day (Accepted request) number is = absurd is
 pub files_below : (h : History) → IsHistory h → (id : ℕ) → length (filings h) < id → find (λ (f : Filing). f.id == id) (filings h) ≡ None
 files_below [] is id above = refl
 files_below (entry ∷ []) is id above = file_first id entry.caller entry.day entry.deed entry.number is
-files_below (entry ∷ last ∷ before) is id above = below_file (last ∷ before) id entry.caller entry.day entry.deed entry.number is.0 above (files_below (last ∷ before) is.1)
+files_below (entry ∷ last ∷ before) is id above = below_file (last ∷ before) id entry.caller entry.day entry.deed entry.number is.0 above
+    (files_below (last ∷ before) is.1)
 
 -- ---- numbered by place
 
@@ -154,37 +176,55 @@ numbered_parcel : (h : History) (number : Option ℕ) (new : ℕ → Parcel) →
     IsNumbered (λ (p : Parcel). p.id) (in_order parcel_added h) → IsNumbered (λ (p : Parcel). p.id) (add_last (in_order parcel_added h) (option_map new number))
 numbered_parcel h None new named next ih = cc
 numbered_parcel h (Some n) new named next ih =
-    numbered_last (λ (p : Parcel). p.id) 1 (in_order parcel_added h) (new n) ih (omega (arith, named n, number_is n (length (parcels h) + 1) next, length-map (in_order parcel_added h) (parcel_now h)))
+    numbered_last (λ (p : Parcel). p.id) 1 (in_order parcel_added h) (new n) ih
+    (omega (arith, named n, number_is n (length (parcels h) + 1) next, length-map (in_order parcel_added h) (parcel_now h)))
 
-parcels_deed : (h : History) (caller day : ℕ) (deed : Deed) (number : Option ℕ) → MayFollow h (record { caller = caller; day = day; deed = deed; number = number }) deed →
-    IsNumbered (λ (p : Parcel). p.id) (in_order parcel_added h) → IsNumbered (λ (p : Parcel). p.id) (in_order parcel_added (record { caller = caller; day = day; deed = deed; number = number } ∷ h))
+parcels_deed : (h : History) (caller day : ℕ) (deed : Deed) (number : Option ℕ) →
+    MayFollow h (record { caller = caller; day = day; deed = deed; number = number }) deed →
+    IsNumbered (λ (p : Parcel). p.id) (in_order parcel_added h) → IsNumbered (λ (p : Parcel). p.id)
+    (in_order parcel_added (record { caller = caller; day = day; deed = deed; number = number } ∷ h))
 parcels_deed h caller day (Founding name digest) number may ih = absurd may
 parcels_deed h caller day (Accepted (AddParcel lot address owner)) None may ih = ih
-parcels_deed h caller day (Accepted (AddParcel lot address owner)) (Some n) may ih = numbered_parcel h (Some n) (λ k. record { id = k; lot = lot; address = address; owner = owner }) (λ k. refl) may.numbered ih
+parcels_deed h caller day (Accepted (AddParcel lot address owner)) (Some n) may ih =
+    numbered_parcel h (Some n) (λ k. record { id = k; lot = lot; address = address; owner = owner }) (λ k. refl) may.numbered ih
 parcels_deed h caller day (Accepted request) number may ih = ih
 
-parcels_first : (caller day : ℕ) (deed : Deed) (number : Option ℕ) → IsFounding (record { caller = caller; day = day; deed = deed; number = number }) deed → IsNumbered (λ (p : Parcel). p.id) (in_order parcel_added (record { caller = caller; day = day; deed = deed; number = number } ∷ []))
+parcels_first : (caller day : ℕ) (deed : Deed) (number : Option ℕ) → IsFounding (record { caller = caller; day = day; deed = deed; number = number }) deed →
+    IsNumbered (λ (p : Parcel). p.id) (in_order parcel_added (record { caller = caller; day = day; deed = deed; number = number } ∷ []))
 parcels_first caller day (Founding name digest) number is = tt
 parcels_first caller day (Accepted request) number is = absurd is
 
 added_numbered : (h : History) → IsHistory h → IsNumbered (λ (p : Parcel). p.id) (in_order parcel_added h)
 added_numbered [] is = tt
 added_numbered (entry ∷ []) is = parcels_first entry.caller entry.day entry.deed entry.number is
-added_numbered (entry ∷ last ∷ before) is = parcels_deed (last ∷ before) entry.caller entry.day entry.deed entry.number is.0 (added_numbered (last ∷ before) is.1)
+added_numbered (entry ∷ last ∷ before) is = parcels_deed (last ∷ before) entry.caller entry.day entry.deed entry.number is.0
+    (added_numbered (last ∷ before) is.1)
 
 -- the parcels are numbered from 1
 pub parcels_numbered : (h : History) → IsHistory h → IsNumbered (λ (p : Parcel). p.id) (parcels h)
-parcels_numbered h is = numbered_mapped (parcel_now h) (λ (p : Parcel). p.id) (λ (p : Parcel). p.id) (λ p. refl) 1 (in_order parcel_added h) (added_numbered h is)
+parcels_numbered h is = numbered_mapped (parcel_now h) (λ (p : Parcel). p.id) (λ (p : Parcel). p.id) (λ p. refl) 1 (in_order parcel_added h)
+    (added_numbered h is)
 
-filings_deed : (h : History) (caller day : ℕ) (deed : Deed) (number : Option ℕ) → MayFollow h (record { caller = caller; day = day; deed = deed; number = number }) deed →
-    IsNumbered (λ (f : Filing). f.id) (filings h) → IsNumbered (λ (f : Filing). f.id) (filings (record { caller = caller; day = day; deed = deed; number = number } ∷ h))
+filings_deed : (h : History) (caller day : ℕ) (deed : Deed) (number : Option ℕ) →
+    MayFollow h (record { caller = caller; day = day; deed = deed; number = number }) deed →
+    IsNumbered (λ (f : Filing). f.id) (filings h) → IsNumbered (λ (f : Filing). f.id)
+    (filings (record { caller = caller; day = day; deed = deed; number = number } ∷ h))
 filings_deed h caller day (Founding name digest) number may ih = absurd may
 filings_deed h caller day (Accepted (File parcel kind valuation description)) None may ih = ih
 filings_deed h caller day (Accepted (File parcel kind valuation description)) (Some n) may ih =
-    numbered_last (λ (f : Filing). f.id) 1 (filings h) (record { id = n; parcel = parcel; applicant = caller; kind = kind; valuation = valuation; description = description; filed = day }) ih (omega (arith, number_is n (length (filings h) + 1) may.numbered))
+    numbered_last (λ (f : Filing). f.id) 1 (filings h) (record {
+      id = n;
+      parcel = parcel;
+      applicant = caller;
+      kind = kind;
+      valuation = valuation;
+      description = description;
+      filed = day;
+    }) ih (omega (arith, number_is n (length (filings h) + 1) may.numbered))
 filings_deed h caller day (Accepted request) number may ih = ih
 
-filings_first : (caller day : ℕ) (deed : Deed) (number : Option ℕ) → IsFounding (record { caller = caller; day = day; deed = deed; number = number }) deed → IsNumbered (λ (f : Filing). f.id) (filings (record { caller = caller; day = day; deed = deed; number = number } ∷ []))
+filings_first : (caller day : ℕ) (deed : Deed) (number : Option ℕ) → IsFounding (record { caller = caller; day = day; deed = deed; number = number }) deed →
+    IsNumbered (λ (f : Filing). f.id) (filings (record { caller = caller; day = day; deed = deed; number = number } ∷ []))
 filings_first caller day (Founding name digest) number is = tt
 filings_first caller day (Accepted request) number is = absurd is
 
@@ -192,21 +232,27 @@ filings_first caller day (Accepted request) number is = absurd is
 pub filings_numbered : (h : History) → IsHistory h → IsNumbered (λ (f : Filing). f.id) (filings h)
 filings_numbered [] is = tt
 filings_numbered (entry ∷ []) is = filings_first entry.caller entry.day entry.deed entry.number is
-filings_numbered (entry ∷ last ∷ before) is = filings_deed (last ∷ before) entry.caller entry.day entry.deed entry.number is.0 (filings_numbered (last ∷ before) is.1)
+filings_numbered (entry ∷ last ∷ before) is = filings_deed (last ∷ before) entry.caller entry.day entry.deed entry.number is.0
+    (filings_numbered (last ∷ before) is.1)
 
 -- the files are numbered from 1
 pub case_files_numbered : (h : History) → IsHistory h → IsNumbered (λ (f : CaseFile). f.filing.id) (case_files h)
-case_files_numbered h is = numbered_mapped (case_file h) (λ (f : Filing). f.id) (λ (f : CaseFile). f.filing.id) (λ f. refl) 1 (filings h) (filings_numbered h is)
+case_files_numbered h is = numbered_mapped (case_file h) (λ (f : Filing). f.id) (λ (f : CaseFile). f.filing.id) (λ f. refl) 1 (filings h)
+    (filings_numbered h is)
 
-parties_deed : (h : History) (caller day : ℕ) (deed : Deed) (number : Option ℕ) → MayFollow h (record { caller = caller; day = day; deed = deed; number = number }) deed →
-    IsNumbered (λ (p : Party). p.id) (parties h) → IsNumbered (λ (p : Party). p.id) (parties (record { caller = caller; day = day; deed = deed; number = number } ∷ h))
+parties_deed : (h : History) (caller day : ℕ) (deed : Deed) (number : Option ℕ) →
+    MayFollow h (record { caller = caller; day = day; deed = deed; number = number }) deed →
+    IsNumbered (λ (p : Party). p.id) (parties h) → IsNumbered (λ (p : Party). p.id)
+    (parties (record { caller = caller; day = day; deed = deed; number = number } ∷ h))
 parties_deed h caller day (Founding name digest) number may ih = absurd may
 parties_deed h caller day (Accepted (AddParty name role token)) None may ih = ih
 parties_deed h caller day (Accepted (AddParty name role token)) (Some n) may ih =
-    numbered_last (λ (p : Party). p.id) 1 (parties h) (record { id = n; name = name; role = role; digest = digest_of token }) ih (omega (arith, number_is n (length (parties h) + 1) may.numbered))
+    numbered_last (λ (p : Party). p.id) 1 (parties h) (record { id = n; name = name; role = role; digest = digest_of token }) ih
+    (omega (arith, number_is n (length (parties h) + 1) may.numbered))
 parties_deed h caller day (Accepted request) number may ih = ih
 
-parties_first : (caller day : ℕ) (deed : Deed) (number : Option ℕ) → IsFounding (record { caller = caller; day = day; deed = deed; number = number }) deed → IsNumbered (λ (p : Party). p.id) (parties (record { caller = caller; day = day; deed = deed; number = number } ∷ []))
+parties_first : (caller day : ℕ) (deed : Deed) (number : Option ℕ) → IsFounding (record { caller = caller; day = day; deed = deed; number = number }) deed →
+    IsNumbered (λ (p : Party). p.id) (parties (record { caller = caller; day = day; deed = deed; number = number } ∷ []))
 parties_first caller day (Founding name digest) None is = tt
 parties_first caller day (Founding name digest) (Some n) is = (number_is n 1 is.1, tt)
 parties_first caller day (Accepted request) number is = absurd is
@@ -215,7 +261,8 @@ parties_first caller day (Accepted request) number is = absurd is
 pub parties_numbered : (h : History) → IsHistory h → IsNumbered (λ (p : Party). p.id) (parties h)
 parties_numbered [] is = tt
 parties_numbered (entry ∷ []) is = parties_first entry.caller entry.day entry.deed entry.number is
-parties_numbered (entry ∷ last ∷ before) is = parties_deed (last ∷ before) entry.caller entry.day entry.deed entry.number is.0 (parties_numbered (last ∷ before) is.1)
+parties_numbered (entry ∷ last ∷ before) is = parties_deed (last ∷ before) entry.caller entry.day entry.deed entry.number is.0
+    (parties_numbered (last ∷ before) is.1)
 
 -- ---- papers
 
@@ -223,21 +270,35 @@ parties_numbered (entry ∷ last ∷ before) is = parties_deed (last ∷ before)
 abbrev pub HasPapers : ℕ → List Paper → Type 0
 HasPapers count papers = IsNumbered (λ (p : Paper). p.number) papers × (length papers ≡ count)
 
-papers_more : (file : ℕ) (open_now : List ℕ) (act : Act) (before : List Act) (s : Option PaperSort) → paper_sort act.command ≡ s → act.number ≡ when (is_some s) (paper_count before + 1) →
+papers_more : (file : ℕ) (open_now : List ℕ) (act : Act) (before : List Act) (s : Option PaperSort) → paper_sort act.command ≡ s →
+    act.number ≡ when (is_some s) (paper_count before + 1) →
     HasPapers (paper_count before) (papers_from file open_now before) →
     HasPapers (paper_count (act ∷ before)) (add_last (papers_from file open_now before) (paper_by file open_now act before))
 papers_more file open_now act before None e numbered ih = rw e ih
 papers_more file open_now act before (Some sort) e numbered ih =
     let next : unwrap_or act.number 0 ≡ paper_count before + 1 = ap (λ o. unwrap_or o 0) numbered in
-    let long = length-append (papers_from file open_now before) (record { file = file; number = unwrap_or act.number 0; day = act.day; author = act.caller; sort = sort; days = paper_days act.command before; text = paper_text act.command; terms = paper_terms act.command; is_open = is_notice sort && has_number open_now (unwrap_or act.number 0) } ∷ []) in
+    let long = length-append (papers_from file open_now before) (record {
+      file = file;
+      number = unwrap_or act.number 0;
+      day = act.day;
+      author = act.caller;
+      sort = sort;
+      days = paper_days act.command before;
+      text = paper_text act.command;
+      terms = paper_terms act.command;
+      is_open = is_notice sort
+          && has_number open_now (unwrap_or act.number 0);
+    } ∷ []) in
     rw e (numbered_last (λ (p : Paper). p.number) 1 (papers_from file open_now before) _ ih.0 (omega (arith, next, ih.1)), omega (arith, long, ih.1))
 
 has_papers : (file : ℕ) (open_now : List ℕ) (acts : List Act) → AreNumbered acts → HasPapers (paper_count acts) (papers_from file open_now acts)
 has_papers file open_now [] numbered = (tt, refl)
-has_papers file open_now (act ∷ before) numbered = papers_more file open_now act before (paper_sort act.command) refl numbered.0 (has_papers file open_now before numbered.1)
+has_papers file open_now (act ∷ before) numbered = papers_more file open_now act before (paper_sort act.command) refl numbered.0
+    (has_papers file open_now before numbered.1)
 
 -- the papers of a file are numbered from 1, up to their count
-pub papers_numbered : (h : History) (id : ℕ) (file : CaseFile) → IsHistory h → case_numbered h id ≡ Some file → HasPapers (paper_count file.acts) (papers_of h file.filing.id)
+pub papers_numbered : (h : History) (id : ℕ) (file : CaseFile) → IsHistory h → case_numbered h id ≡ Some file →
+    HasPapers (paper_count file.acts) (papers_of h file.filing.id)
 papers_numbered h id file is there =
     subst (HasPapers (paper_count file.acts)) (sym (papers_of-case h id file there))
     (has_papers file.filing.id (open_notices file.acts) file.acts (are_numbered file.filing file.acts (done_to h id file is there).admitted))
@@ -254,8 +315,10 @@ parcel_at h place is = found_at (λ (p : Parcel). p.id) 1 (parcels h) place (par
 -- a file is found by its number at its place
 pub file_at : (h : History) (place : ℕ) → IsHistory h → case_numbered h (1 + place) ≡ slice_get (case_files h) place
 file_at h place is =
-    ap (option_map (case_file h)) (found_at (λ (f : Filing). f.id) 1 (filings h) place (filings_numbered h is)) ∙ slice_get_mapped (case_file h) (filings h) place
+    ap (option_map (case_file h)) (found_at (λ (f : Filing). f.id) 1 (filings h) place (filings_numbered h is))
+    ∙ slice_get_mapped (case_file h) (filings h) place
 
 -- what holds of each file that is found by its number holds of all files
-pub all_files : (P : CaseFile → Type 0) (h : History) → IsHistory h → ((id : ℕ) (file : CaseFile) → case_numbered h id ≡ Some file → P file) → All P (case_files h)
+pub all_files : (P : CaseFile → Type 0) (h : History) → IsHistory h → ((id : ℕ) (file : CaseFile) → case_numbered h id ≡ Some file → P file) →
+    All P (case_files h)
 all_files P h is each = all_at P (case_files h) (λ place file there. each (1 + place) file (file_at h place is ∙ there))

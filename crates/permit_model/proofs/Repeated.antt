@@ -1,5 +1,6 @@
 -- Requests for parcels that run twice over.
-use Rattle.std.proofs.Common.{◌≡◌, ◌⊎◌, ℕ, ◌+◌, Bool, true, false, not, ◌&&◌, ◌||◌, List, [], ◌∷◌, ◌++◌, length, map, refl, sym, ◌∙◌, ap, subst, inl, inr, arith, length-append}
+use Rattle.std.proofs.Common.{◌≡◌, ◌⊎◌, ℕ, ◌+◌, Bool, true, false, not, ◌&&◌, ◌||◌, List, [], ◌∷◌, ◌++◌, length, map, refl, sym, ◌∙◌, ap, subst, inl, inr}
+use Rattle.std.proofs.Common.{arith, length-append}
 use Rattle.std.specs.Prelude.{Option, None, Some, bytes_eq, if◌then◌else◌, nat_lt, nat_le}
 use Rattle.std.specs.List.{list_any}
 use Rattle.std.proofs.lemmas.Bool.Decides.{nat_tests}
@@ -44,7 +45,8 @@ IsSettled policy token day h p = (is_open policy day (last_day h) (who h (digest
 
 -- ---- one more parcel
 
-held_map : (f : Parcel → Parcel) (test : Parcel → Bool) → ((p : Parcel) → test (f p) ≡ test p) → (ps : List Parcel) → list_any test (map f ps) ≡ list_any test ps
+held_map : (f : Parcel → Parcel) (test : Parcel → Bool) → ((p : Parcel) → test (f p) ≡ test p) → (ps : List Parcel) →
+    list_any test (map f ps) ≡ list_any test ps
 held_map f test same [] = refl
 held_map f test same (p ∷ ps) = ap (λ b. b || list_any test (map f ps)) (same p) ∙ ap (λ b. test p || b) (held_map f test same ps)
 
@@ -113,7 +115,8 @@ same_bytes bytes = (bytes_eq-Decides bytes bytes).1 refl
 -- behind a parcel its lot is taken
 now_blocked : (h : History) (day caller : ℕ) (p : Wanted) → is_blocked (added h day caller p ∷ h) p ≡ true
 now_blocked h day caller p =
-    let held : is_held (added h day caller p ∷ h) p.0 ≡ true = is_held-added h day caller p p.0 ∙ or_right (is_held h p.0) (bytes_eq p.0 p.0) (same_bytes p.0) in
+    let held : is_held (added h day caller p ∷ h) p.0 ≡ true = is_held-added h day caller p p.0
+    ∙ or_right (is_held h p.0) (bytes_eq p.0 p.0) (same_bytes p.0) in
     or_left (not (is_party (added h day caller p ∷ h) p.2) || is_held (added h day caller p ∷ h) p.0) (is_full (added h day caller p ∷ h))
     (or_right (not (is_party (added h day caller p ∷ h) p.2)) (is_held (added h day caller p ∷ h) p.0) held)
 
@@ -121,8 +124,10 @@ now_blocked h day caller p =
 
 -- a step leaves the history where the caller isn't open or a reason stands, else it adds the entry
 steps_by : (h : History) (entry : Entry) (rule : List ℕ) (below allowed absent held full : Bool) →
-    let outcome = if below then refused h refusal.Clock else (if allowed then outcome_by_reason h entry (first_failing ((absent, reason.Person) ∷ (held, reason.Taken) ∷ (full, reason.Full) ∷ [])) else refused h (refusal.Denied rule)) in
-    ((outcome.history ≡ h) × (((not below && allowed) ≡ false) ⊎ (((absent || held) || full) ≡ true))) ⊎ ((outcome.history ≡ entry ∷ h) × ((not below && allowed) ≡ true) × (((absent || held) || full) ≡ false))
+    let outcome = if below then refused h refusal.Clock else (if allowed then outcome_by_reason h entry
+    (first_failing ((absent, reason.Person) ∷ (held, reason.Taken) ∷ (full, reason.Full) ∷ [])) else refused h (refusal.Denied rule)) in
+    ((outcome.history ≡ h) × (((not below && allowed) ≡ false) ⊎ (((absent || held) || full) ≡ true))) ⊎
+    ((outcome.history ≡ entry ∷ h) × ((not below && allowed) ≡ true) × (((absent || held) || full) ≡ false))
 steps_by h entry rule true allowed absent held full = inl (refl, inl refl)
 steps_by h entry rule false false absent held full = inl (refl, inl refl)
 steps_by h entry rule false true true held full = inl (refl, inr refl)
@@ -134,7 +139,8 @@ steps_by h entry rule false true false false false = inr (refl, refl, refl)
 abbrev StepsTo : Policy → ℕ → History → Wanted → Option Party → Type 0
 StepsTo policy day h p caller =
     (((outcome_by_caller policy h day (parcel_wanted p) caller).history ≡ h) × ((is_open policy day (last_day h) caller ≡ false) ⊎ (is_blocked h p ≡ true)))
-    ⊎ ((number : ℕ) × ((outcome_by_caller policy h day (parcel_wanted p) caller).history ≡ added h day number p ∷ h) × (is_open policy day (last_day h) caller ≡ true) × (is_blocked h p ≡ false))
+    ⊎ ((number : ℕ) × ((outcome_by_caller policy h day (parcel_wanted p) caller).history ≡ added h day number p ∷ h)
+    × (is_open policy day (last_day h) caller ≡ true) × (is_blocked h p ≡ false))
 
 steps_to : (policy : Policy) (day : ℕ) (h : History) (p : Wanted) (caller : Option Party) → StepsTo policy day h p caller
 steps_to policy day h p None = inl (refl, inl refl)
@@ -160,7 +166,8 @@ closed_open true e f = cc
 closed_open false e f = cc
 
 -- and leaves each other one settled
-keeps_settled : (policy : Policy) (token : List ℕ) (day : ℕ) (h : History) (p q : Wanted) → IsSettled policy token day h q → IsSettled policy token day (after policy token day h p) q
+keeps_settled : (policy : Policy) (token : List ℕ) (day : ℕ) (h : History) (p q : Wanted) → IsSettled policy token day h q →
+    IsSettled policy token day (after policy token day h p) q
 keeps_settled policy token day h p q settled = elim (steps_to policy day h p (who h (digest_of token))) [
   | inl stays ↦ subst (λ g. IsSettled policy token day g q) (sym stays.0) settled
   | inr grows ↦ subst (λ g. IsSettled policy token day g q) (sym grows.1) (elim settled [
@@ -185,29 +192,36 @@ abbrev ran : Policy → List ℕ → ℕ → List Wanted → History → History
 ran policy token day wanted h = history_after policy (parcels_asked token day wanted) h
 
 -- a run leaves what is settled so
-run_keeps_settled : (policy : Policy) (token : List ℕ) (day : ℕ) (wanted : List Wanted) (h : History) (q : Wanted) → IsSettled policy token day h q → IsSettled policy token day (ran policy token day wanted h) q
+run_keeps_settled : (policy : Policy) (token : List ℕ) (day : ℕ) (wanted : List Wanted) (h : History) (q : Wanted) → IsSettled policy token day h q →
+    IsSettled policy token day (ran policy token day wanted h) q
 run_keeps_settled policy token day [] h q settled = settled
-run_keeps_settled policy token day (p ∷ wanted) h q settled = run_keeps_settled policy token day wanted (after policy token day h p) q (keeps_settled policy token day h p q settled)
+run_keeps_settled policy token day (p ∷ wanted) h q settled = run_keeps_settled policy token day wanted (after policy token day h p) q
+    (keeps_settled policy token day h p q settled)
 
 AllSettled : Policy → List ℕ → ℕ → History → List Wanted → Type 0
 AllSettled policy token day h [] = Unit {0}
 AllSettled policy token day h (p ∷ wanted) = IsSettled policy token day h p × AllSettled policy token day h wanted
 
 -- a run settles each of its parcels
-run_settles : (policy : Policy) (token : List ℕ) (day : ℕ) (wanted : List Wanted) (h : History) → AllSettled policy token day (ran policy token day wanted h) wanted
+run_settles : (policy : Policy) (token : List ℕ) (day : ℕ) (wanted : List Wanted) (h : History) →
+    AllSettled policy token day (ran policy token day wanted h) wanted
 unfolding AllSettled
 run_settles policy token day [] h = tt
-run_settles policy token day (p ∷ wanted) h =
-    (run_keeps_settled policy token day wanted (after policy token day h p) p (settles policy token day h p), run_settles policy token day wanted (after policy token day h p))
+run_settles policy token day (p ∷ wanted) h = (
+  run_keeps_settled policy token day wanted (after policy token day h p) p (settles policy token day h p),
+  run_settles policy token day wanted (after policy token day h p),
+)
 
 -- a run of settled ones changes nothing
-settled_run : (policy : Policy) (token : List ℕ) (day : ℕ) (wanted : List Wanted) (h : History) → AllSettled policy token day h wanted → ran policy token day wanted h ≡ h
+settled_run : (policy : Policy) (token : List ℕ) (day : ℕ) (wanted : List Wanted) (h : History) → AllSettled policy token day h wanted →
+    ran policy token day wanted h ≡ h
 unfolding AllSettled
 settled_run policy token day [] h settled = refl
 settled_run policy token day (p ∷ wanted) h settled =
     ap (ran policy token day wanted) (stays_settled policy token day h p settled.0) ∙ settled_run policy token day wanted h settled.1
 
-run_append : (policy : Policy) (xs ys : List (Asked × ℕ)) (h : History) → history_after policy (xs ++ ys) h ≡ history_after policy ys (history_after policy xs h)
+run_append : (policy : Policy) (xs ys : List (Asked × ℕ)) (h : History) →
+    history_after policy (xs ++ ys) h ≡ history_after policy ys (history_after policy xs h)
 run_append policy [] ys h = refl
 run_append policy (x ∷ xs) ys h = run_append policy xs ys (step policy h x.0 x.1).history
 

@@ -11,7 +11,8 @@ use Rattle.permit_model.specs.StandardPolicy.{standard_policy}
 use Rattle.permit_model.specs.Examples.{opening, Turn, turn, after}
 use Rattle.permit_model.proofs.Histories.{by_caller_keeps}
 
-found_at : (q p : Party) (id : ℕ) (b c : Bool) (rest by_number : Option Party) → (q.id == p.id) ≡ c → cond b (Some q) rest ≡ Some p → (rest ≡ Some p → IsTrue (is_some by_number)) → IsTrue (is_some (cond c (Some q) by_number))
+found_at : (q p : Party) (id : ℕ) (b c : Bool) (rest by_number : Option Party) → (q.id == p.id) ≡ c → cond b (Some q) rest ≡ Some p →
+    (rest ≡ Some p → IsTrue (is_some by_number)) → IsTrue (is_some (cond c (Some q) by_number))
 found_at q p id true true rest by_number e found ih = refl
 found_at q p id true false rest by_number e found ih =
     let same : q ≡ p = ap (λ o. unwrap_or o q) found in
@@ -28,7 +29,8 @@ found (q ∷ ps) id p e = found_at q p id (q.id == id) (q.id == p.id) (find (λ 
 -- a script leads from a history to a history
 pub script_keeps : (ts : List Turn) (h : History) → IsHistory h → IsHistory (after ts h)
 script_keeps [] h is = is
-script_keeps (t ∷ ts) h is = script_keeps ts (turn h t).history (by_caller_keeps standard_policy h t.day t.request is (party_numbered h t.party) (found (parties h) t.party))
+script_keeps (t ∷ ts) h is = script_keeps ts (turn h t).history (by_caller_keeps standard_policy h t.day t.request is (party_numbered h t.party)
+    (found (parties h) t.party))
 
 -- the opening is a history: SHA-256 and the spelling of a digest are opened, so that no digest is found twice
 pub opening_is : IsHistory opening

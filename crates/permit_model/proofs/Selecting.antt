@@ -1,8 +1,10 @@
 -- How many items pass a test, and what several tests select of a list, up to the order.
-use Rattle.std.proofs.Common.{◌≡◌, ◌≤◌, ◌<◌, ℕ, ◌+◌, ◌*◌, Bool, true, false, ◌&&◌, cond, List, [], ◌∷◌, ◌++◌, map, length, refl, sym, ◌∙◌, ap, subst, arith, append_assoc, length-append}
+use Rattle.std.proofs.Common.{◌≡◌, ◌≤◌, ◌<◌, ℕ, ◌+◌, ◌*◌, Bool, true, false, ◌&&◌, cond, List, [], ◌∷◌, ◌++◌, map, length, refl, sym, ◌∙◌, ap, subst, arith}
+use Rattle.std.proofs.Common.{append_assoc, length-append}
 use Rattle.std.specs.Prelude.{filter, IsPermutation, ◌||◌}
 use Rattle.std.specs.List.{flat_map, list_any, list_all, AllByRecursion}
-use Rattle.std.proofs.lemmas.List.Sorted.{IsPermutation-refl, IsPermutation-sym, IsPermutation-trans, IsPermutation-cons, IsPermutation-append_left, IsPermutation-append_right, IsPermutation-append_comm}
+use Rattle.std.proofs.lemmas.List.Sorted.{IsPermutation-refl, IsPermutation-sym, IsPermutation-trans, IsPermutation-cons, IsPermutation-append_left}
+use Rattle.std.proofs.lemmas.List.Sorted.{IsPermutation-append_right, IsPermutation-append_comm}
 use Rattle.std.proofs.lemmas.List.{length-map}
 use Rattle.std.proofs.lemmas.Grind.{flat_map-append}
 use Rattle.permit_model.specs.Search.{how_many}
@@ -46,9 +48,11 @@ pub how_many-most : {A : Type 0} (p : A → Bool) (xs : List A) → how_many p x
 how_many-most p [] = omega arith
 how_many-most p (x ∷ xs) = most_by p x xs (p x) refl (how_many-most p xs)
 
-filter_by : {A : Type 0} (q p : A → Bool) (x : A) (kept all : List A) (b : Bool) → q x ≡ b → how_many p kept ≡ how_many (λ y. q y && p y) all → how_many p (cond b (x ∷ kept) kept) ≡ how_many (λ y. q y && p y) (x ∷ all)
+filter_by : {A : Type 0} (q p : A → Bool) (x : A) (kept all : List A) (b : Bool) → q x ≡ b → how_many p kept ≡ how_many (λ y. q y && p y) all →
+    how_many p (cond b (x ∷ kept) kept) ≡ how_many (λ y. q y && p y) (x ∷ all)
 filter_by q p x kept all true e ih =
-    how_many-cons p x kept ∙ ap (λ b. bit (b && p x) + how_many p kept) (sym e) ∙ ap (λ n. bit (q x && p x) + n) ih ∙ sym (how_many-cons (λ y. q y && p y) x all)
+    how_many-cons p x kept ∙ ap (λ b. bit (b && p x) + how_many p kept) (sym e) ∙ ap (λ n. bit (q x && p x) + n) ih
+    ∙ sym (how_many-cons (λ y. q y && p y) x all)
 filter_by q p x kept all false e ih = omega (arith, ih, how_many-cons (λ y. q y && p y) x all, ap (λ b. bit (b && p x)) e)
 
 -- how many of those that pass one test pass another
@@ -58,7 +62,8 @@ how_many-filter q p (x ∷ xs) = filter_by q p x (filter q xs) xs (q x) refl (ho
 
 -- ---- one item at least
 
-some_by : {A : Type 0} (p : A → Bool) (x : A) (xs : List A) (b : Bool) → p x ≡ b → (b || list_any p xs) ≡ true → (list_any p xs ≡ true → 0 < how_many p xs) → 0 < how_many p (x ∷ xs)
+some_by : {A : Type 0} (p : A → Bool) (x : A) (xs : List A) (b : Bool) → p x ≡ b → (b || list_any p xs) ≡ true → (list_any p xs ≡ true → 0 < how_many p xs) →
+    0 < how_many p (x ∷ xs)
 some_by p x xs true e h ih = omega (arith, how_many-cons p x xs, ap bit e)
 some_by p x xs false e h ih = omega (arith, how_many-cons p x xs, ap bit e, ih h)
 
@@ -67,7 +72,8 @@ pub some_counted : {A : Type 0} (p : A → Bool) (xs : List A) → list_any p xs
 some_counted p [] h = cc
 some_counted p (x ∷ xs) h = some_by p x xs (p x) refl h (some_counted p xs)
 
-any_by : {A : Type 0} (p : A → Bool) (x : A) (xs : List A) (b : Bool) → p x ≡ b → 0 < how_many p (x ∷ xs) → (0 < how_many p xs → list_any p xs ≡ true) → (b || list_any p xs) ≡ true
+any_by : {A : Type 0} (p : A → Bool) (x : A) (xs : List A) (b : Bool) → p x ≡ b → 0 < how_many p (x ∷ xs) → (0 < how_many p xs → list_any p xs ≡ true) →
+    (b || list_any p xs) ≡ true
 any_by p x xs true e h ih = refl
 any_by p x xs false e h ih = ih (omega (arith, how_many-cons p x xs, ap bit e, h))
 
@@ -88,7 +94,8 @@ any_weaker p q f (x ∷ xs) h = any_more_by (p x) (q x) (list_any q xs) (list_an
 
 -- ---- groups of items, of which one group alone passes
 
-flat_filter_by : {A B : Type 0} (g : A → List B) (x : A) (rest : List A) (other : List B) (b : Bool) → flat_map g rest ≡ other → flat_map g (cond b (x ∷ rest) rest) ≡ cond b (g x) [] ++ other
+flat_filter_by : {A B : Type 0} (g : A → List B) (x : A) (rest : List A) (other : List B) (b : Bool) → flat_map g rest ≡ other →
+    flat_map g (cond b (x ∷ rest) rest) ≡ cond b (g x) [] ++ other
 flat_filter_by g x rest other true ih = ap (λ ys. g x ++ ys) ih
 flat_filter_by g x rest other false ih = ih
 
@@ -101,18 +108,21 @@ flat_filter g m (x ∷ xs) = flat_filter_by g x (filter m xs) (flat_map (λ y. c
 abbrev pub CountsBy : {C R : Type 0} → (C → List R) → (R → Bool) → (C → Bool) → ℕ → Type 0
 CountsBy {C} g p mark n = (c : C) → how_many p (g c) ≡ cond (mark c) n 0
 
-none_by : {C R : Type 0} (g : C → List R) (p : R → Bool) (mark : C → Bool) (n : ℕ) → CountsBy g p mark n → (c : C) (cs : List C) (b : Bool) → mark c ≡ b → how_many mark (c ∷ cs) ≡ 0 →
+none_by : {C R : Type 0} (g : C → List R) (p : R → Bool) (mark : C → Bool) (n : ℕ) → CountsBy g p mark n → (c : C) (cs : List C) (b : Bool) → mark c ≡ b →
+    how_many mark (c ∷ cs) ≡ 0 →
     (how_many mark cs ≡ 0 → how_many p (flat_map g cs) ≡ 0) → how_many p (flat_map g (c ∷ cs)) ≡ 0
 none_by g p mark n counts c cs true e h ih = absurd (omega (arith, how_many-cons mark c cs, ap bit e, h))
 none_by g p mark n counts c cs false e h ih =
     let here : how_many p (g c) ≡ 0 = counts c ∙ ap (λ b. cond b n 0) e in
     omega (arith, how_many-append p (g c) (flat_map g cs), here, ih (omega (arith, how_many-cons mark c cs, ap bit e, h)))
 
-counted_none : {C R : Type 0} (g : C → List R) (p : R → Bool) (mark : C → Bool) (n : ℕ) → CountsBy g p mark n → (cs : List C) → how_many mark cs ≡ 0 → how_many p (flat_map g cs) ≡ 0
+counted_none : {C R : Type 0} (g : C → List R) (p : R → Bool) (mark : C → Bool) (n : ℕ) → CountsBy g p mark n → (cs : List C) → how_many mark cs ≡ 0 →
+    how_many p (flat_map g cs) ≡ 0
 counted_none g p mark n counts [] h = refl
 counted_none g p mark n counts (c ∷ cs) h = none_by g p mark n counts c cs (mark c) refl h (counted_none g p mark n counts cs)
 
-once_by : {C R : Type 0} (g : C → List R) (p : R → Bool) (mark : C → Bool) (n : ℕ) → CountsBy g p mark n → (c : C) (cs : List C) (b : Bool) → mark c ≡ b → how_many mark (c ∷ cs) ≡ 1 →
+once_by : {C R : Type 0} (g : C → List R) (p : R → Bool) (mark : C → Bool) (n : ℕ) → CountsBy g p mark n → (c : C) (cs : List C) (b : Bool) → mark c ≡ b →
+    how_many mark (c ∷ cs) ≡ 1 →
     (how_many mark cs ≡ 1 → how_many p (flat_map g cs) ≡ n) → how_many p (flat_map g (c ∷ cs)) ≡ n
 once_by g p mark n counts c cs true e h ih =
     let here : how_many p (g c) ≡ n = counts c ∙ ap (λ b. cond b n 0) e in
@@ -123,7 +133,8 @@ once_by g p mark n counts c cs false e h ih =
     omega (arith, how_many-append p (g c) (flat_map g cs), here, ih (omega (arith, how_many-cons mark c cs, ap bit e, h)))
 
 -- where one group is marked, what passes in all is what passes in it
-pub counted_once : {C R : Type 0} (g : C → List R) (p : R → Bool) (mark : C → Bool) (n : ℕ) → CountsBy g p mark n → (cs : List C) → how_many mark cs ≡ 1 → how_many p (flat_map g cs) ≡ n
+pub counted_once : {C R : Type 0} (g : C → List R) (p : R → Bool) (mark : C → Bool) (n : ℕ) → CountsBy g p mark n → (cs : List C) → how_many mark cs ≡ 1 →
+    how_many p (flat_map g cs) ≡ n
 counted_once g p mark n counts [] h = absurd (omega (arith, h))
 counted_once g p mark n counts (c ∷ cs) h = once_by g p mark n counts c cs (mark c) refl h (counted_once g p mark n counts cs)
 
@@ -160,7 +171,8 @@ all_home_by p mark home is c cs true true e f all one ih = ap p (sym (is c f)) �
 all_home_by p mark home is c cs true false e f all one ih = ih all (omega (arith, how_many-cons mark c cs, ap bit f, one))
 
 -- what all pass, the marked one passes
-pub all_home : {C : Type 0} (p mark : C → Bool) (home : C) → ((c : C) → mark c ≡ true → c ≡ home) → (cs : List C) → list_all p cs ≡ true → how_many mark cs ≡ 1 → p home ≡ true
+pub all_home : {C : Type 0} (p mark : C → Bool) (home : C) → ((c : C) → mark c ≡ true → c ≡ home) → (cs : List C) → list_all p cs ≡ true →
+    how_many mark cs ≡ 1 → p home ≡ true
 all_home p mark home is [] all one = absurd (omega (arith, one))
 all_home p mark home is (c ∷ cs) all one = all_home_by p mark home is c cs (p c) (mark c) refl refl all one (all_home p mark home is cs)
 
@@ -175,11 +187,14 @@ crossed f g m =
     subst (λ ys. IsPermutation ys (g ++ (f ++ m))) (append_assoc f g m)
     (subst (λ ys. IsPermutation ((f ++ g) ++ m) ys) (append_assoc g f m) (IsPermutation-append_left m (f ++ g) (g ++ f) (IsPermutation-append_comm f g)))
 
-peel_by : {A : Type 0} (x : A) (kept left right gx : List A) (b : Bool) → IsPermutation (kept ++ left) right → IsPermutation (cond b (x ∷ kept) kept ++ (gx ++ left)) (cond b (x ∷ gx) gx ++ right)
+peel_by : {A : Type 0} (x : A) (kept left right gx : List A) (b : Bool) → IsPermutation (kept ++ left) right →
+    IsPermutation (cond b (x ∷ kept) kept ++ (gx ++ left)) (cond b (x ∷ gx) gx ++ right)
 peel_by x kept left right gx true ih =
-    IsPermutation-cons x (kept ++ (gx ++ left)) (gx ++ right) (IsPermutation-trans (kept ++ (gx ++ left)) (gx ++ (kept ++ left)) (gx ++ right) (crossed kept gx left) (IsPermutation-append_right gx (kept ++ left) right ih))
+    IsPermutation-cons x (kept ++ (gx ++ left)) (gx ++ right) (IsPermutation-trans (kept ++ (gx ++ left)) (gx ++ (kept ++ left)) (gx ++ right)
+    (crossed kept gx left) (IsPermutation-append_right gx (kept ++ left) right ih))
 peel_by x kept left right gx false ih =
-    IsPermutation-trans (kept ++ (gx ++ left)) (gx ++ (kept ++ left)) (gx ++ right) (crossed kept gx left) (IsPermutation-append_right gx (kept ++ left) right ih)
+    IsPermutation-trans (kept ++ (gx ++ left)) (gx ++ (kept ++ left)) (gx ++ right) (crossed kept gx left)
+    (IsPermutation-append_right gx (kept ++ left) right ih)
 
 -- the items that pass, before what each item has more
 peel : {A : Type 0} (q : A → Bool) (g : A → List A) (xs : List A) → IsPermutation (filter q xs ++ flat_map g xs) (flat_map (λ x. cond (q x) (x ∷ g x) (g x)) xs)
@@ -209,9 +224,11 @@ selected p (r ∷ rs) xs =
     let more = IsPermutation-append_right (filter (p r) xs) (flat_map (λ s. filter (p s) xs) rs) (flat_map (copies p rs) xs) (selected p rs xs) in
     let peeled = peel (p r) (copies p rs) xs in
     let same : flat_map (λ x. cond (p r x) (x ∷ copies p rs x) (copies p rs x)) xs ≡ flat_map (copies p (r ∷ rs)) xs =
-    flat_agree (λ x. cond (p r x) (x ∷ copies p rs x) (copies p rs x)) (copies p (r ∷ rs)) xs (everywhere (λ x. cond (p r x) (x ∷ copies p rs x) (copies p rs x) ≡ copies p (r ∷ rs) x) (λ x. copy_by r x (filter (λ s. p s x) rs) (p r x)) xs) in
+    flat_agree (λ x. cond (p r x) (x ∷ copies p rs x) (copies p rs x)) (copies p (r ∷ rs)) xs
+    (everywhere (λ x. cond (p r x) (x ∷ copies p rs x) (copies p rs x) ≡ copies p (r ∷ rs) x) (λ x. copy_by r x (filter (λ s. p s x) rs) (p r x)) xs) in
     subst (λ ys. IsPermutation (flat_map (λ s. filter (p s) xs) (r ∷ rs)) ys) same
-    (IsPermutation-trans (filter (p r) xs ++ flat_map (λ s. filter (p s) xs) rs) (filter (p r) xs ++ flat_map (copies p rs) xs) (flat_map (λ x. cond (p r x) (x ∷ copies p rs x) (copies p rs x)) xs) more peeled)
+    (IsPermutation-trans (filter (p r) xs ++ flat_map (λ s. filter (p s) xs) rs) (filter (p r) xs ++ flat_map (copies p rs) xs)
+    (flat_map (λ x. cond (p r x) (x ∷ copies p rs x) (copies p rs x)) xs) more peeled)
 
 pub same_copies : {R S A : Type 0} (x : A) (rs : List R) (ss : List S) → length rs ≡ length ss → map (λ _. x) rs ≡ map (λ _. x) ss
 same_copies x [] [] e = refl
@@ -226,15 +243,18 @@ each_same p q rs ss (x ∷ xs) same = (same_copies x (filter (λ r. p r x) rs) (
 
 -- Where each item passes as many tests of the one list as of the other, both select the same items, as often.
 pub same_selected : {R S A : Type 0} (p : R → A → Bool) (q : S → A → Bool) (rs : List R) (ss : List S) (xs : List A) →
-    AllByRecursion (λ x. how_many (λ r. p r x) rs ≡ how_many (λ s. q s x) ss) xs → IsPermutation (flat_map (λ r. filter (p r) xs) rs) (flat_map (λ s. filter (q s) xs) ss)
+    AllByRecursion (λ x. how_many (λ r. p r x) rs ≡ how_many (λ s. q s x) ss) xs →
+    IsPermutation (flat_map (λ r. filter (p r) xs) rs) (flat_map (λ s. filter (q s) xs) ss)
 same_selected p q rs ss xs same =
     IsPermutation-trans (flat_map (λ r. filter (p r) xs) rs) (flat_map (copies q ss) xs) (flat_map (λ s. filter (q s) xs) ss)
-    (subst (λ ys. IsPermutation (flat_map (λ r. filter (p r) xs) rs) ys) (flat_agree (copies p rs) (copies q ss) xs (each_same p q rs ss xs same)) (selected p rs xs))
+    (subst (λ ys. IsPermutation (flat_map (λ r. filter (p r) xs) rs) ys) (flat_agree (copies p rs) (copies q ss) xs (each_same p q rs ss xs same))
+    (selected p rs xs))
     (IsPermutation-sym (flat_map (λ s. filter (q s) xs) ss) (flat_map (copies q ss) xs) (selected q ss xs))
 
 -- ---- lists that are mapped, filtered or joined twice
 
-filter_twice_by : {A : Type 0} (q : A → Bool) (x : A) (kept all : List A) (b : Bool) → filter q kept ≡ all → filter q (cond b (x ∷ kept) kept) ≡ cond (b && q x) (x ∷ all) all
+filter_twice_by : {A : Type 0} (q : A → Bool) (x : A) (kept all : List A) (b : Bool) → filter q kept ≡ all →
+    filter q (cond b (x ∷ kept) kept) ≡ cond (b && q x) (x ∷ all) all
 filter_twice_by q x kept all true e = ap (λ ys. cond (q x) (x ∷ ys) ys) e
 filter_twice_by q x kept all false e = e
 
@@ -242,7 +262,8 @@ pub filter_twice : {A : Type 0} (p q : A → Bool) (xs : List A) → filter q (f
 filter_twice p q [] = refl
 filter_twice p q (x ∷ xs) = filter_twice_by q x (filter p xs) (filter (λ y. p y && q y) xs) (p x) (filter_twice p q xs)
 
-filter_mapped_by : {A B : Type 0} (f : A → B) (x : A) (kept : List A) (other : List B) (b : Bool) → other ≡ map f kept → cond b (f x ∷ other) other ≡ map f (cond b (x ∷ kept) kept)
+filter_mapped_by : {A B : Type 0} (f : A → B) (x : A) (kept : List A) (other : List B) (b : Bool) → other ≡ map f kept →
+    cond b (f x ∷ other) other ≡ map f (cond b (x ∷ kept) kept)
 filter_mapped_by f x kept other true e = ap (λ ys. f x ∷ ys) e
 filter_mapped_by f x kept other false e = e
 
@@ -268,7 +289,8 @@ flat_flat f g [] = refl
 flat_flat f g (x ∷ xs) = flat_map-append f (g x) (flat_map g xs) ∙ ap (λ ys. flat_map f (g x) ++ ys) (flat_flat f g xs)
 
 -- where each item passes at most 21 tests
-pub few_copies : {R A : Type 0} (p : R → A → Bool) (rs : List R) → ((x : A) → how_many (λ r. p r x) rs ≤ 21) → (xs : List A) → length (flat_map (copies p rs) xs) ≤ 21 * length xs
+pub few_copies : {R A : Type 0} (p : R → A → Bool) (rs : List R) → ((x : A) → how_many (λ r. p r x) rs ≤ 21) → (xs : List A) →
+    length (flat_map (copies p rs) xs) ≤ 21 * length xs
 few_copies p rs few [] = omega arith
 few_copies p rs few (x ∷ xs) =
     let all = length-append (copies p rs x) (flat_map (copies p rs) xs) in

@@ -10,7 +10,8 @@ use Rattle.permit_base.specs.declared.words.Step.TheVariants.{Final}
 use Rattle.permit_base.specs.declared.words.Stage.{Stage}
 use Rattle.permit_base.specs.declared.words.Stage.TheVariants as stage
 use Rattle.permit_base.specs.declared.request.Command.{Command}
-use Rattle.permit_base.specs.declared.request.Command.TheVariants.{StartReview, Return, Resubmit, ApprovePlans, Reject, Issue, BeginWork, RequestInspection, ApproveStep, Notice, ClearNotice, Stop, Lift, Revoke, Certify}
+use Rattle.permit_base.specs.declared.request.Command.TheVariants.{StartReview, Return, Resubmit, ApprovePlans, Reject, Issue, BeginWork, RequestInspection}
+use Rattle.permit_base.specs.declared.request.Command.TheVariants.{ApproveStep, Notice, ClearNotice, Stop, Lift, Revoke, Certify}
 use Rattle.permit_model.specs.Codes.{step_code, is_step, is_stage_among}
 use Rattle.permit_model.specs.Steps.{required_steps, next_step}
 use Rattle.permit_model.specs.History.{History}
@@ -70,7 +71,8 @@ mapped_some days (Some r) e = refl
 extended_some : (days : ℕ) (reaches : List ℕ) → is_some (greatest reaches) ≡ true → is_some (greatest (extended days reaches)) ≡ true
 extended_some days reaches e = rw (greatest-extended days reaches) (mapped_some days (greatest reaches) e)
 
-anchored_more : (caller day : ℕ) (command : Command) (number : Option ℕ) (before : List Act) → IsAnchored before → IsAnchored (act_by caller day command number ∷ before)
+anchored_more : (caller day : ℕ) (command : Command) (number : Option ℕ) (before : List Act) → IsAnchored before →
+    IsAnchored (act_by caller day command number ∷ before)
 anchored_more caller day StartReview number before ih = λ e. cc
 anchored_more caller day (Return text) number before ih = λ e. cc
 anchored_more caller day (Resubmit text) number before ih = λ e. cc
@@ -105,7 +107,8 @@ for_next : (request next : Option Step) → ((step : Step) → request ≡ Some 
 for_next None next pending = refl
 for_next (Some step) next pending = rw (pending step refl) (same_as_itself step)
 
-dated : (o : Option Inspection) → (if is_some (option_map (λ (i : Inspection). i.step) o) then is_some (option_map (λ (i : Inspection). i.day) o) else is_none (option_map (λ (i : Inspection). i.day) o)) ≡ true
+dated : (o : Option Inspection) → (if is_some (option_map (λ (i : Inspection). i.step) o) then is_some (option_map (λ (i : Inspection). i.day) o) else is_none
+    (option_map (λ (i : Inspection). i.day) o)) ≡ true
 dated None = refl
 dated (Some inspection) = refl
 
@@ -165,7 +168,8 @@ final_approved filing before f pending few =
     (omega (arith, f.front.3, last, long), omega (arith, few))
 
 finished_more : (filing : Filing) (caller day : ℕ) (command : Command) (number : Option ℕ) (before : List Act) →
-    WasAdmitted filing (act_by caller day command number) before → Fronts filing before → FinishedWhenCompleted filing before → FinishedWhenCompleted filing (act_by caller day command number ∷ before)
+    WasAdmitted filing (act_by caller day command number) before → Fronts filing before → FinishedWhenCompleted filing before →
+    FinishedWhenCompleted filing (act_by caller day command number ∷ before)
 finished_more filing caller day StartReview number before w f ih = λ e. cc
 finished_more filing caller day (Return text) number before w f ih = λ e. cc
 finished_more filing caller day (Resubmit text) number before w f ih = λ e. cc
@@ -175,16 +179,20 @@ finished_more filing caller day Issue number before w f ih = λ e. cc
 finished_more filing caller day BeginWork number before w f ih = λ e. cc
 finished_more filing caller day (Revoke text) number before w f ih = λ e. cc
 finished_more filing caller day (RequestInspection step) number before w f ih = λ e.
-    let bad : false ≡ true = not_completed before (was_in day (case_of filing before) stage.Working refl (tests_passed filing (act_by caller day (RequestInspection step) number) before w).0) e in cc
+    let bad : false ≡ true = not_completed before (was_in day (case_of filing before) stage.Working refl
+    (tests_passed filing (act_by caller day (RequestInspection step) number) before w).0) e in cc
 finished_more filing caller day (ApproveStep Final) number before w f ih = λ e.
     let passed = tests_passed filing (act_by caller day (ApproveStep Final) number) before w in
     final_approved filing before f (is_it (pending_step before) Final passed.1.1.1.0) (not_below 0 (length (open_notices before)) passed.1.1.1.1.0)
 finished_more filing caller day (ApproveStep step) number before w f ih = λ e.
-    let bad : false ≡ true = not_completed before (was_in day (case_of filing before) stage.Working refl (tests_passed filing (act_by caller day (ApproveStep step) number) before w).0) e in cc
+    let bad : false ≡ true = not_completed before (was_in day (case_of filing before) stage.Working refl
+    (tests_passed filing (act_by caller day (ApproveStep step) number) before w).0) e in cc
 finished_more filing caller day (Notice text) number before w f ih = λ e.
-    let bad : false ≡ true = not_completed before (was_in day (case_of filing before) stage.Working refl (tests_passed filing (act_by caller day (Notice text) number) before w).0) e in cc
+    let bad : false ≡ true = not_completed before (was_in day (case_of filing before) stage.Working refl
+    (tests_passed filing (act_by caller day (Notice text) number) before w).0) e in cc
 finished_more filing caller day (ClearNotice paper) number before w f ih = λ e.
-    let bad : false ≡ true = not_completed before (was_in day (case_of filing before) stage.Working refl (tests_passed filing (act_by caller day (ClearNotice paper) number) before w).0) e in cc
+    let bad : false ≡ true = not_completed before (was_in day (case_of filing before) stage.Working refl
+    (tests_passed filing (act_by caller day (ClearNotice paper) number) before w).0) e in cc
 finished_more filing caller day Certify number before w f ih = λ e.
     ih (ap is_completed (was_in day (case_of filing before) stage.Finaled refl (tests_passed filing (act_by caller day Certify number) before w).0))
 finished_more filing caller day _ number before w f ih = ih
@@ -192,7 +200,8 @@ finished_more filing caller day _ number before w f ih = ih
 -- a finaled or certified file has every required step approved, and no open notice
 pub finished : (filing : Filing) (acts : List Act) → WereAdmitted filing acts → FinishedWhenCompleted filing acts
 finished filing [] w = λ e. cc
-finished filing (act ∷ before) w = finished_more filing act.caller act.day act.command act.number before w.0 (fronts filing before w.1) (finished filing before w.1)
+finished filing (act ∷ before) w = finished_more filing act.caller act.day act.command act.number before w.0 (fronts filing before w.1)
+    (finished filing before w.1)
 
 -- ---- certified files
 
@@ -204,11 +213,13 @@ certified_is stage.Certified e = refl
 certified_is _ e = cc
 
 -- a certified file is neither stopped nor released
-no_order : (filing : Filing) (day : ℕ) (before : List Act) → is_certified (base_stage before) ≡ true → not (is_stage_among stoppable_stages (stage_on day (case_of filing before))) ≡ false → true ≡ false
+no_order : (filing : Filing) (day : ℕ) (before : List Act) → is_certified (base_stage before) ≡ true →
+    not (is_stage_among stoppable_stages (stage_on day (case_of filing before))) ≡ false → true ≡ false
 no_order filing day before e h = was_among day (case_of filing before) stoppable_stages stage.Certified refl (certified_is (base_stage before) e) h
 
 unstopped_more : (filing : Filing) (caller day : ℕ) (command : Command) (number : Option ℕ) (before : List Act) →
-    WasAdmitted filing (act_by caller day command number) before → UnstoppedWhenCertified before → UnstoppedWhenCertified (act_by caller day command number ∷ before)
+    WasAdmitted filing (act_by caller day command number) before → UnstoppedWhenCertified before →
+    UnstoppedWhenCertified (act_by caller day command number ∷ before)
 unstopped_more filing caller day (Stop text conditions) number before w ih = λ e.
     let bad : true ≡ false = no_order filing day before e (tests_passed filing (act_by caller day (Stop text conditions) number) before w).0 in cc
 unstopped_more filing caller day Lift number before w ih = λ e.
@@ -244,16 +255,22 @@ both a b e f = rw (e, f) refl
 pub sound_acts : (filing : Filing) (acts : List Act) → WereAdmitted filing acts → IsSoundState (state_of (case_of filing acts))
 sound_acts filing acts w =
     let f : Fronts filing acts = fronts filing acts w in
-    let next : next_step filing.kind (approved_steps acts) ≡ slice_get (required_steps filing.kind) (length (approved_steps acts)) = next_at_count filing acts w in
+    let next : next_step filing.kind (approved_steps acts) ≡ slice_get (required_steps filing.kind) (length (approved_steps acts)) =
+    next_at_count filing acts w in
     let stored : is_stored (base_stage acts) ≡ true = base_stored acts in
-    let few : nat_le (length (approved_steps acts)) (length (required_steps filing.kind)) ≡ true = le-leb (length (approved_steps acts)) (length (required_steps filing.kind)) (front_length filing.kind (approved_steps acts) f.front) in
+    let few : nat_le (length (approved_steps acts)) (length (required_steps filing.kind)) ≡ true =
+    le-leb (length (approved_steps acts)) (length (required_steps filing.kind)) (front_length filing.kind (approved_steps acts) f.front) in
     let stands = stands_in (base_stage acts) filing.filed acts (anchored acts) in
-    let request : is_for (pending_step acts) (slice_get (required_steps filing.kind) (length (approved_steps acts))) ≡ true = for_next (pending_step acts) (slice_get (required_steps filing.kind) (length (approved_steps acts))) (λ step e. sym next ∙ f.pending step e) in
-    let over : (not (is_completed (base_stage acts)) || ((length (approved_steps acts) == length (required_steps filing.kind)) && (length (open_notices acts) == 0))) ≡ true =
+    let request : is_for (pending_step acts) (slice_get (required_steps filing.kind) (length (approved_steps acts))) ≡ true =
+    for_next (pending_step acts) (slice_get (required_steps filing.kind) (length (approved_steps acts))) (λ step e. sym next ∙ f.pending step e) in
+    let over : (not (is_completed (base_stage acts)) || ((length (approved_steps acts) == length (required_steps filing.kind))
+    && (length (open_notices acts) == 0))) ≡ true =
     only_where (is_completed (base_stage acts)) ((length (approved_steps acts) == length (required_steps filing.kind)) && (length (open_notices acts) == 0))
     (λ e. both (length (approved_steps acts) == length (required_steps filing.kind)) (length (open_notices acts) == 0)
-    (eq-eqb (length (approved_steps acts)) (length (required_steps filing.kind)) (finished filing acts w e).0) (eq-eqb (length (open_notices acts)) 0 (finished filing acts w e).1)) in
-    let free : (not (is_certified (base_stage acts)) || not (is_stopped acts)) ≡ true = only_where (is_certified (base_stage acts)) (not (is_stopped acts)) (λ e. ap not (unstopped filing acts w e)) in
+    (eq-eqb (length (approved_steps acts)) (length (required_steps filing.kind)) (finished filing acts w e).0)
+    (eq-eqb (length (open_notices acts)) 0 (finished filing acts w e).1)) in
+    let free : (not (is_certified (base_stage acts)) || not (is_stopped acts)) ≡ true =
+    only_where (is_certified (base_stage acts)) (not (is_stopped acts)) (λ e. ap not (unstopped filing acts w e)) in
     rw (stored, few, stands, request, dated (pending_inspection acts), over, free) refl
 
 -- every file of a history has a sound row

@@ -45,15 +45,19 @@ unpassed stage.Working wanted true stored e = let bad : false ≡ true = ap is_s
 unpassed _ wanted true stored e = e
 
 -- a command of one stored stage was admitted in it
-pub was_in : (day : ℕ) (file : CaseFile) (wanted : Stage) → is_stored wanted ≡ true → not (is_stage_among (wanted ∷ []) (stage_on day file)) ≡ false → base_stage file.acts ≡ wanted
-was_in day file wanted stored h = unpassed (base_stage file.acts) wanted (is_past day (deadline file)) stored (only_one (stage_on day file) wanted (is_stage (stage_on day file) wanted) refl h)
+pub was_in : (day : ℕ) (file : CaseFile) (wanted : Stage) → is_stored wanted ≡ true → not (is_stage_among (wanted ∷ []) (stage_on day file)) ≡ false →
+    base_stage file.acts ≡ wanted
+was_in day file wanted stored h = unpassed (base_stage file.acts) wanted (is_past day (deadline file)) stored
+    (only_one (stage_on day file) wanted (is_stage (stage_on day file) wanted) refl h)
 
 same_when_past : (s : Stage) (past : Bool) → past_stage s ≡ s → (if past then past_stage s else s) ≡ s
 same_when_past s true e = e
 same_when_past s false e = refl
 
 -- where the stage can't be past, it is among the stages of the command
-pub was_among : (day : ℕ) (file : CaseFile) (stages : List Stage) (s : Stage) → past_stage s ≡ s → base_stage file.acts ≡ s → not (is_stage_among stages (stage_on day file)) ≡ false → not (is_stage_among stages s) ≡ false
+pub was_among : (day : ℕ) (file : CaseFile) (stages : List Stage) (s : Stage) → past_stage s ≡ s → base_stage file.acts ≡ s →
+    not (is_stage_among stages (stage_on day file)) ≡ false → not (is_stage_among stages s) ≡ false
 was_among day file stages s unpast e h =
-    let here : stage_on day file ≡ s = ap (λ x. if is_past day (deadline file) then past_stage x else x) e ∙ same_when_past s (is_past day (deadline file)) unpast in
+    let here : stage_on day file ≡ s = ap (λ x. if is_past day (deadline file) then past_stage x else x) e
+    ∙ same_when_past s (is_past day (deadline file)) unpast in
     rw here at h

@@ -28,10 +28,12 @@ not_true false e = cc
 turns_more : (filing : Filing) (caller day : ℕ) (command : Command) (number : Option ℕ) (before : List Act) →
     WasAdmitted filing (act_by caller day command number) before → TakeTurns before → TakeTurns (act_by caller day command number ∷ before)
 turns_more filing caller day (Stop text conditions) number before w ih =
-    let free : stops before ≤ lifts before = not_below (lifts before) (stops before) (tests_passed filing (act_by caller day (Stop text conditions) number) before w).1.0 in
+    let free : stops before ≤ lifts before = not_below (lifts before) (stops before)
+    (tests_passed filing (act_by caller day (Stop text conditions) number) before w).1.0 in
     (omega (arith, ih.0), omega (arith, free))
 turns_more filing caller day Lift number before w ih =
-    let stands : lifts before < stops before = below (lifts before) (stops before) (not_true (is_stopped before) (tests_passed filing (act_by caller day Lift number) before w).1.0) in
+    let stands : lifts before < stops before = below (lifts before) (stops before)
+    (not_true (is_stopped before) (tests_passed filing (act_by caller day Lift number) before w).1.0) in
     (omega (arith, stands), omega (arith, ih.1))
 turns_more filing caller day _ number before w ih = ih
 
@@ -43,9 +45,11 @@ take_turns filing (act ∷ before) w = turns_more filing act.caller act.day act.
 -- after an order the file is stopped
 pub stopped_by_order : (filing : Filing) (caller day : ℕ) (text conditions : List ℕ) (number : Option ℕ) (before : List Act) → WereAdmitted filing before →
     is_stopped (act_by caller day (Stop text conditions) number ∷ before) ≡ true
-stopped_by_order filing caller day text conditions number before w = let t : TakeTurns before = take_turns filing before w in lt-ltb (lifts before) (suc (stops before)) (omega (arith, t.0))
+stopped_by_order filing caller day text conditions number before w = let t : TakeTurns before =
+    take_turns filing before w in lt-ltb (lifts before) (suc (stops before)) (omega (arith, t.0))
 
 -- after a lift it isn't
 pub released_by_lift : (filing : Filing) (caller day : ℕ) (number : Option ℕ) (before : List Act) → WereAdmitted filing before →
     is_stopped (act_by caller day Lift number ∷ before) ≡ false
-released_by_lift filing caller day number before w = let t : TakeTurns before = take_turns filing before w in le-ltb (suc (lifts before)) (stops before) (omega (arith, t.1))
+released_by_lift filing caller day number before w = let t : TakeTurns before =
+    take_turns filing before w in le-ltb (suc (lifts before)) (stops before) (omega (arith, t.1))

@@ -1,5 +1,6 @@
 -- What stands against a command: its tests in the order of the reasons, of which the first that holds is answered.
-use Rattle.std.specs.Prelude.{ℕ, Bool, false, ◌||◌, not, ◌==◌, ◌+◌, nat_lt, nat_le, if◌then◌else◌, List, [], ◌∷◌, length, Option, None, Some, unwrap_or, is_some, is_none, bytes_eq}
+use Rattle.std.specs.Prelude.{ℕ, Bool, false, ◌||◌, not, ◌==◌, ◌+◌, nat_lt, nat_le, if◌then◌else◌, List, [], ◌∷◌, length, Option, None, Some, unwrap_or}
+use Rattle.std.specs.Prelude.{is_some, is_none, bytes_eq}
 use Rattle.std.specs.List.{list_any}
 use Rattle.permit_base.specs.declared.words.Role.{Role}
 use Rattle.permit_base.specs.declared.words.Role.TheVariants.{Reviewer, Inspector}
@@ -9,9 +10,12 @@ use Rattle.permit_base.specs.declared.words.Stage.TheVariants as stage
 use Rattle.permit_base.specs.declared.refusal.Reason.{Reason}
 use Rattle.permit_base.specs.declared.refusal.Reason.TheVariants as reason
 use Rattle.permit_base.specs.declared.request.Command.{Command}
-use Rattle.permit_base.specs.declared.request.Command.TheVariants.{AssignReviewer, AssignInspector, NameContractor, StartReview, Return, Resubmit, ApprovePlans, Reject, Issue, AskExtension, GrantExtension, RefuseExtension, BeginWork, RequestInspection, ApproveStep, Notice, ClearNotice, Stop, Lift, Revoke, Temporary, Certify}
+use Rattle.permit_base.specs.declared.request.Command.TheVariants.{AssignReviewer, AssignInspector, NameContractor, StartReview, Return, Resubmit, ApprovePlans}
+use Rattle.permit_base.specs.declared.request.Command.TheVariants.{Reject, Issue, AskExtension, GrantExtension, RefuseExtension, BeginWork, RequestInspection}
+use Rattle.permit_base.specs.declared.request.Command.TheVariants.{ApproveStep, Notice, ClearNotice, Stop, Lift, Revoke, Temporary, Certify}
 use Rattle.permit_base.specs.declared.request.Request.{Request}
-use Rattle.permit_base.specs.declared.request.Request.TheVariants.{AddParty, AddParcel, Transfer, Declare, ReadParcel, File, ReadFile, ListFiles, Register, OnFile}
+use Rattle.permit_base.specs.declared.request.Request.TheVariants.{AddParty, AddParcel, Transfer, Declare, ReadParcel, File, ReadFile, ListFiles, Register}
+use Rattle.permit_base.specs.declared.request.Request.TheVariants.{OnFile}
 use Rattle.permit_base.specs.Limits.{latest_deadline, most_records, most_papers}
 use Rattle.permit_base.specs.Digests.{digest_of}
 use Rattle.permit_model.specs.Days.{longest_review_extension, longest_permit_extension, longest_temporary}
@@ -157,18 +161,21 @@ file_tests h day file (Resubmit text) = not_in day file (stage.Returned ∷ []) 
 file_tests h day file ApprovePlans = not_in day file (stage.Review ∷ []) ∷ []
 file_tests h day file (Reject text) = not_in day file (stage.Review ∷ []) ∷ papers_full file ∷ []
 file_tests h day file Issue = not_in day file (stage.Approved ∷ []) ∷ papers_full file ∷ []
-file_tests h day file (AskExtension days text) = not_in day file timed_stages ∷ days_above (ask_limit (stage_on day file)) days ∷ ask_pending file ∷ papers_full file ∷ []
+file_tests h day file (AskExtension days text) = not_in day file timed_stages ∷ days_above (ask_limit (stage_on day file)) days ∷ ask_pending file
+    ∷ papers_full file ∷ []
 file_tests h day file GrantExtension = not_in day file timed_stages ∷ no_ask_pending file ∷ papers_full file ∷ too_far file ∷ []
 file_tests h day file (RefuseExtension text) = not_in day file timed_stages ∷ no_ask_pending file ∷ papers_full file ∷ []
 file_tests h day file BeginWork = not_in day file (stage.Issued ∷ []) ∷ stopped file ∷ []
 file_tests h day file (RequestInspection step) = not_in day file (stage.Working ∷ []) ∷ stopped file ∷ inspection_pending file ∷ not_the_next file step ∷ []
-file_tests h day file (ApproveStep step) = not_in day file (stage.Working ∷ []) ∷ stopped file ∷ no_inspection_pending file ∷ not_the_requested file step ∷ notice_open file ∷ []
+file_tests h day file (ApproveStep step) = not_in day file (stage.Working ∷ []) ∷ stopped file ∷ no_inspection_pending file ∷ not_the_requested file step
+    ∷ notice_open file ∷ []
 file_tests h day file (Notice text) = not_in day file (stage.Working ∷ []) ∷ no_inspection_pending file ∷ papers_full file ∷ []
 file_tests h day file (ClearNotice paper) = not_in day file (stage.Working ∷ []) ∷ no_such_notice file paper ∷ []
 file_tests h day file (Stop text conditions) = not_in day file stoppable_stages ∷ stopped file ∷ papers_full file ∷ []
 file_tests h day file Lift = not_in day file stoppable_stages ∷ not_stopped file ∷ papers_full file ∷ []
 file_tests h day file (Revoke text) = not_in day file revocable_stages ∷ papers_full file ∷ []
-file_tests h day file (Temporary days text) = not_in day file (stage.Working ∷ []) ∷ stopped file ∷ days_above longest_temporary days ∷ notice_open file ∷ no_certificates file ∷ papers_full file ∷ []
+file_tests h day file (Temporary days text) = not_in day file (stage.Working ∷ []) ∷ stopped file ∷ days_above longest_temporary days ∷ notice_open file
+    ∷ no_certificates file ∷ papers_full file ∷ []
 file_tests h day file Certify = not_in day file (stage.Finaled ∷ []) ∷ stopped file ∷ no_certificates file ∷ papers_full file ∷ []
 
 -- a file that isn't there has no tests: it is refused before
@@ -179,7 +186,8 @@ tests_on h day (Some file) command = file_tests h day file command
 -- the tests of a request of the caller on the day; a read, a listing and a register change nothing, and have none
 abbrev pub tests : History → ℕ → ℕ → Request → List Test
 tests h day caller (AddParty name role token) = (is_some (who h (digest_of token)), reason.Taken) ∷ (nat_le most_records (length (parties h)), reason.Full) ∷ []
-tests h day caller (AddParcel lot address owner) = no_party h owner ∷ (list_any (λ p. bytes_eq p.lot lot) (parcels h), reason.Taken) ∷ (nat_le most_records (length (parcels h)), reason.Full) ∷ []
+tests h day caller (AddParcel lot address owner) = no_party h owner ∷ (list_any (λ p. bytes_eq p.lot lot) (parcels h), reason.Taken)
+    ∷ (nat_le most_records (length (parcels h)), reason.Full) ∷ []
 tests h day caller (Transfer parcel to) = no_party h to ∷ (is_the_party (owner h parcel) to, reason.Taken) ∷ []
 tests h day caller (Declare parcel) = (has_interest h parcel caller, reason.Taken) ∷ []
 tests h day caller (File parcel kind valuation description) = (nat_le most_records (length (filings h)), reason.Full) ∷ []

@@ -8,9 +8,12 @@ use Rattle.permit_base.specs.declared.words.Stage.TheVariants as stage
 use Rattle.permit_base.specs.declared.refusal.Refusal.TheVariants as refusal
 use Rattle.permit_base.specs.declared.request.Filter.TheVariants.{All}
 use Rattle.permit_base.specs.declared.request.Command.{Command}
-use Rattle.permit_base.specs.declared.request.Command.TheVariants.{AssignReviewer, AssignInspector, NameContractor, StartReview, Return, Resubmit, ApprovePlans, Reject, Issue, AskExtension, GrantExtension, RefuseExtension, BeginWork, RequestInspection, ApproveStep, Notice, ClearNotice, Stop, Lift, Revoke, Temporary}
+use Rattle.permit_base.specs.declared.request.Command.TheVariants.{AssignReviewer, AssignInspector, NameContractor, StartReview, Return, Resubmit, ApprovePlans}
+use Rattle.permit_base.specs.declared.request.Command.TheVariants.{Reject, Issue, AskExtension, GrantExtension, RefuseExtension, BeginWork, RequestInspection}
+use Rattle.permit_base.specs.declared.request.Command.TheVariants.{ApproveStep, Notice, ClearNotice, Stop, Lift, Revoke, Temporary}
 use Rattle.permit_base.specs.declared.request.Request.{Request}
-use Rattle.permit_base.specs.declared.request.Request.TheVariants.{AddParty, AddParcel, Transfer, Declare, ReadParcel, File, ReadFile, ListFiles, Register, OnFile}
+use Rattle.permit_base.specs.declared.request.Request.TheVariants.{AddParty, AddParcel, Transfer, Declare, ReadParcel, File, ReadFile, ListFiles, Register}
+use Rattle.permit_base.specs.declared.request.Request.TheVariants.{OnFile}
 use Rattle.permit_model.specs.History.{Founding, Accepted, Entry, History}
 use Rattle.permit_model.specs.Caller.{party_numbered}
 use Rattle.permit_model.specs.Machine.{Reply, Done, FileShown, Listed, RegisterShown, Refused, Outcome, outcome_by_caller}
@@ -217,13 +220,15 @@ house_shown stage timing = file_shown house_state 25000000 (codes "House") stage
 
 -- on the deadline day 91 days are asked, then 90, which are granted
 abbrev pub extended_house : List Turn
-extended_house = file_house ∷ on_one 5 19903 (AskExtension 91 (codes "Ill")) ∷ on_one 5 19903 (AskExtension 90 (codes "Ill")) ∷ on_one 1 19903 GrantExtension ∷ []
+extended_house = file_house ∷ on_one 5 19903 (AskExtension 91 (codes "Ill")) ∷ on_one 5 19903 (AskExtension 90 (codes "Ill")) ∷ on_one 1 19903 GrantExtension
+    ∷ []
 
 -- four asks before issuance, of which one is refused and one is closed by it
 abbrev pub ask_turns : List Turn
 ask_turns =
     file_house
-    ∷ on_one 5 19730 (AskExtension 30 (codes "Ill")) ∷ on_one 1 19730 (RefuseExtension (codes "No")) ∷ on_one 5 19730 (AskExtension 60 (codes "Ill")) ∷ on_one 5 19730 (AskExtension 10 (codes "Ill"))
+    ∷ on_one 5 19730 (AskExtension 30 (codes "Ill")) ∷ on_one 1 19730 (RefuseExtension (codes "No")) ∷ on_one 5 19730 (AskExtension 60 (codes "Ill"))
+    ∷ on_one 5 19730 (AskExtension 10 (codes "Ill"))
     ∷ on_one 2 19740 (AssignReviewer 3) ∷ on_one 3 19740 StartReview ∷ on_one 3 19740 ApprovePlans ∷ on_one 1 19740 Issue ∷ on_one 1 19740 GrantExtension ∷ []
 
 -- a permit issued on 19800
@@ -309,7 +314,8 @@ finaled_file = begun_file Construct ++ inspected 19820 Footing ++ inspected 1982
 
 -- two temporary certificates, and one that is too long
 abbrev pub temporary_turns : List Turn
-temporary_turns = on_one 1 19850 (Temporary 60 (codes "Floor 1")) ∷ on_one 1 19860 (Temporary 30 (codes "Floor 1")) ∷ on_one 1 19860 (Temporary 181 (codes "Floor 1")) ∷ []
+temporary_turns = on_one 1 19850 (Temporary 60 (codes "Floor 1")) ∷ on_one 1 19860 (Temporary 30 (codes "Floor 1"))
+    ∷ on_one 1 19860 (Temporary 181 (codes "Floor 1")) ∷ []
 
 -- a lapsed permit is revoked twice, stopped twice and released
 abbrev pub revoking_turns : List Turn
@@ -371,8 +377,26 @@ lists party day wanted = numbers (turn staged_files (asks party day (ListFiles w
 -- owners are denied, and assigned reviewers may list
 abbrev pub own_denied : Policy
 own_denied =
-    record { name = codes "not-own"; effect = Deny; role = None; relation = OneOf (relation.Owner ∷ []); action = None; stage = None; timing = None; stopped = None }
-    ∷ record { name = codes "mine"; effect = Allow; role = None; relation = OneOf (relation.AssignedReviewer ∷ []); action = Some (action.List ∷ []); stage = None; timing = None; stopped = None }
+    record {
+      name = codes "not-own";
+      effect = Deny;
+      role = None;
+      relation = OneOf (relation.Owner ∷ []);
+      action = None;
+      stage = None;
+      timing = None;
+      stopped = None;
+    }
+    ∷ record {
+      name = codes "mine";
+      effect = Allow;
+      role = None;
+      relation = OneOf (relation.AssignedReviewer ∷ []);
+      action = Some (action.List ∷ []);
+      stage = None;
+      timing = None;
+      stopped = None;
+    }
     ∷ []
 
 -- party 3 is the reviewer of files 1 and 2 and owns the parcel of file 2
@@ -384,7 +408,16 @@ assigned_files = after
 -- who is both the owner of its parcel and its contractor may list a file
 abbrev pub owner_and_contractor : Policy
 owner_and_contractor =
-    record { name = codes "builders"; effect = Allow; role = None; relation = Both relation.Owner relation.Contractor; action = Some (action.List ∷ []); stage = None; timing = None; stopped = None }
+    record {
+      name = codes "builders";
+      effect = Allow;
+      role = None;
+      relation = Both relation.Owner relation.Contractor;
+      action = Some (action.List ∷ []);
+      stage = None;
+      timing = None;
+      stopped = None;
+    }
     ∷ []
 
 -- file 1 of party 5 with contractor 6, files 2 and 3 of party 6 on its own parcel, the latter with contractor 6
@@ -432,7 +465,13 @@ by_inspector = on_one 4 19820 (ApproveStep Frame)
 
 -- the founding with the digest of the founder's token, as outside tools give it
 abbrev pub founded_with_token : History
-founded_with_token = record { caller = 1; day = 19700; deed = Founding (codes "Chief") (codes "71c480df93d6ae2f1efad1447c66c9525e316218cf51fc8d9ed832f2daf18b73"); number = Some 1 } ∷ []
+founded_with_token = record {
+  caller = 1;
+  day = 19700;
+  deed = Founding (codes "Chief")
+      (codes "71c480df93d6ae2f1efad1447c66c9525e316218cf51fc8d9ed832f2daf18b73");
+  number = Some 1;
+} ∷ []
 
 -- the founder asks this on the founding day
 abbrev pub founder_asks : Request → Asked × ℕ
@@ -482,7 +521,8 @@ asked_by_inspector = approves (codes "d")
 
 -- the third put, the first collect and the third take do nothing
 abbrev pub hall_events : List (Event Asked)
-hall_events = Put 0 asked_by_official ∷ Put 1 asked_by_inspector ∷ Put 0 asked_by_official ∷ Collect 0 ∷ Take 19820 ∷ Take 19820 ∷ Take 19820 ∷ Collect 1 ∷ Collect 0 ∷ []
+hall_events = Put 0 asked_by_official ∷ Put 1 asked_by_inspector ∷ Put 0 asked_by_official ∷ Collect 0 ∷ Take 19820 ∷ Take 19820 ∷ Take 19820 ∷ Collect 1
+    ∷ Collect 0 ∷ []
 
 -- the entry of the approval that is done
 abbrev pub frame_approved : Entry

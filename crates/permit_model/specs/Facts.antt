@@ -73,7 +73,14 @@ office_facts role action = record { role = role; relations = no_relations; actio
 
 -- the facts on a parcel, whose stage word is new for a filing and office else
 abbrev pub parcel_facts : History → Party → ℕ → Stage → Action → Facts
-parcel_facts h caller parcel word action = record { role = caller.role; relations = relations_to_parcel h caller.id parcel; action = action; stage = word; stopped = false; timing = Untimed }
+parcel_facts h caller parcel word action = record {
+  role = caller.role;
+  relations = relations_to_parcel h caller.id parcel;
+  action = action;
+  stage = word;
+  stopped = false;
+  timing = Untimed;
+}
 
 -- the facts on a file, on a day
 abbrev pub file_facts : History → ℕ → Party → CaseFile → Action → Facts

@@ -1,5 +1,6 @@
 -- The office as a machine: one step for a request on a day, and whole runs.
-use Rattle.std.specs.Prelude.{◌≡◌, ◌≤◌, ◌<◌, ℕ, ◌+◌, Bool, true, false, nat_lt, if◌then◌else◌, IsTrue, List, [], ◌∷◌, length, Option, None, Some, option_map, is_some}
+use Rattle.std.specs.Prelude.{◌≡◌, ◌≤◌, ◌<◌, ℕ, ◌+◌, Bool, true, false, nat_lt, if◌then◌else◌, IsTrue, List, [], ◌∷◌, length, Option, None, Some, option_map}
+use Rattle.std.specs.Prelude.{is_some}
 use Rattle.permit_base.specs.declared.words.Stage.{Stage}
 use Rattle.permit_base.specs.declared.words.Stage.TheVariants.{New, Office}
 use Rattle.permit_base.specs.declared.words.Action.{Action}
@@ -9,7 +10,8 @@ use Rattle.permit_base.specs.declared.refusal.Refusal.{Refusal}
 use Rattle.permit_base.specs.declared.refusal.Refusal.TheVariants as refusal
 use Rattle.permit_base.specs.declared.request.Command.{Command}
 use Rattle.permit_base.specs.declared.request.Request.{Request}
-use Rattle.permit_base.specs.declared.request.Request.TheVariants.{AddParty, AddParcel, Transfer, Declare, ReadParcel, File, ReadFile, ListFiles, Register, OnFile}
+use Rattle.permit_base.specs.declared.request.Request.TheVariants.{AddParty, AddParcel, Transfer, Declare, ReadParcel, File, ReadFile, ListFiles, Register}
+use Rattle.permit_base.specs.declared.request.Request.TheVariants.{OnFile}
 use Rattle.permit_base.specs.declared.request.Asked.{Asked}
 use Rattle.permit_base.specs.Actions.{action_of}
 use Rattle.permit_base.specs.Digests.{digest_of}
@@ -144,7 +146,8 @@ outcome_if_allowed policy h day caller (OnFile file command) = outcome_of_comman
 
 -- the first matching rule decides
 abbrev pub outcome_by_decision : Policy → History → ℕ → Party → Request → Decision → Outcome
-outcome_by_decision policy h day caller request d = if is_allow d.effect then outcome_if_allowed policy h day caller request else refused h (refusal.Denied d.rule)
+outcome_by_decision policy h day caller request d = if is_allow d.effect then outcome_if_allowed policy h day caller request else refused h
+    (refusal.Denied d.rule)
 
 -- the record asked for has to be there
 abbrev pub outcome_by_facts : Policy → History → ℕ → Party → Request → Option Facts → Outcome
@@ -171,7 +174,8 @@ outcome_by_request policy h day caller (OnFile file command) = outcome_by_object
 -- the caller has to be known, and the day not below the last
 abbrev pub outcome_by_caller : Policy → History → ℕ → Request → Option Party → Outcome
 outcome_by_caller policy h day request None = refused h refusal.Caller
-outcome_by_caller policy h day request (Some caller) = if nat_lt day (last_day h) then refused h refusal.Clock else outcome_by_request policy h day caller request
+outcome_by_caller policy h day request (Some caller) =
+    if nat_lt day (last_day h) then refused h refusal.Clock else outcome_by_request policy h day caller request
 
 -- one step for the request of the party that keeps the digest
 abbrev pub step_as : Policy → History → List ℕ → Request → ℕ → Outcome

@@ -85,7 +85,14 @@ Allowed = Cell → Relations → Bool
 
 -- the facts of an action in a cell with these relations
 abbrev pub cell_facts : Role → Action → Cell → Relations → Facts
-cell_facts role action cell relations = record { role = role; relations = relations; action = action; stage = cell.stage; stopped = cell.stopped; timing = cell.timing }
+cell_facts role action cell relations = record {
+  role = role;
+  relations = relations;
+  action = action;
+  stage = cell.stage;
+  stopped = cell.stopped;
+  timing = cell.timing;
+}
 
 -- for which relations the policy allows the role the action
 abbrev pub allowed_by : Policy → Role → Action → Allowed

@@ -1,5 +1,6 @@
 -- The texts of the registers.
-use Rattle.std.specs.Prelude.{ℕ, zero, suc, ◌+◌, ◌-◌, ◌%◌, Bool, not, ◌&&◌, ◌||◌, ◌==◌, nat_lt, if◌then◌else◌, List, [], ◌∷◌, ◌++◌, length, replicate, codes, decimal, Option, None, Some}
+use Rattle.std.specs.Prelude.{ℕ, zero, suc, ◌+◌, ◌-◌, ◌%◌, Bool, not, ◌&&◌, ◌||◌, ◌==◌, nat_lt, if◌then◌else◌, List, [], ◌∷◌, ◌++◌, length, replicate, codes}
+use Rattle.std.specs.Prelude.{decimal, Option, None, Some}
 use Rattle.permit_base.specs.declared.words.RegisterKind.{RegisterKind}
 use Rattle.permit_base.specs.declared.words.RegisterKind.TheVariants.{Files, Deadlines, Inspections}
 use Rattle.permit_base.specs.Words.{kind_word, stage_word, timing_word, step_word}
@@ -82,9 +83,12 @@ line (column ∷ next ∷ columns) = column ++ 32 ∷ line (next ∷ columns)
 
 -- the line of the column's words
 abbrev pub header : RegisterKind → List ℕ
-header Files = line (pad_left 5 (codes "FILE") ∷ pad_left 6 (codes "PARCEL") ∷ pad_right 9 (codes "KIND") ∷ pad_right 9 (codes "STAGE") ∷ pad_right 6 (codes "TIMING") ∷ pad_right 10 (codes "DEADLINE") ∷ pad_left 13 (codes "CENTS") ∷ [])
-header Deadlines = line (pad_left 5 (codes "FILE") ∷ pad_right 9 (codes "STAGE") ∷ pad_right 6 (codes "TIMING") ∷ pad_right 10 (codes "DEADLINE") ∷ pad_left 7 (codes "LEFT") ∷ [])
-header Inspections = line (pad_left 5 (codes "FILE") ∷ pad_right 7 (codes "NEXT") ∷ pad_right 10 (codes "REQUESTED") ∷ pad_left 9 (codes "INSPECTOR") ∷ pad_left 7 (codes "NOTICES") ∷ [])
+header Files = line (pad_left 5 (codes "FILE") ∷ pad_left 6 (codes "PARCEL") ∷ pad_right 9 (codes "KIND") ∷ pad_right 9 (codes "STAGE")
+    ∷ pad_right 6 (codes "TIMING") ∷ pad_right 10 (codes "DEADLINE") ∷ pad_left 13 (codes "CENTS") ∷ [])
+header Deadlines = line (pad_left 5 (codes "FILE") ∷ pad_right 9 (codes "STAGE") ∷ pad_right 6 (codes "TIMING") ∷ pad_right 10 (codes "DEADLINE")
+    ∷ pad_left 7 (codes "LEFT") ∷ [])
+header Inspections = line (pad_left 5 (codes "FILE") ∷ pad_right 7 (codes "NEXT") ∷ pad_right 10 (codes "REQUESTED") ∷ pad_left 9 (codes "INSPECTOR")
+    ∷ pad_left 7 (codes "NOTICES") ∷ [])
 
 -- the line of a file
 abbrev pub file_line : RegisterKind → ℕ → FileView → List ℕ
@@ -96,7 +100,8 @@ file_line Deadlines day file = line
     (pad_left 5 (decimal file.row.id) ∷ pad_right 9 (stage_word file.stage) ∷ pad_right 6 (timing_word file.timing)
     ∷ pad_right 10 (or_hyphen date_text file.row.state.deadline) ∷ pad_left 7 (or_hyphen (days_left day) file.row.state.deadline) ∷ [])
 file_line Inspections day file = line
-    (pad_left 5 (decimal file.row.id) ∷ pad_right 7 (or_hyphen step_word (next_in_row file.row.state)) ∷ pad_right 10 (or_hyphen date_text file.row.state.requested)
+    (pad_left 5 (decimal file.row.id) ∷ pad_right 7 (or_hyphen step_word (next_in_row file.row.state))
+    ∷ pad_right 10 (or_hyphen date_text file.row.state.requested)
     ∷ pad_left 9 (or_hyphen decimal file.row.state.inspector) ∷ pad_left 7 (decimal file.row.state.notices) ∷ [])
 
 -- a line for each file

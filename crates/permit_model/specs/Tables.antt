@@ -1,5 +1,6 @@
 -- The rows that the tables keep, read off the history.
-use Rattle.std.specs.Prelude.{ℕ, Bool, true, false, ◌&&◌, List, [], ◌∷◌, map, filter, ◌==◌, length, Option, None, option_map, unwrap_or, slice_get, if◌then◌else◌}
+use Rattle.std.specs.Prelude.{ℕ, Bool, true, false, ◌&&◌, List, [], ◌∷◌, map, filter, ◌==◌, length, Option, None, option_map, unwrap_or, slice_get}
+use Rattle.std.specs.Prelude.{if◌then◌else◌}
 use Rattle.permit_base.specs.declared.words.Kind.{Kind}
 use Rattle.permit_base.specs.declared.words.Step.{Step}
 use Rattle.permit_base.specs.declared.words.Stage.{Stage}
@@ -7,7 +8,8 @@ use Rattle.permit_base.specs.declared.words.Timing.{Timing}
 use Rattle.permit_base.specs.declared.words.PaperSort.{PaperSort}
 use Rattle.permit_base.specs.declared.words.PaperSort.TheVariants as sort
 use Rattle.permit_base.specs.declared.request.Command.{Command}
-use Rattle.permit_base.specs.declared.request.Request.TheVariants.{AddParty, AddParcel, Transfer, Declare, ReadParcel, File, ReadFile, ListFiles, Register, OnFile}
+use Rattle.permit_base.specs.declared.request.Request.TheVariants.{AddParty, AddParcel, Transfer, Declare, ReadParcel, File, ReadFile, ListFiles, Register}
+use Rattle.permit_base.specs.declared.request.Request.TheVariants.{OnFile}
 use Rattle.permit_model.specs.Search.{add_last, has_number}
 use Rattle.permit_model.specs.Steps.{required_steps}
 use Rattle.permit_model.specs.History.{Deed, Founding, Accepted, Entry, History, last_day}
@@ -16,7 +18,8 @@ use Rattle.permit_model.specs.Parcels.{Parcel, parcels, Interest, interests}
 use Rattle.permit_model.specs.Effects.{effects}
 use Rattle.permit_model.specs.Files.{Act, act_of, acts_on, CaseFile, case_files}
 use Rattle.permit_model.specs.People.{contractor, reviewer, inspector}
-use Rattle.permit_model.specs.Work.{approved_steps, pending_step, requested_day, pending_ask, open_notices, is_stopped, temporary_until, paper_sort, paper_count}
+use Rattle.permit_model.specs.Work.{approved_steps, pending_step, requested_day, pending_ask, open_notices, is_stopped, temporary_until, paper_sort}
+use Rattle.permit_model.specs.Work.{paper_count}
 use Rattle.permit_model.specs.BaseStage.{base_stage}
 use Rattle.permit_model.specs.Deadline.{deadline}
 use Rattle.permit_model.specs.Facts.{stage_on, timing_of}

@@ -1,5 +1,6 @@
 -- One bit of a mask.
-use Rattle.std.proofs.Common.{◌≡◌, refl, ap, ◌∙◌, arith, Bool, true, false, not, ◌&&◌, ◌||◌, ◌==◌, ℕ, zero, suc, ◌+◌, ◌-◌, ◌^◌, ◌<◌, min, max, bit_and, bit_or, w64}
+use Rattle.std.proofs.Common.{◌≡◌, refl, ap, ◌∙◌, arith, Bool, true, false, not, ◌&&◌, ◌||◌, ◌==◌, ℕ, zero, suc, ◌+◌, ◌-◌, ◌^◌, ◌<◌, min, max, bit_and, bit_or}
+use Rattle.std.proofs.Common.{w64}
 use Rattle.std.specs.Int.{bit_at, bit_not}
 use Rattle.std.proofs.lemmas.Nat.Bits.{bit_at-lt, bit_at-zero, bit_at_and, bit_at_or, bit_at_not, bit_at_ones}
 use Rattle.permit_base.specs.declared.words.Relations.{Relations}
@@ -36,7 +37,15 @@ share_below false n = omega arith
 
 pub set_below : (set : Relations) → set_number set < 64
 set_below set =
-    omega (arith, share_below set.applicant 1, share_below set.contractor 2, share_below set.owner 4, share_below set.assigned_reviewer 8, share_below set.assigned_inspector 16, share_below set.conflict 32)
+    omega (
+      arith,
+      share_below set.applicant 1,
+      share_below set.contractor 2,
+      share_below set.owner 4,
+      share_below set.assigned_reviewer 8,
+      share_below set.assigned_inspector 16,
+      share_below set.conflict 32,
+    )
 
 -- ---- sets in masks
 

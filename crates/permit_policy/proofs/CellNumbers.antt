@@ -80,7 +80,9 @@ cell_of n = record { stage = get_or all_stages (n / 8) stage.Filed; stopped = (n
 
 pub cell_back : (cell : Cell) (n : ℕ) → cell_number cell ≡ n → cell_of n ≡ cell
 cell_back cell n e =
-    let parts : Split n (stage_code cell.stage) (timing_code cell.timing) cell.stopped = split n (stage_code cell.stage) (timing_code cell.timing) cell.stopped (timing_below cell.timing) e in
+    let parts : Split n (stage_code cell.stage) (timing_code cell.timing) cell.stopped =
+    split n (stage_code cell.stage) (timing_code cell.timing) cell.stopped (timing_below cell.timing) e in
     let at_stage : get_or all_stages (n / 8) stage.Filed ≡ cell.stage = ap (λ k. get_or all_stages k stage.Filed) parts.eighths ∙ stage_back cell.stage in
-    let at_timing : get_or all_timings (n % 4) timing.Untimed ≡ cell.timing = ap (λ k. get_or all_timings k timing.Untimed) parts.rest ∙ timing_back cell.timing in
+    let at_timing : get_or all_timings (n % 4) timing.Untimed ≡ cell.timing = ap (λ k. get_or all_timings k timing.Untimed) parts.rest
+    ∙ timing_back cell.timing in
     rw (at_stage, parts.half, at_timing) refl

@@ -1,5 +1,6 @@
 -- The routes of one kept cell, by the word of its cell on the day.
-use Rattle.std.proofs.Common.{◌≡◌, ap, sym, ◌∙◌, Bool, true, false, cond, if◌then◌else◌, ◌&&◌, ℕ, ◌+◌, ◌<◌, length, drop, List, [], ◌∷◌, ◌++◌, append_assoc, get_or, Ok, Err, IfOk, Result}
+use Rattle.std.proofs.Common.{◌≡◌, ap, sym, ◌∙◌, Bool, true, false, cond, if◌then◌else◌, ◌&&◌, ℕ, ◌+◌, ◌<◌, length, drop, List, [], ◌∷◌, ◌++◌, append_assoc}
+use Rattle.std.proofs.Common.{get_or, Ok, Err, IfOk, Result}
 use Rattle.std.specs.List.{list_all}
 use Rattle.permit_base.specs.declared.words.Relation.{Relation}
 use Rattle.permit_base.specs.declared.words.Relations.{Relations}
@@ -35,26 +36,31 @@ pub is_open : (masks : List ℕ) (cell here : Cell) (none : Relations) (b : Bool
     → is_open_to_all (may masks) cell ≡ b
 is_open masks cell here none b p q e = sym (e ∙ ap (λ set. may masks here set) q ∙ ap (λ at. may masks at no_relations) p)
 
-same_routes : (masks : List ℕ) (cell here : Cell) (mask : ℕ) (none : Relations) → IsWord masks cell mask here none → by_mask mask cell ≡ routes_in (may masks) cell
+same_routes : (masks : List ℕ) (cell here : Cell) (mask : ℕ) (none : Relations) → IsWord masks cell mask here none →
+    by_mask mask cell ≡ routes_in (may masks) cell
 same_routes masks cell here mask none w = ap (λ m. by_mask m cell) (w.word ∙ ap (λ at. get_or masks (cell_number at) 0) w.day)
 
 pub whole_cell : (masks : List ℕ) (cell here : Cell) (mask : ℕ) (none : Relations) (made more : List Route) (added : Route) → IsWord masks cell mask here none
     → true ≡ has_set mask none → added ≡ route_by cell by.Whole → more ≡ made ++ added ∷ [] → more ≡ made ++ routes_in (may masks) cell
 whole_cell masks cell here mask none made more added w t r m =
     let test : has_set mask no_relations ≡ true = ap (has_set mask) (sym w.empty) ∙ sym t in
-    let whole : by_mask mask cell ≡ route_by cell by.Whole ∷ [] = ap (λ b. cond b (route_by cell by.Whole ∷ []) (singles mask cell ++ two_each mask cell)) test in
+    let whole : by_mask mask cell ≡ route_by cell by.Whole ∷ [] = ap (λ b. cond b (route_by cell by.Whole ∷ [])
+    (singles mask cell ++ two_each mask cell)) test in
     m ∙ ap (λ x. made ++ x ∷ []) r ∙ ap (λ xs. made ++ xs) (sym whole ∙ same_routes masks cell here mask none w)
 
 parts_of_cell : (masks : List ℕ) (cell here : Cell) (mask : ℕ) (none : Relations) (made mid more : List Route) → IsWord masks cell mask here none
     → false ≡ has_set mask none → mid ≡ made ++ singles mask cell → more ≡ mid ++ two_each mask cell → more ≡ made ++ routes_in (may masks) cell
 parts_of_cell masks cell here mask none made mid more w t s p =
     let test : has_set mask no_relations ≡ false = ap (has_set mask) (sym w.empty) ∙ sym t in
-    let parts : by_mask mask cell ≡ singles mask cell ++ two_each mask cell = ap (λ b. cond b (route_by cell by.Whole ∷ []) (singles mask cell ++ two_each mask cell)) test in
+    let parts : by_mask mask cell ≡ singles mask cell ++ two_each mask cell =
+    ap (λ b. cond b (route_by cell by.Whole ∷ []) (singles mask cell ++ two_each mask cell)) test in
     p ∙ ap (λ xs. xs ++ two_each mask cell) s ∙ append_assoc made (singles mask cell) (two_each mask cell)
     ∙ ap (λ xs. made ++ xs) (sym parts ∙ same_routes masks cell here mask none w)
 
-pub cell_in_parts : {E : Type 0} (masks : List ℕ) (cell here : Cell) (mask : ℕ) (none : Relations) (made mid more : List Route) (done : Result Unit E) → IsWord masks cell mask here none
-    → false ≡ has_set mask none → mid ≡ made ++ singles mask cell → IfOk done (λ d. more ≡ mid ++ two_each mask cell) → IfOk done (λ d. more ≡ made ++ routes_in (may masks) cell)
+pub cell_in_parts : {E : Type 0} (masks : List ℕ) (cell here : Cell) (mask : ℕ) (none : Relations) (made mid more : List Route) (done : Result Unit E) →
+    IsWord masks cell mask here none
+    → false ≡ has_set mask none → mid ≡ made ++ singles mask cell → IfOk done (λ d. more ≡ mid ++ two_each mask cell) →
+    IfOk done (λ d. more ≡ made ++ routes_in (may masks) cell)
 cell_in_parts masks cell here mask none made mid more (Ok d) w t s p = parts_of_cell masks cell here mask none made mid more w t s p
 cell_in_parts masks cell here mask none made mid more (Err e) w t s p = p
 
@@ -82,7 +88,8 @@ pub single_more : (mask : ℕ) (cell : Cell) (items : List Relation) (i : ℕ) (
     → more ++ gives (one_route cell) (is_alone mask) (drop (i + 1) all_relations) ≡ whole
 single_more mask cell items i d set made more whole added e h s t a m k =
     let test : is_alone mask (get_or items i d) ≡ true = ap (has_set mask) (sym s) ∙ sym t in
-    item_kept (one_route cell) (is_alone mask) all_relations i d (get_or items i d) made more whole (in_range items i e h) (same_item items i d e) test (m ∙ ap (λ r. made ++ r ∷ []) a) k
+    item_kept (one_route cell) (is_alone mask) all_relations i d (get_or items i d) made more whole (in_range items i e h) (same_item items i d e) test
+    (m ∙ ap (λ r. made ++ r ∷ []) a) k
 
 pub single_left : (mask : ℕ) (cell : Cell) (items : List Relation) (i : ℕ) (d : Relation) (set : Relations) (made whole : List Route)
     → items ≡ all_relations → i < length items → set ≡ only (get_or items i d) → false ≡ has_set mask set

@@ -1,5 +1,6 @@
 -- The names of the dead rules, as they are found.
-use Rattle.std.proofs.Common.{◌≡◌, ◌⊎◌, inl, inr, refl, ap, sym, ◌∙◌, subst, Bool, true, false, ℕ, zero, suc, ◌+◌, ◌<◌, ◌≤◌, List, [], ◌∷◌, ◌++◌, append_assoc, append-nil, length, replicate, drop, get_or}
+use Rattle.std.proofs.Common.{◌≡◌, ◌⊎◌, inl, inr, refl, ap, sym, ◌∙◌, subst, Bool, true, false, ℕ, zero, suc, ◌+◌, ◌<◌, ◌≤◌, List, [], ◌∷◌, ◌++◌, append_assoc}
+use Rattle.std.proofs.Common.{append-nil, length, replicate, drop, get_or}
 use Rattle.std.proofs.lemmas.List.{at_drop_more, drop_all, get_or_default}
 use Rattle.permit_model.specs.Policy.{Rule, Policy}
 use Rattle.permit_policy.specs.Dead.{IsLive, IsDead, AreDeadFrom, AreDead}

@@ -1,5 +1,6 @@
 -- What the rules so far decide for a set of relations in a cell.
-use Rattle.std.proofs.Common.{◌≡◌, refl, ap, sym, ◌∙◌, arith, w64, Bool, true, false, not, cond, ◌&&◌, ◌||◌, ℕ, ◌+◌, ◌<◌, ◌≤◌, ◌^◌, List, ◌∷◌, ◌++◌, [], length, drop, get_or, bit_and, bit_or, below_more, length-append}
+use Rattle.std.proofs.Common.{◌≡◌, refl, ap, sym, ◌∙◌, arith, w64, Bool, true, false, not, cond, ◌&&◌, ◌||◌, ℕ, ◌+◌, ◌<◌, ◌≤◌, ◌^◌, List, ◌∷◌, ◌++◌, [], length}
+use Rattle.std.proofs.Common.{drop, get_or, bit_and, bit_or, below_more, length-append}
 use Rattle.std.specs.Int.{bit_not}
 use Rattle.std.proofs.Math.ListN.{get_or-append}
 use Rattle.std.proofs.Math.Seq.{get_or-append_seam}
@@ -39,7 +40,8 @@ counted masks n whole e h k = omega arith
 abbrev pub OfRule : (Rule → ℕ → Type 0) → Policy → ℕ → ℕ → Type 0
 OfRule P rules k mask = (rule : Rule) → rule ≡ get_or rules k rule → P rule mask
 
-pub of_rule : (P : Rule → ℕ → Type 0) (rules : Policy) (i : ℕ) (r : Rule) (mask : ℕ) → i < length rules → r ≡ get_or rules i r → P r mask → OfRule P rules i mask
+pub of_rule : (P : Rule → ℕ → Type 0) (rules : Policy) (i : ℕ) (r : Rule) (mask : ℕ) → i < length rules → r ≡ get_or rules i r → P r mask →
+    OfRule P rules i mask
 of_rule P rules i r mask h e p = λ rule q. let same : rule ≡ r = q ∙ get_or_default rules i rule r h ∙ sym e in rw same p
 
 -- ---- the rules that are left
@@ -132,7 +134,8 @@ follows_next rules i rule role action cell set hits undecided allowed decided gr
     let rest = allows (drop (i + 1) rules) facts in
     let matched : matches rule facts ≡ m = matches_in rule role action cell set ∙ ap (λ b. covers rule cell && b) (sym (hit set)) in
     let first : allows (drop i rules) facts ≡ cond m (is_allow rule.effect) rest =
-    at_drop_more (λ rs. allows rs facts) rules i rule h ∙ ap (λ r. allows (r ∷ drop (i + 1) rules) facts) (sym e) ∙ allows_first rule (drop (i + 1) rules) facts m matched in
+    at_drop_more (λ rs. allows rs facts) rules i rule h ∙ ap (λ r. allows (r ∷ drop (i + 1) rules) facts) (sym e)
+    ∙ allows_first rule (drop (i + 1) rules) facts m matched in
     let s : Steps m u (has_set allowed set) (is_allow rule.effect) rest (allows rules facts) =
     steps m u (has_set allowed set) (is_allow rule.effect) rest (allows rules facts) (ap (λ b. cond u b (has_set allowed set)) (sym first) ∙ f.same) f.fresh in
     let left : has_set (bit_and undecided (bit_not w64 decided)) set ≡ (u && not (m && u)) =

@@ -1,5 +1,6 @@
 -- A rule has no failing key exactly where it matches.
-use Rattle.std.proofs.Common.{◌≡◌, refl, ap, sym, ◌∙◌, Bool, true, false, cond, ◌&&◌, ℕ, ◌+◌, ◌<◌, ◌≤◌, List, [], ◌∷◌, ◌++◌, append_assoc, append-nil, length, drop, get_or, not, Option, None, Some, is_none, is_some}
+use Rattle.std.proofs.Common.{◌≡◌, refl, ap, sym, ◌∙◌, Bool, true, false, cond, ◌&&◌, ℕ, ◌+◌, ◌<◌, ◌≤◌, List, [], ◌∷◌, ◌++◌, append_assoc, append-nil, length}
+use Rattle.std.proofs.Common.{drop, get_or, not, Option, None, Some, is_none, is_some}
 use Rattle.std.proofs.lemmas.List.{at_drop_more, at_drop_all}
 use Rattle.permit_model.specs.Codes.{is_role, is_action, is_stage, is_timing}
 use Rattle.permit_model.specs.Facts.{Facts}
@@ -9,7 +10,8 @@ use Rattle.permit_policy.specs.declared.key.Key.TheVariants as key
 use Rattle.permit_policy.specs.Explained.{relation_key, or_else, unless, failing_key, Tried, explanation}
 
 none_fails : (a b c d e f : Bool) (k1 k2 k3 k4 k5 k6 : Key)
-    → is_none (or_else (unless a k1) (or_else (unless b k2) (or_else (unless c k3) (or_else (unless d k4) (or_else (unless e k5) (unless f k6)))))) ≡ (a && b && c && d && e && f)
+    → is_none (or_else (unless a k1) (or_else (unless b k2) (or_else (unless c k3) (or_else (unless d k4) (or_else (unless e k5) (unless f k6))))))
+    ≡ (a && b && c && d && e && f)
 none_fails false b c d e f k1 k2 k3 k4 k5 k6 = refl
 none_fails true false c d e f k1 k2 k3 k4 k5 k6 = refl
 none_fails true true false d e f k1 k2 k3 k4 k5 k6 = refl
@@ -20,7 +22,8 @@ none_fails true true true true true true k1 k2 k3 k4 k5 k6 = refl
 
 failing_none : (rule : Rule) (facts : Facts) → is_none (failing_key rule facts) ≡ matches rule facts
 failing_none rule facts =
-    none_fails (matches_list rule.role (is_role facts.role)) (matches_relations rule.relation facts.relations) (matches_list rule.action (is_action facts.action))
+    none_fails (matches_list rule.role (is_role facts.role)) (matches_relations rule.relation facts.relations)
+    (matches_list rule.action (is_action facts.action))
     (matches_list rule.stage (is_stage facts.stage)) (matches_list rule.timing (is_timing facts.timing)) (matches_truth rule.stopped facts.stopped)
     key.Role (relation_key rule.relation) key.Action key.Stage key.Timing key.Stopped
 
@@ -35,24 +38,30 @@ first_tried rules facts i r h e =
     ∙ ap (λ x. tried_on facts x ∷ cond (matches x facts) [] (explanation (drop (i + 1) rules) facts)) (sym e)
 
 -- a rule that doesn't match
-pub tried_more : (rules : Policy) (facts : Facts) (i : ℕ) (r : Rule) (t : Tried) (made more whole : List Tried) → i < length rules → r ≡ get_or rules i r → t ≡ tried_on facts r
-    → is_none t.failing ≡ false → more ≡ made ++ t ∷ [] → made ++ explanation (drop i rules) facts ≡ whole → more ++ explanation (drop (i + 1) rules) facts ≡ whole
+pub tried_more : (rules : Policy) (facts : Facts) (i : ℕ) (r : Rule) (t : Tried) (made more whole : List Tried) → i < length rules → r ≡ get_or rules i r →
+    t ≡ tried_on facts r
+    → is_none t.failing ≡ false → more ≡ made ++ t ∷ [] → made ++ explanation (drop i rules) facts ≡ whole →
+    more ++ explanation (drop (i + 1) rules) facts ≡ whole
 tried_more rules facts i r t made more whole h e s n m k =
     let rest = explanation (drop (i + 1) rules) facts in
     let misses : matches r facts ≡ false = sym (failing_none r facts) ∙ ap (λ (x : Tried). is_none x.failing) (sym s) ∙ n in
-    let here : explanation (drop i rules) facts ≡ t ∷ rest = first_tried rules facts i r h e ∙ ap (λ b. tried_on facts r ∷ cond b [] rest) misses ∙ ap (λ x. x ∷ rest) (sym s) in
+    let here : explanation (drop i rules) facts ≡ t ∷ rest = first_tried rules facts i r h e ∙ ap (λ b. tried_on facts r ∷ cond b [] rest) misses
+    ∙ ap (λ x. x ∷ rest) (sym s) in
     ap (λ ts. ts ++ rest) m ∙ append_assoc made (t ∷ []) rest ∙ ap (λ ts. made ++ ts) (sym here) ∙ k
 
 -- the rule that decides
-pub tried_last : (rules : Policy) (facts : Facts) (i : ℕ) (r : Rule) (t : Tried) (made more whole : List Tried) → i < length rules → r ≡ get_or rules i r → t ≡ tried_on facts r
+pub tried_last : (rules : Policy) (facts : Facts) (i : ℕ) (r : Rule) (t : Tried) (made more whole : List Tried) → i < length rules → r ≡ get_or rules i r →
+    t ≡ tried_on facts r
     → is_none t.failing ≡ true → more ≡ made ++ t ∷ [] → made ++ explanation (drop i rules) facts ≡ whole → more ≡ whole
 tried_last rules facts i r t made more whole h e s n m k =
     let rest = explanation (drop (i + 1) rules) facts in
     let hits : matches r facts ≡ true = sym (failing_none r facts) ∙ ap (λ (x : Tried). is_none x.failing) (sym s) ∙ n in
-    let here : explanation (drop i rules) facts ≡ t ∷ [] = first_tried rules facts i r h e ∙ ap (λ b. tried_on facts r ∷ cond b [] rest) hits ∙ ap (λ x. x ∷ []) (sym s) in
+    let here : explanation (drop i rules) facts ≡ t ∷ [] = first_tried rules facts i r h e ∙ ap (λ b. tried_on facts r ∷ cond b [] rest) hits
+    ∙ ap (λ x. x ∷ []) (sym s) in
     m ∙ ap (λ ts. made ++ ts) (sym here) ∙ k
 
-pub tried_all : (rules : Policy) (facts : Facts) (i : ℕ) (made whole : List Tried) → length rules ≤ i → made ++ explanation (drop i rules) facts ≡ whole → made ≡ whole
+pub tried_all : (rules : Policy) (facts : Facts) (i : ℕ) (made whole : List Tried) → length rules ≤ i → made ++ explanation (drop i rules) facts ≡ whole →
+    made ≡ whole
 tried_all rules facts i made whole h k = sym (append-nil made) ∙ ap (λ ts. made ++ ts) (sym (at_drop_all (λ rs. explanation rs facts) rules i h)) ∙ k
 
 pub tried_is : (name : List ℕ) (failing : Option Key) (r : Rule) (facts : Facts) → name ≡ r.name → failing ≡ failing_key r facts

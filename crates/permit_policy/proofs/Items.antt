@@ -11,10 +11,12 @@ pub items_list-view : (values : List Value) → items_list (items_view values) �
 items_list-view [] = refl
 items_list-view (v ∷ vs) = ap (λ ds. view v ∷ ds) (items_list-view vs)
 
-pub keys_among-view : (keys : List (List ℕ)) (entries : List (String Global × Value)) → keys_among keys (members_view entries) ≡ list_all (λ k. is_among keys (string_bytes k)) (keys_of entries)
+pub keys_among-view : (keys : List (List ℕ)) (entries : List (String Global × Value)) →
+    keys_among keys (members_view entries) ≡ list_all (λ k. is_among keys (string_bytes k)) (keys_of entries)
 keys_among-view keys [] = refl
 keys_among-view keys (e ∷ es) = ap (λ b. is_among keys (string_bytes e.0) && b) (keys_among-view keys es)
 
 -- an item that was read, and those after it
-pub map-view-drop : (values : List Value) (i : ℕ) (v : Value) → i < length values → v ≡ get_or values i v → map view (drop i values) ≡ view v ∷ map view (drop (i + 1) values)
+pub map-view-drop : (values : List Value) (i : ℕ) (v : Value) → i < length values → v ≡ get_or values i v →
+    map view (drop i values) ≡ view v ∷ map view (drop (i + 1) values)
 map-view-drop values i v h e = at_drop_more (map view) values i v h ∙ ap (λ x. view x ∷ map view (drop (i + 1) values)) (sym e)

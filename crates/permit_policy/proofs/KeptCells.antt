@@ -1,5 +1,6 @@
 -- The cells in the order of their numbers, and those of kept rows among them.
-use Rattle.std.proofs.Common.{◌≡◌, refl, ap, sym, ◌∙◌, Bool, true, false, ◌&&◌, cond, ℕ, ◌+◌, ◌<◌, ◌≤◌, zero-add, List, [], ◌∷◌, ◌++◌, append_assoc, append-nil, map, filter, drop, get_or}
+use Rattle.std.proofs.Common.{◌≡◌, refl, ap, sym, ◌∙◌, Bool, true, false, ◌&&◌, cond, ℕ, ◌+◌, ◌<◌, ◌≤◌, zero-add, List, [], ◌∷◌, ◌++◌, append_assoc, append-nil}
+use Rattle.std.proofs.Common.{map, filter, drop, get_or}
 use Rattle.std.specs.List.{list_all, flat_map, range_with_len}
 use Rattle.std.proofs.lemmas.List.{at_drop_more, at_drop_all, get_or-map}
 use Rattle.std.proofs.lemmas.List.FromFn.{get_or-range_with_len}
@@ -79,14 +80,16 @@ pub cell_taken : {B : Type 0} (f : Cell → List B) (p : Cell → Bool) (n : ℕ
     → made ++ from_number (each_gives f p) n ≡ whole → more ++ from_number (each_gives f p) (n + 1) ≡ whole
 cell_taken f p n here made more whole h e t m add k =
     let rest = from_number (each_gives f p) (n + 1) in
-    let first : from_number (each_gives f p) n ≡ f here ++ rest = kept_next (each_gives f p) n here h e t ∙ first_gives f p here (filter is_kept (drop (n + 1) cells)) m in
+    let first : from_number (each_gives f p) n ≡ f here ++ rest = kept_next (each_gives f p) n here h e t
+    ∙ first_gives f p here (filter is_kept (drop (n + 1) cells)) m in
     ap (λ xs. xs ++ rest) add ∙ append_assoc made (f here) rest ∙ ap (λ xs. made ++ xs) (sym first) ∙ k
 
 pub cell_unmet : {B : Type 0} (f : Cell → List B) (p : Cell → Bool) (n : ℕ) (here : Cell) (made whole : List B) → n < 112 → here ≡ get_or cells n here
     → is_kept here ≡ true → p here ≡ false
     → made ++ from_number (each_gives f p) n ≡ whole → made ++ from_number (each_gives f p) (n + 1) ≡ whole
 cell_unmet f p n here made whole h e t m k =
-    let first : from_number (each_gives f p) n ≡ from_number (each_gives f p) (n + 1) = kept_next (each_gives f p) n here h e t ∙ first_gives_none f p here (filter is_kept (drop (n + 1) cells)) m in
+    let first : from_number (each_gives f p) n ≡ from_number (each_gives f p) (n + 1) = kept_next (each_gives f p) n here h e t
+    ∙ first_gives_none f p here (filter is_kept (drop (n + 1) cells)) m in
     ap (λ xs. made ++ xs) (sym first) ∙ k
 
 pub cell_skipped : {B : Type 0} (f : Cell → List B) (p : Cell → Bool) (n : ℕ) (here : Cell) (made whole : List B) → n < 112 → here ≡ get_or cells n here

@@ -1,5 +1,6 @@
 -- Marks of several passes, one after the other.
-use Rattle.std.proofs.Common.{◌≡◌, ◌≢◌, ◌⊎◌, inl, inr, refl, ap, sym, ◌∙◌, arith, lit<, Bool, true, false, ◌==◌, ℕ, ◌+◌, ◌<◌, ◌≤◌, List, ◌++◌, length, take, drop, get_or}
+use Rattle.std.proofs.Common.{◌≡◌, ◌≢◌, ◌⊎◌, inl, inr, refl, ap, sym, ◌∙◌, arith, lit<, Bool, true, false, ◌==◌, ℕ, ◌+◌, ◌<◌, ◌≤◌, List, ◌++◌, length, take}
+use Rattle.std.proofs.Common.{drop, get_or}
 use Rattle.std.proofs.Math.Seq.{take-append_seam}
 use Rattle.std.proofs.lemmas.Bool.Decides.{eqb_tells}
 use Rattle.permit_base.specs.declared.words.Role.{Role}
@@ -25,7 +26,8 @@ sound_then : (policy : Policy) (Old Mid : Type 0) (k : ℕ) → (Mid → Old ⊎
 sound_then policy Old Mid k f (inl m) = f m
 sound_then policy Old Mid k f (inr l) = inr l
 
-whole_then : (policy : Policy) (First Second : Type 0) (facts : Facts) (mid new : List Bool) (k : ℕ) → (First → is_marked mid k ≡ true) → (is_marked mid k ≡ true → is_marked new k ≡ true)
+whole_then : (policy : Policy) (First Second : Type 0) (facts : Facts) (mid new : List Bool) (k : ℕ) → (First → is_marked mid k ≡ true) →
+    (is_marked mid k ≡ true → is_marked new k ≡ true)
     → (Second → is_marked new k ≡ true) → First ⊎ Second → is_marked new k ≡ true
 whole_then policy First Second facts mid new k f g h (inl s) = g (f s)
 whole_then policy First Second facts mid new k f g h (inr s) = h s
@@ -36,11 +38,13 @@ pub marks_then : (policy : Policy) (First Second Both : Facts → Type 0) (old m
 marks_then policy First Second Both old mid new a b split = record {
   kept = λ k e. b.kept k (a.kept k e);
   sound = λ k e. sound_then policy (is_marked old k ≡ true) (is_marked mid k ≡ true) k (a.sound k) (b.sound k e);
-  whole = λ facts s k d. whole_then policy (First facts) (Second facts) facts mid new k (λ f. a.whole facts f k d) (b.kept k) (λ f. b.whole facts f k d) (split facts s);
+  whole = λ facts s k d. whole_then policy (First facts) (Second facts) facts mid new k (λ f. a.whole facts f k d) (b.kept k) (λ f. b.whole facts f k d)
+      (split facts s);
 }
 
 -- fewer facts
-pub marks_of : (policy : Policy) (Seen Fewer : Facts → Type 0) (old new : List Bool) → Marks policy Seen old new → ((facts : Facts) → Fewer facts → Seen facts) → Marks policy Fewer old new
+pub marks_of : (policy : Policy) (Seen Fewer : Facts → Type 0) (old new : List Bool) → Marks policy Seen old new →
+    ((facts : Facts) → Fewer facts → Seen facts) → Marks policy Fewer old new
 marks_of policy Seen Fewer old new a f = record { kept = a.kept; sound = a.sound; whole = λ facts s k d. a.whole facts (f facts s) k d }
 
 -- ---- the facts of a pass
@@ -175,7 +179,8 @@ role_by : (n : ℕ) (here : Role) (facts : Facts) → here ≡ get_or all_roles 
 role_by n here facts at (inl lt) = inl lt
 role_by n here facts at (inr e) = inr (sym (role_back facts.role) ∙ ap (λ k. get_or all_roles k role.Public) e ∙ sym at)
 
-pub next_role : (n : ℕ) (here : Role) → here ≡ get_or all_roles n role.Public → (facts : Facts) → ByRolesBefore (n + 1) facts → ByRolesBefore n facts ⊎ HasRole here facts
+pub next_role : (n : ℕ) (here : Role) → here ≡ get_or all_roles n role.Public → (facts : Facts) → ByRolesBefore (n + 1) facts →
+    ByRolesBefore n facts ⊎ HasRole here facts
 next_role n here at facts s = let m = role_code facts.role in role_by n here facts at (before_or_at m n s (eqb_tells m n))
 
 pub by_all_roles : (n : ℕ) → 5 ≤ n → (facts : Facts) → ByRolesBefore n facts

@@ -1,5 +1,6 @@
 -- Which rules a pass over the sets of relations of a cell marks.
-use Rattle.std.proofs.Common.{◌≡◌, ◌≢◌, ◌⊎◌, inl, inr, refl, ap, sym, ◌∙◌, arith, w64, Bool, true, false, not, cond, ◌&&◌, ◌||◌, ◌==◌, ℕ, zero, suc, ◌+◌, ◌<◌, ◌≤◌, ◌^◌, zero-add, List, [], ◌∷◌, map, length, drop, get_or, set, Some, None, bit_and}
+use Rattle.std.proofs.Common.{◌≡◌, ◌≢◌, ◌⊎◌, inl, inr, refl, ap, sym, ◌∙◌, arith, w64, Bool, true, false, not, cond, ◌&&◌, ◌||◌, ◌==◌, ℕ, zero, suc, ◌+◌, ◌<◌}
+use Rattle.std.proofs.Common.{◌≤◌, ◌^◌, zero-add, List, [], ◌∷◌, map, length, drop, get_or, set, Some, None, bit_and}
 use Rattle.std.specs.Int.{bit_not, trailing_zeros}
 use Rattle.std.specs.List.{position_from, flat_map, range_with_len}
 use Rattle.std.proofs.Math.Dec.{eqb-suc-zero}
@@ -85,7 +86,8 @@ passes_start rules facts undecided marks e = record { left = λ u. refl; marked 
 pub passes_end : (rules : Policy) (place : ℕ) (facts : Facts) (undecided : Bool) (marks : List Bool) → length rules ≤ place
     → Passes rules place facts undecided marks → (k : ℕ) → deciding rules facts ≡ Some k → is_marked marks k ≡ true
 passes_end rules place facts true marks h p k d =
-    let none : position_from (λ r. matches r facts) place (drop place rules) ≡ None = at_drop_all (λ rs. position_from (λ r. matches r facts) place rs) rules place h in
+    let none : position_from (λ r. matches r facts) place (drop place rules) ≡ None =
+    at_drop_all (λ rs. position_from (λ r. matches r facts) place rs) rules place h in
     let bad : None ≡ Some k = sym none ∙ p.left refl ∙ d in cc
 passes_end rules place facts false marks h p k d = p.marked refl k d
 
@@ -167,10 +169,12 @@ matched_by : (rules : Policy) (i : ℕ) (rule : Rule) (role : Role) (action : Ac
     → matches rule (cell_facts role action cell one) ≡ (covers rule cell && has_set hits one)
 matched_by rules i rule role action cell hits undecided decided one d = matches_in rule role action cell one ∙ ap (λ b. covers rule cell && b) (sym (d.hit one))
 
-pub step_passes : (rules : Policy) (i : ℕ) (rule : Rule) (role : Role) (action : Action) (cell : Cell) (hits undecided decided : ℕ) (marks : List Bool) (one : Relations)
+pub step_passes : (rules : Policy) (i : ℕ) (rule : Rule) (role : Role) (action : Action) (cell : Cell) (hits undecided decided : ℕ) (marks : List Bool)
+    (one : Relations)
     → Decides rules i rule role action cell hits undecided decided → i < length marks
     → Passes rules i (cell_facts role action cell one) (has_set undecided one) marks
-    → Passes rules (i + 1) (cell_facts role action cell one) (has_set (bit_and undecided (bit_not w64 decided)) one) (set marks i (is_marked marks i || not (decided == 0)))
+    → Passes rules (i + 1) (cell_facts role action cell one) (has_set (bit_and undecided (bit_not w64 decided)) one)
+    (set marks i (is_marked marks i || not (decided == 0)))
 step_passes rules i rule role action cell hits undecided decided marks one d h p =
     let facts = cell_facts role action cell one in
     let u = has_set undecided one in
@@ -202,7 +206,8 @@ step_live rules i rule role action cell hits undecided decided marks d p n =
     let first = here_decides rules i rule facts true d.within d.here (matched_by rules i rule role action cell hits undecided decided one d ∙ parts.0) in
     (facts, sym ((p one).left parts.1) ∙ first)
 
-pub marks_kept : (marks : List Bool) (i : ℕ) (b : Bool) (k : ℕ) → i < length marks → is_marked marks k ≡ true → is_marked (set marks i (is_marked marks i || b)) k ≡ true
+pub marks_kept : (marks : List Bool) (i : ℕ) (b : Bool) (k : ℕ) → i < length marks → is_marked marks k ≡ true →
+    is_marked (set marks i (is_marked marks i || b)) k ≡ true
 marks_kept marks i b k h e = marked_after marks i b k h ∙ or_left (is_marked marks k) ((k == i) && b) e
 
 same_place : (k i : ℕ) → (k == i) ≡ true → (((k == i) ≡ true) × (k ≡ i)) ⊎ (((k == i) ≡ false) × (k ≢ i)) → k ≡ i
@@ -212,7 +217,8 @@ same_place k i e (inr other) = let bad : true ≡ false = sym e ∙ other.0 in c
 live_at : (rules : Policy) (i k : ℕ) → k ≡ i → IsLive rules i → IsLive rules k
 live_at rules i k e l = rw e l
 
-sound_by : (rules : Policy) (Old : Type 0) (marks : List Bool) (i : ℕ) (b : Bool) (k : ℕ) → (is_marked marks k ≡ true → Old ⊎ IsLive rules k) → (b ≡ true → IsLive rules i)
+sound_by : (rules : Policy) (Old : Type 0) (marks : List Bool) (i : ℕ) (b : Bool) (k : ℕ) → (is_marked marks k ≡ true → Old ⊎ IsLive rules k) →
+    (b ≡ true → IsLive rules i)
     → (is_marked marks k ≡ true) ⊎ (((k == i) && b) ≡ true) → Old ⊎ IsLive rules k
 sound_by rules Old marks i b k before here (inl e) = before e
 sound_by rules Old marks i b k before here (inr e) =

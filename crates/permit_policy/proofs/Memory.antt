@@ -4,7 +4,8 @@ use Rattle.toml.specs.Data.{Data, Members}
 use Rattle.toml.specs.Parse.{parse_document}
 use Rattle.permit_policy.specs.declared.fault.PolicyFault.{PolicyFault}
 use Rattle.permit_policy.specs.declared.fault.PolicyFault.TheVariants as fault
-use Rattle.permit_policy.specs.PolicyText.{Meaning, refused_at, first_place, is_misshapen, bad_name_place, has_bad_effect, has_bad_list, tables_in, meaning_of_tables, meaning_of_document, meaning}
+use Rattle.permit_policy.specs.PolicyText.{Meaning, refused_at, first_place, is_misshapen, bad_name_place, has_bad_effect, has_bad_list, tables_in}
+use Rattle.permit_policy.specs.PolicyText.{meaning_of_tables, meaning_of_document, meaning}
 
 abbrev pub IsNotMemory : Meaning → Type 0
 IsNotMemory m = (rule : ℕ) → m ≡ Err (record { code = fault.Memory; rule = rule }) → ⊥
@@ -25,7 +26,8 @@ at_place : (code : PolicyFault) (place : Option ℕ) (m : Meaning) → (code ≡
 at_place code None m h q = q
 at_place code (Some k) m h q = other code k h
 
-of_part : {A : Type 0} (f : A → Meaning) (part : Option A) (m : Meaning) → ((a : A) → IsNotMemory (f a)) → IsNotMemory m → IsNotMemory (unwrap_or (option_map f part) m)
+of_part : {A : Type 0} (f : A → Meaning) (part : Option A) (m : Meaning) → ((a : A) → IsNotMemory (f a)) → IsNotMemory m →
+    IsNotMemory (unwrap_or (option_map f part) m)
 of_part f None m p q = q
 of_part f (Some a) m p q = p a
 

@@ -1,5 +1,6 @@
 -- A pass over the tables: the place of the first fault, and the parts that were read.
-use Rattle.std.proofs.Common.{◌≡◌, refl, ap, sym, ◌∙◌, Bool, true, false, cond, ℕ, ◌+◌, ◌<◌, ◌≤◌, List, [], ◌∷◌, ◌++◌, append_assoc, append-nil, map, length, drop, get_or, Option, Some, None, inl, inr}
+use Rattle.std.proofs.Common.{◌≡◌, refl, ap, sym, ◌∙◌, Bool, true, false, cond, ℕ, ◌+◌, ◌<◌, ◌≤◌, List, [], ◌∷◌, ◌++◌, append_assoc, append-nil, map, length}
+use Rattle.std.proofs.Common.{drop, get_or, Option, Some, None, inl, inr}
 use Rattle.std.specs.List.{position_from}
 use Rattle.std.proofs.lemmas.List.{drop_all, length-map, get_or-map}
 use Rattle.toml.specs.Data.{Data}
@@ -36,7 +37,8 @@ bad_name_here values i v used h e t =
 
 pub bad_name_next : (values : List Value) (i : ℕ) (v : Value) (used : List (List ℕ)) → i < length values → v ≡ get_or values i v
     → is_new_name used (name_of (view v)) ≡ true
-    → first_bad_name (i + 1) used (map name_of (map view (drop i values))) ≡ first_bad_name (i + 1 + 1) (used ++ name_of (view v) ∷ []) (map name_of (map view (drop (i + 1) values)))
+    → first_bad_name (i + 1) used (map name_of (map view (drop i values)))
+    ≡ first_bad_name (i + 1 + 1) (used ++ name_of (view v) ∷ []) (map name_of (map view (drop (i + 1) values)))
 bad_name_next values i v used h e t =
     ap (λ xs. first_bad_name (i + 1) used (map name_of xs)) (map-view-drop values i v h e)
     ∙ ap (λ b. cond b (first_bad_name (i + 1 + 1) (used ++ name_of (view v) ∷ []) (map name_of (map view (drop (i + 1) values)))) (Some (i + 1))) t

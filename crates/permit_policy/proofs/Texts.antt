@@ -1,5 +1,6 @@
 -- Lists of texts, and the words that they spell.
-use Rattle.std.proofs.Common.{append_assoc, ◌≡◌, refl, ap, sym, ◌∙◌, Bool, true, false, not, ◌&&◌, ◌||◌, cond, ℕ, ◌+◌, ◌<◌, List, [], ◌∷◌, ◌++◌, map, length, drop, take, get_or, ◌-◌, Option, Some, None, is_some, bytes_eq}
+use Rattle.std.proofs.Common.{append_assoc, ◌≡◌, refl, ap, sym, ◌∙◌, Bool, true, false, not, ◌&&◌, ◌||◌, cond, ℕ, ◌+◌, ◌<◌, List, [], ◌∷◌, ◌++◌, map, length}
+use Rattle.std.proofs.Common.{drop, take, get_or, ◌-◌, Option, Some, None, is_some, bytes_eq}
 use Rattle.std.specs.List.{list_any, filter_map}
 use Rattle.std.proofs.lemmas.List.{take_rest}
 use Rattle.toml.specs.View.{view}

@@ -1,5 +1,6 @@
 -- What a policy's text means: its rules, or the lowest fault that applies with the place of the first table that has it.
-use Rattle.std.specs.Prelude.{◌⊎◌, ◌≡◌, ℕ, ◌+◌, ◌==◌, Bool, true, false, not, ◌&&◌, ◌||◌, nat_lt, if◌then◌else◌, List, [], ◌∷◌, ◌++◌, length, map, codes, bytes_eq, Option, None, Some, is_some, is_none, option_map, option_and_then, unwrap_or, Result, Ok, Err}
+use Rattle.std.specs.Prelude.{◌⊎◌, ◌≡◌, ℕ, ◌+◌, ◌==◌, Bool, true, false, not, ◌&&◌, ◌||◌, nat_lt, if◌then◌else◌, List, [], ◌∷◌, ◌++◌, length, map, codes}
+use Rattle.std.specs.Prelude.{bytes_eq, Option, None, Some, is_some, is_none, option_map, option_and_then, unwrap_or, Result, Ok, Err}
 use Rattle.std.specs.List.{list_any, list_all, filter_map, position_from}
 use Rattle.toml.specs.Data.{Data, Items, no_items, item, Members, no_members, member, get, get_member, as_str, as_bool, as_array, as_table}
 use Rattle.toml.specs.Parse.{parse_document}
@@ -11,7 +12,8 @@ use Rattle.permit_base.specs.declared.words.Action.{Action}
 use Rattle.permit_base.specs.declared.words.Effect.{Effect}
 use Rattle.permit_base.specs.declared.words.Effect.TheVariants.{Deny}
 use Rattle.permit_base.specs.Texts.{is_rule_name}
-use Rattle.permit_base.specs.Words.{named, role_word, all_roles, stage_word, all_stages, timing_word, all_timings, relation_word, all_relations, action_word, all_actions, effect_word, all_effects}
+use Rattle.permit_base.specs.Words.{named, role_word, all_roles, stage_word, all_stages, timing_word, all_timings, relation_word, all_relations, action_word}
+use Rattle.permit_base.specs.Words.{all_actions, effect_word, all_effects}
 use Rattle.permit_model.specs.Policy.{RelationTest, Any, OneOf, Both, Rule, Policy}
 use Rattle.permit_policy.specs.declared.fault.PolicyError.{PolicyError}
 use Rattle.permit_policy.specs.declared.fault.PolicyFault.{PolicyFault}

@@ -20,11 +20,16 @@ loop-place-preserved c =
     elim c.if-not-index.branch [
       | then-not-index+in_ok-push w ↦
           let dead = is_dead rules marks i c.in_ok-live.ensures.1 (mark ∙ w.if-not-index.true) in
-          rw w.names-is (name_more rules i rule c.loop-place.names.items w.push.new.self.items c.rule.inside.name lt c.index-rules-place.is (ap (λ (r : Rule). r.name) c.rule.view_is) w.in_ok-push.ensures.items dead c.loop-place.invariant)
+          rw w.names-is (name_more rules i rule c.loop-place.names.items w.push.new.self.items c.rule.inside.name lt c.index-rules-place.is
+          (ap (λ (r : Rule). r.name) c.rule.view_is) w.in_ok-push.ensures.items dead c.loop-place.invariant)
       | else-not-index w ↦
           let live = is_live rules marks i c.in_ok-live.ensures.1 (mark ∙ w.if-not-index.false) in
           rw w.names-is (name_left rules i rule c.loop-place.names.items lt c.index-rules-place.is live c.loop-place.invariant)
     ]
 
 pub returns : goal.returns
-returns c = record { exact = rw (← c.in_order-rules.ensures) (names_end c.in_order-rules.result.now c.loop-place.place c.loop-place.names.items c.loop-place-test.false c.loop-place.invariant) }
+returns c = record {
+  exact =
+      rw (← c.in_order-rules.ensures)
+      (names_end c.in_order-rules.result.now c.loop-place.place c.loop-place.names.items c.loop-place-test.false c.loop-place.invariant);
+}

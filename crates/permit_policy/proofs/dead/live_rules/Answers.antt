@@ -27,12 +27,16 @@ loop-role-preserved c =
     let count : length new ≡ length rules = omega arith in
     record {
       count = ap length same ∙ count;
-      marks = rw same (marks_then rules (ByRolesBefore i) (HasRole role) _ _ old new c.loop-role.invariant.marks step (next_role i role (ap (λ xs. get_or xs i Public) c.all-role-items.ensures)));
+      marks = rw same (marks_then rules (ByRolesBefore i) (HasRole role) _ _ old new c.loop-role.invariant.marks step
+          (next_role i role (ap (λ xs. get_or xs i Public) c.all-role-items.ensures)));
     }
 
 pub returns : goal.returns
 returns c =
     let i = c.loop-role.role-index in
     let count : length c.all-role-items.result.now ≡ 5 = ap length c.all-role-items.ensures in
-    let all : 5 ≤ i = omega arith in
-    (c.loop-role.invariant.count, marks_of c.args.rules.now (ByRolesBefore i) (λ facts. Unit {0}) _ _ c.loop-role.invariant.marks (λ facts s. by_all_roles i all facts))
+    let all : 5 ≤ i = omega arith in (
+      c.loop-role.invariant.count,
+      marks_of c.args.rules.now (ByRolesBefore i) (λ facts. Unit {0}) _ _ c.loop-role.invariant.marks
+          (λ facts s. by_all_roles i all facts),
+    )

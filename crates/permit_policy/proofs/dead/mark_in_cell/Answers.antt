@@ -26,12 +26,28 @@ loop-place-preserved c =
     record {
       kept = λ k e. marks_kept marks i (not (decided == 0)) k within (c.loop-place.invariant.kept k e);
       sound = λ role action hits k e.
-          let here : Decides rules i rule role action c.args.cell _ c.loop-place.undecided decided = record { within = c.loop-place-test.true; here = c.index-rules-place.is; fits = c.decided_by-decided.type_inv; hit = hits.each i c.loop-place-test.true rule c.index-rules-place.is; made = c.decided_by-decided.ensures } in
-          let live = step_live rules i rule role action c.args.cell _ c.loop-place.undecided decided marks here (c.loop-place.invariant.passes role action hits) in
+          let here : Decides rules i rule role action c.args.cell _ c.loop-place.undecided decided =
+          record {
+            within = c.loop-place-test.true;
+            here = c.index-rules-place.is;
+            fits = c.decided_by-decided.type_inv;
+            hit = hits.each i c.loop-place-test.true rule c.index-rules-place.is;
+            made = c.decided_by-decided.ensures;
+          } in
+          let live = step_live rules i rule role action c.args.cell _ c.loop-place.undecided decided marks here
+          (c.loop-place.invariant.passes role action hits) in
           marks_sound rules (is_marked c.args.live.now k ≡ true) marks i (not (decided == 0)) k within (c.loop-place.invariant.sound role action hits k) live e;
       passes = λ role action hits one.
-          let here : Decides rules i rule role action c.args.cell _ c.loop-place.undecided decided = record { within = c.loop-place-test.true; here = c.index-rules-place.is; fits = c.decided_by-decided.type_inv; hit = hits.each i c.loop-place-test.true rule c.index-rules-place.is; made = c.decided_by-decided.ensures } in
-          step_passes rules i rule role action c.args.cell _ c.loop-place.undecided decided marks one here within (c.loop-place.invariant.passes role action hits one);
+          let here : Decides rules i rule role action c.args.cell _ c.loop-place.undecided decided =
+          record {
+            within = c.loop-place-test.true;
+            here = c.index-rules-place.is;
+            fits = c.decided_by-decided.type_inv;
+            hit = hits.each i c.loop-place-test.true rule c.index-rules-place.is;
+            made = c.decided_by-decided.ensures;
+          } in
+          step_passes rules i rule role action c.args.cell _ c.loop-place.undecided decided marks one here within
+          (c.loop-place.invariant.passes role action hits one);
     }
 
 pub returns : goal.returns
@@ -41,5 +57,6 @@ returns c = λ role action hits. record {
   whole = λ facts seen k e.
       let one = facts.relations in
       let decides = sym (ap (deciding c.args.rules.now) (same_facts role action c.args.cell facts seen)) ∙ e in
-      passes_end c.args.rules.now c.loop-place.place (cell_facts role action c.args.cell one) (has_set c.loop-place.undecided one) c.loop-place.live c.loop-place-test.false (c.loop-place.invariant.passes role action hits one) k decides;
+      passes_end c.args.rules.now c.loop-place.place (cell_facts role action c.args.cell one)
+      (has_set c.loop-place.undecided one) c.loop-place.live c.loop-place-test.false (c.loop-place.invariant.passes role action hits one) k decides;
 }

@@ -15,4 +15,5 @@ loop-number-preserved c = λ role action hits.
 
 pub returns : goal.returns
 returns c = λ role action hits.
-    marks_of c.args.rules.now (InCellsBefore role action c.loop-number.number) (IsOf role action) _ _ (c.loop-number.invariant role action hits) (all_cells role action c.loop-number.number c.loop-number-test.false)
+    marks_of c.args.rules.now (InCellsBefore role action c.loop-number.number) (IsOf role action) _ _ (c.loop-number.invariant role action hits)
+    (all_cells role action c.loop-number.number c.loop-number-test.false)

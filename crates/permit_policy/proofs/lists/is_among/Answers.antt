@@ -9,4 +9,5 @@ use Rattle.permit_policy.proofs.lists.is_among.Goals as goal
 pub returns : goal.returns
 returns c =
     rw (is_among-texts c.args.values.now c.args.text.now)
-    (any_from_yields_List (λ v. bytes_eq c.args.text.now (text_of (view v))) _ _ _ c.any.ensures.ran (YieldsList-from_slice c.args.values.now (cc)) (λ x b q k. search (rules, tests)))
+    (any_from_yields_List (λ v. bytes_eq c.args.text.now (text_of (view v))) _ _ _ c.any.ensures.ran (YieldsList-from_slice c.args.values.now (cc))
+    (λ x b q k. search (rules, tests)))

@@ -11,5 +11,6 @@ loop-i-preserved g c =
     let step = word_read read vs c.loop-i.i c.index-values-i.result c.text_of.result.now c.in-Some.word c.loop-i-test.true c.index-values-i.is c.text_of.ensures c.in-Some.ensures in
     record {
       checked = sym step.checked ∙ c.loop-i.invariant.checked;
-      missing = missing_less read vs c.loop-i.i c.in-Some.word c.loop-i.words.items c.push.new.self.items (filter_map read (texts vs)) step c.in_ok-push-in-Some.ensures.items c.loop-i.invariant.missing;
+      missing = missing_less read vs c.loop-i.i c.in-Some.word c.loop-i.words.items c.push.new.self.items
+          (filter_map read (texts vs)) step c.in_ok-push-in-Some.ensures.items c.loop-i.invariant.missing;
     }

@@ -28,4 +28,5 @@ returns c = record {
 }
 
 pub invariant_of-result : goal.invariant_of-result
-invariant_of-result c = counted c.loop-number.words.items c.loop-number.number 112 c.loop-number.invariant.count c.loop-number-test.false c.loop-number.auto.number-end
+invariant_of-result c =
+    counted c.loop-number.words.items c.loop-number.number 112 c.loop-number.invariant.count c.loop-number-test.false c.loop-number.auto.number-end

@@ -12,5 +12,6 @@ loop-rule-preserved c =
     let hit = IsHit c.args.role c.args.action in
     record {
       count = count_more old new i mask c.loop-rule.invariant.count c.in_ok-push.ensures.items;
-      each = one_mask_more (OfRule hit rules) old new i mask c.loop-rule.invariant.count (of_rule hit rules i c.rule-item.result mask c.loop-rule-test.true c.rule-item.is c.hits_of.ensures) c.in_ok-push.ensures.items c.loop-rule.invariant.each;
+      each = one_mask_more (OfRule hit rules) old new i mask c.loop-rule.invariant.count
+          (of_rule hit rules i c.rule-item.result mask c.loop-rule-test.true c.rule-item.is c.hits_of.ensures) c.in_ok-push.ensures.items c.loop-rule.invariant.each;
     }

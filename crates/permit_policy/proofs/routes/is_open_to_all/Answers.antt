@@ -13,8 +13,10 @@ returns-then-not-may c =
     let n = c.loop-number.number in
     let here = c.numbered-cell.result in
     let stands = at_place n here c.loop-number-test.true c.numbered-cell.ensures in
-    let shut : is_open_to_all (may masks) here ≡ false = is_open masks here c.on_day.result c.no_relations.result false c.on_day.ensures c.no_relations.ensures c.if-not-may.ensures in
-    shut_here (is_open_to_all (may masks)) n here (list_all (is_open_to_all (may masks)) kept_cells) c.loop-number-test.true stands (sym c.if-is_kept.ensures) shut c.loop-number.invariant
+    let shut : is_open_to_all (may masks) here ≡ false =
+    is_open masks here c.on_day.result c.no_relations.result false c.on_day.ensures c.no_relations.ensures c.if-not-may.ensures in
+    shut_here (is_open_to_all (may masks)) n here (list_all (is_open_to_all (may masks)) kept_cells) c.loop-number-test.true stands
+    (sym c.if-is_kept.ensures) shut c.loop-number.invariant
 
 pub loop-number-preserved : goal.loop-number-preserved
 loop-number-preserved c =
@@ -25,9 +27,11 @@ loop-number-preserved c =
     let whole = list_all (is_open_to_all (may masks)) kept_cells in
     elim c.else-is_kept.branch [
       | else-is_kept-via-then-is_kept+else-not-may w ↦
-          let free : is_open_to_all (may masks) here ≡ true = is_open masks here w.on_day.result w.no_relations.result true w.on_day.ensures w.no_relations.ensures w.if-not-may.ensures in
+          let free : is_open_to_all (may masks) here ≡ true =
+          is_open masks here w.on_day.result w.no_relations.result true w.on_day.ensures w.no_relations.ensures w.if-not-may.ensures in
           open_here (is_open_to_all (may masks)) n here whole c.loop-number-test.true stands (sym w.if-is_kept.ensures) free c.loop-number.invariant
-      | else-is_kept-via-else-is_kept w ↦ open_skip (is_open_to_all (may masks)) n here whole c.loop-number-test.true stands (sym w.if-is_kept.ensures) c.loop-number.invariant
+      | else-is_kept-via-else-is_kept w ↦ open_skip (is_open_to_all (may masks)) n here whole c.loop-number-test.true stands
+          (sym w.if-is_kept.ensures) c.loop-number.invariant
     ]
 
 pub returns : goal.returns

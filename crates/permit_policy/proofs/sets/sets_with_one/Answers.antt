@@ -10,7 +10,9 @@ loop-relation-init c = λ set. ap (λ b. b || list_any (holds set) c.args.relati
 
 pub loop-relation-preserved : goal.loop-relation-preserved
 loop-relation-preserved c =
-    λ set. one_more set c.args.relations.now c.loop-relation.relation-index _ c.loop-relation.sets c.sets_with-sets.result c.loop-relation-test.true (c.sets_with-sets.ensures set) (c.loop-relation.invariant set)
+    λ set. one_more set c.args.relations.now c.loop-relation.relation-index _ c.loop-relation.sets c.sets_with-sets.result c.loop-relation-test.true
+    (c.sets_with-sets.ensures set) (c.loop-relation.invariant set)
 
 pub returns : goal.returns
-returns c = λ set. all_words set c.args.relations.now c.loop-relation.relation-index c.loop-relation.sets c.loop-relation-test.false (c.loop-relation.invariant set)
+returns c = λ set. all_words set c.args.relations.now c.loop-relation.relation-index c.loop-relation.sets c.loop-relation-test.false
+    (c.loop-relation.invariant set)

@@ -7,4 +7,5 @@ use Rattle.permit_policy.proofs.sets.sets_with_one.Given as goal
 
 -- the sets so far, and those of the relations that are left
 abbrev pub invariant-loop-relation : goal.invariant-loop-relation
-invariant-loop-relation l = (set : Relations) → (has_set l.sets set || list_any (holds set) (drop l.relation-index l.relations)) ≡ list_any (holds set) l.relations
+invariant-loop-relation l = (set : Relations) → (has_set l.sets set || list_any (holds set) (drop l.relation-index l.relations))
+    ≡ list_any (holds set) l.relations

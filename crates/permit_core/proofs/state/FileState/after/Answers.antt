@@ -15,7 +15,14 @@ invariant_of-result c =
     let same : before ≡ c.args.self.now = c.before-2.view_is ∙ c.self.view_is in
     let sound : IsSoundState before = subst IsSoundState (sym c.before-2.view_is) c.self.invariant in
     let admitted : IsAdmitted c.args.day before c.args.command.now = subst (λ s. IsAdmitted c.args.day s c.args.command.now) (sym same) c.requires.admitted in
-    rw (c.stage_after.ensures, c.deadline_after.ensures (grant_fits c.args.day c.args.command.now before admitted), c.done_after.ensures (few_done before sound), c.request_after.ensures, c.requested_after.ensures, c.stopped_after.ensures)
+    rw (
+      c.stage_after.ensures,
+      c.deadline_after.ensures (grant_fits c.args.day c.args.command.now before admitted),
+      c.done_after.ensures (few_done before sound),
+      c.request_after.ensures,
+      c.requested_after.ensures,
+      c.stopped_after.ensures,
+    )
     (sound_after c.args.day c.args.command.now before c.notices_after.result c.papers_after.result sound admitted c.notices_after.ensures)
 
 pub returns : goal.returns
@@ -26,4 +33,18 @@ returns c few =
     let admitted : IsAdmitted c.args.day before c.args.command.now = subst (λ s. IsAdmitted c.args.day s c.args.command.now) (sym same) c.requires.admitted in
     let still_few : before.notices ≤ before.papers = subst (λ (s : State). s.notices ≤ s.papers) (sym same) few in
     let room_left : makes_paper c.args.command.now ≡ true → before.papers < 65535 = λ e. omega (arith, room c.args.day c.args.command.now before admitted e) in
-    rw (c.contractor_after.ensures, c.reviewer_after.ensures, c.inspector_after.ensures, c.stage_after.ensures, c.deadline_after.ensures (grant_fits c.args.day c.args.command.now before admitted), c.done_after.ensures (few_done before sound), c.request_after.ensures, c.requested_after.ensures, c.ask_after.ensures, c.stopped_after.ensures, c.notices_after.ensures (notice_fits c.args.day c.args.command.now before admitted still_few), c.papers_after.ensures room_left, c.temporary_after.ensures) (ap (row_after c.args.day c.args.command.now) same)
+    rw (
+      c.contractor_after.ensures,
+      c.reviewer_after.ensures,
+      c.inspector_after.ensures,
+      c.stage_after.ensures,
+      c.deadline_after.ensures (grant_fits c.args.day c.args.command.now before admitted),
+      c.done_after.ensures (few_done before sound),
+      c.request_after.ensures,
+      c.requested_after.ensures,
+      c.ask_after.ensures,
+      c.stopped_after.ensures,
+      c.notices_after.ensures (notice_fits c.args.day c.args.command.now before admitted still_few),
+      c.papers_after.ensures room_left,
+      c.temporary_after.ensures,
+    ) (ap (row_after c.args.day c.args.command.now) same)
