@@ -32,7 +32,8 @@ pub fault-append : (bytes more : List ℕ) (fault : Fault) → HasFault bytes fa
 fault-append bytes more fault x = (x.0, x.1 ++ more, head-append bytes more x.1 x.0 x.2, x.3)
 
 -- the stream is the bytes in the inbox, and then some
-pub split : (i : InboxData) (left : Option (List ℕ)) (bytes : List ℕ) → stream i left ≡ Some bytes → (more : List ℕ) × (bytes ≡ i.bytes ++ more) × (left ≡ Some more)
+pub split : (i : InboxData) (left : Option (List ℕ)) (bytes : List ℕ) → stream i left ≡ Some bytes → (more : List ℕ) × (bytes ≡ i.bytes ++ more)
+    × (left ≡ Some more)
 split i None bytes e = cc
 split i (Some more) bytes e = (more, some_same (sym e), refl)
   where

@@ -1,5 +1,6 @@
 -- The dates of the definitions are those of the civil calendar.
-use Rattle.std.proofs.Common.{◌≡◌, ℕ, zero, suc, ◌+◌, ◌-◌, ◌*◌, ◌<◌, ◌≤◌, ◌⊎◌, inl, inr, List, [], ◌∷◌, ◌++◌, nat_lt, true, false, refl, sym, ap, ◌∙◌, arith, ℤ, pos}
+use Rattle.std.proofs.Common.{◌≡◌, ℕ, zero, suc, ◌+◌, ◌-◌, ◌*◌, ◌<◌, ◌≤◌, ◌⊎◌, inl, inr, List, [], ◌∷◌, ◌++◌, nat_lt, true, false, refl, sym, ap, ◌∙◌, arith, ℤ}
+use Rattle.std.proofs.Common.{pos}
 use Rattle.std.proofs.lemmas.Bool.Decides.{nat_tests}
 use Rattle.jiff_core.specs.declared.civil.date.Date.{Date as CivilDate}
 use Rattle.jiff_core.proofs.DateLemmas.{civil}
@@ -8,7 +9,8 @@ use Rattle.permit_base.specs.Limits.{latest_deadline}
 use Rattle.permit_days.specs.Dates.{IsTextOf}
 use Rattle.jiff_core.specs.Calendar.{day_count, days_in_month, IsCivilDate}
 use Rattle.jiff_core.proofs.SignedLemmas.{signed_arith}
-use Rattle.jiff_core.proofs.CalendarLemmas.{day_count-epoch, days_from_civil-day_count, day_count-next_year, day_count-year_is, day_count-lt_month, day_count-day, day_count-next_month, days_in_month_bounds}
+use Rattle.jiff_core.proofs.CalendarLemmas.{day_count-epoch, days_from_civil-day_count, day_count-next_year, day_count-year_is, day_count-lt_month}
+use Rattle.jiff_core.proofs.CalendarLemmas.{day_count-day, day_count-next_month, days_in_month_bounds}
 use Rattle.permit_model.specs.Register.{year_days, month_days, date_in_months, padded_number, written_date}
 use Rattle.permit_report.specs.CivilDates.{AgreesOnDates}
 use Rattle.permit_report.specs.Dates.{date_from, shown_date}
@@ -33,8 +35,15 @@ of_month : (year month day at n : ℕ) → IsCivilDate (pos year) month day → 
 of_month year month day at n civil from first less is =
     elim (lt_or_le at month) [
       | inl later ↦
-          let last : IsCivilDate (pos year) at (days_in_month (pos year) at) = (civil.0, (first, omega (arith, later, civil.1)), (omega (arith, days_in_month_bounds (pos year) at), omega arith)) in
-          absurd (omega (arith, is, less, day_count-lt_month (pos year) at (days_in_month (pos year) at) month day last civil.2.0 later, day_count-day (pos year) at (days_in_month (pos year) at) 1 (omega (arith, days_in_month_bounds (pos year) at)) (omega arith)))
+          let last : IsCivilDate (pos year) at (days_in_month (pos year) at) =
+          (civil.0, (first, omega (arith, later, civil.1)), (omega (arith, days_in_month_bounds (pos year) at), omega arith)) in
+          absurd (omega (
+            arith,
+            is,
+            less,
+            day_count-lt_month (pos year) at (days_in_month (pos year) at) month day last civil.2.0 later,
+            day_count-day (pos year) at (days_in_month (pos year) at) 1 (omega (arith, days_in_month_bounds (pos year) at)) (omega arith),
+          ))
       | inr early ↦
           let same : month ≡ at = omega arith in
           let here = day_count-day (pos year) month day 1 civil.2.0 (omega arith) in
@@ -63,7 +72,8 @@ in_months year month day at n (days ∷ left) (here, others) civil from first is
       | inl less ↦
           let parts = of_month year month day at n civil from first (omega (arith, here)) is in
           let now : nat_lt n days ≡ true = grind (arith, nat_tests) in
-          rw now (ap (λ (m : ℕ). record { year = year; month = m; day = n + 1 }) (sym parts.0) ∙ ap (λ (d : ℕ). record { year = year; month = month; day = d }) (sym parts.1))
+          rw now (ap (λ (m : ℕ). record { year = year; month = m; day = n + 1 }) (sym parts.0)
+          ∙ ap (λ (d : ℕ). record { year = year; month = month; day = d }) (sym parts.1))
       | inr more ↦
           let later : nat_lt n days ≡ false = grind (arith, nat_tests) in
           let next = day_count-next_month (pos year) at first in
@@ -73,18 +83,28 @@ in_months year month day at n (days ∷ left) (here, others) civil from first is
 
 -- the date from a year on, over at most so many years: its year, and its parts as the definitions give them
 FoundFrom : (years year n month day : ℕ) → ℤ → Type 0
-FoundFrom years year n month day of = (y : ℕ) × (of ≡ pos y) × (year ≤ y) × (y ≤ year + years) × (date_from years year n ≡ record { year = y; month = month; day = day })
+FoundFrom years year n month day of = (y : ℕ) × (of ≡ pos y) × (year ≤ y) × (y ≤ year + years)
+    × (date_from years year n ≡ record { year = y; month = month; day = day })
 
 -- a date of this year
-this_year : (years year n month day : ℕ) (of : ℤ) → IsCivilDate of month day → year + years ≤ 2570 → n < year_days year → day_count of month day ≡ day_count (pos year) 1 1 + n
+this_year : (years year n month day : ℕ) (of : ℤ) → IsCivilDate of month day → year + years ≤ 2570 → n < year_days year →
+    day_count of month day ≡ day_count (pos year) 1 1 + n
     → FoundFrom years year n month day of
 unfolding FoundFrom
 this_year years year n month day of civil high less is =
-    let same : of ≡ pos year = day_count-year_is (pos year) of month day (omega (arith, signed_arith), omega (arith, signed_arith)) civil (omega (arith, is)) (omega (arith, is, less)) in
-    (year, same, omega arith, omega arith, date_from_here years year n less ∙ in_months year month day 1 n (month_days year) (all_months year) (rw same at civil) civil.1.0 (omega arith) (rw same at is))
+    let same : of ≡ pos year = day_count-year_is (pos year) of month day (omega (arith, signed_arith), omega (arith, signed_arith)) civil (omega (arith, is))
+    (omega (arith, is, less)) in (
+      year,
+      same,
+      omega arith,
+      omega arith,
+      date_from_here years year n less
+          ∙ in_months year month day 1 n (month_days year) (all_months year) (rw same at civil) civil.1.0 (omega arith) (rw same at is),
+    )
 
 -- a date of this year or of a later one
-in_years : (years year n month day : ℕ) (of : ℤ) → IsCivilDate of month day → year + years ≤ 2570 → n < 365 * (years + 1) → day_count of month day ≡ day_count (pos year) 1 1 + n
+in_years : (years year n month day : ℕ) (of : ℤ) → IsCivilDate of month day → year + years ≤ 2570 → n < 365 * (years + 1) →
+    day_count of month day ≡ day_count (pos year) 1 1 + n
     → FoundFrom years year n month day of
 unfolding FoundFrom
 in_years zero year n month day of civil high small is = this_year zero year n month day of civil high (omega (arith, year_days_least year)) is
@@ -93,14 +113,16 @@ in_years (suc years) year n month day of civil high small is =
       | inl less ↦ this_year (suc years) year n month day of civil high less is
       | inr more ↦
           let next = day_count-next_year (pos year) (pos (year + 1)) (omega (arith, signed_arith)) (omega (arith, signed_arith)) in
-          let found = in_years years (year + 1) (n - year_days year) month day of civil (omega arith) (omega (arith, year_days_least year)) (omega (arith, next, is)) in
+          let found = in_years years (year + 1) (n - year_days year) month day of civil (omega arith) (omega (arith, year_days_least year))
+          (omega (arith, next, is)) in
           let step = date_from_next (suc years) year n (omega arith) more in
           let back : suc years - 1 ≡ years = omega arith in
           (found.0, found.1, omega (arith, found.2), omega (arith, found.3), step ∙ ap (λ k. date_from k (year + 1) (n - year_days year)) back ∙ found.4)
     ]
 
 -- a civil date's text by the parts of the definitions
-text_of : (date : CivilDate) (y : ℕ) → date.year ≡ pos y → 1970 ≤ y → y ≤ 2570 → civil_text date ≡ written_date (record { year = y; month = date.month; day = date.day })
+text_of : (date : CivilDate) (y : ℕ) → date.year ≡ pos y → 1970 ≤ y → y ≤ 2570 →
+    civil_text date ≡ written_date (record { year = y; month = date.month; day = date.day })
 text_of date y is low high =
     let month = padded_two date.month (omega (arith, date.month_in)) in
     let day = padded_two date.day (omega (arith, date.day_in, days_in_month_bounds date.year date.month)) in
@@ -113,7 +135,8 @@ text_of date y is low high =
 pub shown_dates_agree : (day : ℕ) (text : List ℕ) → day ≤ latest_deadline → IsTextOf day text → text ≡ shown_date day
 unfolding FoundFrom
 shown_dates_agree day text small (date, is, same) =
-    let count : day_count date.year date.month date.day ≡ day_count (pos 1970) 1 1 + day = omega (arith, signed_arith, is, day_count-epoch, days_from_civil-day_count date.year date.month date.day) in
+    let count : day_count date.year date.month date.day ≡ day_count (pos 1970) 1 1 + day =
+    omega (arith, signed_arith, is, day_count-epoch, days_from_civil-day_count date.year date.month date.day) in
     let found = in_years 600 1970 day date.month date.day date.year (civil date) (omega arith) (omega arith) count in
     sym same ∙ text_of date found.0 found.1 found.2 found.3 ∙ sym (shown_date_is day ∙ ap written_date found.4)
 

@@ -2,9 +2,11 @@
 use Rattle.std.proofs.Common.{◌≡◌, ℕ, ◌+◌, ◌<◌, ◌≤◌, List, [], ◌∷◌, ◌++◌, sym, ap, ◌∙◌, arith, append_assoc}
 
 -- the whole begins with what is made, and a column follows
-pub column : (old new said piece rest whole : List ℕ) → new ≡ old ++ (said ++ 32 ∷ []) → said ≡ piece → whole ≡ old ++ (piece ++ 32 ∷ rest) → whole ≡ new ++ rest
+pub column : (old new said piece rest whole : List ℕ) → new ≡ old ++ (said ++ 32 ∷ []) → said ≡ piece → whole ≡ old ++ (piece ++ 32 ∷ rest) →
+    whole ≡ new ++ rest
 column old new said piece rest whole made same is =
-    is ∙ ap (λ x. old ++ (x ++ 32 ∷ rest)) (sym same) ∙ sym (ap (λ x. x ++ rest) made ∙ append_assoc old (said ++ 32 ∷ []) rest ∙ ap (λ x. old ++ x) (append_assoc said (32 ∷ []) rest))
+    is ∙ ap (λ x. old ++ (x ++ 32 ∷ rest)) (sym same) ∙ sym (ap (λ x. x ++ rest) made ∙ append_assoc old (said ++ 32 ∷ []) rest
+    ∙ ap (λ x. old ++ x) (append_assoc said (32 ∷ []) rest))
 
 -- the last column
 pub last_column : (old new said piece whole : List ℕ) → new ≡ old ++ (said ++ 10 ∷ []) → said ≡ piece → whole ≡ old ++ (piece ++ 10 ∷ []) → new ≡ whole

@@ -5,7 +5,8 @@ use Rattle.permit_model.specs.Register.{Date, year_days, month_days, date_in_mon
 use Rattle.permit_report.specs.Dates.{date_from, shown_date}
 
 -- a day that is of a later year
-pub date_from_next : (years year days : ℕ) → 0 < years → year_days year ≤ days → date_from years year days ≡ date_from (years - 1) (year + 1) (days - year_days year)
+pub date_from_next : (years year days : ℕ) → 0 < years → year_days year ≤ days →
+    date_from years year days ≡ date_from (years - 1) (year + 1) (days - year_days year)
 unfolding date_from
 date_from_next zero year days h k = absurd (omega arith)
 date_from_next (suc n) year days h k =
@@ -39,10 +40,12 @@ or_hyphen_is None = refl
 or_hyphen_is (Some day) = refl
 
 -- the pieces of a date, one after another
-pub date_pieces : (date : Date) (a b c d e f : List ℕ) → a ≡ [] → b ≡ a ++ padded_number 4 date.year → c ≡ b ++ 45 ∷ [] → d ≡ c ++ padded_number 2 date.month → e ≡ d ++ 45 ∷ []
+pub date_pieces : (date : Date) (a b c d e f : List ℕ) → a ≡ [] → b ≡ a ++ padded_number 4 date.year → c ≡ b ++ 45 ∷ [] → d ≡ c ++ padded_number 2 date.month →
+    e ≡ d ++ 45 ∷ []
     → f ≡ e ++ padded_number 2 date.day → f ≡ written_date date
 date_pieces date a b c d e f first year dash month dash2 day =
-    day ∙ ap (λ x. x ++ padded_number 2 date.day) (dash2 ∙ ap (λ x. x ++ 45 ∷ []) (month ∙ ap (λ x. x ++ padded_number 2 date.month) (dash ∙ ap (λ x. x ++ 45 ∷ []) (year ∙ ap (λ x. x ++ padded_number 4 date.year) first))))
+    day ∙ ap (λ x. x ++ padded_number 2 date.day) (dash2 ∙ ap (λ x. x ++ 45 ∷ [])
+    (month ∙ ap (λ x. x ++ padded_number 2 date.month) (dash ∙ ap (λ x. x ++ 45 ∷ []) (year ∙ ap (λ x. x ++ padded_number 4 date.year) first))))
 
 pub year_days_least : (year : ℕ) → 365 ≤ year_days year
 year_days_least year = grind arith

@@ -23,7 +23,8 @@ decimal_four n low high =
     let fourth : n % 10 ≡ n % 100 % 10 = omega arith in
     let front : n / 10 / 10 ≡ n / 100 = omega arith in
     decimal_step n (omega arith) (omega arith)
-    ∙ ap (λ t. t ++ (48 + n % 10) ∷ []) (decimal_step (n / 10) (omega arith) (omega arith) ∙ ap (λ t. t ++ (48 + n / 10 % 10) ∷ []) (decimal_two (n / 10 / 10) (omega arith) (omega arith) ∙ ap pad2 front))
+    ∙ ap (λ t. t ++ (48 + n % 10) ∷ []) (decimal_step (n / 10) (omega arith) (omega arith)
+    ∙ ap (λ t. t ++ (48 + n / 10 % 10) ∷ []) (decimal_two (n / 10 / 10) (omega arith) (omega arith) ∙ ap pad2 front))
     ∙ ap (λ t. pad2 (n / 100) ++ t) (two_letters (n / 10 % 10) (n % 10) (n % 100 / 10) (n % 100 % 10) third fourth)
 
 pub padded_two : (n : ℕ) → n < 100 → padded_number 2 n ≡ pad2 n

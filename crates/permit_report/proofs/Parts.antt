@@ -29,22 +29,26 @@ later_more at n = let e : at.lines + 1 + n ≡ at.lines + suc n = omega arith in
 pub parts-append : (at : Progress) (xs ys : List FileView) → parts at (xs ++ ys) ≡ parts at xs ++ parts (later at (length xs)) ys
 parts-append at [] ys = ap (λ (p : Progress). parts p ys) (later_none at)
 parts-append at (x ∷ xs) ys =
-    ap (λ t. part at x ++ t) (parts-append (one_line_more at) xs ys ∙ ap (λ (p : Progress). parts (one_line_more at) xs ++ parts p ys) (later_more at (length xs)))
+    ap (λ t. part at x ++ t) (parts-append (one_line_more at) xs ys ∙ ap (λ (p : Progress). parts (one_line_more at) xs ++ parts p ys)
+    (later_more at (length xs)))
     ∙ sym (append_assoc (part at x) (parts (one_line_more at) xs) (parts (later at (suc (length xs))) ys))
 
 -- the lines of some files, before what follows them
-parts_and : (at : Progress) (files : List FileView) (rest : List ℕ) → parts at files ++ (opening at.kind (at.lines + length files) ++ rest) ≡ opening at.kind at.lines ++ (file_lines at.kind at.day files ++ rest)
+parts_and : (at : Progress) (files : List FileView) (rest : List ℕ) → parts at files
+    ++ (opening at.kind (at.lines + length files) ++ rest) ≡ opening at.kind at.lines ++ (file_lines at.kind at.day files ++ rest)
 parts_and at [] rest = let e : at.lines + 0 ≡ at.lines = omega arith in rw e refl
 parts_and at (f ∷ files) rest =
     let e : at.lines + suc (length files) ≡ at.lines + 1 + length files = omega arith in
     rw e (
     append_assoc (part at f) (parts (one_line_more at) files) (opening at.kind (at.lines + 1 + length files) ++ rest)
-    ∙ ap (λ t. part at f ++ t) (parts_and (one_line_more at) files rest ∙ ap (λ t. t ++ (file_lines at.kind at.day files ++ rest)) (opening_later at.kind at.lines))
+    ∙ ap (λ t. part at f ++ t) (parts_and (one_line_more at) files rest
+    ∙ ap (λ t. t ++ (file_lines at.kind at.day files ++ rest)) (opening_later at.kind at.lines))
     ∙ append_assoc (opening at.kind at.lines) (file_line at.kind at.day f) (file_lines at.kind at.day files ++ rest)
     ∙ ap (λ t. opening at.kind at.lines ++ t) (sym (append_assoc (file_line at.kind at.day f) (file_lines at.kind at.day files) rest)))
 
 parts_from_none : (kind : RegisterKind) (day n : ℕ) (files : List FileView) → n ≡ length files
-    → parts (record { kind = kind; day = day; lines = 0 }) files ++ (opening kind n ++ foot n) ≡ header kind ++ (file_lines kind day files ++ foot (length files))
+    → parts (record { kind = kind; day = day; lines = 0 }) files ++ (opening kind n ++ foot n) ≡ header kind
+    ++ (file_lines kind day files ++ foot (length files))
 parts_from_none kind day n files e =
     let z : n ≡ 0 + length files = omega arith in
     ap (λ m. parts (record { kind = kind; day = day; lines = 0 }) files ++ (opening kind m ++ foot n)) z

@@ -17,6 +17,7 @@ IsSameOutput old new = new.writer.ghost_name ≡ old.writer.ghost_name
 -- a file taken: known bytes grew by its part, or where it is answered false by a beginning of it, which isn't the whole
 abbrev pub TakesFile : {W : Type 0} → (W → Option (List ℕ)) → RegisterWriter W → FileView → RegisterWriter W → Bool → Type 0
 TakesFile contents old file new true =
-    IsSameOutput old new × (progress new ≡ one_line_more (progress old)) × Appends (contents old.writer.now) (contents new.writer.now) (part (progress old) file)
+    IsSameOutput old new × (progress new ≡ one_line_more (progress old))
+    × Appends (contents old.writer.now) (contents new.writer.now) (part (progress old) file)
 TakesFile contents old file new false =
     IsSameOutput old new × (progress new ≡ progress old) × WroteFront (contents old.writer.now) (contents new.writer.now) (part (progress old) file)

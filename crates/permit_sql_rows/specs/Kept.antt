@@ -1,5 +1,6 @@
 -- The tables that a database keeps.
-use Rattle.std.specs.Prelude.{◌≡◌, ◌≢◌, Some, ◌≤◌, ◌<◌, ℕ, ℤ, List, [], ◌∷◌, map, filter, find, drop, length, ◌==◌, bytes_eq, option_map, unwrap_or, IsTrue, IsPermutation}
+use Rattle.std.specs.Prelude.{◌≡◌, ◌≢◌, Some, ◌≤◌, ◌<◌, ℕ, ℤ, List, [], ◌∷◌, map, filter, find, drop, length, ◌==◌, bytes_eq, option_map, unwrap_or, IsTrue}
+use Rattle.std.specs.Prelude.{IsPermutation}
 use Rattle.std.specs.List.{AllByRecursion}
 use Rattle.sqlite_trees.specs.Tree.{Trees, IsAscending, has_rowid}
 use Rattle.sqlite_trees.specs.declared.store.Store.{Ghosts}

@@ -53,9 +53,12 @@ shown_parcel p = int p.id ∷ Text p.lot ∷ Text p.address ∷ int p.owner ∷ 
 -- of a file
 abbrev pub shown_file : FileRow → Row
 shown_file f =
-    int f.id ∷ int f.state.parcel ∷ int f.state.applicant ∷ or_zero f.state.contractor ∷ or_zero f.state.reviewer ∷ or_zero f.state.inspector ∷ int (kind_code f.state.kind)
-    ∷ int f.valuation ∷ Text f.description ∷ int f.state.filed ∷ int (stage_code f.state.stage) ∷ or_minus_one f.state.deadline ∷ int f.state.done ∷ step_value f.state.request
-    ∷ or_minus_one f.state.requested ∷ or_zero f.state.ask ∷ flag f.state.stopped ∷ int f.state.notices ∷ int f.state.papers ∷ or_minus_one f.state.temporary ∷ []
+    int f.id ∷ int f.state.parcel ∷ int f.state.applicant ∷ or_zero f.state.contractor ∷ or_zero f.state.reviewer ∷ or_zero f.state.inspector
+    ∷ int (kind_code f.state.kind)
+    ∷ int f.valuation ∷ Text f.description ∷ int f.state.filed ∷ int (stage_code f.state.stage) ∷ or_minus_one f.state.deadline ∷ int f.state.done
+    ∷ step_value f.state.request
+    ∷ or_minus_one f.state.requested ∷ or_zero f.state.ask ∷ flag f.state.stopped ∷ int f.state.notices ∷ int f.state.papers ∷ or_minus_one f.state.temporary
+    ∷ []
 
 -- of a file as a selection finds it
 abbrev pub shown_found : Found → Row
@@ -80,7 +83,8 @@ shown_desk d = int 1 ∷ int version ∷ int d.last ∷ int d.parties ∷ int d.
 -- what sets a file's row: its number, and what may change in it
 abbrev pub row_params : ℕ → FileState → Row
 row_params id s =
-    int id ∷ or_zero s.contractor ∷ or_zero s.reviewer ∷ or_zero s.inspector ∷ int (kind_code s.kind) ∷ int s.filed ∷ int (stage_code s.stage) ∷ or_minus_one s.deadline ∷ int s.done ∷ step_value s.request
+    int id ∷ or_zero s.contractor ∷ or_zero s.reviewer ∷ or_zero s.inspector ∷ int (kind_code s.kind) ∷ int s.filed ∷ int (stage_code s.stage)
+    ∷ or_minus_one s.deadline ∷ int s.done ∷ step_value s.request
     ∷ or_minus_one s.requested ∷ or_zero s.ask ∷ flag s.stopped ∷ int s.notices ∷ int s.papers ∷ or_minus_one s.temporary ∷ []
 
 -- ---- the rows in the trees: a number that is the rowid comes before the columns, and Null stands in its column
@@ -100,6 +104,9 @@ parcel_row p = int p.id ∷ Null ∷ Text p.lot ∷ Text p.address ∷ int p.own
 -- the row of a file
 abbrev pub file_row : FileRow → Row
 file_row f =
-    int f.id ∷ Null ∷ int f.state.parcel ∷ int f.state.applicant ∷ or_zero f.state.contractor ∷ or_zero f.state.reviewer ∷ or_zero f.state.inspector ∷ int (kind_code f.state.kind)
-    ∷ int f.valuation ∷ Text f.description ∷ int f.state.filed ∷ int (stage_code f.state.stage) ∷ or_minus_one f.state.deadline ∷ int f.state.done ∷ step_value f.state.request
-    ∷ or_minus_one f.state.requested ∷ or_zero f.state.ask ∷ flag f.state.stopped ∷ int f.state.notices ∷ int f.state.papers ∷ or_minus_one f.state.temporary ∷ []
+    int f.id ∷ Null ∷ int f.state.parcel ∷ int f.state.applicant ∷ or_zero f.state.contractor ∷ or_zero f.state.reviewer ∷ or_zero f.state.inspector
+    ∷ int (kind_code f.state.kind)
+    ∷ int f.valuation ∷ Text f.description ∷ int f.state.filed ∷ int (stage_code f.state.stage) ∷ or_minus_one f.state.deadline ∷ int f.state.done
+    ∷ step_value f.state.request
+    ∷ or_minus_one f.state.requested ∷ or_zero f.state.ask ∷ flag f.state.stopped ∷ int f.state.notices ∷ int f.state.papers ∷ or_minus_one f.state.temporary
+    ∷ []

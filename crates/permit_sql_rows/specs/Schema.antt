@@ -58,27 +58,34 @@ paired tree name columns references = record {
 }
 
 abbrev pub desk_table : Table
-desk_table = keyed 0 (codes "desk") (int_column (codes "version") ∷ int_column (codes "last") ∷ int_column (codes "parties") ∷ int_column (codes "parcels") ∷ int_column (codes "files") ∷ []) [] []
+desk_table = keyed 0 (codes "desk") (int_column (codes "version") ∷ int_column (codes "last") ∷ int_column (codes "parties") ∷ int_column (codes "parcels")
+    ∷ int_column (codes "files") ∷ []) [] []
 
 abbrev pub party_table : Table
 party_table = keyed 1 (codes "party") (text_column (codes "name") ∷ int_column (codes "role") ∷ text_column (codes "digest") ∷ []) ((4 ∷ []) ∷ []) []
 
 abbrev pub parcel_table : Table
-parcel_table = keyed 3 (codes "parcel") (text_column (codes "lot") ∷ text_column (codes "address") ∷ int_column (codes "owner") ∷ []) ((2 ∷ []) ∷ []) (refers 4 (codes "party") ∷ [])
+parcel_table = keyed 3 (codes "parcel") (text_column (codes "lot") ∷ text_column (codes "address") ∷ int_column (codes "owner") ∷ []) ((2 ∷ []) ∷ [])
+    (refers 4 (codes "party") ∷ [])
 
 abbrev pub interest_table : Table
-interest_table = paired 5 (codes "interest") (int_column (codes "parcel") ∷ int_column (codes "party") ∷ []) (refers 1 (codes "parcel") ∷ refers 2 (codes "party") ∷ [])
+interest_table = paired 5 (codes "interest") (int_column (codes "parcel") ∷ int_column (codes "party") ∷ [])
+    (refers 1 (codes "parcel") ∷ refers 2 (codes "party") ∷ [])
 
 abbrev pub file_table : Table
 file_table = keyed 7 (codes "file")
-    (int_column (codes "parcel") ∷ int_column (codes "applicant") ∷ int_column (codes "contractor") ∷ int_column (codes "reviewer") ∷ int_column (codes "inspector") ∷ int_column (codes "kind")
-    ∷ int_column (codes "valuation") ∷ text_column (codes "description") ∷ int_column (codes "filed") ∷ int_column (codes "stage") ∷ int_column (codes "deadline") ∷ int_column (codes "done")
-    ∷ int_column (codes "request") ∷ int_column (codes "requested") ∷ int_column (codes "ask") ∷ int_column (codes "stopped") ∷ int_column (codes "notices") ∷ int_column (codes "papers") ∷ int_column (codes "temporary") ∷ [])
+    (int_column (codes "parcel") ∷ int_column (codes "applicant") ∷ int_column (codes "contractor") ∷ int_column (codes "reviewer")
+    ∷ int_column (codes "inspector") ∷ int_column (codes "kind")
+    ∷ int_column (codes "valuation") ∷ text_column (codes "description") ∷ int_column (codes "filed") ∷ int_column (codes "stage")
+    ∷ int_column (codes "deadline") ∷ int_column (codes "done")
+    ∷ int_column (codes "request") ∷ int_column (codes "requested") ∷ int_column (codes "ask") ∷ int_column (codes "stopped") ∷ int_column (codes "notices")
+    ∷ int_column (codes "papers") ∷ int_column (codes "temporary") ∷ [])
     [] (refers 2 (codes "parcel") ∷ refers 3 (codes "party") ∷ [])
 
 abbrev pub paper_table : Table
 paper_table = paired 8 (codes "paper")
-    (int_column (codes "file") ∷ int_column (codes "number") ∷ int_column (codes "day") ∷ int_column (codes "author") ∷ int_column (codes "sort") ∷ int_column (codes "days") ∷ text_column (codes "text") ∷ text_column (codes "terms") ∷ int_column (codes "open") ∷ [])
+    (int_column (codes "file") ∷ int_column (codes "number") ∷ int_column (codes "day") ∷ int_column (codes "author") ∷ int_column (codes "sort")
+    ∷ int_column (codes "days") ∷ text_column (codes "text") ∷ text_column (codes "terms") ∷ int_column (codes "open") ∷ [])
     (refers 1 (codes "file") ∷ [])
 
 abbrev pub automatic : List ℕ → ℕ → ℕ → List ℕ → Index
@@ -116,7 +123,8 @@ abbrev pub all_tables : List Table
 all_tables = desk_table ∷ party_table ∷ parcel_table ∷ interest_table ∷ file_table ∷ paper_table ∷ []
 
 abbrev pub key_indexes : List Index
-key_indexes = automatic (codes "sqlite_autoindex_party_1") 2 1 (4 ∷ []) ∷ automatic (codes "sqlite_autoindex_parcel_1") 4 3 (2 ∷ []) ∷ automatic (codes "sqlite_autoindex_interest_1") 6 5 (1 ∷ 2 ∷ [])
+key_indexes = automatic (codes "sqlite_autoindex_party_1") 2 1 (4 ∷ []) ∷ automatic (codes "sqlite_autoindex_parcel_1") 4 3 (2 ∷ [])
+    ∷ automatic (codes "sqlite_autoindex_interest_1") 6 5 (1 ∷ 2 ∷ [])
     ∷ automatic (codes "sqlite_autoindex_paper_1") 9 8 (1 ∷ 2 ∷ []) ∷ []
 
 -- the indexes that make the selections quick

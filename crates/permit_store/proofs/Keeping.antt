@@ -14,14 +14,16 @@ use Rattle.permit_store.specs.declared.change.RowEffect.{RowEffect}
 use Rattle.permit_store.proofs.Kept.{papers_pushed, papers_filtered}
 
 -- a party more
-pub keeps_party : (last day : ℕ) (parties later : List Party) (parcels : List Parcel) (interests : List Interest) (files : List KeptFile) (t : Tables) (name : Bor (List ℕ)) (role : Role) (digest : Bor (List ℕ)) →
+pub keeps_party : (last day : ℕ) (parties later : List Party) (parcels : List Parcel) (interests : List Interest) (files : List KeptFile) (t : Tables)
+    (name : Bor (List ℕ)) (role : Role) (digest : Bor (List ℕ)) →
     later ≡ parties ++ (record { id = length parties + 1; name = name.now; role = role; digest = digest.now }) ∷ [] →
     Keeps last parties parcels interests files t → Keeps day later parcels interests files (changed t (NewParty name role digest) day)
 keeps_party last day parties later parcels interests files t name role digest e k =
     let new : ℕ → Party = λ n. record { id = n + 1; name = name.now; role = role; digest = digest.now } in
     let more : length parties + 1 ≡ length later = sym (length-append parties (new (length parties) ∷ [])) ∙ ap length (sym e) in
     record {
-      desk = ap (λ (d : Desk). record d { last = day; parties = d.parties + 1 }) k.desk ∙ ap (λ n. record { last = day; parties = n; parcels = length parcels; files = length files }) more;
+      desk = ap (λ (d : Desk). record d { last = day; parties = d.parties + 1 }) k.desk
+          ∙ ap (λ n. record { last = day; parties = n; parcels = length parcels; files = length files }) more;
       parties = ap (λ ps. ps ++ new t.desk.parties ∷ []) k.parties ∙ ap (λ (d : Desk). parties ++ new d.parties ∷ []) k.desk ∙ sym e;
       parcels = k.parcels;
       interests = k.interests;
@@ -30,14 +32,16 @@ keeps_party last day parties later parcels interests files t name role digest e 
     }
 
 -- a parcel more
-pub keeps_parcel : (last day : ℕ) (parties : List Party) (parcels later : List Parcel) (interests : List Interest) (files : List KeptFile) (t : Tables) (lot address : Bor (List ℕ)) (owner : ℕ) →
+pub keeps_parcel : (last day : ℕ) (parties : List Party) (parcels later : List Parcel) (interests : List Interest) (files : List KeptFile) (t : Tables)
+    (lot address : Bor (List ℕ)) (owner : ℕ) →
     later ≡ parcels ++ (record { id = length parcels + 1; lot = lot.now; address = address.now; owner = owner }) ∷ [] →
     Keeps last parties parcels interests files t → Keeps day parties later interests files (changed t (NewParcel lot address owner) day)
 keeps_parcel last day parties parcels later interests files t lot address owner e k =
     let new : ℕ → Parcel = λ n. record { id = n + 1; lot = lot.now; address = address.now; owner = owner } in
     let more : length parcels + 1 ≡ length later = sym (length-append parcels (new (length parcels) ∷ [])) ∙ ap length (sym e) in
     record {
-      desk = ap (λ (d : Desk). record d { last = day; parcels = d.parcels + 1 }) k.desk ∙ ap (λ n. record { last = day; parties = length parties; parcels = n; files = length files }) more;
+      desk = ap (λ (d : Desk). record d { last = day; parcels = d.parcels + 1 }) k.desk
+          ∙ ap (λ n. record { last = day; parties = length parties; parcels = n; files = length files }) more;
       parties = k.parties;
       parcels = ap (λ ps. ps ++ new t.desk.parcels ∷ []) k.parcels ∙ ap (λ (d : Desk). parcels ++ new d.parcels ∷ []) k.desk ∙ sym e;
       interests = k.interests;
@@ -46,13 +50,19 @@ keeps_parcel last day parties parcels later interests files t lot address owner 
     }
 
 -- another owner of a parcel
-pub keeps_owner : (last day : ℕ) (parties : List Party) (parcels later : List Parcel) (interests : List Interest) (files : List KeptFile) (t : Tables) (parcel owner : ℕ) →
+pub keeps_owner : (last day : ℕ) (parties : List Party) (parcels later : List Parcel) (interests : List Interest) (files : List KeptFile) (t : Tables)
+    (parcel owner : ℕ) →
     later ≡ map (given_to parcel owner) parcels →
     Keeps last parties parcels interests files t → Keeps day parties later interests files (changed t (NewOwner parcel owner) day)
 keeps_owner last day parties parcels later interests files t parcel owner e k =
     let same : length parcels ≡ length later = sym (length-map parcels (given_to parcel owner)) ∙ ap length (sym e) in
     record {
-      desk = ap (λ (d : Desk). record d { last = day }) k.desk ∙ ap (λ n. record { last = day; parties = length parties; parcels = n; files = length files }) same;
+      desk = ap (λ (d : Desk). record d { last = day }) k.desk ∙ ap (λ n. record {
+        last = day;
+        parties = length parties;
+        parcels = n;
+        files = length files;
+      }) same;
       parties = k.parties;
       parcels = ap (map (given_to parcel owner)) k.parcels ∙ sym e;
       interests = k.interests;
@@ -61,7 +71,8 @@ keeps_owner last day parties parcels later interests files t parcel owner e k =
     }
 
 -- an interest more
-pub keeps_interest : (last day : ℕ) (parties : List Party) (parcels : List Parcel) (interests later : List Interest) (files : List KeptFile) (t : Tables) (parcel party : ℕ) →
+pub keeps_interest : (last day : ℕ) (parties : List Party) (parcels : List Parcel) (interests later : List Interest) (files : List KeptFile) (t : Tables)
+    (parcel party : ℕ) →
     later ≡ interests ++ (record { parcel = parcel; party = party }) ∷ [] →
     Keeps last parties parcels interests files t → Keeps day parties parcels later files (changed t (NewInterest parcel party) day)
 keeps_interest last day parties parcels interests later files t parcel party e k = record {
@@ -74,30 +85,36 @@ keeps_interest last day parties parcels interests later files t parcel party e k
 }
 
 -- a file more, with no papers
-pub keeps_file : (last day : ℕ) (parties : List Party) (parcels : List Parcel) (interests : List Interest) (files later : List KeptFile) (t : Tables) (state : State) (valuation : ℕ) (description : Bor (List ℕ)) →
-    later ≡ files ++ (record { row = record { id = length files + 1; state = state; valuation = valuation; description = description.now }; papers = [] }) ∷ [] →
+pub keeps_file : (last day : ℕ) (parties : List Party) (parcels : List Parcel) (interests : List Interest) (files later : List KeptFile) (t : Tables)
+    (state : State) (valuation : ℕ) (description : Bor (List ℕ)) →
+    later ≡ files ++ (record { row = record { id = length files + 1; state = state; valuation = valuation; description = description.now }; papers = [] })
+    ∷ [] →
     Keeps last parties parcels interests files t → Keeps day parties parcels interests later (changed t (NewFile state valuation description) day)
 keeps_file last day parties parcels interests files later t state valuation description e k =
     let new : ℕ → FileRow = λ n. record { id = n + 1; state = state; valuation = valuation; description = description.now } in
     let kept : KeptFile = record { row = new (length files); papers = [] } in
     let more : length files + 1 ≡ length later = sym (length-append files (kept ∷ [])) ∙ ap length (sym e) in
     record {
-      desk = ap (λ (d : Desk). record d { last = day; files = d.files + 1 }) k.desk ∙ ap (λ n. record { last = day; parties = length parties; parcels = length parcels; files = n }) more;
+      desk = ap (λ (d : Desk). record d { last = day; files = d.files + 1 }) k.desk
+          ∙ ap (λ n. record { last = day; parties = length parties; parcels = length parcels; files = n }) more;
       parties = k.parties;
       parcels = k.parcels;
       interests = k.interests;
-      files = ap (λ fs. fs ++ new t.desk.files ∷ []) k.files ∙ ap (λ (d : Desk). map (λ k. k.row) files ++ new d.files ∷ []) k.desk ∙ sym (map-append (λ (k : KeptFile). k.row) files (kept ∷ [])) ∙ ap (map (λ k. k.row)) (sym e);
+      files = ap (λ fs. fs ++ new t.desk.files ∷ []) k.files ∙ ap (λ (d : Desk). map (λ k. k.row) files ++ new d.files ∷ []) k.desk
+          ∙ sym (map-append (λ (k : KeptFile). k.row) files (kept ∷ [])) ∙ ap (map (λ k. k.row)) (sym e);
       papers = λ f. k.papers f ∙ sym (papers_pushed f (new (length files)) files) ∙ ap (papers_at f) (sym e);
     }
 
 -- a file's new row
-pub keeps_row : (last day : ℕ) (parties : List Party) (parcels : List Parcel) (interests : List Interest) (files later : List KeptFile) (t : Tables) (file : ℕ) (state : State) (effect : RowEffect) →
+pub keeps_row : (last day : ℕ) (parties : List Party) (parcels : List Parcel) (interests : List Interest) (files later : List KeptFile) (t : Tables) (file : ℕ)
+    (state : State) (effect : RowEffect) →
     map (λ k. k.row) later ≡ map (with_state file state) (map (λ k. k.row) files) →
     ((f : ℕ) → papers_at f later ≡ (if file == f then papers_after file state.papers day effect (papers_at file files) else papers_at f files)) →
     length later ≡ length files →
     Keeps last parties parcels interests files t → Keeps day parties parcels interests later (changed t (NewRow file state effect) day)
 keeps_row last day parties parcels interests files later t file state effect rows papers count k = record {
-  desk = ap (λ (d : Desk). record d { last = day }) k.desk ∙ ap (λ n. record { last = day; parties = length parties; parcels = length parcels; files = n }) (sym count);
+  desk = ap (λ (d : Desk). record d { last = day }) k.desk ∙ ap (λ n. record { last = day; parties = length parties; parcels = length parcels; files = n })
+      (sym count);
   parties = k.parties;
   parcels = k.parcels;
   interests = k.interests;

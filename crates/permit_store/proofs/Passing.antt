@@ -8,6 +8,7 @@ pub passes_both : {A : Type 0} (p q : A → Bool) (xs : List A) → list_any (λ
 passes_both p q [] = refl
 passes_both p q (x ∷ xs) = either (p x) (passes_both p q xs)
   where
-    either : (b : Bool) → list_any (λ x. p x && q x) xs ≡ list_any q (filter p xs) → ((b && q x) || list_any (λ x. p x && q x) xs) ≡ list_any q (cond b (x ∷ filter p xs) (filter p xs))
+    either : (b : Bool) → list_any (λ x. p x && q x) xs ≡ list_any q (filter p xs) →
+        ((b && q x) || list_any (λ x. p x && q x) xs) ≡ list_any q (cond b (x ∷ filter p xs) (filter p xs))
     either true ih = ap (λ c. q x || c) ih
     either false ih = ih

@@ -1,7 +1,8 @@
 -- What passes a test of a list in another order.
 use Rattle.std.proofs.Common.{ℕ, zero, suc, ◌<◌, Bool, true, false, cond, List, [], ◌∷◌, length, filter, get_or, set, swap, arith}
 use Rattle.std.specs.Prelude.{IsPermutation}
-use Rattle.std.proofs.lemmas.List.Sorted.{IsPermutation-refl, IsPermutation-keeps, IsPermutation-trans, IsPermutation-cons, IsPermutation-append_left, IsPermutation-append_comm}
+use Rattle.std.proofs.lemmas.List.Sorted.{IsPermutation-refl, IsPermutation-keeps, IsPermutation-trans, IsPermutation-cons, IsPermutation-append_left}
+use Rattle.std.proofs.lemmas.List.Sorted.{IsPermutation-append_comm}
 
 module _ {A : Type 0} (test : A → Bool) where
   -- the same passes of the one and of the other
@@ -50,4 +51,5 @@ module _ {A : Type 0} (test : A → Bool) where
 
   -- the same pass, in another order
   pub pass_alike : (xs ys : List A) → IsPermutation xs ys → PassAlike xs ys
-  pass_alike xs = IsPermutation-keeps xs (PassAlike xs) (IsPermutation-refl (filter test xs)) (λ ys i j h k alike. chain xs ys (swap ys i j) alike (swapped ys i j h k))
+  pass_alike xs = IsPermutation-keeps xs (PassAlike xs) (IsPermutation-refl (filter test xs))
+      (λ ys i j h k alike. chain xs ys (swap ys i j) alike (swapped ys i j h k))

@@ -1,5 +1,6 @@
 -- What a change makes of the tables, and which change fits them.
-use Rattle.std.specs.Prelude.{◌≤◌, ℕ, ◌+◌, Bool, false, ◌==◌, ◌&&◌, if◌then◌else◌, List, [], ◌∷◌, ◌++◌, map, find, Option, None, Some, is_some, is_none, unwrap_or, IsTrue, bytes_eq, nat_lt, not}
+use Rattle.std.specs.Prelude.{◌≤◌, ℕ, ◌+◌, Bool, false, ◌==◌, ◌&&◌, if◌then◌else◌, List, [], ◌∷◌, ◌++◌, map, find, Option, None, Some, is_some, is_none}
+use Rattle.std.specs.Prelude.{unwrap_or, IsTrue, bytes_eq, nat_lt, not}
 use Rattle.std.specs.Borrow.{Bor}
 use Rattle.std.specs.Option.{option_copied}
 use Rattle.std.specs.List.{list_any}
@@ -104,7 +105,8 @@ suits t (NewParcel lot address owner) =
 suits t (NewOwner parcel owner) =
     is_some (find (λ p. p.id == parcel) t.parcels) && is_some (find (λ p. p.id == owner) t.parties)
 suits t (NewInterest parcel party) =
-    is_some (find (λ p. p.id == parcel) t.parcels) && is_some (find (λ p. p.id == party) t.parties) && not (list_any (λ i. (i.parcel == parcel) && (i.party == party)) t.interests)
+    is_some (find (λ p. p.id == parcel) t.parcels) && is_some (find (λ p. p.id == party) t.parties)
+    && not (list_any (λ i. (i.parcel == parcel) && (i.party == party)) t.interests)
 suits t (NewFile state valuation description) =
     nat_lt t.desk.files most_records && is_some (find (λ p. p.id == state.parcel) t.parcels) && is_some (find (λ p. p.id == state.applicant) t.parties)
 suits t (NewRow file state effect) = suits_row t (find (λ f. f.id == file) t.files) state effect

@@ -29,7 +29,8 @@ selected_after count (Err e) n = n
 -- The rows were taken in order. Each answer was true, but for the last one where the taker asked to stop.
 abbrev pub Took : {T E : Type 0} → (T → Found → T → Bool → Type 0) → List Found → T → T → Result Bool E → Type 0
 Took took given old new (Ok true) = TookAll took given old new
-Took {T} took given old new (Ok false) = (before : List Found) × (last : Found) × (given ≡ before ++ last ∷ []) × (mid : T) × TookAll took before old mid × took mid last new false
+Took {T} took given old new (Ok false) = (before : List Found) × (last : Found) × (given ≡ before ++ last ∷ []) × (mid : T) × TookAll took before old mid
+    × took mid last new false
 Took took given old new (Err e) = TookAll took given old new
 
 -- what is left of the rows found: nothing, where the taker took them all
@@ -57,6 +58,7 @@ abbrev pub AreAmong : {E : Type 0} → Result Bool E → List Found → List Fou
 AreAmong result given found = (rest : List Found) × IsLeft result rest × IsPermutation (given ++ rest) found
 
 -- These rows were handed to a taker by a call that reads, and each counts as handed out.
-pub record Hands {T E : Type 0} (took : T → Found → T → Bool → Type 0) (given : List Found) (old new : StoreView) (before after : T) (result : Result Bool E) : Type 0 where
+pub record Hands {T E : Type 0} (took : T → Found → T → Bool → Type 0) (given : List Found) (old new : StoreView) (before after : T)
+    (result : Result Bool E) : Type 0 where
   pub taken : Took took given before after result
   pub read : Reads ⊤ (more_handed (length given) old.handed) old new result

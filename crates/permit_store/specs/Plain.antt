@@ -36,7 +36,8 @@ renewed file state day effect kept = record {
 }
 
 -- the tables are those of the vectors, and the papers of each file are those kept with it
-pub record Keeps (last : ℕ) (kept_parties : List Party) (kept_parcels : List Parcel) (kept_interests : List Interest) (kept_files : List KeptFile) (t : Tables) : Type 0 where
+pub record Keeps (last : ℕ) (kept_parties : List Party) (kept_parcels : List Parcel) (kept_interests : List Interest) (kept_files : List KeptFile)
+    (t : Tables) : Type 0 where
   pub desk : t.desk ≡ record { last = last; parties = length kept_parties; parcels = length kept_parcels; files = length kept_files }
   pub parties : t.parties ≡ kept_parties
   pub parcels : t.parcels ≡ kept_parcels
@@ -59,7 +60,8 @@ abbrev pub rows_found : Selection → List KeptFile → List Found
 rows_found s files = filter (is_found s.route s.caller s.day) (map (λ k. row_seen s k.row) files)
 
 -- A beginning of the rows found was handed to the taker, or all of them, and each was counted.
-pub record HandsOut {T E : Type 0} (took : T → Found → T → Bool → Type 0) (found : List Found) (old new : ℕ) (before after : T) (result : Result Bool E) : Type 0 where
+pub record HandsOut {T E : Type 0} (took : T → Found → T → Bool → Type 0) (found : List Found) (old new : ℕ) (before after : T)
+    (result : Result Bool E) : Type 0 where
   pub given : List Found
   pub rest : List Found
   pub whole : given ++ rest ≡ found

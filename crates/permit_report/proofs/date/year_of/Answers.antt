@@ -13,7 +13,8 @@ loop-year-preserved c =
     let back : 2570 - c.loop-year.year - 1 ≡ 2570 - (c.loop-year.year + 1) = omega arith in
     record {
       less = omega (arith, is, year_days_least c.loop-year.year);
-      date = c.loop-year.invariant.date ∙ next ∙ ap (λ n. date_from n later (c.loop-year.days - year_days c.loop-year.year)) back ∙ ap (λ n. date_from (2570 - later) later (c.loop-year.days - n)) (sym is);
+      date = c.loop-year.invariant.date ∙ next ∙ ap (λ n. date_from n later (c.loop-year.days - year_days c.loop-year.year)) back
+          ∙ ap (λ n. date_from (2570 - later) later (c.loop-year.days - n)) (sym is);
     }
 
 pub returns-then-days-length-clause-date : goal.returns-then-days-length-clause-date

@@ -20,7 +20,8 @@ pub returns : goal.returns
 returns c = λ today.
     let view = ap the_view c.file-inside.view_is ∙ c.file.view_is in
     let id = c.as_str.ensures.value ∙ c.number.ensures ∙ ap decimal (c.from.ensures ∙ c.get.ensures.same ∙ ap (λ (v : FileView). v.row.id) view) in
-    let parcel = c.as_str-2.ensures.value ∙ c.number-2.ensures ∙ ap decimal (c.from-2.ensures ∙ c.get-2.ensures.same ∙ c.parcel.ensures ∙ ap (λ (v : FileView). v.row.state.parcel) view) in
+    let parcel = c.as_str-2.ensures.value ∙ c.number-2.ensures ∙ ap decimal
+    (c.from-2.ensures ∙ c.get-2.ensures.same ∙ c.parcel.ensures ∙ ap (λ (v : FileView). v.row.state.parcel) view) in
     let kind = c.word.ensures ∙ ap kind_word c.kind.ensures ∙ ap (λ (v : FileView). kind_word v.row.state.kind) view in
     let stage = c.word-2.ensures ∙ ap (λ (v : FileView). stage_word v.stage) view in
     let timing = c.word-3.ensures ∙ ap (λ (v : FileView). timing_word v.timing) view in

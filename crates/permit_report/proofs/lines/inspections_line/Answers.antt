@@ -19,7 +19,8 @@ returns c = λ today.
     let date = c.as_str-2.ensures.value ∙ c.date_or_hyphen.ensures ∙ or_hyphen_is c.day_number.result ∙ ap (or_hyphen date_text) day in
     let party = c.inspector.ensures ∙ ap (λ (v : FileView). v.row.state.inspector) view in
     let inspector = c.as_str-3.ensures.value ∙ c.party_or_hyphen.ensures ∙ ap (or_hyphen decimal) party in
-    let notices = c.as_str-4.ensures.value ∙ c.number-2.ensures ∙ ap decimal (c.from-2.ensures ∙ c.notices.ensures ∙ ap (λ (v : FileView). v.row.state.notices) view) in
+    let notices = c.as_str-4.ensures.value ∙ c.number-2.ensures ∙ ap decimal
+    (c.from-2.ensures ∙ c.notices.ensures ∙ ap (λ (v : FileView). v.row.state.notices) view) in
     let start = first_column c.new-line.result (file_line Inspections today c.args.file.now) c.new-line.ensures in
     let one = column _ _ _ _ _ _ c.right.ensures.text (ap (pad_left 5) id) start in
     let two = column _ _ _ _ _ _ c.left.ensures.text (ap (pad_right 7) next) one in

@@ -9,15 +9,24 @@ use Rattle.permit_report.proofs.writer.register.Goals as goal
 
 pub loop-file-preserved : goal.loop-file-preserved
 loop-file-preserved g c =
-    let next = took_more (TakesFile g.W.Write.contents) (take c.loop-file.file-index c.args.files.now) c.new-writer.result c.loop-file.writer c.take.new.self c.file-item.result c.loop-file.invariant (rw c.if-not-take.false at c.take.ensures) in
+    let next = took_more (TakesFile g.W.Write.contents)
+    (take c.loop-file.file-index c.args.files.now) c.new-writer.result c.loop-file.writer c.take.new.self c.file-item.result c.loop-file.invariant
+    (rw c.if-not-take.false at c.take.ensures) in
     let P : List FileView → Type 0 = λ fs. TookAll (TakesFile g.W.Write.contents) fs c.new-writer.result c.take.new.self in
     subst P (sym (take_next c.args.files.now c.loop-file.file-index c.file-item.result c.loop-file-test.true c.file-item.is)) next
 
 pub returns-then-not-take-clause-front : goal.returns-then-not-take-clause-front
 returns-then-not-take-clause-front g c =
     let apart = taken_apart c.args.files.now c.loop-file.file-index c.file-item.result c.loop-file-test.true c.file-item.is in
-    let ends : StoppedIn (TakesFile g.W.Write.contents) c.args.files.now c.new-writer.result c.take.new.self =
-    (take c.loop-file.file-index c.args.files.now, c.file-item.result, drop (c.loop-file.file-index + 1) c.args.files.now, apart, c.loop-file.writer, c.loop-file.invariant, rw c.if-not-take.true at c.take.ensures) in
+    let ends : StoppedIn (TakesFile g.W.Write.contents) c.args.files.now c.new-writer.result c.take.new.self = (
+      take c.loop-file.file-index c.args.files.now,
+      c.file-item.result,
+      drop (c.loop-file.file-index + 1) c.args.files.now,
+      apart,
+      c.loop-file.writer,
+      c.loop-file.invariant,
+      rw c.if-not-take.true at c.take.ensures,
+    ) in
     let is = stopped g.W.Write.contents c.args.kind c.args.day c.args.files.now c.new-writer.result c.take.new.self c.new-writer.ensures.begun ends in
     let named = is.1 ∙ c.new-writer.ensures.same_reference in
     front_between g.W.Write.contents _ _ _ _ _ c.new-writer.ensures.nothing_out is.0 (search rules)
@@ -30,7 +39,8 @@ returns-clause-whole g c =
     let named = (holds g.W.Write.contents c.args.files.now c.new-writer.result c.loop-file.writer took).same ∙ c.new-writer.ensures.same_reference in
     on_ok_weaker c.finish.result (λ ended.
     whole_between g.W.Write.contents _ _ _ _ _ c.new-writer.ensures.nothing_out
-    (whole g.W.Write.contents c.args.kind c.args.day c.args.files.now c.new-writer.result c.loop-file.writer _ c.new-writer.ensures.begun took ended) (search rules)) c.finish.ensures.whole
+    (whole g.W.Write.contents c.args.kind c.args.day c.args.files.now c.new-writer.result c.loop-file.writer _ c.new-writer.ensures.begun took ended)
+    (search rules)) c.finish.ensures.whole
 
 pub returns-clause-front : goal.returns-clause-front
 returns-clause-front g c =
@@ -40,4 +50,5 @@ returns-clause-front g c =
     let named = (holds g.W.Write.contents c.args.files.now c.new-writer.result c.loop-file.writer took).same ∙ c.new-writer.ensures.same_reference in
     on_err_weaker c.finish.result (λ ended.
     front_between g.W.Write.contents _ _ _ _ _ c.new-writer.ensures.nothing_out
-    (whole_front g.W.Write.contents c.args.kind c.args.day c.args.files.now c.new-writer.result c.loop-file.writer _ c.new-writer.ensures.begun took ended) (search rules)) c.finish.ensures.front
+    (whole_front g.W.Write.contents c.args.kind c.args.day c.args.files.now c.new-writer.result c.loop-file.writer _ c.new-writer.ensures.begun took ended)
+    (search rules)) c.finish.ensures.front

@@ -12,7 +12,11 @@ returns-clause-back c =
     let h = subst (λ o. IfSome o (ShowsState row)) c.in_ok-readable-2.ensures.ok c.state_in.ensures.back in
     let v = subst (λ o. IfSome o (λ x. column row 7 ≡ int x)) c.in_ok-readable-3.ensures.ok c.cents.ensures.back in
     let d = c.in_ok-text.ensures.back in
-    ap₂ ◌∷◌ id (ap₂ ◌∷◌ h.parcel (ap₂ ◌∷◌ h.applicant (ap₂ ◌∷◌ h.contractor (ap₂ ◌∷◌ h.reviewer (ap₂ ◌∷◌ h.inspector (ap₂ ◌∷◌ h.kind (ap₂ ◌∷◌ v (ap₂ ◌∷◌ d (ap₂ ◌∷◌ h.filed (ap₂ ◌∷◌ h.stage (ap₂ ◌∷◌ h.deadline (ap₂ ◌∷◌ h.done (ap₂ ◌∷◌ h.request (ap₂ ◌∷◌ h.requested (ap₂ ◌∷◌ h.ask (ap₂ ◌∷◌ h.stopped (ap₂ ◌∷◌ h.notices (ap₂ ◌∷◌ h.papers (ap (λ v. v ∷ []) h.temporary)))))))))))))))))))
+    ap₂ ◌∷◌ id (ap₂ ◌∷◌ h.parcel (ap₂ ◌∷◌ h.applicant (ap₂ ◌∷◌ h.contractor
+    (ap₂ ◌∷◌ h.reviewer (ap₂ ◌∷◌ h.inspector (ap₂ ◌∷◌ h.kind (ap₂ ◌∷◌ v
+    (ap₂ ◌∷◌ d (ap₂ ◌∷◌ h.filed (ap₂ ◌∷◌ h.stage (ap₂ ◌∷◌ h.deadline
+    (ap₂ ◌∷◌ h.done (ap₂ ◌∷◌ h.request (ap₂ ◌∷◌ h.requested (ap₂ ◌∷◌ h.ask
+    (ap₂ ◌∷◌ h.stopped (ap₂ ◌∷◌ h.notices (ap₂ ◌∷◌ h.papers (ap (λ v. v ∷ []) h.temporary)))))))))))))))))))
 
 pub returns-clause-read : goal.returns-clause-read
 returns-clause-read c = λ is more named e.

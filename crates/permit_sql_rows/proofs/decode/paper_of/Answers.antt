@@ -5,8 +5,19 @@ use Rattle.permit_base.specs.declared.words.PaperSort.{PaperSort}
 use Rattle.permit_model.specs.Tables.{Paper}
 use Rattle.permit_sql_rows.proofs.decode.paper_of.Goals as goal
 
-paper_is : (is : Paper) (file number day author : ℕ) (sort : PaperSort) (days : ℕ) (text terms : List ℕ) (is_open : Bool) → file ≡ is.file → number ≡ is.number → day ≡ is.day → author ≡ is.author → sort ≡ is.sort → days ≡ is.days → text ≡ is.text → terms ≡ is.terms → is_open ≡ is.is_open
-    → ◌≡◌ {A = Paper} (record { file = file; number = number; day = day; author = author; sort = sort; days = days; text = text; terms = terms; is_open = is_open }) is
+paper_is : (is : Paper) (file number day author : ℕ) (sort : PaperSort) (days : ℕ) (text terms : List ℕ) (is_open : Bool) → file ≡ is.file →
+    number ≡ is.number → day ≡ is.day → author ≡ is.author → sort ≡ is.sort → days ≡ is.days → text ≡ is.text → terms ≡ is.terms → is_open ≡ is.is_open
+    → ◌≡◌ {A = Paper} (record {
+      file = file;
+      number = number;
+      day = day;
+      author = author;
+      sort = sort;
+      days = days;
+      text = text;
+      terms = terms;
+      is_open = is_open;
+    }) is
 paper_is is file number day author sort days text terms is_open e0 e1 e2 e3 e4 e5 e6 e7 e8 = rw (e0, e1, e2, e3, e4, e5, e6, e7, e8) refl
 
 pub returns-clause-read : goal.returns-clause-read
@@ -24,22 +35,29 @@ returns-clause-read c = λ is e.
     (subst (λ o. IfSome o (λ x. x ≡ is.is_open)) c.in_ok-readable-7.ensures.ok (c.truth.ensures.read is.is_open (at 8)))
 
 pub returns-in_err-readable-clause-some : goal.returns-in_err-readable-clause-some
-returns-in_err-readable-clause-some c = λ is good e. not_some _ (rw c.in_err-readable.was at c.readable.ensures.err).0 (c.file_number.ensures.some is.file good.file (ap (λ r. column r 0) e))
+returns-in_err-readable-clause-some c = λ is good e. not_some _ (rw c.in_err-readable.was at c.readable.ensures.err).0
+    (c.file_number.ensures.some is.file good.file (ap (λ r. column r 0) e))
 
 pub returns-in_err-readable-2-clause-some : goal.returns-in_err-readable-2-clause-some
-returns-in_err-readable-2-clause-some c = λ is good e. not_some _ (rw c.in_err-readable-2.was at c.readable-2.ensures.err).0 (c.paper_number.ensures.some is.number good.number (ap (λ r. column r 1) e))
+returns-in_err-readable-2-clause-some c = λ is good e. not_some _ (rw c.in_err-readable-2.was at c.readable-2.ensures.err).0
+    (c.paper_number.ensures.some is.number good.number (ap (λ r. column r 1) e))
 
 pub returns-in_err-readable-3-clause-some : goal.returns-in_err-readable-3-clause-some
-returns-in_err-readable-3-clause-some c = λ is good e. not_some _ (rw c.in_err-readable-3.was at c.readable-3.ensures.err).0 (c.day.ensures.some is.day good.day (ap (λ r. column r 2) e))
+returns-in_err-readable-3-clause-some c = λ is good e. not_some _ (rw c.in_err-readable-3.was at c.readable-3.ensures.err).0
+    (c.day.ensures.some is.day good.day (ap (λ r. column r 2) e))
 
 pub returns-in_err-readable-4-clause-some : goal.returns-in_err-readable-4-clause-some
-returns-in_err-readable-4-clause-some c = λ is good e. not_some _ (rw c.in_err-readable-4.was at c.readable-4.ensures.err).0 (c.party_number.ensures.some is.author good.author (ap (λ r. column r 3) e))
+returns-in_err-readable-4-clause-some c = λ is good e. not_some _ (rw c.in_err-readable-4.was at c.readable-4.ensures.err).0
+    (c.party_number.ensures.some is.author good.author (ap (λ r. column r 3) e))
 
 pub returns-in_err-readable-5-clause-some : goal.returns-in_err-readable-5-clause-some
-returns-in_err-readable-5-clause-some c = λ is good e. not_some _ (rw c.in_err-readable-5.was at c.readable-5.ensures.err).0 (c.sort.ensures.some is.sort (ap (λ r. column r 4) e))
+returns-in_err-readable-5-clause-some c = λ is good e. not_some _ (rw c.in_err-readable-5.was at c.readable-5.ensures.err).0
+    (c.sort.ensures.some is.sort (ap (λ r. column r 4) e))
 
 pub returns-in_err-readable-6-clause-some : goal.returns-in_err-readable-6-clause-some
-returns-in_err-readable-6-clause-some c = λ is good e. not_some _ (rw c.in_err-readable-6.was at c.readable-6.ensures.err).0 (c.number.ensures.some is.days good.days (ap (λ r. column r 5) e))
+returns-in_err-readable-6-clause-some c = λ is good e. not_some _ (rw c.in_err-readable-6.was at c.readable-6.ensures.err).0
+    (c.number.ensures.some is.days good.days (ap (λ r. column r 5) e))
 
 pub returns-in_err-readable-7-clause-some : goal.returns-in_err-readable-7-clause-some
-returns-in_err-readable-7-clause-some c = λ is good e. not_some _ (rw c.in_err-readable-7.was at c.readable-7.ensures.err).0 (c.truth.ensures.some is.is_open (ap (λ r. column r 8) e))
+returns-in_err-readable-7-clause-some c = λ is good e. not_some _ (rw c.in_err-readable-7.was at c.readable-7.ensures.err).0
+    (c.truth.ensures.some is.is_open (ap (λ r. column r 8) e))

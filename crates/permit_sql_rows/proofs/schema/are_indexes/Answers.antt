@@ -3,4 +3,8 @@ use Rattle.permit_sql_rows.proofs.schema.are_indexes.Goals as goal
 
 pub returns : goal.returns
 returns c = λ yes.
-    c.have_form.ensures yes ∙ ap₂ ◌∷◌ c.key_index.ensures (ap₂ ◌∷◌ c.key_index-2.ensures (ap₂ ◌∷◌ c.key_index-3.ensures (ap₂ ◌∷◌ c.key_index-4.ensures (ap₂ ◌∷◌ c.plain_index.ensures (ap₂ ◌∷◌ c.plain_index-2.ensures (ap₂ ◌∷◌ c.plain_index-3.ensures (ap₂ ◌∷◌ c.plain_index-4.ensures (ap₂ ◌∷◌ c.plain_index-5.ensures (ap₂ ◌∷◌ c.plain_index-6.ensures (ap₂ ◌∷◌ c.plain_index-7.ensures (ap (λ i. i ∷ []) c.plain_index-8.ensures)))))))))))
+    c.have_form.ensures yes ∙ ap₂ ◌∷◌ c.key_index.ensures (ap₂ ◌∷◌ c.key_index-2.ensures
+    (ap₂ ◌∷◌ c.key_index-3.ensures (ap₂ ◌∷◌ c.key_index-4.ensures (ap₂ ◌∷◌ c.plain_index.ensures
+    (ap₂ ◌∷◌ c.plain_index-2.ensures (ap₂ ◌∷◌ c.plain_index-3.ensures
+    (ap₂ ◌∷◌ c.plain_index-4.ensures (ap₂ ◌∷◌ c.plain_index-5.ensures
+    (ap₂ ◌∷◌ c.plain_index-6.ensures (ap₂ ◌∷◌ c.plain_index-7.ensures (ap (λ i. i ∷ []) c.plain_index-8.ensures)))))))))))

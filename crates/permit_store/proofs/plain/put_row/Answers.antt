@@ -12,7 +12,9 @@ returns-clause-rows c =
     let i = c.in-Some.place in
     let d = c.index-files-place.result in
     let at = c.in-Some.ensures.some in
-    λ ok. rw (c.renew.ensures.made ok) (rows_at c.args.file 1 i c.args.state files d (renewed c.args.file c.args.state c.args.day c.args.effect.now (get_or files i d)) refl at.0 at.1 (numbered_from (λ k. k.row.id) 1 files c.requires.places))
+    λ ok. rw (c.renew.ensures.made ok) (rows_at c.args.file 1 i c.args.state files d
+    (renewed c.args.file c.args.state c.args.day c.args.effect.now (get_or files i d)) refl at.0 at.1
+    (numbered_from (λ k. k.row.id) 1 files c.requires.places))
 
 pub returns-clause-papers : goal.returns-clause-papers
 returns-clause-papers c =
