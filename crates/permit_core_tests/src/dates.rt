@@ -18,47 +18,46 @@ const DATES: [(u32, &str); 7] = [
     (200000, "2517-08-01"),
 ];
 
+/// Texts that are no dates, or dates of no day.
+const NO_DATES: [&str; 9] = [
+    "",
+    "2024-1-01",
+    "2024-02-30",
+    "1969-12-31",
+    "2023-02-29",
+    "2024-06-29 ",
+    "+024-06-29",
+    "2024/06/29",
+    "2243-10-18",
+];
+
+/// Seconds since 1970 with a zone's rule and the day there.
+const INSTANTS: [(i64, &str, Result<u32, DayError>); 4] = [
+    (1_704_067_200, "UTC0", Ok(19723)),
+    (1_704_067_200, "EST5", Ok(19722)),
+    (-1, "UTC0", Err(DayError::Range)),
+    (-1, "XXX-1", Ok(0)),
+];
+
 #[test]
-fn dates_are_written(rt: HostRuntime) -> Result<(), Fail> {
+fn dates_are_written_and_read(rt: HostRuntime) -> Result<(), Fail> {
     for (day, date) in DATES {
-        assert_eq!(rt; date_text(rt.alloc(), day)?.as_str(), date);
+        assert!(rt; date_text(rt.alloc(), day)?.as_str() == date, "{date}");
+        let number = if day <= 100000 { Some(day) } else { None };
+        assert!(rt; read_date(date).map(Day::get) == number, "{date}");
+    }
+    for text in NO_DATES {
+        assert!(rt; read_date(text).is_none(), "{text}");
     }
     Ok(())
 }
 
 #[test]
-fn dates_are_read(rt: HostRuntime) {
-    for (day, date) in DATES {
-        assert_eq!(rt;
-            read_date(date).map(Day::get),
-            if day <= 100000 { Some(day) } else { None }
-        );
-    }
-    for text in [
-        "",
-        "2024-1-01",
-        "2024-02-30",
-        "1969-12-31",
-        "2023-02-29",
-        "2024-06-29 ",
-        "+024-06-29",
-        "2024/06/29",
-        "2243-10-18",
-    ] {
-        assert_eq!(rt; read_date(text).map(Day::get), None);
-    }
-}
-
-#[test]
 fn a_day_is_the_zones(rt: HostRuntime) -> Result<(), Fail> {
-    let new_year = Timestamp::from_second(1_704_067_200)?;
-    assert_eq!(rt; day_of(new_year, &TimeZone::posix("UTC0")?)?.get(), 19723);
-    assert_eq!(rt; day_of(new_year, &TimeZone::posix("EST5")?)?.get(), 19722);
-    let before = Timestamp::from_second(-1)?;
-    assert_eq!(rt;
-        day_of(before, &TimeZone::posix("UTC0")?).map(Day::get),
-        Err(DayError::Range)
-    );
-    assert_eq!(rt; day_of(before, &TimeZone::posix("XXX-1")?)?.get(), 0);
+    for (second, zone, day) in INSTANTS {
+        let instant = Timestamp::from_second(second)?;
+        let found = day_of(instant, &TimeZone::posix(zone)?).map(Day::get);
+        assert!(rt; found == day, "{second} {zone}");
+    }
     Ok(())
 }

@@ -13,6 +13,8 @@ mod interests;
 #[cfg(test)]
 mod listings;
 #[cfg(test)]
+mod offices;
+#[cfg(test)]
 mod policies;
 #[cfg(test)]
 mod reports;

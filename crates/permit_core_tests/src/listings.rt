@@ -2,7 +2,7 @@
 
 use permit_base::request::{FileStage, Filter};
 use permit_base::route::{By, Route};
-use permit_base::words::{Action, Relation, Relations, Role, Stage, Timing};
+use permit_base::words::{Action, Relation, Relations, Role, Stage, Timing, Word};
 use permit_policy::cell::Cell;
 use permit_policy::masks::compile;
 use permit_policy::read_policy;
@@ -34,126 +34,114 @@ both = [\"owner\", \"contractor\"]\n\
 action = [\"list\"]\n\
 ";
 
+/// Listings under a policy by a role, of all files, of those that are due or of a stage, each with the count of its
+/// selections.
+const COUNTS: [(&str, Role, &str, usize); 11] = [
+    (POLICY, Role::Official, "all", 1),
+    (POLICY, Role::Official, "issued", 4),
+    (POLICY, Role::Clerk, "due", 24),
+    (POLICY, Role::Reviewer, "abandoned", 32),
+    (POLICY, Role::Reviewer, "all", 176),
+    (POLICY, Role::Public, "all", 96),
+    (POLICY, Role::Public, "due", 36),
+    (POLICY, Role::Public, "lapsed", 0),
+    (NOT_OWN, Role::Reviewer, "all", 44),
+    (OWN_CONTRACT, Role::Public, "all", 44),
+    ("", Role::Official, "all", 0),
+];
+
+/// Who is owner and contractor.
+const BUILDER: By = By::Two(Relation::Contractor, Relation::Owner);
+
+/// Listings of which each selection opens the same rows of a cell, of one stage where the listing is.
+const CELLS: [(&str, Role, &str, By, Option<Stage>); 3] = [
+    (
+        POLICY,
+        Role::Official,
+        "issued",
+        By::Whole,
+        Some(Stage::Issued),
+    ),
+    (
+        NOT_OWN,
+        Role::Reviewer,
+        "all",
+        By::One(Relation::AssignedReviewer),
+        None,
+    ),
+    (OWN_CONTRACT, Role::Public, "all", BUILDER, None),
+];
+
+/// The first selection of abandoned files: they are found by the stage that is kept.
+const FIRST_ABANDONED: Route = Route::Cell {
+    by: By::One(Relation::Applicant),
+    stage: Stage::Filed,
+    stopped: false,
+    timing: Timing::Past,
+};
+
+/// The last one.
+const LAST_ABANDONED: Route = Route::Cell {
+    by: By::One(Relation::AssignedReviewer),
+    stage: Stage::Approved,
+    stopped: true,
+    timing: Timing::Past,
+};
+
+/// Listings under the standard policy with their first selection and their last.
+const ENDS: [(Role, &str, Route, Route); 2] = [
+    (Role::Official, "all", Route::Every, Route::Every),
+    (Role::Reviewer, "abandoned", FIRST_ABANDONED, LAST_ABANDONED),
+];
+
+/// The filter of a listing of all files, of those that are due, or of a stage.
+fn filter_of(word: &str) -> Option<Filter> {
+    match word {
+        "all" => Some(Filter::All),
+        "due" => Some(Filter::Due),
+        _ => Some(Filter::InStage(FileStage::new(Stage::read(word)?)?)),
+    }
+}
+
 /// The selections of a listing by the role.
-fn listing(alloc: Global, text: &str, role: Role, filter: Filter) -> Result<Vec<Route>, Fail> {
+fn listing(alloc: Global, text: &str, role: Role, filter: &str) -> Result<Vec<Route>, Fail> {
+    let filter = filter_of(filter).ok_or("a filter")?;
     let policy = read_policy(alloc, text)?;
     let masks = compile(alloc, &policy, role, Action::List)?;
     Ok(routes(alloc, &masks, filter)?)
 }
 
-fn in_stage(stage: Stage) -> Result<Filter, Fail> {
-    let stage = FileStage::new(stage).ok_or("a stage of files")?;
-    Ok(Filter::InStage(stage))
-}
-
 #[test]
-fn routes_of_the_standard_policy(rt: HostRuntime) -> Result<(), Fail> {
-    let counts = [
-        (Role::Official, Filter::All, 1),
-        (Role::Clerk, Filter::Due, 24),
-        (Role::Reviewer, in_stage(Stage::Abandoned)?, 32),
-        (Role::Reviewer, Filter::All, 176),
-        (Role::Public, Filter::All, 96),
-        (Role::Public, Filter::Due, 36),
-        (Role::Public, in_stage(Stage::Lapsed)?, 0),
-    ];
-    for (role, filter, count) in counts {
+fn listings_have_their_selections(rt: HostRuntime) -> Result<(), Fail> {
+    for (text, role, filter, count) in COUNTS {
+        assert!(rt;
+            listing(rt.alloc(), text, role, filter)?.len() == count,
+            "{filter} {count}"
+        );
+    }
+    for (role, filter, first, last) in ENDS {
         let routes = listing(rt.alloc(), POLICY, role, filter)?;
-        assert_eq!(rt; routes.len(), count);
+        assert!(rt; routes.first().copied() == Some(first), "{filter}");
+        assert!(rt; routes.last().copied() == Some(last), "{filter}");
     }
     Ok(())
 }
 
-#[test]
-fn an_official_lists_every_row_at_once(rt: HostRuntime) -> Result<(), Fail> {
-    let routes = listing(rt.alloc(), POLICY, Role::Official, Filter::All)?;
-    assert!(rt; routes.as_slice() == [Route::Every].as_slice());
-    let routes = listing(rt.alloc(), POLICY, Role::Official, in_stage(Stage::Issued)?)?;
-    assert_eq!(rt; routes.len(), 4);
-    for route in &routes {
-        assert!(rt;
-            matches!(
-                route,
-                Route::Cell {
-                    by: By::Whole,
-                    stage: Stage::Issued,
-                    ..
-                }
-            )
-        );
+/// Whether a selection opens these rows of a cell, of the stage if one is given.
+fn opens(route: &Route, rows: By, only: Option<Stage>) -> bool {
+    match *route {
+        Route::Cell { by, stage, .. } => by == rows && (only.is_none() || only == Some(stage)),
+        Route::Every => false,
     }
-    Ok(())
 }
 
 #[test]
-fn an_abandoned_file_is_found_by_its_kept_stage(rt: HostRuntime) -> Result<(), Fail> {
-    let routes = listing(
-        rt.alloc(),
-        POLICY,
-        Role::Reviewer,
-        in_stage(Stage::Abandoned)?,
-    )?;
-    let first = Route::Cell {
-        by: By::One(Relation::Applicant),
-        stage: Stage::Filed,
-        stopped: false,
-        timing: Timing::Past,
-    };
-    assert!(rt; routes.first().copied() == Some(first));
-    let last = Route::Cell {
-        by: By::One(Relation::AssignedReviewer),
-        stage: Stage::Approved,
-        stopped: true,
-        timing: Timing::Past,
-    };
-    assert!(rt; routes.last().copied() == Some(last));
-    Ok(())
-}
-
-/// Deny on owner, allow on reviewer.
-#[test]
-fn one_relation_is_opened_alone(rt: HostRuntime) -> Result<(), Fail> {
-    let routes = listing(rt.alloc(), NOT_OWN, Role::Reviewer, Filter::All)?;
-    assert_eq!(rt; routes.len(), 44);
-    for route in &routes {
-        assert!(rt;
-            matches!(
-                route,
-                Route::Cell {
-                    by: By::One(Relation::AssignedReviewer),
-                    ..
-                }
-            )
-        );
+fn each_selection_opens_the_same_rows(rt: HostRuntime) -> Result<(), Fail> {
+    for (text, role, filter, rows, stage) in CELLS {
+        for route in &listing(rt.alloc(), text, role, filter)? {
+            assert!(rt; opens(route, rows, stage), "{filter}");
+        }
     }
-    Ok(())
-}
-
-/// Two relations at once.
-#[test]
-fn two_relations_are_opened_as_two(rt: HostRuntime) -> Result<(), Fail> {
-    let routes = listing(rt.alloc(), OWN_CONTRACT, Role::Public, Filter::All)?;
-    assert_eq!(rt; routes.len(), 44);
-    for route in &routes {
-        assert!(rt;
-            matches!(
-                route,
-                Route::Cell {
-                    by: By::Two(Relation::Contractor, Relation::Owner),
-                    ..
-                }
-            )
-        );
-    }
-    Ok(())
-}
-
-#[test]
-fn nothing_is_opened_without_rules(rt: HostRuntime) -> Result<(), Fail> {
-    assert_eq!(rt;
-        listing(rt.alloc(), "", Role::Official, Filter::All)?.len(),
-        0
-    );
     Ok(())
 }
 

@@ -23,6 +23,101 @@ role = [\"reviewer\"]\n\
 relation = [\"assigned-reviewer\"]\n\
 ";
 
+/// Whoever acts while a stop order stands.
+const STOPPED: &str = "[[rule]]\nname = \"stopped\"\neffect = \"allow\"\nstopped = true\n";
+
+/// Who owns the parcel and reviews its plans, by a rule with the longest name.
+const TWO: &str = "\
+[[rule]]\n\
+name = \"abcdefghijklmnopqrstuvwxyz-01234\"\n\
+effect = \"allow\"\n\
+both = [\"owner\", \"assigned-reviewer\"]\n\
+";
+
+/// The relations of an assigned reviewer who owns the parcel.
+const OWNING_REVIEWER: Relations = Relations {
+    applicant: false,
+    contractor: false,
+    owner: true,
+    assigned_reviewer: true,
+    assigned_inspector: false,
+    conflict: false,
+};
+
+/// The relations of an assigned reviewer.
+const REVIEWER: Relations = Relations {
+    applicant: false,
+    contractor: false,
+    owner: false,
+    assigned_reviewer: true,
+    assigned_inspector: false,
+    conflict: false,
+};
+
+/// No relations.
+const NOBODY: Relations = Relations {
+    applicant: false,
+    contractor: false,
+    owner: false,
+    assigned_reviewer: false,
+    assigned_inspector: false,
+    conflict: false,
+};
+
+/// A reviewer approves plans on a parcel of their own.
+const OWN: Facts = Facts {
+    role: Role::Reviewer,
+    relations: OWNING_REVIEWER,
+    action: Action::ApprovePlans,
+    stage: Stage::Review,
+    stopped: false,
+    timing: Timing::Ahead,
+};
+
+/// The same while a stop order stands.
+const OWN_STOPPED: Facts = Facts {
+    role: Role::Reviewer,
+    relations: OWNING_REVIEWER,
+    action: Action::ApprovePlans,
+    stage: Stage::Review,
+    stopped: true,
+    timing: Timing::Ahead,
+};
+
+/// A reviewer approves plans on a parcel of others.
+const OTHERS: Facts = Facts {
+    role: Role::Reviewer,
+    relations: REVIEWER,
+    action: Action::ApprovePlans,
+    stage: Stage::Review,
+    stopped: false,
+    timing: Timing::Ahead,
+};
+
+/// An official adds a party.
+const OFFICE: Facts = Facts {
+    role: Role::Official,
+    relations: NOBODY,
+    action: Action::AddParty,
+    stage: Stage::Office,
+    stopped: false,
+    timing: Timing::Untimed,
+};
+
+/// Texts with the count of their rules, and for facts whether they allow and by which rule.
+const DECISIONS: [(&str, usize, Facts, bool, &str); 9] = [
+    ("", 0, OFFICE, false, "default"),
+    ("rule = []\n", 0, OFFICE, false, "default"),
+    ("# nothing\n", 0, OFFICE, false, "default"),
+    (PLANS, 2, OWN, false, "own-work"),
+    (PLANS, 2, OTHERS, true, "reviewer-acts"),
+    (STOPPED, 1, OWN, false, "default"),
+    (STOPPED, 1, OWN_STOPPED, true, "stopped"),
+    (TWO, 1, OWN, true, "abcdefghijklmnopqrstuvwxyz-01234"),
+    (TWO, 1, OTHERS, false, "default"),
+];
+
+/// Texts with a fault, each with the fault's number and place.
 const FAULTS: &[(&str, u8, usize)] = &[
     ("rule", 2, 0),
     ("x = ", 2, 0),
@@ -87,6 +182,13 @@ const FAULTS: &[(&str, u8, usize)] = &[
     ),
     ("[[rule]]\nname = \"\"\neffect = \"allow\"\n", 5, 1),
     ("[[rule]]\nname = \"A\"\neffect = \"allow\"\n", 5, 1),
+    ("[[rule]]\nname = \"Default\"\neffect = \"allow\"\n", 5, 1),
+    ("[[rule]]\nname = \"own work\"\neffect = \"allow\"\n", 5, 1),
+    (
+        "[[rule]]\nname = \"abcdefghijklmnopqrstuvwxyz-012345\"\neffect = \"allow\"\n",
+        5,
+        1,
+    ),
     (
         "[[rule]]\nname = \"aaaaaaaaaaaaaaaaaaaaaaaaaaaaaaaaa\"\neffect = \"allow\"\n",
         5,
@@ -144,11 +246,7 @@ const FAULTS: &[(&str, u8, usize)] = &[
     ),
 ];
 
-/// Texts with a fault, each with the fault's number and place.
-fn faults() -> &'static [(&'static str, u8, usize)] {
-    FAULTS
-}
-
+/// The fault of a text and its place, if it has one.
 fn fault_of(alloc: Global, text: &str) -> Option<(u8, usize)> {
     match read_policy(alloc, text) {
         Ok(_) => None,
@@ -158,10 +256,9 @@ fn fault_of(alloc: Global, text: &str) -> Option<(u8, usize)> {
 
 #[test]
 fn refuses_each_fault(rt: HostRuntime) {
-    for (text, number, rule) in faults() {
-        assert_eq!(rt;
-            fault_of(rt.alloc(), text),
-            Some((*number, *rule)),
+    for (text, number, rule) in FAULTS {
+        assert!(rt;
+            fault_of(rt.alloc(), text) == Some((*number, *rule)),
             "{text}"
         );
     }
@@ -171,84 +268,43 @@ fn refuses_each_fault(rt: HostRuntime) {
 fn refuses_more_than_65536_bytes(rt: HostRuntime) -> Result<(), Fail> {
     let bytes = [b' '; 65537];
     let text = str::from_utf8(&bytes)?;
-    assert_eq!(rt; fault_of(rt.alloc(), text), Some((1, 0)));
+    assert!(rt; fault_of(rt.alloc(), text) == Some((1, 0)));
     let text = str::from_utf8(&bytes[1..])?;
-    assert_eq!(rt; fault_of(rt.alloc(), text), None);
+    assert!(rt; fault_of(rt.alloc(), text).is_none());
     Ok(())
+}
+
+/// A text of so many rules.
+fn rules_of(alloc: Global, count: u32) -> Result<String, Fail> {
+    let mut text = String::new(alloc);
+    for n in 0..count {
+        let rule = format!(in alloc; "[[rule]]\nname = \"rule-{n}\"\neffect = \"deny\"\n")?;
+        text.push_str(&rule)?;
+    }
+    Ok(text)
 }
 
 #[test]
 fn refuses_more_than_64_rules(rt: HostRuntime) -> Result<(), Fail> {
-    let mut text = String::new(rt.alloc());
-    for n in 0..64u32 {
-        let rule = format!(in rt.alloc(); "[[rule]]\nname = \"rule-{n}\"\neffect = \"deny\"\n")?;
-        text.push_str(&rule)?;
-    }
-    let policy = read_policy(rt.alloc(), &text)?;
-    assert_eq!(rt; policy.rules(), 64);
-    text.push_str("[[rule]]\nname = \"last\"\neffect = \"deny\"\n")?;
-    assert_eq!(rt; fault_of(rt.alloc(), &text), Some((4, 0)));
+    let text = rules_of(rt.alloc(), 64)?;
+    assert!(rt; read_policy(rt.alloc(), &text)?.rules() == 64);
+    let text = rules_of(rt.alloc(), 65)?;
+    assert!(rt; fault_of(rt.alloc(), &text) == Some((4, 0)));
     Ok(())
 }
 
 #[test]
-fn reads_no_rules(rt: HostRuntime) -> Result<(), Fail> {
-    for text in ["", "rule = []\n", "# nothing\n"] {
+fn decides_by_its_rules(rt: HostRuntime) -> Result<(), Fail> {
+    for (text, rules, facts, is_allow, rule) in DECISIONS {
         let policy = read_policy(rt.alloc(), text)?;
-        assert_eq!(rt; policy.rules(), 0);
-        let decision = decide(&policy, &Facts::office(Role::Official, Action::AddParty));
-        assert!(rt; !decision.is_allow() && decision.rule.as_str() == "default");
+        let decision = decide(&policy, &facts);
+        let denial = if is_allow { None } else { Some(decision.rule) };
+        assert!(rt; policy.rules() == rules, "{text}");
+        assert!(rt;
+            decision.is_allow() == is_allow && decision.rule.as_str() == rule,
+            "{text}"
+        );
+        assert!(rt; policy.denial(&facts) == denial, "{text}");
     }
-    Ok(())
-}
-
-/// The facts of a reviewer of the plans that were assigned to them, who may own the parcel.
-fn plans(owner: bool, stopped: bool) -> Facts {
-    Facts {
-        role: Role::Reviewer,
-        relations: Relations {
-            applicant: false,
-            contractor: false,
-            owner,
-            assigned_reviewer: true,
-            assigned_inspector: false,
-            conflict: false,
-        },
-        action: Action::ApprovePlans,
-        stage: Stage::Review,
-        stopped,
-        timing: Timing::Ahead,
-    }
-}
-
-#[test]
-fn denies_own_work(rt: HostRuntime) -> Result<(), Fail> {
-    let policy = read_policy(rt.alloc(), PLANS)?;
-    assert_eq!(rt; policy.rules(), 2);
-    let own = decide(&policy, &plans(true, false));
-    assert!(rt; !own.is_allow() && own.rule.as_str() == "own-work");
-    assert!(rt; policy.denial(&plans(true, false)) == Some(own.rule));
-    let others = decide(&policy, &plans(false, false));
-    assert!(rt; others.is_allow() && others.rule.as_str() == "reviewer-acts");
-    assert!(rt; policy.denial(&plans(false, false)).is_none());
-    Ok(())
-}
-
-#[test]
-fn allows_while_stopped(rt: HostRuntime) -> Result<(), Fail> {
-    let text = "[[rule]]\nname = \"stopped\"\neffect = \"allow\"\nstopped = true\n";
-    let policy = read_policy(rt.alloc(), text)?;
-    assert!(rt; !decide(&policy, &plans(true, false)).is_allow());
-    assert!(rt; decide(&policy, &plans(true, true)).is_allow());
-    Ok(())
-}
-
-#[test]
-fn allows_by_two_relations(rt: HostRuntime) -> Result<(), Fail> {
-    let text =
-        "[[rule]]\nname = \"two\"\neffect = \"allow\"\nboth = [\"owner\", \"assigned-reviewer\"]\n";
-    let policy = read_policy(rt.alloc(), text)?;
-    assert!(rt; decide(&policy, &plans(true, false)).is_allow());
-    assert!(rt; !decide(&policy, &plans(false, false)).is_allow());
     Ok(())
 }

@@ -97,24 +97,48 @@ effect = \"deny\"\n\
 stopped = true\n\
 ";
 
-/// The facts of an assigned reviewer of a parcel of their own, whose plans they approve.
-fn own_plans() -> Facts {
-    Facts {
-        role: Role::Reviewer,
-        relations: Relations {
-            applicant: false,
-            contractor: false,
-            owner: true,
-            assigned_reviewer: true,
-            assigned_inspector: false,
-            conflict: false,
-        },
-        action: Action::ApprovePlans,
-        stage: Stage::Review,
-        stopped: false,
-        timing: Timing::Ahead,
-    }
-}
+/// Texts with the names of their dead rules, each with a space behind it.
+const DEAD: [(&str, &str); 4] = [
+    (EVERY_ROLE, "c "),
+    (POLICY, ""),
+    ("", ""),
+    (BOTH_BEHIND_ONE, "owner-contractor both-again "),
+];
+
+/// Texts with what is tried for an assigned reviewer who approves the plans on a parcel of their own: each rule with its
+/// failing key or `match`, a line each.
+const EXPLAINED: [(&str, &str); 3] = [
+    (POLICY, "no-conflict relation\nown-work match\n"),
+    (
+        EACH_KEY,
+        "\
+        key-role role\n\
+        key-relation relation\n\
+        key-both both\n\
+        key-action action\n\
+        key-stage stage\n\
+        key-timing timing\n\
+        key-stopped stopped\n",
+    ),
+    ("", ""),
+];
+
+/// The facts of that reviewer.
+const OWN_PLANS: Facts = Facts {
+    role: Role::Reviewer,
+    relations: Relations {
+        applicant: false,
+        contractor: false,
+        owner: true,
+        assigned_reviewer: true,
+        assigned_inspector: false,
+        conflict: false,
+    },
+    action: Action::ApprovePlans,
+    stage: Stage::Review,
+    stopped: false,
+    timing: Timing::Ahead,
+};
 
 /// The names of the dead rules, each with a space behind it.
 fn dead_in(alloc: Global, text: &str) -> Result<String, Fail> {
@@ -128,10 +152,10 @@ fn dead_in(alloc: Global, text: &str) -> Result<String, Fail> {
 }
 
 /// Each rule that was tried, with its failing key or `match`, a line each.
-fn explained(alloc: Global, text: &str, facts: &Facts) -> Result<String, Fail> {
+fn explained(alloc: Global, text: &str) -> Result<String, Fail> {
     let policy = read_policy(alloc, text)?;
     let mut lines = String::new(alloc);
-    for tried in &explain(alloc, &policy, facts)? {
+    for tried in &explain(alloc, &policy, &OWN_PLANS)? {
         let outcome = match tried.failing {
             Some(key) => key.word(),
             None => "match",
@@ -144,48 +168,19 @@ fn explained(alloc: Global, text: &str, facts: &Facts) -> Result<String, Fail> {
     Ok(lines)
 }
 
-/// Dead rule.
 #[test]
-fn a_rule_behind_every_role_is_dead(rt: HostRuntime) -> Result<(), Fail> {
-    assert_eq!(rt; dead_in(rt.alloc(), EVERY_ROLE)?.as_str(), "c ");
+fn dead_rules_are_named(rt: HostRuntime) -> Result<(), Fail> {
+    for (text, names) in DEAD {
+        assert!(rt; dead_in(rt.alloc(), text)?.as_str() == names, "{names}");
+    }
     Ok(())
 }
 
 #[test]
-fn the_standard_policy_has_no_dead_rule(rt: HostRuntime) -> Result<(), Fail> {
-    assert_eq!(rt; dead_in(rt.alloc(), POLICY)?.as_str(), "");
-    assert_eq!(rt; dead_in(rt.alloc(), "")?.as_str(), "");
-    Ok(())
-}
-
-#[test]
-fn a_rule_for_two_behind_one_is_dead(rt: HostRuntime) -> Result<(), Fail> {
-    let names = dead_in(rt.alloc(), BOTH_BEHIND_ONE)?;
-    assert_eq!(rt; names.as_str(), "owner-contractor both-again ");
-    Ok(())
-}
-
-/// Explanation of a denial.
-#[test]
-fn own_work_is_explained(rt: HostRuntime) -> Result<(), Fail> {
-    let lines = explained(rt.alloc(), POLICY, &own_plans())?;
-    assert_eq!(rt; lines.as_str(), "no-conflict relation\nown-work match\n");
-    Ok(())
-}
-
-#[test]
-fn each_key_is_explained(rt: HostRuntime) -> Result<(), Fail> {
-    let lines = explained(rt.alloc(), EACH_KEY, &own_plans())?;
-    let expected = "\
-        key-role role\n\
-        key-relation relation\n\
-        key-both both\n\
-        key-action action\n\
-        key-stage stage\n\
-        key-timing timing\n\
-        key-stopped stopped\n";
-    assert_eq!(rt; lines.as_str(), expected);
-    assert_eq!(rt; explained(rt.alloc(), "", &own_plans())?.as_str(), "");
+fn decisions_are_explained(rt: HostRuntime) -> Result<(), Fail> {
+    for (text, lines) in EXPLAINED {
+        assert!(rt; explained(rt.alloc(), text)?.as_str() == lines, "{lines}");
+    }
     Ok(())
 }
 

@@ -1,28 +1,15 @@
-//! What is read of a store over vectors. The changes are tested through the office.
+//! What founding leaves in a store over vectors. The changes are tested through the office.
 
-use permit_base::values::{PaperNumber, Text};
+use permit_base::values::Text;
 use permit_base::words::Role;
 use permit_samples::ask::TOKENS;
-use permit_samples::makers::{day, digest_of, file, lot, parcel, party, text};
+use permit_samples::makers::{day, digest_of, party, text};
 use permit_samples::offices::founder;
 use permit_store::founder::Founder;
 use permit_store::plain::PlainStore;
 use permit_store::store::Store;
 use std::alloc::Global;
 use std::test::Fail;
-
-fn founded(alloc: Global) -> Result<PlainStore, Fail> {
-    Ok(PlainStore::create(alloc, &founder(alloc)?)?)
-}
-
-#[test]
-fn founding_sets_the_desk(rt: HostRuntime) -> Result<(), Fail> {
-    let mut store = founded(rt.alloc())?;
-    let desk = store.desk()?;
-    assert_eq!(rt; desk.last.get(), 19700);
-    assert_eq!(rt; (desk.parties, desk.parcels, desk.files), (1, 0, 0));
-    Ok(())
-}
 
 #[test]
 fn day_zero_founds_nothing(rt: HostRuntime) -> Result<(), Fail> {
@@ -44,28 +31,15 @@ fn party_of_token<S: Store>(store: &mut S, alloc: Global) -> Result<u32, Fail> {
 }
 
 #[test]
-fn parties_are_found(rt: HostRuntime) -> Result<(), Fail> {
-    let mut store = founded(rt.alloc())?;
+fn founding_sets_the_desk_and_the_first_party(rt: HostRuntime) -> Result<(), Fail> {
+    let mut store = PlainStore::create(rt.alloc(), &founder(rt.alloc())?)?;
+    let desk = store.desk()?;
+    assert!(rt; desk.last.get() == 19700);
+    assert!(rt; desk.parties == 1 && desk.parcels == 0 && desk.files == 0);
+    assert!(rt; store.role(party(1)?)? == Some(Role::Official));
+    assert!(rt; store.role(party(2)?)?.is_none());
+    assert!(rt; party_of_token(&mut store, rt.alloc())? == 1);
     let (name, role) = first_party(&mut store)?;
     assert!(rt; name.as_str() == "Chief" && role == Role::Official);
-    assert!(rt; store.role(party(1)?)? == Some(Role::Official));
-    assert_eq!(rt; party_of_token(&mut store, rt.alloc())?, 1);
-    Ok(())
-}
-
-#[test]
-fn founding_adds_nothing_else(rt: HostRuntime) -> Result<(), Fail> {
-    let mut store = founded(rt.alloc())?;
-    let lot = lot(rt.alloc(), "A-1")?;
-    assert!(rt; store.role(party(2)?)?.is_none());
-    assert!(rt; store.parcel(parcel(1)?)?.is_none());
-    assert!(rt; store.owner(parcel(1)?)?.is_none());
-    assert!(rt; store.parcel_by_lot(&lot)?.is_none());
-    assert!(rt; !store.interest(parcel(1)?, party(1)?)?);
-    assert!(rt; store.file(file(1)?)?.is_none());
-    assert!(rt; store.papers(file(1)?)?.is_empty());
-    assert!(rt; store.state(file(1)?)?.is_none());
-    let number = PaperNumber::new(1).ok_or("a number")?;
-    assert!(rt; !store.has_open_notice(file(1)?, number)?);
     Ok(())
 }

@@ -6,6 +6,7 @@ pub mod ask;
 pub mod exchange;
 pub mod filing;
 pub mod found;
+pub mod limits;
 mod listings;
 pub mod makers;
 pub mod offices;

@@ -44,6 +44,8 @@ pub(crate) const WHO_LISTS: &[&str] = &[
 < 200 OK {"files":[]}
 > 2 19723 GET /files/stage/new
 < 404 Not Found {"refused":"route"}
+> 2 19723 GET /files/stage/office
+< 404 Not Found {"refused":"route"}
 > 0 19723 GET /files
 < 401 Unauthorized {"refused":"caller"}
 > 1 19722 GET /registers/files

@@ -22,20 +22,32 @@ pub(crate) const ARITHMETIC: &[&str] = &[
     r#"
 > 5 19790 POST /files {"parcel":1,"kind":"construct","valuation":25000000,"description":"House"}
 < 200 OK {"day":19790,"done":"file","number":1}
+> 1 19790 GET /files/1
+~ "deadline":19970,
 > 2 19790 POST /files/1/assign-reviewer {"party":3}
 < 200 OK {"day":19790,"done":"assign-reviewer","number":null}
+> 1 19790 GET /files/1
+~ "deadline":19970,
 > 5 19790 POST /files/1/name-contractor {"party":6}
 < 200 OK {"day":19790,"done":"name-contractor","number":null}
+> 1 19790 GET /files/1
+~ "deadline":19970,
 > 3 19790 POST /files/1/start-review
 < 200 OK {"day":19790,"done":"start-review","number":null}
+> 1 19790 GET /files/1
+~ "deadline":19970,
 > 3 19800 POST /files/1/approve-plans
 < 200 OK {"day":19800,"done":"approve-plans","number":null}
+> 1 19800 GET /files/1
+~ "deadline":19970,
 > 1 19800 POST /files/1/issue
 < 200 OK {"day":19800,"done":"issue","number":1}
 > 1 19800 GET /files/1
 ~ "deadline":19980,
 > 5 19800 POST /files/1/ask-extension {"days":100,"text":"Rain"}
 < 200 OK {"day":19800,"done":"ask-extension","number":2}
+> 1 19800 GET /files/1
+~ "deadline":19980,
 > 1 19800 POST /files/1/grant-extension
 < 200 OK {"day":19800,"done":"grant-extension","number":3}
 > 1 19800 GET /files/1
@@ -49,6 +61,15 @@ pub(crate) const ARITHMETIC: &[&str] = &[
 > 1 20000 GET /files/1
 ~ "deadline":20180,
 ~ "request":"footing","requested":20000,
+~ "stage":"working",
+~ "timing":"ahead",
+~ "number":3,"open":false,"sort":"granted","terms":"","text":""}],"parcel":1,
+> 1 20000 GET /registers/inspections
+~  FILE NEXT    REQUESTED  INSPECTOR NOTICES
+~     1 footing 2024-10-04         -       0
+~ files 1
+> 1 20000 POST /files/1/begin-work
+< 409 Conflict {"reason":"stage","refused":"not-admitted"}
 "#,
 ];
 

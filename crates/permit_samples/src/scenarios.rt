@@ -1,6 +1,6 @@
 //! The scenarios.
 
-use crate::{filing, listings, plans, unknown_and_missing, work};
+use crate::{filing, limits, listings, plans, unknown_and_missing, work};
 use std::alloc::Global;
 use std::test::Fail;
 
@@ -22,6 +22,10 @@ const FILINGS: &[Scenario] = &[
     unknown_and_missing::UNKNOWN,
     unknown_and_missing::MISSING,
     filing::FILING,
+    limits::NUMBERS,
+    limits::TEXTS,
+    &[limits::FORMS],
+    limits::REFUSED,
 ];
 
 const APPLICATIONS: &[Scenario] = &[
@@ -51,6 +55,60 @@ const ZERO_RULES: UnderPolicy = UnderPolicy {
     last: r#"
 > 1 19723 GET /files/1
 < 403 Forbidden {"refused":"denied","rule":"default"}
+> 1 19723 GET /parcels/1
+< 403 Forbidden {"refused":"denied","rule":"default"}
+> 1 19723 POST /parcels/1/transfer {"to":6}
+< 403 Forbidden {"refused":"denied","rule":"default"}
+> 1 19723 POST /parcels/1/declare
+< 403 Forbidden {"refused":"denied","rule":"default"}
+> 5 19723 POST /files {"parcel":1,"kind":"construct","valuation":1,"description":"House"}
+< 403 Forbidden {"refused":"denied","rule":"default"}
+> 5 19723 GET /files/1
+< 403 Forbidden {"refused":"denied","rule":"default"}
+> 2 19723 POST /files/1/assign-reviewer {"party":3}
+< 403 Forbidden {"refused":"denied","rule":"default"}
+> 2 19723 POST /files/1/assign-inspector {"party":4}
+< 403 Forbidden {"refused":"denied","rule":"default"}
+> 5 19723 POST /files/1/name-contractor {"party":6}
+< 403 Forbidden {"refused":"denied","rule":"default"}
+> 1 19723 POST /files/1/start-review
+< 403 Forbidden {"refused":"denied","rule":"default"}
+> 1 19723 POST /files/1/return {"text":"Stairs"}
+< 403 Forbidden {"refused":"denied","rule":"default"}
+> 1 19723 POST /files/1/resubmit {"text":"Stairs"}
+< 403 Forbidden {"refused":"denied","rule":"default"}
+> 1 19723 POST /files/1/approve-plans
+< 403 Forbidden {"refused":"denied","rule":"default"}
+> 1 19723 POST /files/1/reject {"text":"Stairs"}
+< 403 Forbidden {"refused":"denied","rule":"default"}
+> 1 19723 POST /files/1/issue
+< 403 Forbidden {"refused":"denied","rule":"default"}
+> 5 19723 POST /files/1/ask-extension {"days":90,"text":"Rain"}
+< 403 Forbidden {"refused":"denied","rule":"default"}
+> 1 19723 POST /files/1/grant-extension
+< 403 Forbidden {"refused":"denied","rule":"default"}
+> 1 19723 POST /files/1/refuse-extension {"text":"No cause"}
+< 403 Forbidden {"refused":"denied","rule":"default"}
+> 5 19723 POST /files/1/begin-work
+< 403 Forbidden {"refused":"denied","rule":"default"}
+> 5 19723 POST /files/1/request-inspection {"step":"footing"}
+< 403 Forbidden {"refused":"denied","rule":"default"}
+> 1 19723 POST /files/1/approve-step {"step":"footing"}
+< 403 Forbidden {"refused":"denied","rule":"default"}
+> 1 19723 POST /files/1/notice {"text":"Nails"}
+< 403 Forbidden {"refused":"denied","rule":"default"}
+> 1 19723 POST /files/1/clear-notice {"paper":1}
+< 403 Forbidden {"refused":"denied","rule":"default"}
+> 1 19723 POST /files/1/stop {"text":"Unsafe","conditions":"Shore it"}
+< 403 Forbidden {"refused":"denied","rule":"default"}
+> 1 19723 POST /files/1/lift
+< 403 Forbidden {"refused":"denied","rule":"default"}
+> 1 19723 POST /files/1/revoke {"text":"Lapsed"}
+< 403 Forbidden {"refused":"denied","rule":"default"}
+> 1 19723 POST /files/1/temporary {"days":60,"text":"Ground floor"}
+< 403 Forbidden {"refused":"denied","rule":"default"}
+> 1 19723 POST /files/1/certify
+< 403 Forbidden {"refused":"denied","rule":"default"}
 > 1 19723 GET /files
 < 200 OK {"files":[]}
 "#,
@@ -63,7 +121,7 @@ const OTHER_POLICIES: &[UnderPolicy] = &[
     listings::PAIR_BEFORE_ONE,
 ];
 
-/// Filing and abandonment, a caller whom nobody knows, and a record that there is not.
+/// Filing and abandonment, a caller whom nobody knows, a record that there is not, and what bodies may be.
 pub fn filings() -> &'static [Scenario] {
     FILINGS
 }
@@ -116,4 +174,15 @@ pub fn limits_of_text(alloc: Global) -> Result<String, Fail> {
     Ok(format!(in alloc;
         "{long}\n< 400 Bad Request {{\"refused\":\"syntax\"}}\n{full}\n< 200 OK {{\"day\":19723,\"done\":\"file\",\"number\":1}}\n"
     )?)
+}
+
+/// The script of a file in work whose deadline is 199900: the greatest is 200000.
+pub fn far_deadline(alloc: Global) -> Result<String, Fail> {
+    let (before, again, behind) = limits::FAR;
+    let mut script = String::from_str(alloc, before)?;
+    for _ in 0..554 {
+        script.push_str(again)?;
+    }
+    script.push_str(behind)?;
+    Ok(script)
 }

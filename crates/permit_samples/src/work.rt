@@ -154,6 +154,9 @@ pub(crate) const NOTICE: &[&str] = &[
 < 200 OK {"day":19820,"done":"request-inspection","number":null}
 > 4 19820 POST /files/1/approve-step {"step":"frame"}
 < 409 Conflict {"reason":"notice-open","refused":"not-admitted"}
+> 1 19820 GET /registers/inspections
+~     1 frame   2024-04-07         4       1
+~ files 1
 > 4 19820 POST /files/1/clear-notice {"paper":1}
 < 409 Conflict {"reason":"no-such-notice","refused":"not-admitted"}
 > 1 19820 GET /files/1
@@ -167,6 +170,9 @@ pub(crate) const NOTICE: &[&str] = &[
 > 1 19820 GET /files/1
 ~ "next":"final","notices":0,
 ~ "done":["frame"],
+> 1 19820 GET /registers/inspections
+~     1 final   -                  4       0
+~ files 1
 "#,
 ];
 
@@ -291,6 +297,9 @@ pub(crate) const REVOKED: &[&str] = &[
     ISSUED,
     r#"
 > 1 19981 GET /files/1
+~ "stage":"lapsed",
+> 1 19981 GET /files/stage/lapsed
+~ {"files":[{"applicant":5,
 ~ "stage":"lapsed",
 > 1 19981 POST /files/1/revoke {"text":"Lapsed"}
 < 200 OK {"day":19981,"done":"revoke","number":2}
