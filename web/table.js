@@ -69,6 +69,7 @@ export function makeTable({ caption, columns, kept, layout, heights }) {
     kept.down = kept.key === column.key && !kept.down;
     kept.key = column.key;
     sort();
+    element.scrollTop = 0;
     drawAll();
     head.children[columns.indexOf(column)].querySelector('button').focus();
   }
