@@ -121,6 +121,10 @@ class Browser:
     def script(self, text, *values):
         return self.ask("POST", "/execute/sync", {"script": text, "args": list(values)})
 
+    def script_async(self, text, *values):
+        """What a script hands to the function that is its last argument."""
+        return self.ask("POST", "/execute/async", {"script": text, "args": list(values)})
+
     def find_all(self, css):
         return [found[ELEMENT] for found in self.ask("POST", "/elements", {"using": "css selector", "value": css})]
 
