@@ -3,12 +3,10 @@ use Rattle.std.specs.Prelude.{◌≡◌, ◌⊎◌, ◌≢◌, ◌≤◌, ◌↔
 use Rattle.permit_base.specs.declared.request.Asked.{Asked}
 use Rattle.permit_base.specs.declared.request.Request.{Request}
 use Rattle.permit_base.specs.Digests.{digest_of}
-use Rattle.permit_model.specs.History.{History}
-use Rattle.permit_model.specs.Tables.{Tables, tables}
-use Rattle.permit_model.specs.Machine.{IsHistory}
+use Rattle.permit_model.specs.Tables.{Tables}
 use Rattle.permit_store.specs.declared.store.StoreError.{StoreError}
 use Rattle.permit_store.specs.Counts.{next_count}
-use Rattle.permit_store.specs.Frames.{StoreView, HasOneDesk, Reads}
+use Rattle.permit_store.specs.Frames.{StoreView, HasOneDesk, OverHistory, Reads}
 use Rattle.permit_office.specs.declared.reply.Reply.{Reply as Given}
 use Rattle.permit_office.specs.declared.reply.Reply.TheVariants as given
 use Rattle.permit_office.specs.Office.{OfficeView}
@@ -61,8 +59,8 @@ pub record IsStep {S : Type 0} (view : S → StoreView) (digest : List ℕ) (ask
   pub failures : FailedBy (reach_of asked) reply (view old.store).failed (view new.store).failed
   pub commits : CommittedBy reply (view old.store).commits (view new.store).commits
   pub handed : HandedBy (reach_of asked) reply (view old.store).handed (view new.store).handed
-  pub opened : (view new.store).doubt ≡ 0 → (h : History) → IsHistory h → (view old.store).holds (tables h)
-      → Opens (rows_opened old.policy h digest asked day) reply (view old.store).handed (view new.store).handed
+  pub opened : OverHistory (view old.store) (view new.store)
+      (λ h. Opens (rows_opened old.policy h digest asked day) reply (view old.store).handed (view new.store).handed)
 
 -- a run by steps, one for each request, with its reply
 abbrev pub Steps : {S : Type 0} → (S → StoreView) → List (Asked × ℕ) → List Given → OfficeView S → OfficeView S → Type 0

@@ -5,15 +5,13 @@ use Rattle.permit_base.specs.declared.request.Filter.{Filter}
 use Rattle.permit_base.specs.declared.route.Route.{Route}
 use Rattle.permit_base.specs.declared.words.Action.TheVariants as action
 use Rattle.permit_core.specs.Views.{row_stage, row_timing}
-use Rattle.permit_model.specs.History.{History}
 use Rattle.permit_model.specs.Caller.{Party}
 use Rattle.permit_model.specs.Facts.{Facts}
 use Rattle.permit_model.specs.Policy.{Policy, allows}
 use Rattle.permit_model.specs.Opened.{allowed_by}
 use Rattle.permit_model.specs.Tables.{FileView, tables}
 use Rattle.permit_model.specs.Routes.{Found, relations_found, found_by, routes_of}
-use Rattle.permit_model.specs.Machine.{IsHistory}
-use Rattle.permit_store.specs.Frames.{StoreView}
+use Rattle.permit_store.specs.Frames.{StoreView, OverHistory}
 use Rattle.permit_office.specs.declared.listing.Lister.{Lister}
 use Rattle.permit_office.specs.Reach.{HandedMore}
 
@@ -59,9 +57,8 @@ pub record Gathers (policy : Policy) (caller : Party) (day : ℕ) (routes : List
   pub files : views ≡ views_found policy caller day given
   pub read : count ≡ length given % 2 ^ 32
   pub handed : HandedMore (length given) old.handed new.handed
-  pub found : new.doubt ≡ 0 → (h : History) → IsHistory h → old.holds (tables h)
-      → (wanted : Filter) → routes ≡ routes_of (allowed_by policy caller.role action.List) wanted
-      → IsPermutation given (flat_map (λ r. found_by r caller.id day (tables h)) routes)
+  pub found : OverHistory old new (λ h. (wanted : Filter) → routes ≡ routes_of (allowed_by policy caller.role action.List) wanted
+      → IsPermutation given (flat_map (λ r. found_by r caller.id day (tables h)) routes))
 
 -- the numbers of the files rise
 abbrev pub AreRising : List FileView → Type 0

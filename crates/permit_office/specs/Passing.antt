@@ -2,14 +2,12 @@
 use Rattle.std.specs.Prelude.{◌≡◌, ◌⊎◌, ℕ, ◌+◌, ◌%◌, ◌^◌, Bool, true, false, IsTrue, List, [], ◌∷◌, ◌++◌, length, Result, Ok, Err, ⊤}
 use Rattle.permit_base.specs.declared.route.Route.{Route}
 use Rattle.permit_core.specs.Taking.{TookAll, BeganOf}
-use Rattle.permit_model.specs.History.{History}
 use Rattle.permit_model.specs.Caller.{Party}
 use Rattle.permit_model.specs.Policy.{Policy}
 use Rattle.permit_model.specs.Tables.{FileView, tables}
 use Rattle.permit_model.specs.Routes.{Found, found_by}
-use Rattle.permit_model.specs.Machine.{IsHistory}
 use Rattle.permit_store.specs.declared.store.StoreError.{StoreError}
-use Rattle.permit_store.specs.Frames.{StoreView}
+use Rattle.permit_store.specs.Frames.{StoreView, OverHistory}
 use Rattle.permit_office.specs.declared.showing.RowsEnd.{RowsEnd}
 use Rattle.permit_office.specs.declared.showing.RowsEnd.TheVariants as ended
 use Rattle.permit_office.specs.declared.passing.Passer.{Passer}
@@ -55,5 +53,4 @@ pub record PassedOn {T : Type 0} (took : T → FileView → T → Bool → Type 
   pub given : List Found
   pub taken : TakenOf took policy caller day given before after result
   pub handed : HandedMore (length given) old.handed new.handed
-  pub found : new.doubt ≡ 0 → (h : History) → IsHistory h → old.holds (tables h)
-      → (rest : List Found) × LeftAt result rest × (found_by route caller.id day (tables h) ≡ given ++ rest)
+  pub found : OverHistory old new (λ h. (rest : List Found) × LeftAt result rest × (found_by route caller.id day (tables h) ≡ given ++ rest))

@@ -10,10 +10,11 @@ ghost use Rattle.permit_model.specs.Work;
 ghost use Rattle.permit_model.specs.Admission.{reason_against};
 ghost use Rattle.permit_base.specs.Limits.{most_papers};
 ghost use Rattle.permit_model.specs.Tables.{Paper, State, Tables, tables, state_of};
-ghost use Rattle.permit_model.specs.Machine.{IsHistory, outcome_by_reason, entry_of, outcome_by_request};
+ghost use Rattle.permit_model.specs.Machine.{outcome_by_reason, entry_of, outcome_by_request};
 ghost use Rattle.permit_core.specs.Naming;
 ghost use Rattle.permit_core.specs.RowAfter;
 ghost use Rattle.permit_store.specs.Changes.{papers_after, suits_effect};
+ghost use Rattle.permit_store.specs.Frames.{OverHistory};
 ghost use Rattle.permit_office.specs.Answers.{Attempts, IsDecided, IsOwn};
 ghost use Rattle.permit_office.specs.Effects.{papers_entered};
 ghost use Rattle.permit_office.specs.Frames.{OnlyReads, IsAttempt};
@@ -50,9 +51,9 @@ fn named<S: Store>(store: &mut S, parcel: ParcelId, command: &Command) -> Got<Op
 
 /// Whether the paper that a command names is an open notice of the file.
 fn is_open_notice<S: Store>(store: &mut S, file: FileId, command: &Command) -> Got<bool>
-    ensures open { (S.view store.new).doubt ≡ 0 → (h : History) (one : CaseFile) → IsHistory h → (S.view store.old).holds (tables h)
-        → case_numbered h file ≡ Some one
-        → IfOk result (λ b. b ≡ Naming.is_notice_open one (Naming.named_paper command.now)) }
+    ensures open { OverHistory (S.view store.old) (S.view store.new) (λ h.
+        (one : CaseFile) → case_numbered h file ≡ Some one
+        → IfOk result (λ b. b ≡ Naming.is_notice_open one (Naming.named_paper command.now))) }
     ensures read { OnlyReads (S.view store.old) (S.view store.new) result }
 {
     let Some(number) = named_paper(command) else {
@@ -69,9 +70,9 @@ fn people_about<S: Store>(
     owner: Option<PartyId>,
     command: &Command,
 ) -> Got<People>
-    ensures people { (S.view store.new).doubt ≡ 0 → (h : History) (one : CaseFile) → IsHistory h → (S.view store.old).holds (tables h)
-        → case_numbered h file ≡ Some one → state.now ≡ state_of one → owner ≡ Parcels.owner h one.filing.parcel
-        → IfOk result (λ p. p ≡ Naming.people_of h one command.now) }
+    ensures people { OverHistory (S.view store.old) (S.view store.new) (λ h.
+        (one : CaseFile) → case_numbered h file ≡ Some one → state.now ≡ state_of one → owner ≡ Parcels.owner h one.filing.parcel
+        → IfOk result (λ p. p ≡ Naming.people_of h one command.now)) }
     ensures read { OnlyReads (S.view store.old) (S.view store.new) result }
 {
     let named = named(store, state.parcel(), command)?;
@@ -117,11 +118,11 @@ fn perform<S: Store>(
     command: &Command,
     day: Day,
 ) -> Got<Reply>
-    ensures model { (S.view store.new).doubt ≡ 0 → (h : History) (one : CaseFile) → IsHistory h → (S.view store.old).holds (tables h)
-        → case_numbered h file ≡ Some one → state.now ≡ state_of one → owner ≡ Parcels.owner h one.filing.parcel
+    ensures model { OverHistory (S.view store.old) (S.view store.new) (λ h.
+        (one : CaseFile) → case_numbered h file ≡ Some one → state.now ≡ state_of one → owner ≡ Parcels.owner h one.filing.parcel
         → last_day h ≤ day → IsTrue (Caller.is_party h caller)
         → Attempts (S.view store.new).holds result
-        (outcome_by_reason h (entry_of h day caller (request.OnFile file command.now)) (reason_against h day caller (request.OnFile file command.now))) h }
+        (outcome_by_reason h (entry_of h day caller (request.OnFile file command.now)) (reason_against h day caller (request.OnFile file command.now))) h) }
     ensures attempt { IsAttempt NoRow (S.view store.old) (S.view store.new) result }
     ensures decided { IfOk result IsDecided }
     ensures own { IfOk result IsOwn }
@@ -151,9 +152,10 @@ pub(crate) fn on_file<S: Store>(
     command: &Command,
     day: Day,
 ) -> Got<Reply>
-    ensures model { (S.view store.new).doubt ≡ 0 → (h : History) → IsHistory h → (S.view store.old).holds (tables h) → last_day h ≤ day
+    ensures model { OverHistory (S.view store.old) (S.view store.new) (λ h.
+        last_day h ≤ day
         → IsTrue (Caller.is_party h caller.now.id)
-        → Attempts (S.view store.new).holds result (outcome_by_request policy.now h day caller.now (request.OnFile file command.now)) h }
+        → Attempts (S.view store.new).holds result (outcome_by_request policy.now h day caller.now (request.OnFile file command.now)) h) }
     ensures attempt { IsAttempt OneRow (S.view store.old) (S.view store.new) result }
     ensures own { IfOk result IsOwn }
 {

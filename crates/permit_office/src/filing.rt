@@ -3,9 +3,10 @@
 ghost use Rattle.std.specs.Prelude.{◌≡◌, ◌≤◌, IsTrue, IfOk};
 ghost use Rattle.permit_base.specs.declared.request.Request.TheVariants as request;
 ghost use Rattle.permit_model.specs.Caller;
-ghost use Rattle.permit_model.specs.History.{History, last_day};
-ghost use Rattle.permit_model.specs.Tables.{tables, desk_of};
-ghost use Rattle.permit_model.specs.Machine.{IsHistory, outcome_by_request};
+ghost use Rattle.permit_model.specs.History.{last_day};
+ghost use Rattle.permit_model.specs.Tables.{desk_of};
+ghost use Rattle.permit_model.specs.Machine.{outcome_by_request};
+ghost use Rattle.permit_store.specs.Frames.{OverHistory};
 ghost use Rattle.permit_office.specs.Answers.{Attempts, IsOwn};
 ghost use Rattle.permit_office.specs.Frames.{IsAttempt};
 ghost use Rattle.permit_office.specs.Reach.{NoRow};
@@ -33,9 +34,10 @@ pub(crate) fn file<S: Store>(
     description: &Text,
     day: Day,
 ) -> Got<Reply>
-    ensures model { (S.view store.new).doubt ≡ 0 → (h : History) → IsHistory h → (S.view store.old).holds (tables h) → desk.now ≡ desk_of h
+    ensures model { OverHistory (S.view store.old) (S.view store.new) (λ h.
+        desk.now ≡ desk_of h
         → last_day h ≤ day → IsTrue (Caller.is_party h caller.now.id)
-        → Attempts (S.view store.new).holds result (outcome_by_request policy.now h day caller.now (request.File parcel kind valuation description.now)) h }
+        → Attempts (S.view store.new).holds result (outcome_by_request policy.now h day caller.now (request.File parcel kind valuation description.now)) h) }
     ensures attempt { IsAttempt NoRow (S.view store.old) (S.view store.new) result }
     ensures own { IfOk result IsOwn }
 {

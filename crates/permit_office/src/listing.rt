@@ -5,12 +5,12 @@ ghost use Rattle.std.specs.List.{Contains, Any};
 ghost use Rattle.permit_base.specs.declared.request.Request.TheVariants as request;
 ghost use Rattle.permit_base.specs.declared.request.Filter.{Filter as TheFilter};
 ghost use Rattle.permit_base.specs.declared.words.Action.TheVariants as action;
-ghost use Rattle.permit_model.specs.History.{History};
-ghost use Rattle.permit_model.specs.Tables.{Tables, tables, FileView as TheView};
+ghost use Rattle.permit_model.specs.Tables.{Tables, FileView as TheView};
 ghost use Rattle.permit_model.specs.Listing.{listing, register_filter};
 ghost use Rattle.permit_model.specs.Opened.{opened, allowed_by};
 ghost use Rattle.permit_model.specs.Routes.{Found as TheFound, routes_of};
-ghost use Rattle.permit_model.specs.Machine.{IsHistory, outcome_by_request};
+ghost use Rattle.permit_model.specs.Machine.{outcome_by_request};
+ghost use Rattle.permit_store.specs.Frames.{OverHistory};
 ghost use Rattle.permit_office.specs.Answers.{Attempts, IsOwn};
 ghost use Rattle.permit_office.specs.Frames.{IsAttempt, IsMaking};
 ghost use Rattle.permit_office.specs.Listings.{found_facts, view_found, Takes, Gathers, AreRising};
@@ -43,7 +43,7 @@ struct Lister<'a> {
     day: Day,
     /// The files found so far that the caller may list; one that several selections find is there as often.
     files: Vec<FileView>,
-    /// How many rows it took; the count goes round.
+    /// How many rows it took; the count wraps.
     read: u32,
 }
 
@@ -184,12 +184,12 @@ pub(crate) fn list_by_routes<S: Store>(
     day: Day,
     routes: &[Route],
 ) -> Got<Listing>
-    ensures files { (S.view store.new).doubt ≡ 0 → (h : History) → IsHistory h → (S.view store.old).holds (tables h)
-        → (wanted : TheFilter) → routes.now ≡ routes_for policy.now caller.now wanted
-        → IfOk result (λ it. it.files.items ≡ listing policy.now h day caller.now wanted) }
-    ensures opened { (S.view store.new).doubt ≡ 0 → (h : History) → IsHistory h → (S.view store.old).holds (tables h)
-        → (wanted : TheFilter) → routes.now ≡ routes_for policy.now caller.now wanted
-        → IfOk result (λ it. OpensRows (length (opened policy.now h day caller.now wanted)) it (S.view store.old).handed (S.view store.new).handed) }
+    ensures files { OverHistory (S.view store.old) (S.view store.new) (λ h.
+        (wanted : TheFilter) → routes.now ≡ routes_for policy.now caller.now wanted
+        → IfOk result (λ it. it.files.items ≡ listing policy.now h day caller.now wanted)) }
+    ensures opened { OverHistory (S.view store.old) (S.view store.new) (λ h.
+        (wanted : TheFilter) → routes.now ≡ routes_for policy.now caller.now wanted
+        → IfOk result (λ it. OpensRows (length (opened policy.now h day caller.now wanted)) it (S.view store.old).handed (S.view store.new).handed)) }
     ensures read { IfOk result (λ it. WereRead it (S.view store.old).handed (S.view store.new).handed) }
     ensures making { IsMaking (S.view store.old) (S.view store.new) result }
 {
@@ -208,10 +208,10 @@ fn make_listing<S: Store>(
     day: Day,
     wanted: Filter,
 ) -> Got<Listing>
-    ensures files { (S.view store.new).doubt ≡ 0 → (h : History) → IsHistory h → (S.view store.old).holds (tables h)
-        → IfOk result (λ it. it.files.items ≡ listing policy.now h day caller.now wanted) }
-    ensures opened { (S.view store.new).doubt ≡ 0 → (h : History) → IsHistory h → (S.view store.old).holds (tables h)
-        → IfOk result (λ it. OpensRows (length (opened policy.now h day caller.now wanted)) it (S.view store.old).handed (S.view store.new).handed) }
+    ensures files { OverHistory (S.view store.old) (S.view store.new) (λ h.
+        IfOk result (λ it. it.files.items ≡ listing policy.now h day caller.now wanted)) }
+    ensures opened { OverHistory (S.view store.old) (S.view store.new) (λ h.
+        IfOk result (λ it. OpensRows (length (opened policy.now h day caller.now wanted)) it (S.view store.old).handed (S.view store.new).handed)) }
     ensures read { IfOk result (λ it. WereRead it (S.view store.old).handed (S.view store.new).handed) }
     ensures making { IsMaking (S.view store.old) (S.view store.new) result }
 {
@@ -227,10 +227,10 @@ pub(crate) fn list_files<S: Store>(
     day: Day,
     wanted: Filter,
 ) -> Got<Reply>
-    ensures model { (S.view store.new).doubt ≡ 0 → (h : History) → IsHistory h → (S.view store.old).holds (tables h)
-        → Attempts (S.view store.new).holds result (outcome_by_request policy.now h day caller.now (request.ListFiles wanted)) h }
-    ensures opened { (S.view store.new).doubt ≡ 0 → (h : History) → IsHistory h → (S.view store.old).holds (tables h)
-        → IfOk result (λ reply. Opens (Some (length (opened policy.now h day caller.now wanted))) reply (S.view store.old).handed (S.view store.new).handed) }
+    ensures model { OverHistory (S.view store.old) (S.view store.new) (λ h.
+        Attempts (S.view store.new).holds result (outcome_by_request policy.now h day caller.now (request.ListFiles wanted)) h) }
+    ensures opened { OverHistory (S.view store.old) (S.view store.new) (λ h.
+        IfOk result (λ reply. Opens (Some (length (opened policy.now h day caller.now wanted))) reply (S.view store.old).handed (S.view store.new).handed)) }
     ensures attempt { IsAttempt ManyRows (S.view store.old) (S.view store.new) result }
     ensures own { IfOk result IsOwn }
 {
@@ -246,10 +246,11 @@ pub(crate) fn show_register<S: Store>(
     day: Day,
     kind: RegisterKind,
 ) -> Got<Reply>
-    ensures model { (S.view store.new).doubt ≡ 0 → (h : History) → IsHistory h → (S.view store.old).holds (tables h)
-        → Attempts (S.view store.new).holds result (outcome_by_request policy.now h day caller.now (request.Register kind)) h }
-    ensures opened { (S.view store.new).doubt ≡ 0 → (h : History) → IsHistory h → (S.view store.old).holds (tables h)
-        → IfOk result (λ reply. Opens (Some (length (opened policy.now h day caller.now (register_filter kind)))) reply (S.view store.old).handed (S.view store.new).handed) }
+    ensures model { OverHistory (S.view store.old) (S.view store.new) (λ h.
+        Attempts (S.view store.new).holds result (outcome_by_request policy.now h day caller.now (request.Register kind)) h) }
+    ensures opened { OverHistory (S.view store.old) (S.view store.new) (λ h.
+        IfOk result (λ reply. Opens (Some (length (opened policy.now h day caller.now (register_filter kind)))) reply
+        (S.view store.old).handed (S.view store.new).handed)) }
     ensures attempt { IsAttempt ManyRows (S.view store.old) (S.view store.new) result }
     ensures own { IfOk result IsOwn }
 {

@@ -3,10 +3,9 @@
 ghost use Rattle.std.specs.Prelude.{◌≡◌, ◌≤◌, IfOk, IfErr, OnErr};
 ghost use Rattle.permit_base.specs.Digests.{digest_of};
 ghost use Rattle.permit_base.specs.declared.request.Request.TheVariants as request;
-ghost use Rattle.permit_model.specs.History.{History};
 ghost use Rattle.permit_model.specs.Tables.{tables};
-ghost use Rattle.permit_model.specs.Machine.{IsHistory, step_as, step};
-ghost use Rattle.permit_store.specs.Frames.{IsRead};
+ghost use Rattle.permit_model.specs.Machine.{step_as, step};
+ghost use Rattle.permit_store.specs.Frames.{IsRead, OverHistory};
 ghost use Rattle.permit_store.specs.declared.store.OpenError.TheVariants as open_error;
 ghost use Rattle.permit_office.specs.Answers.{Answers};
 ghost use Rattle.permit_office.specs.Frames.{IsStep, Steps};
@@ -15,8 +14,8 @@ ghost use Rattle.permit_office.specs.Runs.{Ran};
 ghost use Rattle.permit_office.specs.Showing.{IsShowing, OpensAt, Shows, ShowsSome};
 ghost use Rattle.permit_office.specs.Stops.{StopsAt};
 
+use crate::dispatch::attempt;
 use crate::reply::Reply;
-use crate::serve::attempt;
 use crate::showing::{RowsEnd, show};
 use permit_base::digests::digest;
 use permit_base::refusal::Refusal;
@@ -82,8 +81,8 @@ impl<S: Store + Drop> Office<S> {
     /// policy's rules give, and no other row is read. The refusal for the store comes exactly where a call of the
     /// store failed, or where memory was refused to a listing; then, too, nothing has changed.
     pub fn step_as(&mut self, digest: &Digest, request: &Request, day: Day) -> Reply
-        ensures model { (S.view self.new.store).doubt ≡ 0 → (h : History) → IsHistory h → (S.view self.old.store).holds (tables h)
-            → Answers (S.view self.new.store).holds result (step_as self.old.policy h digest.now request.now day) h }
+        ensures model { OverHistory (S.view self.old.store) (S.view self.new.store) (λ h.
+            Answers (S.view self.new.store).holds result (step_as self.old.policy h digest.now request.now day) h) }
         ensures step { IsStep S.view digest.now request.now day self.old self.new result }
     {
         match attempt(&mut self.store, &self.policy, digest, request, day) {
@@ -94,8 +93,8 @@ impl<S: Store + Drop> Office<S> {
 
     /// One step for a request with its caller's token, on the day: `step_as` on the token's digest.
     pub fn step(&mut self, asked: &Asked, day: Day) -> Reply
-        ensures model { (S.view self.new.store).doubt ≡ 0 → (h : History) → IsHistory h → (S.view self.old.store).holds (tables h)
-            → Answers (S.view self.new.store).holds result (step self.old.policy h asked.now day) h }
+        ensures model { OverHistory (S.view self.old.store) (S.view self.new.store) (λ h.
+            Answers (S.view self.new.store).holds result (step self.old.policy h asked.now day) h) }
         ensures step { IsStep S.view (digest_of asked.now.token) asked.now.request day self.old self.new result }
     {
         match digest(&asked.token) {
@@ -116,13 +115,15 @@ impl<S: Store + Drop> Office<S> {
         wanted: Filter,
         taker: &mut T,
     ) -> RowsEnd
-        ensures shown { (S.view self.new.store).doubt ≡ 0 → (h : History) → IsHistory h → (S.view self.old.store).holds (tables h)
-            → Shows T.took (step_as self.old.policy h (digest_of token.now) (request.ListFiles wanted) day).reply taker.old taker.new result }
+        ensures shown { OverHistory (S.view self.old.store) (S.view self.new.store) (λ h.
+            Shows T.took (step_as self.old.policy h (digest_of token.now) (request.ListFiles wanted) day).reply taker.old taker.new result) }
         ensures some { ShowsSome T.took taker.old taker.new result }
-        ensures opened { (S.view self.new.store).doubt ≡ 0 → (h : History) → IsHistory h → (S.view self.old.store).holds (tables h)
-            → OpensAt (rows_opened self.old.policy h (digest_of token.now) (request.ListFiles wanted) day) result (S.view self.old.store).handed (S.view self.new.store).handed }
-        ensures stopped { (S.view self.new.store).doubt ≡ 0 → (h : History) → IsHistory h → (S.view self.old.store).holds (tables h)
-            → StopsAt T.took self.old.policy h (digest_of token.now) day wanted result taker.old taker.new (S.view self.old.store).handed (S.view self.new.store).handed }
+        ensures opened { OverHistory (S.view self.old.store) (S.view self.new.store) (λ h.
+            OpensAt (rows_opened self.old.policy h (digest_of token.now) (request.ListFiles wanted) day) result
+            (S.view self.old.store).handed (S.view self.new.store).handed) }
+        ensures stopped { OverHistory (S.view self.old.store) (S.view self.new.store) (λ h.
+            StopsAt T.took self.old.policy h (digest_of token.now) day wanted result taker.old taker.new
+            (S.view self.old.store).handed (S.view self.new.store).handed) }
         ensures showing { IsShowing (S.view self.old.store) (S.view self.new.store) result }
         ensures policy { self.new.policy ≡ self.old.policy }
     {
@@ -139,8 +140,8 @@ impl<S: Store + Drop> Office<S> {
         alloc: Global,
         requests: &[(Asked, Day)],
     ) -> Result<Vec<Reply>, AllocError>
-        ensures model { (S.view self.new.store).doubt ≡ 0 → (h : History) → IsHistory h → (S.view self.old.store).holds (tables h)
-            → IfOk result (λ replies. Ran (S.view self.new.store).holds self.old.policy requests.now replies.items h) }
+        ensures model { OverHistory (S.view self.old.store) (S.view self.new.store) (λ h.
+            IfOk result (λ replies. Ran (S.view self.new.store).holds self.old.policy requests.now replies.items h)) }
         ensures policy { self.new.policy ≡ self.old.policy }
         ensures doubt { (S.view self.old.store).doubt ≤ (S.view self.new.store).doubt }
         ensures steps { IfOk result (λ replies. Steps S.view requests.now replies.items self.old self.new) }

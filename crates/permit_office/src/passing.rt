@@ -20,7 +20,7 @@ struct Passer<'a, T> {
     caller: &'a Party,
     day: Day,
     taker: &'a mut T,
-    /// How many rows it took; the count goes round.
+    /// How many rows it took; the count wraps.
     read: u32,
     /// Whether memory was refused for a file, which then wasn't passed on.
     is_short: bool,

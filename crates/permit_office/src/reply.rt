@@ -9,7 +9,7 @@ use permit_store::rows::{FileView, Paper, Parcel};
 pub struct Listing {
     /// In rising number, each once.
     pub files: Vec<FileView>,
-    /// How many rows the store handed out for it; the count goes round after 4294967295.
+    /// How many rows the store returned for it; the count wraps after 4294967295.
     pub read: u32,
 }
 

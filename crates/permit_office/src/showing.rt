@@ -1,13 +1,12 @@
-//! The files of a listing, handed out one at a time.
+//! The files of a listing, passed to a taker one at a time.
 
 ghost use Rattle.std.specs.Prelude.{◌≡◌, ◌∷◌, [], IfErr, IfOk, IfSome, IsSome, length, List, Some};
 ghost use Rattle.permit_base.specs.declared.request.Request.TheVariants as request;
-ghost use Rattle.permit_model.specs.History.{History};
 ghost use Rattle.permit_model.specs.Listing.{listing, register_filter};
 ghost use Rattle.permit_model.specs.Opened.{opened};
-ghost use Rattle.permit_model.specs.Tables.{tables, FileView as TheView};
-ghost use Rattle.permit_model.specs.Machine.{IsHistory, Listed, step_as};
-ghost use Rattle.permit_store.specs.Frames.{IsRead};
+ghost use Rattle.permit_model.specs.Tables.{FileView as TheView};
+ghost use Rattle.permit_model.specs.Machine.{Listed, step_as};
+ghost use Rattle.permit_store.specs.Frames.{IsRead, OverHistory};
 ghost use Rattle.permit_office.specs.Frames.{IsMaking};
 ghost use Rattle.permit_office.specs.Opening.{rows_opened};
 ghost use Rattle.permit_office.specs.Showing.{HandedAt, IsShowing, OpensAt, RefusesCaller, Shows, ShowsSome, TakesUp, caller_on, end_of};
@@ -25,11 +24,11 @@ use permit_policy::Policy;
 use permit_store::rows::{FileView, Party};
 use permit_store::store::{Got, Store};
 
-/// How the handing out of a listing's files ended.
+/// How the passing of a listing's files to a taker ended.
 #[derive(Clone, Copy)]
 pub enum RowsEnd {
-    /// The taker took each file, and each answer was true. The store handed out so many rows for the listing; the count
-    /// goes round after 4294967295.
+    /// The taker took each file, and each answer was true. The store returned so many rows for the listing; the count
+    /// wraps after 4294967295.
     All { read: u32 },
     /// The caller isn't known or the day is below the last, and nothing was taken; or the store failed or memory was
     /// refused, and what was taken is a beginning, with each answer true.
@@ -55,8 +54,8 @@ pub fn register_filter(kind: RegisterKind) -> Filter
 
 /// The caller that has the digest, or why a listing is refused.
 fn caller_for<S: Store>(store: &mut S, digest: &Digest, day: Day) -> Got<Result<Party, Refusal>>
-    ensures known { (S.view store.new).doubt ≡ 0 → (h : History) → IsHistory h → (S.view store.old).holds (tables h)
-        → IfOk result (λ told. told ≡ caller_on h digest.now day) }
+    ensures known { OverHistory (S.view store.old) (S.view store.new) (λ h.
+        IfOk result (λ told. told ≡ caller_on h digest.now day)) }
     ensures told { IfOk result (λ told. IfErr told RefusesCaller) }
     ensures read { IsRead (S.view store.old) (S.view store.new) result }
 {
@@ -103,13 +102,13 @@ fn hand_files<S: Store, T: Taker<FileView>>(
     wanted: Filter,
     taker: &mut T,
 ) -> Got<RowsEnd>
-    ensures shown { (S.view store.new).doubt ≡ 0 → (h : History) → IsHistory h → (S.view store.old).holds (tables h)
-        → Shows T.took (Listed (listing policy.now h day caller.now wanted)) taker.old taker.new (end_of result) }
+    ensures shown { OverHistory (S.view store.old) (S.view store.new) (λ h.
+        Shows T.took (Listed (listing policy.now h day caller.now wanted)) taker.old taker.new (end_of result)) }
     ensures some { (files : List TheView) × Shows T.took (Listed files) taker.old taker.new (end_of result) }
-    ensures opened { (S.view store.new).doubt ≡ 0 → (h : History) → IsHistory h → (S.view store.old).holds (tables h)
-        → OpensAt (Some (length (opened policy.now h day caller.now wanted))) (end_of result) (S.view store.old).handed (S.view store.new).handed }
-    ensures stopped { (S.view store.new).doubt ≡ 0 → (h : History) → IsHistory h → (S.view store.old).holds (tables h)
-        → StopsFor T.took policy.now h caller.now day wanted (end_of result) taker.old taker.new (S.view store.old).handed (S.view store.new).handed }
+    ensures opened { OverHistory (S.view store.old) (S.view store.new) (λ h.
+        OpensAt (Some (length (opened policy.now h day caller.now wanted))) (end_of result) (S.view store.old).handed (S.view store.new).handed) }
+    ensures stopped { OverHistory (S.view store.old) (S.view store.new) (λ h.
+        StopsFor T.took policy.now h caller.now day wanted (end_of result) taker.old taker.new (S.view store.old).handed (S.view store.new).handed) }
     ensures handed { HandedAt (end_of result) (S.view store.old).handed (S.view store.new).handed }
     ensures making { IsMaking (S.view store.old) (S.view store.new) result }
 {
@@ -125,7 +124,7 @@ fn hand_files<S: Store, T: Taker<FileView>>(
     }
 }
 
-/// Hands out the listing for the caller that has the digest.
+/// Passes the listing for the caller that has the digest to the taker.
 pub(crate) fn show<S: Store, T: Taker<FileView>>(
     store: &mut S,
     policy: &Policy,
@@ -134,13 +133,13 @@ pub(crate) fn show<S: Store, T: Taker<FileView>>(
     wanted: Filter,
     taker: &mut T,
 ) -> RowsEnd
-    ensures shown { (S.view store.new).doubt ≡ 0 → (h : History) → IsHistory h → (S.view store.old).holds (tables h)
-        → Shows T.took (step_as policy.now h digest.now (request.ListFiles wanted) day).reply taker.old taker.new result }
+    ensures shown { OverHistory (S.view store.old) (S.view store.new) (λ h.
+        Shows T.took (step_as policy.now h digest.now (request.ListFiles wanted) day).reply taker.old taker.new result) }
     ensures some { ShowsSome T.took taker.old taker.new result }
-    ensures opened { (S.view store.new).doubt ≡ 0 → (h : History) → IsHistory h → (S.view store.old).holds (tables h)
-        → OpensAt (rows_opened policy.now h digest.now (request.ListFiles wanted) day) result (S.view store.old).handed (S.view store.new).handed }
-    ensures stopped { (S.view store.new).doubt ≡ 0 → (h : History) → IsHistory h → (S.view store.old).holds (tables h)
-        → StopsAt T.took policy.now h digest.now day wanted result taker.old taker.new (S.view store.old).handed (S.view store.new).handed }
+    ensures opened { OverHistory (S.view store.old) (S.view store.new) (λ h.
+        OpensAt (rows_opened policy.now h digest.now (request.ListFiles wanted) day) result (S.view store.old).handed (S.view store.new).handed) }
+    ensures stopped { OverHistory (S.view store.old) (S.view store.new) (λ h.
+        StopsAt T.took policy.now h digest.now day wanted result taker.old taker.new (S.view store.old).handed (S.view store.new).handed) }
     ensures showing { IsShowing (S.view store.old) (S.view store.new) result }
 {
     match caller_for(store, digest, day) {

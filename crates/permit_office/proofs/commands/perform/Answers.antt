@@ -8,16 +8,16 @@ use Rattle.permit_office.proofs.Entered.{command_more, row_suits, papers_counted
 use Rattle.permit_office.proofs.commands.perform.Goals as goal
 
 pub returns-in-Err-clause-model : goal.returns-in-Err-clause-model
-returns-in-Err-clause-model g c = λ doubt h one is held there state owner time party.
+returns-in-Err-clause-model g c = λ doubt h is held one there state owner time party.
     let a = c.args in
-    let people = c.in_ok-people.ensures.people doubt h one is held there state owner in
+    let people = c.in_ok-people.ensures.people doubt h is held one there state owner in
     rw (c.in-Err.ensures.model h a.file a.caller one is there state people) (inl (refl, c.people_about.ensures.read.kept (tables h) held))
 
 pub returns-clause-model : goal.returns-clause-model
-returns-clause-model g c = λ doubt h one is held there state owner time party.
+returns-clause-model g c = λ doubt h is held one there state owner time party.
     let late : (g.S.Store.view c.people_about.new.store).doubt ≡ 0 = omega arith in
     let a = c.args in
-    let people = c.in_ok-people.ensures.people late h one is held there state owner in
+    let people = c.in_ok-people.ensures.people late h is held one there state owner in
     let none = c.in_default.ensures.model h a.file a.caller one is there state people in
     let after = c.apply.ensures.model h a.file one is there time state none in
     let number = c.paper_number-number.ensures.model one state in

@@ -1,8 +1,6 @@
 use Rattle.std.proofs.Common.{◌≡◌, ◌≤◌, length, take}
 use Rattle.std.specs.Prelude.{vec_capacity}
-use Rattle.permit_model.specs.History.{History}
-use Rattle.permit_model.specs.Tables.{tables}
-use Rattle.permit_model.specs.Machine.{IsHistory}
+use Rattle.permit_store.specs.Frames.{OverHistory}
 use Rattle.permit_office.specs.Frames.{Steps}
 use Rattle.permit_office.specs.Runs.{Ran}
 use Rattle.permit_office.proofs.office.Office.run.Given as goal
@@ -14,6 +12,6 @@ invariant-loop-asked g l = record {
   room : length l.requests ≤ vec_capacity l.replies;
   count : length l.replies.items ≡ l.asked-index;
   steps : Steps g.S.Store.view (take l.asked-index l.requests) l.replies.items l.fn.self l.self;
-  ran : (g.S.Store.view l.self.store).doubt ≡ 0 → (h : History) → IsHistory h → (g.S.Store.view l.fn.self.store).holds (tables h)
-      → Ran (g.S.Store.view l.self.store).holds l.fn.self.policy (take l.asked-index l.requests) l.replies.items h;
+  ran : OverHistory (g.S.Store.view l.fn.self.store) (g.S.Store.view l.self.store)
+      (λ h. Ran (g.S.Store.view l.self.store).holds l.fn.self.policy (take l.asked-index l.requests) l.replies.items h);
 }

@@ -9,7 +9,7 @@ use Rattle.permit_model.specs.Machine.{entry_of}
 use Rattle.permit_office.proofs.Deciding.{denied_outcome, allowed_outcome, transfer_suits, none_against, number_is}
 use Rattle.permit_office.proofs.Finding.{parcel_owned, transfer_judged}
 use Rattle.permit_office.proofs.Tables.{transfer_more}
-use Rattle.permit_office.proofs.land.transfer.Goals as goal
+use Rattle.permit_office.proofs.parcels.transfer.Goals as goal
 
 pub returns-in-Some-denial-clause-model : goal.returns-in-Some-denial-clause-model
 returns-in-Some-denial-clause-model g c = λ doubt h held t.

@@ -1,4 +1,4 @@
-use Rattle.permit_office.proofs.serve.serve_known.Goals as goal
+use Rattle.permit_office.proofs.dispatch.serve_known.Goals as goal
 
 pub returns-in-ListFiles-clause-opened : goal.returns-in-ListFiles-clause-opened
 returns-in-ListFiles-clause-opened g c = λ doubt h is held. rw c.in-ListFiles.is (c.list_files.ensures.opened doubt h is held)

@@ -9,7 +9,7 @@ use Rattle.permit_model.specs.Policy.{decision}
 use Rattle.permit_model.specs.Machine.{entry_of}
 use Rattle.permit_office.proofs.Deciding.{denied_outcome, allowed_outcome, party_suits, none_against, number_is}
 use Rattle.permit_office.proofs.Tables.{party_more}
-use Rattle.permit_office.proofs.people.add_party.Goals as goal
+use Rattle.permit_office.proofs.parties.add_party.Goals as goal
 
 same_ok : {A E : Type 0} (r : Result A E) (a b : A) → r ≡ Ok a → r ≡ Ok b → a ≡ b
 same_ok r a b e f = cc

@@ -2,10 +2,10 @@
 
 ghost use Rattle.std.specs.Prelude.{◌≡◌, ◌≤◌, IsTrue, IfOk, OnOk};
 ghost use Rattle.permit_model.specs.Caller;
-ghost use Rattle.permit_model.specs.History.{History, last_day};
-ghost use Rattle.permit_model.specs.Tables.{tables, desk_of};
-ghost use Rattle.permit_model.specs.Machine.{IsHistory, outcome_by_request, step_as};
-ghost use Rattle.permit_store.specs.Frames.{HasOneDesk};
+ghost use Rattle.permit_model.specs.History.{last_day};
+ghost use Rattle.permit_model.specs.Tables.{desk_of};
+ghost use Rattle.permit_model.specs.Machine.{outcome_by_request, step_as};
+ghost use Rattle.permit_store.specs.Frames.{HasOneDesk, OverHistory};
 ghost use Rattle.permit_office.specs.Answers.{Attempts, IsOwn};
 ghost use Rattle.permit_office.specs.Frames.{IsAttempt};
 ghost use Rattle.permit_office.specs.Opening.{opened_for, rows_opened, Opens};
@@ -13,9 +13,9 @@ ghost use Rattle.permit_office.specs.Reach.{reach_of};
 
 use crate::commands::on_file;
 use crate::filing::file;
-use crate::land::{add_parcel, declare, transfer};
 use crate::listing::{list_files, show_register};
-use crate::people::add_party;
+use crate::parcels::{add_parcel, declare, transfer};
+use crate::parties::add_party;
 use crate::reading::{read_file, read_parcel};
 use crate::reply::Reply;
 use permit_base::refusal::Refusal;
@@ -34,11 +34,12 @@ fn serve_known<S: Store>(
     request: &Request,
     day: Day,
 ) -> Got<Reply>
-    ensures model { (S.view store.new).doubt ≡ 0 → (h : History) → IsHistory h → (S.view store.old).holds (tables h) → desk.now ≡ desk_of h
+    ensures model { OverHistory (S.view store.old) (S.view store.new) (λ h.
+        desk.now ≡ desk_of h
         → last_day h ≤ day → IsTrue (Caller.is_party h caller.now.id)
-        → Attempts (S.view store.new).holds result (outcome_by_request policy.now h day caller.now request.now) h }
-    ensures opened { (S.view store.new).doubt ≡ 0 → (h : History) → IsHistory h → (S.view store.old).holds (tables h)
-        → IfOk result (λ reply. Opens (opened_for policy.now h day caller.now request.now) reply (S.view store.old).handed (S.view store.new).handed) }
+        → Attempts (S.view store.new).holds result (outcome_by_request policy.now h day caller.now request.now) h) }
+    ensures opened { OverHistory (S.view store.old) (S.view store.new) (λ h.
+        IfOk result (λ reply. Opens (opened_for policy.now h day caller.now request.now) reply (S.view store.old).handed (S.view store.new).handed)) }
     ensures attempt { IsAttempt (reach_of request.now) (S.view store.old) (S.view store.new) result }
     ensures own { IfOk result IsOwn }
 {
@@ -85,10 +86,10 @@ pub(crate) fn attempt<S: Store>(
     request: &Request,
     day: Day,
 ) -> Got<Reply>
-    ensures model { (S.view store.new).doubt ≡ 0 → (h : History) → IsHistory h → (S.view store.old).holds (tables h)
-        → Attempts (S.view store.new).holds result (step_as policy.now h digest.now request.now day) h }
-    ensures opened { (S.view store.new).doubt ≡ 0 → (h : History) → IsHistory h → (S.view store.old).holds (tables h)
-        → IfOk result (λ reply. Opens (rows_opened policy.now h digest.now request.now day) reply (S.view store.old).handed (S.view store.new).handed) }
+    ensures model { OverHistory (S.view store.old) (S.view store.new) (λ h.
+        Attempts (S.view store.new).holds result (step_as policy.now h digest.now request.now day) h) }
+    ensures opened { OverHistory (S.view store.old) (S.view store.new) (λ h.
+        IfOk result (λ reply. Opens (rows_opened policy.now h digest.now request.now day) reply (S.view store.old).handed (S.view store.new).handed)) }
     ensures attempt { IsAttempt (reach_of request.now) (S.view store.old) (S.view store.new) result }
     ensures one { (S.view store.new).doubt ≡ 0 → OnOk result (HasOneDesk (S.view store.new)) }
     ensures own { IfOk result IsOwn }

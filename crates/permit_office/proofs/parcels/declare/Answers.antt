@@ -12,7 +12,7 @@ use Rattle.permit_model.specs.Machine.{entry_of}
 use Rattle.permit_office.proofs.Deciding.{denied_outcome, allowed_outcome, interest_suits, none_against, number_is}
 use Rattle.permit_office.proofs.Finding.{parcel_owned, declare_judged}
 use Rattle.permit_office.proofs.Tables.{interest_more}
-use Rattle.permit_office.proofs.land.declare.Goals as goal
+use Rattle.permit_office.proofs.parcels.declare.Goals as goal
 
 pub returns-in-Some-denial-clause-model : goal.returns-in-Some-denial-clause-model
 returns-in-Some-denial-clause-model g c = λ doubt h held t party.

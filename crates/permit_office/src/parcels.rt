@@ -10,14 +10,15 @@ ghost use Rattle.permit_model.specs.Parcels.{parcels};
 ghost use Rattle.permit_base.specs.declared.refusal.Reason.TheVariants.{Taken};
 ghost use Rattle.permit_model.specs.Admission.{first_failing, reason_against};
 ghost use Rattle.permit_model.specs.Tables.{Tables, tables, desk_of};
-ghost use Rattle.permit_model.specs.Machine.{IsHistory, outcome_by_request};
+ghost use Rattle.permit_model.specs.Machine.{outcome_by_request};
+ghost use Rattle.permit_store.specs.Frames.{OverHistory};
 ghost use Rattle.permit_office.specs.Answers.{Attempts, IsOwn, reason_in};
 ghost use Rattle.permit_office.specs.Frames.{OnlyReads, IsAttempt};
 ghost use Rattle.permit_office.specs.Reach.{NoRow};
 
 use crate::commit::{Admitted, carry_out, next_number};
 use crate::facts::facts_on_parcel;
-use crate::people::is_party;
+use crate::parties::is_party;
 use crate::reply::Reply;
 use permit_base::refusal::{Reason, Refusal};
 use permit_base::values::{Day, Lot, ParcelId, PartyId, Text};
@@ -65,8 +66,9 @@ pub(crate) fn add_parcel<S: Store>(
     owner: PartyId,
     day: Day,
 ) -> Got<Reply>
-    ensures model { (S.view store.new).doubt ≡ 0 → (h : History) → IsHistory h → (S.view store.old).holds (tables h) → desk.now ≡ desk_of h → last_day h ≤ day
-        → Attempts (S.view store.new).holds result (outcome_by_request policy.now h day caller.now (request.AddParcel lot.now address.now owner)) h }
+    ensures model { OverHistory (S.view store.old) (S.view store.new) (λ h.
+        desk.now ≡ desk_of h → last_day h ≤ day
+        → Attempts (S.view store.new).holds result (outcome_by_request policy.now h day caller.now (request.AddParcel lot.now address.now owner)) h) }
     ensures attempt { IsAttempt NoRow (S.view store.old) (S.view store.new) result }
     ensures own { IfOk result IsOwn }
 {

@@ -9,7 +9,7 @@ use Rattle.permit_model.specs.Policy.{decision}
 use Rattle.permit_model.specs.Machine.{entry_of}
 use Rattle.permit_office.proofs.Deciding.{denied_outcome, allowed_outcome, parcel_suits, none_against, number_is}
 use Rattle.permit_office.proofs.Tables.{parcel_more}
-use Rattle.permit_office.proofs.land.add_parcel.Goals as goal
+use Rattle.permit_office.proofs.parcels.add_parcel.Goals as goal
 
 pub returns-in-Some-clause-model : goal.returns-in-Some-clause-model
 returns-in-Some-clause-model g c = λ doubt h is held e t.

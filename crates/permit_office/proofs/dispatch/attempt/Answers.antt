@@ -1,7 +1,7 @@
 use Rattle.std.proofs.Common.{◌≡◌, ap, ◌∙◌, sym, arith}
 use Rattle.permit_model.specs.Tables.{Desk, tables}
 use Rattle.permit_office.proofs.Stepping.{stepped, caller_there, opened_known}
-use Rattle.permit_office.proofs.serve.attempt.Goals as goal
+use Rattle.permit_office.proofs.dispatch.attempt.Goals as goal
 
 pub returns-clause-model : goal.returns-clause-model
 returns-clause-model g c = λ doubt h is held.

@@ -8,7 +8,8 @@ ghost use Rattle.permit_model.specs.Caller;
 ghost use Rattle.permit_model.specs.History.{History, last_day};
 ghost use Rattle.permit_model.specs.Admission.{reason_against};
 ghost use Rattle.permit_model.specs.Tables.{Tables, tables, desk_of};
-ghost use Rattle.permit_model.specs.Machine.{IsHistory, outcome_by_request};
+ghost use Rattle.permit_model.specs.Machine.{outcome_by_request};
+ghost use Rattle.permit_store.specs.Frames.{OverHistory};
 ghost use Rattle.permit_office.specs.Answers.{Attempts, IsOwn, reason_in};
 ghost use Rattle.permit_office.specs.Frames.{OnlyReads, IsAttempt};
 ghost use Rattle.permit_office.specs.Reach.{NoRow};
@@ -68,8 +69,9 @@ pub(crate) fn add_party<S: Store>(
     token: &Token,
     day: Day,
 ) -> Got<Reply>
-    ensures model { (S.view store.new).doubt ≡ 0 → (h : History) → IsHistory h → (S.view store.old).holds (tables h) → desk.now ≡ desk_of h → last_day h ≤ day
-        → Attempts (S.view store.new).holds result (outcome_by_request policy.now h day caller.now (request.AddParty name.now role token.now)) h }
+    ensures model { OverHistory (S.view store.old) (S.view store.new) (λ h.
+        desk.now ≡ desk_of h → last_day h ≤ day
+        → Attempts (S.view store.new).holds result (outcome_by_request policy.now h day caller.now (request.AddParty name.now role token.now)) h) }
     ensures attempt { IsAttempt NoRow (S.view store.old) (S.view store.new) result }
     ensures own { IfOk result IsOwn }
 {
