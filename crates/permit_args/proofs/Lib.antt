@@ -1,3 +1,4 @@
+pub mod Counted
 mod Added
 pub mod Matched
 pub mod Simple

@@ -1,7 +1,8 @@
 -- Facts in one word: ROLE,RELATIONS,ACTION,STAGE,STOPPED,TIMING.
 use Rattle.std.specs.Prelude.{ℕ, Bool, true, false, ◌==◌, List, [], ◌∷◌, Option, None, Some, option_and_then, codes, bytes_eq, if◌then◌else◌}
 use Rattle.std.specs.List.{slice_split}
-use Rattle.permit_base.specs.Words.{named, action_word, all_actions, all_relations, all_roles, all_stages, all_timings, relation_word, role_word, stage_word, timing_word}
+use Rattle.permit_base.specs.Words.{named, action_word, all_actions, all_relations, all_roles, all_stages, all_timings, relation_word, role_word}
+use Rattle.permit_base.specs.Words.{stage_word, timing_word}
 use Rattle.permit_base.specs.declared.words.Action.{Action}
 use Rattle.permit_base.specs.declared.words.Relation.{Relation}
 use Rattle.permit_base.specs.declared.words.Relation.TheVariants.{Applicant, Contractor, Owner, AssignedReviewer, AssignedInspector, Conflict}

@@ -1,5 +1,6 @@
 -- The subcommands as simple commands of the command line library, and the plan that their words give.
-use Rattle.std.specs.Prelude.{◌≡◌, List, [], ◌∷◌, ℕ, Bool, Option, None, Some, true, false, IfSome, IsSomeAnd, IsTrue, MatchOption, option_map, codes, decimal, bytes_eq, ◌≤◌}
+use Rattle.std.specs.Prelude.{◌≡◌, List, [], ◌∷◌, ℕ, Bool, Option, None, Some, true, false, IfSome, IsSomeAnd, IsTrue, MatchOption, option_map, codes}
+use Rattle.std.specs.Prelude.{decimal, bytes_eq, ◌≤◌}
 use Rattle.std.specs.Option.{option_map_or}
 use Rattle.std.specs.Borrow.{Bor}
 use Rattle.clap.specs.Words.{App, Row, Rule, Text, first_of, matches_of, new_app, new_rule, with_rule}
@@ -18,6 +19,8 @@ use Rattle.permit_args.specs.declared.plan.ListWords.{ListWords}
 use Rattle.permit_args.specs.declared.plan.RegisterWords.{RegisterWords}
 use Rattle.permit_args.specs.declared.plan.ImportWords.{ImportWords}
 use Rattle.permit_args.specs.declared.plan.ServeWords.{ServeWords}
+use Rattle.permit_args.specs.declared.plan.PlanFault.{PlanFault}
+use Rattle.permit_args.specs.declared.plan.PlanFault.TheVariants.{Help, Words, Memory}
 use Rattle.permit_args.specs.declared.plan.Plan.{Plan}
 use Rattle.permit_args.specs.declared.plan.Plan.TheVariants as plan
 
@@ -151,6 +154,12 @@ pub record IsRegisterOf (rows : List Row) (words : RegisterWords) : Type 0 where
 pub record IsImportOf (rows : List Row) (words : ImportWords) : Type 0 where
   pub office : IsOfficeOf rows words.office
   pub file : first_of (codes "file") rows ≡ Some words.file.now
+
+-- words are refused only where no value is theirs; that memory ran out says nothing of them
+abbrev pub Refuses : {A : Type 0} → (A → Type 0) → PlanFault → Type 0
+Refuses {A} IsOf (Help text) = (x : A) → IsOf x → ⊥
+Refuses {A} IsOf (Words text) = (x : A) → IsOf x → ⊥
+Refuses {A} IsOf Memory = Unit {0}
 
 -- a number from 1 to the greatest, as it is written out
 pub record IsCountOf (greatest : ℕ) (text : Text) (n : ℕ) : Type 0 where

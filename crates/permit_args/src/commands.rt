@@ -1,8 +1,9 @@
-//! The subcommands, as the command line library is told of them.
+//! The subcommands, as they are declared to the command line library.
 
 ghost use Rattle.std.specs.Prelude.{◌≡◌, IfOk, codes, false};
 ghost use Rattle.clap.specs.Words.{app_of, new_app, rule_of};
-ghost use Rattle.permit_args.specs.Plans.{act_app, check_policy_app, flag, import_app, init_app, list_app, optional_option, optional_word, register_app, required_option, required_word, serve_app, with_days, with_office};
+ghost use Rattle.permit_args.specs.Plans.{act_app, check_policy_app, flag, import_app, init_app, list_app, optional_option, optional_word};
+ghost use Rattle.permit_args.specs.Plans.{register_app, required_option, required_word, serve_app, with_days, with_office};
 
 use clap::{Arg, ArgAction, Command};
 use std::alloc::{AllocError, Global};

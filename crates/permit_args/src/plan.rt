@@ -146,7 +146,7 @@ pub enum PlanFault {
     Help(String),
     /// The words are bad; the text says why.
     Words(String),
-    /// Want of memory.
+    /// Out of memory.
     Memory,
 }
 

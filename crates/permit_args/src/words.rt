@@ -1,10 +1,12 @@
 //! What the words behind the program's name ask for.
 
-ghost use Rattle.std.specs.Prelude.{◌≡◌, [], IfOk, IfSome, IsTrue, map, Some, Ok, true, string_bytes};
+ghost use Rattle.std.specs.Prelude.{◌≡◌, [], IfErr, IfOk, IfSome, IsTrue, map, Some, Ok, true, string_bytes};
 ghost use Rattle.clap.specs.Words.{app_of, first_of, found_of, is_simple, matches_of, rows_of};
 ghost use Rattle.permit_base.specs.Stages.{is_file_stage};
 ghost use Rattle.permit_base.specs.Words.{register_word, stage_word};
-ghost use Rattle.permit_args.specs.Plans.{act_app, check_policy_app, import_app, init_app, is_given, list_app, register_app, serve_app, text_of, IsActOf, IsCheckOf, IsCheckPolicyOf, IsConnectionsOf, IsCountOf, IsDaysOf, IsImportOf, IsInitOf, IsListOf, IsOfficeOf, IsPlanOf, IsRegisterOf, IsServeOf, IsStageOf, IsWorkersOf};
+ghost use Rattle.permit_args.specs.Plans.{act_app, check_policy_app, import_app, init_app, is_given, list_app, register_app, serve_app, text_of};
+ghost use Rattle.permit_args.specs.Plans.{IsActOf, IsCheckOf, IsCheckPolicyOf, IsConnectionsOf, IsCountOf, IsDaysOf, IsImportOf, IsInitOf, IsListOf};
+ghost use Rattle.permit_args.specs.Plans.{IsOfficeOf, IsPlanOf, IsRegisterOf, IsServeOf, IsStageOf, IsWorkersOf, Refuses};
 
 use crate::commands::{act, check_policy, import, init, list, program, register, serve};
 use crate::plan::{
@@ -149,7 +151,8 @@ fn kind(alloc: Global, name: &str) -> Result<RegisterKind, PlanFault>
 
 /// The number of a word, from 1 to the greatest that its place allows, as it is written out.
 fn count(alloc: Global, text: &str, greatest: u32, place: &str) -> Result<u32, PlanFault>
-    ensures { IfOk result (IsCountOf greatest text.now) }
+    ensures number { IfOk result (IsCountOf greatest text.now) }
+    ensures refused { IfErr result (Refuses (IsCountOf greatest text.now)) }
 {
     let Ok(number) = text.parse::<u32>() else {
         return Err(invalid(alloc, text, place));
@@ -164,7 +167,8 @@ fn count(alloc: Global, text: &str, greatest: u32, place: &str) -> Result<u32, P
 
 /// How many workers serve.
 fn workers(alloc: Global, matches: &ArgMatches<'_>) -> Result<u32, PlanFault>
-    ensures { IfOk result (IsWorkersOf (rows_of (found_of matches.now))) }
+    ensures number { IfOk result (IsWorkersOf (rows_of (found_of matches.now))) }
+    ensures refused { IfErr result (Refuses (IsWorkersOf (rows_of (found_of matches.now)))) }
 {
     match value(matches, "workers") {
         Some(text) => count(alloc, text, MOST_WORKERS, "--workers <WORKERS>"),
@@ -174,7 +178,8 @@ fn workers(alloc: Global, matches: &ArgMatches<'_>) -> Result<u32, PlanFault>
 
 /// After how many connections a worker ends.
 fn connections(alloc: Global, matches: &ArgMatches<'_>) -> Result<Option<u32>, PlanFault>
-    ensures { IfOk result (IsConnectionsOf (rows_of (found_of matches.now))) }
+    ensures number { IfOk result (IsConnectionsOf (rows_of (found_of matches.now))) }
+    ensures refused { IfErr result (Refuses (IsConnectionsOf (rows_of (found_of matches.now)))) }
 {
     match value(matches, "connections") {
         Some(text) => Ok(Some(count(

@@ -13,6 +13,6 @@ returns c =
       policy = c.in_ok-required-2.ensures;
       days = c.days.ensures;
       listen = c.in_ok-required-3.ensures;
-      workers = c.in_ok-workers.ensures;
-      connections = c.in_ok-connections.ensures;
+      workers = c.in_ok-workers.ensures.number;
+      connections = c.in_ok-connections.ensures.number;
     })
