@@ -23,21 +23,26 @@ use Rattle.permit_policy.specs.Denial.{denied}
 use Rattle.permit_office.specs.Answers.{reason_in}
 use Rattle.permit_office.proofs.Lists.{any_found}
 
-denied_by : (allowed : Outcome) (h : History) (name rule : List ℕ) (b : Bool) → Some name ≡ (if b then None else Some rule) → (if b then allowed else refused h (refusal.Denied rule)) ≡ refused h (refusal.Denied name)
+denied_by : (allowed : Outcome) (h : History) (name rule : List ℕ) (b : Bool) → Some name ≡ (if b then None else Some rule) →
+    (if b then allowed else refused h (refusal.Denied rule)) ≡ refused h (refusal.Denied name)
 denied_by allowed h name rule true e = cc
 denied_by allowed h name rule false e = let same : rule ≡ name = cc in ap (λ r. refused h (refusal.Denied r)) same
 
 -- a denial is the outcome
-pub denied_outcome : (policy : Policy) (h : History) (day : ℕ) (caller : Party) (request : Request) (d : Decision) (name : List ℕ) → Some name ≡ denied d → outcome_by_decision policy h day caller request d ≡ refused h (refusal.Denied name)
+pub denied_outcome : (policy : Policy) (h : History) (day : ℕ) (caller : Party) (request : Request) (d : Decision) (name : List ℕ) → Some name ≡ denied d →
+    outcome_by_decision policy h day caller request d ≡ refused h (refusal.Denied name)
 denied_outcome policy h day caller request d name e = denied_by (outcome_if_allowed policy h day caller request) h name d.rule (is_allow d.effect) e
 
-allowed_by : (allowed : Outcome) (other : Outcome) (rule : List ℕ) (b : Bool) → None ≡ (if b then None else Some rule) → (if b then allowed else other) ≡ allowed
+allowed_by : (allowed : Outcome) (other : Outcome) (rule : List ℕ) (b : Bool) → None ≡ (if b then None else Some rule) →
+    (if b then allowed else other) ≡ allowed
 allowed_by allowed other rule true e = refl
 allowed_by allowed other rule false e = cc
 
 -- what isn't denied is performed
-pub allowed_outcome : (policy : Policy) (h : History) (day : ℕ) (caller : Party) (request : Request) (d : Decision) → None ≡ denied d → outcome_by_decision policy h day caller request d ≡ outcome_if_allowed policy h day caller request
-allowed_outcome policy h day caller request d e = allowed_by (outcome_if_allowed policy h day caller request) (refused h (refusal.Denied d.rule)) d.rule (is_allow d.effect) e
+pub allowed_outcome : (policy : Policy) (h : History) (day : ℕ) (caller : Party) (request : Request) (d : Decision) → None ≡ denied d →
+    outcome_by_decision policy h day caller request d ≡ outcome_if_allowed policy h day caller request
+allowed_outcome policy h day caller request d e = allowed_by (outcome_if_allowed policy h day caller request) (refused h (refusal.Denied d.rule)) d.rule
+    (is_allow d.effect) e
 
 room : (most n : ℕ) → nat_le most n ≡ false → nat_lt n most ≡ true
 room most n e = grind (arith, nat_tests)
@@ -76,15 +81,19 @@ all_two true false d e = cc
 pub parcel_suits : (h : History) (day caller : ℕ) (lot address : List ℕ) (owner : ℕ) → reason_against h day caller (AddParcel lot address owner) ≡ None →
     IsTrue (nat_lt (length (parcels h)) most_records && is_none (find (λ p. bytes_eq p.lot lot) (parcels h)) && is_some (find (λ p. p.id == owner) (parties h)))
 parcel_suits h day caller lot address owner e =
-    let t = three_pass (is_some (find (λ (p : Party). p.id == owner) (parties h))) (list_any (λ (p : Parcel). bytes_eq p.lot lot) (parcels h)) (nat_le most_records (length (parcels h))) _ _ _ e in
-    all_three _ _ _ (room _ _ t.2) (none_found (find (λ (p : Parcel). bytes_eq p.lot lot) (parcels h)) (sym (any_found (λ (p : Parcel). bytes_eq p.lot lot) (parcels h)) ∙ t.1)) t.0
+    let t = three_pass (is_some (find (λ (p : Party). p.id == owner) (parties h))) (list_any (λ (p : Parcel). bytes_eq p.lot lot) (parcels h))
+    (nat_le most_records (length (parcels h))) _ _ _ e in
+    all_three _ _ _ (room _ _ t.2) (none_found (find (λ (p : Parcel). bytes_eq p.lot lot) (parcels h))
+    (sym (any_found (λ (p : Parcel). bytes_eq p.lot lot) (parcels h)) ∙ t.1)) t.0
 
 -- an admitted party suits the tables
-pub party_suits : (h : History) (day caller : ℕ) (name : List ℕ) (role : Role) (token digest : List ℕ) → digest ≡ digest_of token → reason_against h day caller (AddParty name role token) ≡ None →
+pub party_suits : (h : History) (day caller : ℕ) (name : List ℕ) (role : Role) (token digest : List ℕ) → digest ≡ digest_of token →
+    reason_against h day caller (AddParty name role token) ≡ None →
     IsTrue (nat_lt (length (parties h)) most_records && is_none (find (λ p. bytes_eq p.digest digest) (parties h)))
 party_suits h day caller name role token digest d e =
     let t = two_pass (is_some (find (λ (p : Party). bytes_eq p.digest (digest_of token)) (parties h))) (nat_le most_records (length (parties h))) _ _ e in
-    all_two _ _ (room _ _ t.1) (ap (λ x. is_none (find (λ (p : Party). bytes_eq p.digest x) (parties h))) d ∙ none_found (find (λ (p : Party). bytes_eq p.digest (digest_of token)) (parties h)) t.0)
+    all_two _ _ (room _ _ t.1) (ap (λ x. is_none (find (λ (p : Party). bytes_eq p.digest x) (parties h))) d
+    ∙ none_found (find (λ (p : Party). bytes_eq p.digest (digest_of token)) (parties h)) t.0)
 
 -- ---- what is admitted
 
@@ -98,7 +107,8 @@ number_is (Ok n) number same is e = cc
 number_is (Err why) number same is e = cc
 
 -- an admitted file suits the tables
-pub file_suits : (h : History) (day caller parcel : ℕ) (kind : Kind) (valuation : ℕ) (description : List ℕ) (land : Parcel) → parcel_numbered h parcel ≡ Some land → IsTrue (is_party h caller) → reason_against h day caller (File parcel kind valuation description) ≡ None →
+pub file_suits : (h : History) (day caller parcel : ℕ) (kind : Kind) (valuation : ℕ) (description : List ℕ) (land : Parcel) →
+    parcel_numbered h parcel ≡ Some land → IsTrue (is_party h caller) → reason_against h day caller (File parcel kind valuation description) ≡ None →
     IsTrue (nat_lt (length (case_files h)) most_records && is_some (parcel_numbered h parcel) && is_party h caller)
 file_suits h day caller parcel kind valuation description land there party e =
     let c : nat_le most_records (length (filings h)) ≡ false = one_pass (nat_le most_records (length (filings h))) _ e in
@@ -110,13 +120,15 @@ first_two true b r s e = refl
 first_two false b r s e = cc
 
 -- an admitted declaration suits the tables
-pub interest_suits : (h : History) (day caller parcel : ℕ) (land : Parcel) → parcel_numbered h parcel ≡ Some land → IsTrue (is_party h caller) → reason_against h day caller (Declare parcel) ≡ None →
+pub interest_suits : (h : History) (day caller parcel : ℕ) (land : Parcel) → parcel_numbered h parcel ≡ Some land → IsTrue (is_party h caller) →
+    reason_against h day caller (Declare parcel) ≡ None →
     IsTrue (is_some (parcel_numbered h parcel) && is_party h caller && not (has_interest h parcel caller))
 interest_suits h day caller parcel land there party e =
     all_three _ _ _ (ap (λ o. is_some o) there) party (ap not (one_pass (has_interest h parcel caller) _ e))
 
 -- an admitted transfer suits the tables
-pub transfer_suits : (h : History) (day caller parcel to : ℕ) (land : Parcel) → parcel_numbered h parcel ≡ Some land → reason_against h day caller (Transfer parcel to) ≡ None →
+pub transfer_suits : (h : History) (day caller parcel to : ℕ) (land : Parcel) → parcel_numbered h parcel ≡ Some land →
+    reason_against h day caller (Transfer parcel to) ≡ None →
     IsTrue (is_some (parcel_numbered h parcel) && is_party h to)
 transfer_suits h day caller parcel to land there e =
     all_two _ _ (ap (λ o. is_some o) there) (first_two (is_party h to) _ _ _ e)

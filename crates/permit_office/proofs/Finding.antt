@@ -20,12 +20,14 @@ use Rattle.permit_model.specs.Files.{Filing, CaseFile, filings, case_file, case_
 use Rattle.permit_model.specs.Facts.{parcel_facts, file_facts}
 use Rattle.permit_model.specs.Policy.{Policy, decision}
 use Rattle.permit_model.specs.Tables.{Paper, State, FileRow, file_row, state_of, file_view, papers_of, tables}
-use Rattle.permit_model.specs.Machine.{FileShown, ParcelShown, shown_parcel, outcome_by_decision, outcome_by_facts, outcome_by_request, refused, unchanged, shown_file}
+use Rattle.permit_model.specs.Machine.{FileShown, ParcelShown, shown_parcel, outcome_by_decision, outcome_by_facts, outcome_by_request, refused, unchanged}
+use Rattle.permit_model.specs.Machine.{shown_file}
 use Rattle.permit_policy.specs.Denial.{denied}
 use Rattle.permit_office.proofs.Lists.{find_mapped}
 use Rattle.permit_office.proofs.Deciding.{allowed_outcome}
 
-found_number_by : {A : Type 0} (id : A → ℕ) (k : ℕ) (x y : A) (rest : Option A) (b : Bool) → (id x == k) ≡ b → cond b (Some x) rest ≡ Some y → (rest ≡ Some y → id y ≡ k) → id y ≡ k
+found_number_by : {A : Type 0} (id : A → ℕ) (k : ℕ) (x y : A) (rest : Option A) (b : Bool) → (id x == k) ≡ b → cond b (Some x) rest ≡ Some y →
+    (rest ≡ Some y → id y ≡ k) → id y ≡ k
 found_number_by id k x y rest true e found ih = let same : x ≡ y = ap (λ o. unwrap_or o x) found in ap id (sym same) ∙ eqb-true (id x) k e
 found_number_by id k x y rest false e found ih = ih found
 
@@ -51,16 +53,21 @@ ownerless h id None e found = e
 ownerless h id (Some land) e found = cc
 
 -- the filing's parcel isn't there
-pub file_unplaced : (policy : Policy) (h : History) (day : ℕ) (caller : Party) (parcel : ℕ) (kind : Kind) (valuation : ℕ) (description : List ℕ) → None ≡ Parcels.owner h parcel →
+pub file_unplaced : (policy : Policy) (h : History) (day : ℕ) (caller : Party) (parcel : ℕ) (kind : Kind) (valuation : ℕ) (description : List ℕ) →
+    None ≡ Parcels.owner h parcel →
     outcome_by_request policy h day caller (File parcel kind valuation description) ≡ refused h refusal.Record
 file_unplaced policy h day caller parcel kind valuation description none =
-    ap (λ (o : Option Parcel). outcome_by_facts policy h day caller (File parcel kind valuation description) (option_map (λ (p : Parcel). parcel_facts h caller parcel New action.File) o)) (ownerless h parcel (parcel_numbered h parcel) refl none)
+    ap (λ (o : Option Parcel). outcome_by_facts policy h day caller (File parcel kind valuation description)
+    (option_map (λ (p : Parcel). parcel_facts h caller parcel New action.File) o)) (ownerless h parcel (parcel_numbered h parcel) refl none)
 
 -- the filing's parcel is there
-pub file_judged : (policy : Policy) (h : History) (day : ℕ) (caller : Party) (parcel : ℕ) (kind : Kind) (valuation : ℕ) (description : List ℕ) (land : Parcel) → parcel_numbered h parcel ≡ Some land →
-    outcome_by_request policy h day caller (File parcel kind valuation description) ≡ outcome_by_decision policy h day caller (File parcel kind valuation description) (decision policy (parcel_facts h caller parcel New action.File))
+pub file_judged : (policy : Policy) (h : History) (day : ℕ) (caller : Party) (parcel : ℕ) (kind : Kind) (valuation : ℕ) (description : List ℕ) (land : Parcel) →
+    parcel_numbered h parcel ≡ Some land →
+    outcome_by_request policy h day caller (File parcel kind valuation description)
+    ≡ outcome_by_decision policy h day caller (File parcel kind valuation description) (decision policy (parcel_facts h caller parcel New action.File))
 file_judged policy h day caller parcel kind valuation description land found =
-    ap (λ (o : Option Parcel). outcome_by_facts policy h day caller (File parcel kind valuation description) (option_map (λ (p : Parcel). parcel_facts h caller parcel New action.File) o)) found
+    ap (λ (o : Option Parcel). outcome_by_facts policy h day caller (File parcel kind valuation description)
+    (option_map (λ (p : Parcel). parcel_facts h caller parcel New action.File) o)) found
 
 -- ---- files
 
@@ -76,7 +83,8 @@ rows_found h id =
     find_mapped file_row (λ (f : CaseFile). f.filing.id == id) (λ (r : FileRow). r.id == id) (λ f. refl) (case_files h)
     ∙ ap (option_map file_row) (find_mapped (case_file h) (λ (f : Filing). f.id == id) (λ (f : CaseFile). f.filing.id == id) (λ f. refl) (filings h))
 
-found_by : (h : History) (id : ℕ) (row : FileRow) (o : Option Filing) → find (λ (f : Filing). f.id == id) (filings h) ≡ o → Some row ≡ option_map file_row (option_map (case_file h) o) → IsFound h id row
+found_by : (h : History) (id : ℕ) (row : FileRow) (o : Option Filing) → find (λ (f : Filing). f.id == id) (filings h) ≡ o →
+    Some row ≡ option_map file_row (option_map (case_file h) o) → IsFound h id row
 found_by h id row None e found = cc
 found_by h id row (Some filing) e found = record {
   filing = filing;
@@ -100,7 +108,8 @@ pub record IsStateOf (h : History) (id : ℕ) (state : State) : Type 0 where
   pub found : case_numbered h id ≡ Some file
   pub state_is : state ≡ state_of file
 
-state_by : (h : History) (id : ℕ) (state : State) (o : Option CaseFile) → case_numbered h id ≡ o → Some state ≡ option_map (λ (r : FileRow). r.state) (option_map file_row o) → IsStateOf h id state
+state_by : (h : History) (id : ℕ) (state : State) (o : Option CaseFile) → case_numbered h id ≡ o →
+    Some state ≡ option_map (λ (r : FileRow). r.state) (option_map file_row o) → IsStateOf h id state
 state_by h id state None e found = cc
 state_by h id state (Some file) e found = record { file = file; found = e; state_is = ap (λ o. unwrap_or o state) found }
 
@@ -116,16 +125,20 @@ stateless_by : (o : Option CaseFile) → None ≡ option_map (λ (r : FileRow). 
 stateless_by None e = refl
 stateless_by (Some f) e = cc
 
-pub read_missing : (policy : Policy) (h : History) (day : ℕ) (caller : Party) (id : ℕ) → None ≡ find (λ (r : FileRow). r.id == id) (tables h).files → outcome_by_request policy h day caller (ReadFile id) ≡ refused h refusal.Record
+pub read_missing : (policy : Policy) (h : History) (day : ℕ) (caller : Party) (id : ℕ) → None ≡ find (λ (r : FileRow). r.id == id) (tables h).files →
+    outcome_by_request policy h day caller (ReadFile id) ≡ refused h refusal.Record
 read_missing policy h day caller id none =
-    ap (λ (o : Option CaseFile). outcome_by_facts policy h day caller (ReadFile id) (option_map (λ file. file_facts h day caller file action.Read) o)) (missing_by (case_numbered h id) (none ∙ rows_found h id))
+    ap (λ (o : Option CaseFile). outcome_by_facts policy h day caller (ReadFile id) (option_map (λ file. file_facts h day caller file action.Read) o))
+    (missing_by (case_numbered h id) (none ∙ rows_found h id))
 
 pub read_judged : (policy : Policy) (h : History) (day : ℕ) (caller : Party) (id : ℕ) (file : CaseFile) → case_numbered h id ≡ Some file →
-    outcome_by_request policy h day caller (ReadFile id) ≡ outcome_by_decision policy h day caller (ReadFile id) (decision policy (file_facts h day caller file action.Read))
+    outcome_by_request policy h day caller (ReadFile id) ≡ outcome_by_decision policy h day caller (ReadFile id)
+    (decision policy (file_facts h day caller file action.Read))
 read_judged policy h day caller id file found =
     ap (λ (o : Option CaseFile). outcome_by_facts policy h day caller (ReadFile id) (option_map (λ f. file_facts h day caller f action.Read) o)) found
 
-pub read_shown : (policy : Policy) (h : History) (day : ℕ) (caller : Party) (id : ℕ) (file : CaseFile) → case_numbered h id ≡ Some file → None ≡ denied (decision policy (file_facts h day caller file action.Read)) →
+pub read_shown : (policy : Policy) (h : History) (day : ℕ) (caller : Party) (id : ℕ) (file : CaseFile) → case_numbered h id ≡ Some file →
+    None ≡ denied (decision policy (file_facts h day caller file action.Read)) →
     outcome_by_request policy h day caller (ReadFile id) ≡ unchanged h (FileShown (file_view day file) (papers_of h file.filing.id))
 read_shown policy h day caller id file found allowed =
     read_judged policy h day caller id file found
@@ -133,7 +146,8 @@ read_shown policy h day caller id file found allowed =
     ∙ ap (λ (o : Option CaseFile). unchanged h (shown_file h day o)) found
 
 -- a row with its stage, its timing and its papers is the file shown
-pub shown_as : (h : History) (day id : ℕ) (filing : Filing) (row : FileRow) (s : Stage) (t : Timing) (ps : List Paper) → row ≡ file_row (case_file h filing) → filing.id ≡ id →
+pub shown_as : (h : History) (day id : ℕ) (filing : Filing) (row : FileRow) (s : Stage) (t : Timing) (ps : List Paper) → row ≡ file_row (case_file h filing) →
+    filing.id ≡ id →
     s ≡ row_stage day row.state → t ≡ row_timing day row.state → ps ≡ filter (λ p. p.file == id) (tables h).papers →
     FileShown (record { row = row; stage = s; timing = t }) ps ≡ FileShown (file_view day (case_file h filing)) (papers_of h filing.id)
 shown_as h day id filing row s t ps e named es et ep =
@@ -144,16 +158,21 @@ shown_as h day id filing row s t ps e named es et ep =
 
 -- a declaration's parcel is there, and one that is read
 pub declare_judged : (policy : Policy) (h : History) (day : ℕ) (caller : Party) (parcel : ℕ) (land : Parcel) → parcel_numbered h parcel ≡ Some land →
-    outcome_by_request policy h day caller (Declare parcel) ≡ outcome_by_decision policy h day caller (Declare parcel) (decision policy (parcel_facts h caller parcel Office action.Declare))
+    outcome_by_request policy h day caller (Declare parcel) ≡ outcome_by_decision policy h day caller (Declare parcel)
+    (decision policy (parcel_facts h caller parcel Office action.Declare))
 declare_judged policy h day caller parcel land found =
-    ap (λ (o : Option Parcel). outcome_by_facts policy h day caller (Declare parcel) (option_map (λ (p : Parcel). parcel_facts h caller parcel Office action.Declare) o)) found
+    ap (λ (o : Option Parcel). outcome_by_facts policy h day caller (Declare parcel)
+    (option_map (λ (p : Parcel). parcel_facts h caller parcel Office action.Declare) o)) found
 
 pub parcel_judged : (policy : Policy) (h : History) (day : ℕ) (caller : Party) (parcel : ℕ) (land : Parcel) → parcel_numbered h parcel ≡ Some land →
-    outcome_by_request policy h day caller (ReadParcel parcel) ≡ outcome_by_decision policy h day caller (ReadParcel parcel) (decision policy (parcel_facts h caller parcel Office action.ReadParcel))
+    outcome_by_request policy h day caller (ReadParcel parcel) ≡ outcome_by_decision policy h day caller (ReadParcel parcel)
+    (decision policy (parcel_facts h caller parcel Office action.ReadParcel))
 parcel_judged policy h day caller parcel land found =
-    ap (λ (o : Option Parcel). outcome_by_facts policy h day caller (ReadParcel parcel) (option_map (λ (p : Parcel). parcel_facts h caller parcel Office action.ReadParcel) o)) found
+    ap (λ (o : Option Parcel). outcome_by_facts policy h day caller (ReadParcel parcel)
+    (option_map (λ (p : Parcel). parcel_facts h caller parcel Office action.ReadParcel) o)) found
 
-pub parcel_read : (policy : Policy) (h : History) (day : ℕ) (caller : Party) (parcel : ℕ) (land : Parcel) → parcel_numbered h parcel ≡ Some land → None ≡ denied (decision policy (parcel_facts h caller parcel Office action.ReadParcel)) →
+pub parcel_read : (policy : Policy) (h : History) (day : ℕ) (caller : Party) (parcel : ℕ) (land : Parcel) → parcel_numbered h parcel ≡ Some land →
+    None ≡ denied (decision policy (parcel_facts h caller parcel Office action.ReadParcel)) →
     outcome_by_request policy h day caller (ReadParcel parcel) ≡ unchanged h (ParcelShown land)
 parcel_read policy h day caller parcel land found allowed =
     parcel_judged policy h day caller parcel land found
@@ -161,21 +180,28 @@ parcel_read policy h day caller parcel land found allowed =
     ∙ ap (λ (o : Option Parcel). unchanged h (shown_parcel o)) found
 
 pub transfer_judged : (policy : Policy) (h : History) (day : ℕ) (caller : Party) (parcel to : ℕ) (land : Parcel) → parcel_numbered h parcel ≡ Some land →
-    outcome_by_request policy h day caller (Transfer parcel to) ≡ outcome_by_decision policy h day caller (Transfer parcel to) (decision policy (parcel_facts h caller parcel Office action.Transfer))
+    outcome_by_request policy h day caller (Transfer parcel to) ≡ outcome_by_decision policy h day caller (Transfer parcel to)
+    (decision policy (parcel_facts h caller parcel Office action.Transfer))
 transfer_judged policy h day caller parcel to land found =
-    ap (λ (o : Option Parcel). outcome_by_facts policy h day caller (Transfer parcel to) (option_map (λ (p : Parcel). parcel_facts h caller parcel Office action.Transfer) o)) found
+    ap (λ (o : Option Parcel). outcome_by_facts policy h day caller (Transfer parcel to)
+    (option_map (λ (p : Parcel). parcel_facts h caller parcel Office action.Transfer) o)) found
 
 -- ---- a command on a file
 
-pub command_missing : (policy : Policy) (h : History) (day : ℕ) (caller : Party) (id : ℕ) (command : Command) → None ≡ row_state_in h id → outcome_by_request policy h day caller (OnFile id command) ≡ refused h refusal.Record
+pub command_missing : (policy : Policy) (h : History) (day : ℕ) (caller : Party) (id : ℕ) (command : Command) → None ≡ row_state_in h id →
+    outcome_by_request policy h day caller (OnFile id command) ≡ refused h refusal.Record
 command_missing policy h day caller id command none =
-    ap (λ (o : Option CaseFile). outcome_by_facts policy h day caller (OnFile id command) (option_map (λ file. file_facts h day caller file (command_action command)) o))
+    ap (λ (o : Option CaseFile). outcome_by_facts policy h day caller (OnFile id command)
+    (option_map (λ file. file_facts h day caller file (command_action command)) o))
     (stateless_by (case_numbered h id) (none ∙ ap (option_map (λ (r : FileRow). r.state)) (rows_found h id)))
 
-pub command_judged : (policy : Policy) (h : History) (day : ℕ) (caller : Party) (id : ℕ) (command : Command) (file : CaseFile) → case_numbered h id ≡ Some file →
-    outcome_by_request policy h day caller (OnFile id command) ≡ outcome_by_decision policy h day caller (OnFile id command) (decision policy (file_facts h day caller file (command_action command)))
+pub command_judged : (policy : Policy) (h : History) (day : ℕ) (caller : Party) (id : ℕ) (command : Command) (file : CaseFile) →
+    case_numbered h id ≡ Some file →
+    outcome_by_request policy h day caller (OnFile id command) ≡ outcome_by_decision policy h day caller (OnFile id command)
+    (decision policy (file_facts h day caller file (command_action command)))
 command_judged policy h day caller id command file found =
-    ap (λ (o : Option CaseFile). outcome_by_facts policy h day caller (OnFile id command) (option_map (λ f. file_facts h day caller f (command_action command)) o)) found
+    ap (λ (o : Option CaseFile). outcome_by_facts policy h day caller (OnFile id command)
+    (option_map (λ f. file_facts h day caller f (command_action command)) o)) found
 
 -- a file that is there, with its filing
 pub record IsCase (h : History) (id : ℕ) (file : CaseFile) : Type 0 where
@@ -184,7 +210,8 @@ pub record IsCase (h : History) (id : ℕ) (file : CaseFile) : Type 0 where
   pub is : case_file h filing ≡ file
   pub named : filing.id ≡ id
 
-case_by : (h : History) (id : ℕ) (file : CaseFile) (o : Option Filing) → find (λ (f : Filing). f.id == id) (filings h) ≡ o → option_map (case_file h) o ≡ Some file → IsCase h id file
+case_by : (h : History) (id : ℕ) (file : CaseFile) (o : Option Filing) → find (λ (f : Filing). f.id == id) (filings h) ≡ o →
+    option_map (case_file h) o ≡ Some file → IsCase h id file
 case_by h id file None e there = cc
 case_by h id file (Some filing) e there = record {
   filing = filing;

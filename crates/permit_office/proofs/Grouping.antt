@@ -1,5 +1,6 @@
 -- The groups in which a listing's selections are looked up: together they find what the selections find, as often.
-use Rattle.std.proofs.Common.{◌≡◌, ◌≤◌, ℕ, ◌+◌, inl, inr, Bool, true, false, not, ◌&&◌, cond, List, [], ◌∷◌, ◌++◌, map, length, refl, sym, ◌∙◌, ap, arith, eq-eqb}
+use Rattle.std.proofs.Common.{◌≡◌, ◌≤◌, ℕ, ◌+◌, inl, inr, Bool, true, false, not, ◌&&◌, cond, List, [], ◌∷◌, ◌++◌, map, length, refl, sym, ◌∙◌, ap, arith}
+use Rattle.std.proofs.Common.{eq-eqb}
 use Rattle.std.specs.Prelude.{filter, IsPermutation, ◌||◌, ◌==◌, if◌then◌else◌}
 use Rattle.std.specs.List.{flat_map, list_any, list_all, AllByRecursion}
 use Rattle.std.proofs.lemmas.Bool.{eqb-true}
@@ -23,9 +24,11 @@ use Rattle.permit_model.specs.Days.{timing_on}
 use Rattle.permit_model.specs.SoundState.{is_stored}
 use Rattle.permit_model.specs.Facts.{holds, no_relations}
 use Rattle.permit_model.specs.Opened.{Cell, Allowed, only, Pair, all_pairs, allowed_as_two}
-use Rattle.permit_model.specs.Routes.{kept_cells, cell_on_day, route_by, routes_in, cell_meets, is_open_to_all, is_all, routes_of, Found, found_row, relations_found, is_found, found_by}
+use Rattle.permit_model.specs.Routes.{kept_cells, cell_on_day, route_by, routes_in, cell_meets, is_open_to_all, is_all, routes_of, Found, found_row}
+use Rattle.permit_model.specs.Routes.{relations_found, is_found, found_by}
 use Rattle.permit_model.specs.Tables.{Tables}
-use Rattle.permit_model.proofs.Selecting.{bit, how_many-cons, how_many-map, how_many-append, how_many-none, how_many-filter, some_counted, any_weaker, flat_filter, everywhere, same_selected}
+use Rattle.permit_model.proofs.Selecting.{bit, how_many-cons, how_many-map, how_many-append, how_many-none, how_many-filter, some_counted, any_weaker}
+use Rattle.permit_model.proofs.Selecting.{flat_filter, everywhere, same_selected}
 use Rattle.permit_model.proofs.Members.{IsMember, all_members}
 use Rattle.permit_model.proofs.FoundFiles.{marks, fits, kept_cell_once}
 use Rattle.permit_store.specs.Handing.{is_found_by_any, found_by_any}
@@ -177,7 +180,8 @@ seen_through : (earlier : List Route) (r s : Route) → seen earlier r ≡ true 
 seen_through earlier r s h same = any_weaker (λ other. are_alike other r) (λ other. are_alike other s) (λ other e. alike_shift other r s e ∙ same) earlier h
 
 seen_back : (earlier : List Route) (r s : Route) → are_alike r s ≡ true → seen earlier s ≡ true → seen earlier r ≡ true
-seen_back earlier r s same h = any_weaker (λ other. are_alike other s) (λ other. are_alike other r) (λ other e. alike_shift other s r e ∙ alike_flip r s same) earlier h
+seen_back earlier r s same h = any_weaker (λ other. are_alike other s) (λ other. are_alike other r)
+    (λ other e. alike_shift other s r e ∙ alike_flip r s same) earlier h
 
 -- at most one of the selections that ask alike finds the row
 abbrev pub IsOnce : List Route → ℕ → ℕ → Found → Type 0
@@ -187,7 +191,8 @@ IsOnce all caller day x = (r : Route) → is_by_one r ≡ true → how_many (λ 
 -- ask nothing, and selections of all that ask like one of the beginning.
 abbrev pub CountsGroups : List Route → List Route → List (List Route) → Type 0
 CountsGroups all earlier groups = (caller day : ℕ) (x : Found) → IsOnce all caller day x
-    → how_many (λ g. is_found_by_any g caller day x) groups ≡ how_many (λ s. is_found s caller day x && not (is_by_one s)) earlier + how_many (λ s. is_found s caller day x && seen earlier s) all
+    → how_many (λ g. is_found_by_any g caller day x) groups ≡ how_many (λ s. is_found s caller day x && not (is_by_one s)) earlier + how_many
+    (λ s. is_found s caller day x && seen earlier s) all
 
 and_false : (b : Bool) → (b && false) ≡ true → false ≡ true
 and_false true h = h
@@ -195,7 +200,8 @@ and_false false h = h
 
 pub counts_none : (all : List Route) → CountsGroups all [] []
 counts_none all = λ caller day x few.
-    let none : how_many (λ s. is_found s caller day x && false) all ≤ how_many (λ s. false) all = weaker (λ s. is_found s caller day x && false) (λ s. false) (λ s h. and_false (is_found s caller day x) h) all in
+    let none : how_many (λ s. is_found s caller day x && false) all ≤ how_many (λ s. false) all =
+    weaker (λ s. is_found s caller day x && false) (λ s. false) (λ s h. and_false (is_found s caller day x) h) all in
     let zero : how_many {A = Route} (λ s. false) all ≡ 0 = how_many-none all in
     let same : how_many (λ s. is_found s caller day x && false) all ≡ 0 = omega arith in
     omega arith
@@ -209,14 +215,18 @@ on true b e = ap (λ c. bit (not c)) e
 on false b e = refl
 
 -- a selection whose group was looked up
-pub counts_seen : (all earlier : List Route) (r : Route) (groups : List (List Route)) → seen earlier r ≡ true → CountsGroups all earlier groups → CountsGroups all (earlier ++ r ∷ []) groups
+pub counts_seen : (all earlier : List Route) (r : Route) (groups : List (List Route)) → seen earlier r ≡ true → CountsGroups all earlier groups →
+    CountsGroups all (earlier ++ r ∷ []) groups
 counts_seen all earlier r groups h counts = λ caller day x few.
     let f : Route → Bool = λ s. is_found s caller day x in
     let asked : bit (f r && not (is_by_one r)) ≡ 0 = off (f r) (is_by_one r) (seen_by_one earlier r h) in
-    let first : how_many (λ s. f s && not (is_by_one s)) (earlier ++ r ∷ []) ≡ how_many (λ s. f s && not (is_by_one s)) earlier + how_many (λ s. f s && not (is_by_one s)) (r ∷ []) = how_many-append (λ s. f s && not (is_by_one s)) earlier (r ∷ []) in
+    let first : how_many (λ s. f s && not (is_by_one s)) (earlier ++ r ∷ [])
+    ≡ how_many (λ s. f s && not (is_by_one s)) earlier + how_many (λ s. f s && not (is_by_one s)) (r ∷ []) =
+    how_many-append (λ s. f s && not (is_by_one s)) earlier (r ∷ []) in
     let alone : how_many (λ s. f s && not (is_by_one s)) (r ∷ []) ≡ bit (f r && not (is_by_one r)) + 0 = how_many-cons (λ s. f s && not (is_by_one s)) r [] in
     let grouped : how_many (λ s. f s && seen (earlier ++ r ∷ []) s) all ≡ how_many (λ s. f s && seen earlier s) all =
-    ap length (filter_agree (λ s. f s && seen (earlier ++ r ∷ []) s) (λ s. f s && seen earlier s) (λ s. ap (λ b. f s && b) (seen_same earlier r s (seen_through earlier r s h))) all) in
+    ap length (filter_agree (λ s. f s && seen (earlier ++ r ∷ []) s) (λ s. f s && seen earlier s)
+    (λ s. ap (λ b. f s && b) (seen_same earlier r s (seen_through earlier r s h))) all) in
     omega (arith, counts caller day x few, first, alone, asked, grouped)
 
 bits : (a b c : Bool) → (c ≡ true → b ≡ true → ⊥) → bit (a && (b || c)) ≡ bit (a && b) + bit (c && a)
@@ -228,7 +238,8 @@ bits false b true h = refl
 bits false b false h = refl
 
 -- the group of a selection that asks, the like of which wasn't seen
-new_group : (all earlier : List Route) (r : Route) (groups : List (List Route)) → is_by_one r ≡ true → seen earlier r ≡ false → CountsGroups all earlier groups → CountsGroups all (earlier ++ r ∷ []) (groups ++ filter (are_alike r) all ∷ [])
+new_group : (all earlier : List Route) (r : Route) (groups : List (List Route)) → is_by_one r ≡ true → seen earlier r ≡ false →
+    CountsGroups all earlier groups → CountsGroups all (earlier ++ r ∷ []) (groups ++ filter (are_alike r) all ∷ [])
 new_group all earlier r groups e h counts = λ caller day x few.
     let f : Route → Bool = λ s. is_found s caller day x in
     let any : List Route → Bool = λ g. is_found_by_any g caller day x in
@@ -238,18 +249,22 @@ new_group all earlier r groups e h counts = λ caller day x few.
     let later : how_many any (groups ++ group ∷ []) ≡ how_many any groups + how_many any (group ∷ []) = how_many-append any groups (group ∷ []) in
     let last : how_many any (group ∷ []) ≡ bit (any group) + 0 = how_many-cons any group [] in
     let asked : bit (f r && not (is_by_one r)) ≡ 0 = off (f r) (is_by_one r) e in
-    let first : how_many (λ s. f s && not (is_by_one s)) (earlier ++ r ∷ []) ≡ how_many (λ s. f s && not (is_by_one s)) earlier + how_many (λ s. f s && not (is_by_one s)) (r ∷ []) = how_many-append (λ s. f s && not (is_by_one s)) earlier (r ∷ []) in
+    let first : how_many (λ s. f s && not (is_by_one s)) (earlier ++ r ∷ [])
+    ≡ how_many (λ s. f s && not (is_by_one s)) earlier + how_many (λ s. f s && not (is_by_one s)) (r ∷ []) =
+    how_many-append (λ s. f s && not (is_by_one s)) earlier (r ∷ []) in
     let alone : how_many (λ s. f s && not (is_by_one s)) (r ∷ []) ≡ bit (f r && not (is_by_one r)) + 0 = how_many-cons (λ s. f s && not (is_by_one s)) r [] in
     let grouped : how_many (λ s. f s && seen (earlier ++ r ∷ []) s) all ≡ how_many (λ s. f s && seen earlier s) all + how_many (λ s. are_alike r s && f s) all =
     parted (λ s. f s && seen (earlier ++ r ∷ []) s) (λ s. f s && seen earlier s) (λ s. are_alike r s && f s)
-    (λ s. ap (λ b. bit (f s && b)) (any_last (λ other. are_alike other s) earlier r) ∙ bits (f s) (seen earlier s) (are_alike r s) (λ same there. clash (seen_back earlier r s same there))) all in
+    (λ s. ap (λ b. bit (f s && b)) (any_last (λ other. are_alike other s) earlier r)
+    ∙ bits (f s) (seen earlier s) (are_alike r s) (λ same there. clash (seen_back earlier r s same there))) all in
     omega (arith, counts caller day x few, first, alone, asked, grouped, later, last, hit, held)
   where
     clash : seen earlier r ≡ true → ⊥
     clash there = let bad : true ≡ false = sym there ∙ h in cc
 
 -- a selection that asks nothing is a group of its own
-new_alone : (all earlier : List Route) (r : Route) (groups : List (List Route)) → is_by_one r ≡ false → CountsGroups all earlier groups → CountsGroups all (earlier ++ r ∷ []) (groups ++ (r ∷ []) ∷ [])
+new_alone : (all earlier : List Route) (r : Route) (groups : List (List Route)) → is_by_one r ≡ false → CountsGroups all earlier groups →
+    CountsGroups all (earlier ++ r ∷ []) (groups ++ (r ∷ []) ∷ [])
 new_alone all earlier r groups e counts = λ caller day x few.
     let f : Route → Bool = λ s. is_found s caller day x in
     let any : List Route → Bool = λ g. is_found_by_any g caller day x in
@@ -257,17 +272,21 @@ new_alone all earlier r groups e counts = λ caller day x few.
     let later : how_many any (groups ++ (r ∷ []) ∷ []) ≡ how_many any groups + how_many any ((r ∷ []) ∷ []) = how_many-append any groups ((r ∷ []) ∷ []) in
     let last : how_many any ((r ∷ []) ∷ []) ≡ bit (any (r ∷ [])) + 0 = how_many-cons any (r ∷ []) [] in
     let asked : bit (f r && not (is_by_one r)) ≡ bit (f r) = on (f r) (is_by_one r) e in
-    let first : how_many (λ s. f s && not (is_by_one s)) (earlier ++ r ∷ []) ≡ how_many (λ s. f s && not (is_by_one s)) earlier + how_many (λ s. f s && not (is_by_one s)) (r ∷ []) = how_many-append (λ s. f s && not (is_by_one s)) earlier (r ∷ []) in
+    let first : how_many (λ s. f s && not (is_by_one s)) (earlier ++ r ∷ [])
+    ≡ how_many (λ s. f s && not (is_by_one s)) earlier + how_many (λ s. f s && not (is_by_one s)) (r ∷ []) =
+    how_many-append (λ s. f s && not (is_by_one s)) earlier (r ∷ []) in
     let alone : how_many (λ s. f s && not (is_by_one s)) (r ∷ []) ≡ bit (f r && not (is_by_one r)) + 0 = how_many-cons (λ s. f s && not (is_by_one s)) r [] in
     let grouped : how_many (λ s. f s && seen (earlier ++ r ∷ []) s) all ≡ how_many (λ s. f s && seen earlier s) all =
-    ap length (filter_agree (λ s. f s && seen (earlier ++ r ∷ []) s) (λ s. f s && seen earlier s) (λ s. ap (λ b. f s && b) (seen_same earlier r s (λ same. absurd (clash s same)))) all) in
+    ap length (filter_agree (λ s. f s && seen (earlier ++ r ∷ []) s) (λ s. f s && seen earlier s)
+    (λ s. ap (λ b. f s && b) (seen_same earlier r s (λ same. absurd (clash s same)))) all) in
     omega (arith, counts caller day x few, first, alone, asked, grouped, later, last, hit)
   where
     clash : (s : Route) → are_alike r s ≡ true → ⊥
     clash s same = let bad : true ≡ false = sym (alike_by_one r s same) ∙ e in cc
 
 -- a selection the like of which wasn't seen
-pub counts_new : (all earlier : List Route) (r : Route) (groups : List (List Route)) → seen earlier r ≡ false → CountsGroups all earlier groups → CountsGroups all (earlier ++ r ∷ []) (groups ++ group_of all r ∷ [])
+pub counts_new : (all earlier : List Route) (r : Route) (groups : List (List Route)) → seen earlier r ≡ false → CountsGroups all earlier groups →
+    CountsGroups all (earlier ++ r ∷ []) (groups ++ group_of all r ∷ [])
 counts_new all earlier r groups h counts = either (is_by_one r) refl
   where
     either : (b : Bool) → is_by_one r ≡ b → CountsGroups all (earlier ++ r ∷ []) (groups ++ (if b then filter (are_alike r) all else r ∷ []) ∷ [])
@@ -285,8 +304,11 @@ counts_all : (all : List Route) (groups : List (List Route)) → CountsGroups al
 counts_all all groups counts caller day x few =
     let f : Route → Bool = λ s. is_found s caller day x in
     let grouped : how_many (λ s. f s && seen all s) all ≡ how_many (λ s. f s && is_by_one s) all =
-    counted_same (λ s. f s && seen all s) (λ s. f s && is_by_one s) all (all_members (λ s. (f s && seen all s) ≡ (f s && is_by_one s)) all (λ s m. ap (λ b. f s && b) (all_seen s all m (is_by_one s) (seen all s) refl refl))) in
-    let whole : how_many f all ≡ how_many (λ s. f s && not (is_by_one s)) all + how_many (λ s. f s && is_by_one s) all = parted f (λ s. f s && not (is_by_one s)) (λ s. f s && is_by_one s) (λ s. halves (f s) (is_by_one s)) all in
+    counted_same (λ s. f s && seen all s) (λ s. f s && is_by_one s) all
+    (all_members (λ s. (f s && seen all s) ≡ (f s && is_by_one s)) all
+    (λ s m. ap (λ b. f s && b) (all_seen s all m (is_by_one s) (seen all s) refl refl))) in
+    let whole : how_many f all ≡ how_many (λ s. f s && not (is_by_one s)) all + how_many (λ s. f s && is_by_one s) all =
+    parted f (λ s. f s && not (is_by_one s)) (λ s. f s && is_by_one s) (λ s. halves (f s) (is_by_one s)) all in
     omega (arith, counts caller day x few, grouped, whole)
 
 -- ---- a listing's selections
@@ -300,14 +322,17 @@ one_relation relation.Applicant = refl
 one_relation _ = refl
 
 -- of items among which one at most is the same, one at most is so behind a test
-gated : {R : Type 0} (same hold keep : R → Bool) (mark : Bool) (xs : List R) → how_many same xs ≤ 1 → how_many (λ y. same y && (mark && hold y)) (filter keep xs) ≤ bit mark
+gated : {R : Type 0} (same hold keep : R → Bool) (mark : Bool) (xs : List R) → how_many same xs ≤ 1 →
+    how_many (λ y. same y && (mark && hold y)) (filter keep xs) ≤ bit mark
 gated same hold keep true xs few =
-    let fewer : how_many (λ y. same y && hold y) (filter keep xs) ≤ how_many same (filter keep xs) = weaker (λ y. same y && hold y) same (λ y h. left_of (same y) (hold y) h) (filter keep xs) in
+    let fewer : how_many (λ y. same y && hold y) (filter keep xs) ≤ how_many same (filter keep xs) =
+    weaker (λ y. same y && hold y) same (λ y h. left_of (same y) (hold y) h) (filter keep xs) in
     let kept : how_many same (filter keep xs) ≡ how_many (λ y. keep y && same y) xs = how_many-filter keep same xs in
     let all : how_many (λ y. keep y && same y) xs ≤ how_many same xs = weaker (λ y. keep y && same y) same (λ y h. right_of (keep y) (same y) h) xs in
     omega (arith, fewer, kept, all, few)
 gated {R} same hold keep false xs few =
-    let fewer : how_many (λ y. same y && false) (filter keep xs) ≤ how_many (λ y. false) (filter keep xs) = weaker (λ y. same y && false) (λ y. false) (λ y h. right_of (same y) false h) (filter keep xs) in
+    let fewer : how_many (λ y. same y && false) (filter keep xs) ≤ how_many (λ y. false) (filter keep xs) =
+    weaker (λ y. same y && false) (λ y. false) (λ y h. right_of (same y) false h) (filter keep xs) in
     let none : how_many {A = R} (λ y. false) (filter keep xs) ≡ 0 = how_many-none (filter keep xs) in
     omega (arith, fewer, none)
 
@@ -321,7 +346,8 @@ module _ (caller day : ℕ) (x : Found) where
 
   in_one : (a : Relation) (s : Stage) (t : Bool) (u : Timing) (may : Relations → Bool) (cell : Cell) (b : Bool)
       → how_many (hits (route.Cell (by.One a) s t u)) (if b then route_by cell by.Whole ∷ []
-      else map (λ r. route_by cell (by.One r)) (filter (λ r. may (only r)) all_relations) ++ map (λ (pair : Pair). route_by cell (by.Two pair.0 pair.1)) (filter (allowed_as_two may) all_pairs)) ≤ bit (marked cell)
+      else map (λ r. route_by cell (by.One r)) (filter (λ r. may (only r)) all_relations)
+      ++ map (λ (pair : Pair). route_by cell (by.Two pair.0 pair.1)) (filter (allowed_as_two may) all_pairs)) ≤ bit (marked cell)
   in_one a s t u may cell true = omega arith
   in_one a s t u may cell false =
       let r : Route = route.Cell (by.One a) s t u in
@@ -329,9 +355,11 @@ module _ (caller day : ℕ) (x : Found) where
       let ones = filter (λ q. may (only q)) all_relations in
       let twos = filter (allowed_as_two may) all_pairs in
       let both = how_many-append (hits r) (map (λ q. route_by cell (by.One q)) ones) (map (λ (pair : Pair). route_by cell (by.Two pair.0 pair.1)) twos) in
-      let first : how_many (hits r) (map (λ q. route_by cell (by.One q)) ones) ≡ how_many (λ q. is_relation a q && (marked cell && holds set q)) ones = how_many-map (λ q. route_by cell (by.One q)) (hits r) ones in
+      let first : how_many (hits r) (map (λ q. route_by cell (by.One q)) ones) ≡ how_many (λ q. is_relation a q && (marked cell && holds set q)) ones =
+      how_many-map (λ q. route_by cell (by.One q)) (hits r) ones in
       let few = gated (is_relation a) (λ q. holds set q) (λ q. may (only q)) (marked cell) all_relations (omega (arith, one_relation a)) in
-      let second : how_many (hits r) (map (λ (pair : Pair). route_by cell (by.Two pair.0 pair.1)) twos) ≡ 0 = how_many-map (λ (pair : Pair). route_by cell (by.Two pair.0 pair.1)) (hits r) twos ∙ how_many-none twos in
+      let second : how_many (hits r) (map (λ (pair : Pair). route_by cell (by.Two pair.0 pair.1)) twos) ≡ 0 =
+      how_many-map (λ (pair : Pair). route_by cell (by.Two pair.0 pair.1)) (hits r) twos ∙ how_many-none twos in
       omega (arith, both, first, few, second)
 
   -- of the selections of a cell
@@ -340,9 +368,16 @@ module _ (caller day : ℕ) (x : Found) where
   in_cell allowed r h cell = cc
 
   -- of the selections of several cells
-  in_cells : (p : Route → Bool) (g : Cell → List Route) → ((cell : Cell) → how_many p (g cell) ≤ bit (marked cell)) → (cells : List Cell) → how_many p (flat_map g cells) ≤ how_many marked cells
+  in_cells : (p : Route → Bool) (g : Cell → List Route) → ((cell : Cell) → how_many p (g cell) ≤ bit (marked cell)) → (cells : List Cell) →
+      how_many p (flat_map g cells) ≤ how_many marked cells
   in_cells p g few [] = omega arith
-  in_cells p g few (cell ∷ cells) = omega (arith, how_many-append p (g cell) (flat_map g cells), how_many-cons marked cell cells, few cell, in_cells p g few cells)
+  in_cells p g few (cell ∷ cells) = omega (
+    arith,
+    how_many-append p (g cell) (flat_map g cells),
+    how_many-cons marked cell cells,
+    few cell,
+    in_cells p g few cells,
+  )
 
   kept_cell_few : (b : Bool) (p : Route → Bool) (group : List Route) (n : ℕ) → how_many p group ≤ n → how_many p (cond b group []) ≤ n
   kept_cell_few true p group n few = few
@@ -357,10 +392,13 @@ module _ (caller day : ℕ) (x : Found) where
   once_by allowed wanted r h true = omega (arith, how_many-cons (hits r) route.Every [], ap bit (never_every r))
   once_by allowed wanted r h false =
       let gates : Cell → List Route = λ cell. cond (cell_meets wanted cell) (routes_in allowed cell) [] in
-      let same : how_many (hits r) (flat_map (routes_in allowed) (filter (cell_meets wanted) kept_cells)) ≡ how_many (hits r) (flat_map gates kept_cells) = ap (how_many (hits r)) (flat_filter (routes_in allowed) (cell_meets wanted) kept_cells) in
+      let same : how_many (hits r) (flat_map (routes_in allowed) (filter (cell_meets wanted) kept_cells)) ≡ how_many (hits r) (flat_map gates kept_cells) =
+      ap (how_many (hits r)) (flat_filter (routes_in allowed) (cell_meets wanted) kept_cells) in
       let few : how_many (hits r) (flat_map gates kept_cells) ≤ how_many marked kept_cells =
-      in_cells (hits r) gates (λ cell. kept_cell_few (cell_meets wanted cell) (hits r) (routes_in allowed cell) (bit (marked cell)) (in_cell allowed r h cell)) kept_cells in
-      let one : how_many marked kept_cells ≡ bit (is_stored x.row.state.stage && fits x.row.state.stage (timing_on day x.row.state.deadline)) = kept_cell_once x.row.state.stage x.row.state.stopped (timing_on day x.row.state.deadline) in
+      in_cells (hits r) gates (λ cell. kept_cell_few (cell_meets wanted cell) (hits r) (routes_in allowed cell) (bit (marked cell))
+      (in_cell allowed r h cell)) kept_cells in
+      let one : how_many marked kept_cells ≡ bit (is_stored x.row.state.stage && fits x.row.state.stage (timing_on day x.row.state.deadline)) =
+      kept_cell_once x.row.state.stage x.row.state.stopped (timing_on day x.row.state.deadline) in
       omega (arith, same, few, one, bit_most (is_stored x.row.state.stage && fits x.row.state.stage (timing_on day x.row.state.deadline)))
 
   -- of a listing's selections that ask alike, one at most finds the row: it lies in one cell
@@ -368,10 +406,12 @@ module _ (caller day : ℕ) (x : Found) where
   found_once allowed wanted = λ r h. once_by allowed wanted r h (is_all wanted && list_all (is_open_to_all allowed) kept_cells)
 
 -- the groups of a listing's selections find the rows that these find, as often
-pub groups_find : (allowed : Allowed) (wanted : Filter) (caller day : ℕ) (t : Tables) (groups : List (List Route)) → CountsGroups (routes_of allowed wanted) (routes_of allowed wanted) groups
+pub groups_find : (allowed : Allowed) (wanted : Filter) (caller day : ℕ) (t : Tables) (groups : List (List Route)) →
+    CountsGroups (routes_of allowed wanted) (routes_of allowed wanted) groups
     → IsPermutation (flat_map (λ g. found_by_any g caller day t) groups) (flat_map (λ r. found_by r caller day t) (routes_of allowed wanted))
 groups_find allowed wanted caller day t groups counts =
     let routes = routes_of allowed wanted in
     let rows = map (found_row t caller) t.files in
     same_selected (λ (g : List Route) (x : Found). is_found_by_any g caller day x) (λ (r : Route) (x : Found). is_found r caller day x) groups routes rows
-    (everywhere (λ x. how_many (λ g. is_found_by_any g caller day x) groups ≡ how_many (λ r. is_found r caller day x) routes) (λ x. counts_all routes groups counts caller day x (found_once caller day x allowed wanted)) rows)
+    (everywhere (λ x. how_many (λ g. is_found_by_any g caller day x) groups ≡ how_many (λ r. is_found r caller day x) routes)
+    (λ x. counts_all routes groups counts caller day x (found_once caller day x allowed wanted)) rows)

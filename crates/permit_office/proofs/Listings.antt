@@ -1,11 +1,13 @@
 -- From the rows that a listing's selections find to its files.
-use Rattle.std.proofs.Common.{◌≡◌, ◌<◌, ◌≤◌, ℕ, ◌+◌, ◌*◌, ◌%◌, ◌^◌, Bool, true, false, List, [], ◌∷◌, ◌++◌, length, refl, sym, ◌∙◌, ap, subst, ⊎_elim, map, append_assoc, length-append, get_or, arith}
+use Rattle.std.proofs.Common.{◌≡◌, ◌<◌, ◌≤◌, ℕ, ◌+◌, ◌*◌, ◌%◌, ◌^◌, Bool, true, false, List, [], ◌∷◌, ◌++◌, length, refl, sym, ◌∙◌, ap, subst, ⊎_elim, map}
+use Rattle.std.proofs.Common.{append_assoc, length-append, get_or, arith}
 use Rattle.std.specs.Prelude.{filter, Result, Ok, ⊤, IsPermutation}
 use Rattle.std.specs.List.{flat_map, Contains, Any}
 use Rattle.std.proofs.Math.Path.{fun_ext}
 use Rattle.std.proofs.lemmas.List.{map-append}
 use Rattle.std.proofs.lemmas.List.Elements.{filter-append, filter_agree}
-use Rattle.std.proofs.lemmas.List.Sorted.{IsPermutation-refl, IsPermutation-sym, IsPermutation-trans, IsPermutation-append, IsPermutation-map, Contains-permutation, length_permutation}
+use Rattle.std.proofs.lemmas.List.Sorted.{IsPermutation-refl, IsPermutation-sym, IsPermutation-trans, IsPermutation-append, IsPermutation-map}
+use Rattle.std.proofs.lemmas.List.Sorted.{Contains-permutation, length_permutation}
 use Rattle.permit_base.specs.Limits.{most_records}
 use Rattle.permit_base.specs.declared.words.Role.{Role}
 use Rattle.permit_base.specs.declared.words.Relations.{Relations}
@@ -37,7 +39,8 @@ use Rattle.permit_office.specs.Opening.{OpensRows}
 use Rattle.permit_office.specs.declared.reply.Listing.{Listing}
 use Rattle.permit_office.proofs.Grouping.{or_false, seen, CountsGroups, counts_none, counts_seen, counts_new, groups_find}
 
-pub views_append : (policy : Policy) (caller : Party) (day : ℕ) (xs ys : List Found) → views_found policy caller day (xs ++ ys) ≡ views_found policy caller day xs ++ views_found policy caller day ys
+pub views_append : (policy : Policy) (caller : Party) (day : ℕ) (xs ys : List Found) →
+    views_found policy caller day (xs ++ ys) ≡ views_found policy caller day xs ++ views_found policy caller day ys
 views_append policy caller day xs ys =
     ap (map (view_found day)) (filter-append (may_list policy caller day) xs ys)
     ∙ map-append (view_found day) (filter (may_list policy caller day) xs) (filter (may_list policy caller day) ys)
@@ -98,7 +101,9 @@ handed_more old mid new n m e f = omega arith
 pub among_alone : {E : Type 0} (group : List Route) (r : Route) (caller day : ℕ) (t : Tables) (result : Result Bool E) (given : List Found) → group ≡ r ∷ []
     → AreHanded t result given (found_by r caller day t) → AreAmong result given (found_by_any group caller day t)
 among_alone group r caller day t result given e handed =
-    let same : found_by_any (r ∷ []) caller day t ≡ found_by r caller day t = filter_agree (is_found_by_any (r ∷ []) caller day) (is_found r caller day) (λ x. or_false (is_found r caller day x)) (map (found_row t caller) t.files) in
+    let same : found_by_any (r ∷ []) caller day t ≡ found_by r caller day t =
+    filter_agree (is_found_by_any (r ∷ []) caller day) (is_found r caller day) (λ x. or_false (is_found r caller day x))
+    (map (found_row t caller) t.files) in
     (handed.0, handed.1, subst (IsPermutation (given ++ handed.0)) (sym (ap (λ (g : List Route). found_by_any g caller day t) e ∙ same)) handed.2.same)
 
 -- a list of one
@@ -108,18 +113,22 @@ alone (x ∷ []) d one = refl
 alone (x ∷ (y ∷ xs)) d one = absurd (omega (arith, one))
 
 -- Rows were handed out for a beginning of the selections, and they are those that the groups of the beginning find.
-pub record GathersOf (policy : Policy) (caller : Party) (day : ℕ) (routes earlier : List Route) (old new : StoreView) (views : List FileView) (count : ℕ) : Type 0 where
+pub record GathersOf (policy : Policy) (caller : Party) (day : ℕ) (routes earlier : List Route) (old new : StoreView) (views : List FileView)
+    (count : ℕ) : Type 0 where
   pub given : List Found
   pub files : views ≡ views_found policy caller day given
   pub read : count ≡ length given % 2 ^ 32
   pub handed : HandedMore (length given) old.handed new.handed
   pub groups : List (List Route)
   pub counts : CountsGroups routes earlier groups
-  pub found : new.doubt ≡ 0 → (h : History) → IsHistory h → old.holds (tables h) → IsPermutation given (flat_map (λ g. found_by_any g caller.id day (tables h)) groups)
+  pub found : new.doubt ≡ 0 → (h : History) → IsHistory h → old.holds (tables h) →
+      IsPermutation given (flat_map (λ g. found_by_any g caller.id day (tables h)) groups)
 
 -- one group more
-gathers_more : (policy : Policy) (caller : Party) (day : ℕ) (routes earlier : List Route) (r : Route) (old mid new : StoreView) (before after : Lister) (given : List Found) → before.policy.now ≡ policy → before.caller.now ≡ caller → before.day ≡ day →
-    seen earlier r ≡ false → GathersOf policy caller day routes earlier old mid before.files.items before.read → Listed given before after → new.handed ≡ more_handed (length given) mid.handed → mid.doubt ≤ new.doubt →
+gathers_more : (policy : Policy) (caller : Party) (day : ℕ) (routes earlier : List Route) (r : Route) (old mid new : StoreView) (before after : Lister)
+    (given : List Found) → before.policy.now ≡ policy → before.caller.now ≡ caller → before.day ≡ day →
+    seen earlier r ≡ false → GathersOf policy caller day routes earlier old mid before.files.items before.read → Listed given before after →
+    new.handed ≡ more_handed (length given) mid.handed → mid.doubt ≤ new.doubt →
     (new.doubt ≡ 0 → (t : Tables) → old.holds t → IsPermutation given (found_by_any (group_of routes r) caller.id day t)) →
     GathersOf policy caller day routes (earlier ++ r ∷ []) old new after.files.items after.read
 gathers_more policy caller day routes earlier r old mid new before after given ep ec ed unseen all one handed doubt found = record {
@@ -130,18 +139,22 @@ gathers_more policy caller day routes earlier r old mid new before after given e
       ∙ ap (λ d. before.files.items ++ views_found policy caller d given) ed
       ∙ ap (λ fs. fs ++ views_found policy caller day given) all.files
       ∙ sym (views_append policy caller day all.given given);
-  read = counted 0 before.read after.read (length all.given) (length given) (all.read ∙ from_none (length all.given)) one.read ∙ sym (from_none (length all.given + length given)) ∙ ap (λ n. n % 2 ^ 32) (sym (length-append all.given given));
-  handed = subst (λ n. HandedMore n old.handed new.handed) (sym (length-append all.given given)) (handed_more old.handed mid.handed new.handed (length all.given) (length given) all.handed handed);
+  read = counted 0 before.read after.read (length all.given) (length given) (all.read ∙ from_none (length all.given)) one.read
+      ∙ sym (from_none (length all.given + length given)) ∙ ap (λ n. n % 2 ^ 32) (sym (length-append all.given given));
+  handed = subst (λ n. HandedMore n old.handed new.handed) (sym (length-append all.given given))
+      (handed_more old.handed mid.handed new.handed (length all.given) (length given) all.handed handed);
   groups = all.groups ++ group_of routes r ∷ [];
   counts = counts_new routes earlier r all.groups unseen all.counts;
   found = λ sure h is held.
       let late : mid.doubt ≡ 0 = omega arith in
       subst (IsPermutation (all.given ++ given)) (sym (flat_last (λ g. found_by_any g caller.id day (tables h)) all.groups (group_of routes r)))
-      (IsPermutation-append all.given (flat_map (λ g. found_by_any g caller.id day (tables h)) all.groups) given (found_by_any (group_of routes r) caller.id day (tables h)) (all.found late h is held) (found sure (tables h) held));
+      (IsPermutation-append all.given (flat_map (λ g. found_by_any g caller.id day (tables h)) all.groups) given
+      (found_by_any (group_of routes r) caller.id day (tables h)) (all.found late h is held) (found sure (tables h) held));
 }
 
 -- a selection whose group was looked up
-pub gathers_seen : (policy : Policy) (caller : Party) (day : ℕ) (routes earlier : List Route) (r : Route) (old new : StoreView) (views : List FileView) (count : ℕ) → seen earlier r ≡ true →
+pub gathers_seen : (policy : Policy) (caller : Party) (day : ℕ) (routes earlier : List Route) (r : Route) (old new : StoreView) (views : List FileView)
+    (count : ℕ) → seen earlier r ≡ true →
     GathersOf policy caller day routes earlier old new views count → GathersOf policy caller day routes (earlier ++ r ∷ []) old new views count
 gathers_seen policy caller day routes earlier r old new views count there all = record {
   given = all.given;
@@ -156,7 +169,8 @@ gathers_seen policy caller day routes earlier r old new views count there all = 
 -- what a group handed to the lister, which goes on
 abbrev pub HandedTo : ℕ → ℕ → List Route → StoreView → StoreView → Lister → Lister → Result Bool StoreError → Type 0
 HandedTo caller day group mid new before after result =
-    (given : List Found) × Hands Takes given mid new before after result × (new.doubt ≡ 0 → (t : Tables) → mid.holds t → AreAmong result given (found_by_any group caller day t))
+    (given : List Found) × Hands Takes given mid new before after result
+    × (new.doubt ≡ 0 → (t : Tables) → mid.holds t → AreAmong result given (found_by_any group caller day t))
 
 all_handed : (given found : List Found) → AreAmong {E = StoreError} (Ok true) given found → IsPermutation given found
 all_handed given found handed =
@@ -170,8 +184,10 @@ pub record GoesOn (rules : Policy) (who : Party) (today : ℕ) (routes earlier :
   pub gathers : GathersOf rules who today routes earlier old new lister.files.items lister.read
   pub read : (count : ℕ) × Reads {A = Bool} {E = StoreError} ⊤ count mid new (Ok true)
 
-pub goes_on : (policy : Policy) (caller : Party) (day : ℕ) (routes earlier : List Route) (r : Route) (old mid new : StoreView) (before after : Lister) → before.policy.now ≡ policy → before.caller.now ≡ caller → before.day ≡ day →
-    seen earlier r ≡ false → GathersOf policy caller day routes earlier old mid before.files.items before.read → ((t : Tables) → old.holds t → mid.holds t) → (b : Bool) → b ≡ true → (number : ℕ) → number ≡ caller.id →
+pub goes_on : (policy : Policy) (caller : Party) (day : ℕ) (routes earlier : List Route) (r : Route) (old mid new : StoreView) (before after : Lister) →
+    before.policy.now ≡ policy → before.caller.now ≡ caller → before.day ≡ day →
+    seen earlier r ≡ false → GathersOf policy caller day routes earlier old mid before.files.items before.read → ((t : Tables) → old.holds t → mid.holds t) →
+    (b : Bool) → b ≡ true → (number : ℕ) → number ≡ caller.id →
     (group : List Route) → group ≡ group_of routes r → HandedTo number day group mid new before after (Ok b) →
     GoesOn policy caller day routes (earlier ++ r ∷ []) old mid new after
 goes_on policy caller day routes earlier r old mid new before after ep ec ed unseen all kept false on number same group is handed = cc
@@ -184,17 +200,28 @@ goes_on policy caller day routes earlier r old mid new before after ep ec ed uns
       day = one.day ∙ ed;
       gathers = gathers_more policy caller day routes earlier r old mid new before after given ep ec ed unseen all one handed.1.read.handed handed.1.read.doubt
           (λ sure t held. subst (λ (g : List Route). IsPermutation given (found_by_any g caller.id day t)) is
-          (subst (λ (n : ℕ). IsPermutation given (found_by_any group n day t)) same (all_handed given (found_by_any group number day t) (handed.2 sure t (kept t held)))));
+          (subst (λ (n : ℕ). IsPermutation given (found_by_any group n day t)) same
+          (all_handed given (found_by_any group number day t) (handed.2 sure t (kept t held)))));
       read = (more_handed (length given) mid.handed, handed.1.read);
     }
 
 -- no selection yet
-pub gathers_none : (policy : Policy) (caller : Party) (day : ℕ) (routes : List Route) (s : StoreView) (views : List FileView) → views ≡ [] → GathersOf policy caller day routes [] s s views 0
+pub gathers_none : (policy : Policy) (caller : Party) (day : ℕ) (routes : List Route) (s : StoreView) (views : List FileView) → views ≡ [] →
+    GathersOf policy caller day routes [] s s views 0
 gathers_none policy caller day routes s views e =
-    record { given = []; files = e; read = refl; handed = omega arith; groups = []; counts = counts_none routes; found = λ sure h is held. IsPermutation-refl [] }
+    record {
+      given = [];
+      files = e;
+      read = refl;
+      handed = omega arith;
+      groups = [];
+      counts = counts_none routes;
+      found = λ sure h is held. IsPermutation-refl [];
+    }
 
 -- all selections, where they are a listing's
-pub gathers_whole : (policy : Policy) (caller : Party) (day : ℕ) (routes : List Route) (old new : StoreView) (views : List FileView) (count : ℕ) → GathersOf policy caller day routes routes old new views count →
+pub gathers_whole : (policy : Policy) (caller : Party) (day : ℕ) (routes : List Route) (old new : StoreView) (views : List FileView) (count : ℕ) →
+    GathersOf policy caller day routes routes old new views count →
     Gathers policy caller day routes old new views count
 gathers_whole policy caller day routes old new views count all = record {
   given = all.given;
@@ -204,13 +231,15 @@ gathers_whole policy caller day routes old new views count all = record {
   found = λ sure h is held wanted e.
       let allowed = allowed_by policy caller.role action.List in
       subst (λ (rs : List Route). IsPermutation all.given (flat_map (λ r. found_by r caller.id day (tables h)) rs)) (sym e)
-      (IsPermutation-trans all.given (flat_map (λ g. found_by_any g caller.id day (tables h)) all.groups) (flat_map (λ r. found_by r caller.id day (tables h)) (routes_of allowed wanted)) (all.found sure h is held)
+      (IsPermutation-trans all.given (flat_map (λ g. found_by_any g caller.id day (tables h)) all.groups)
+      (flat_map (λ r. found_by r caller.id day (tables h)) (routes_of allowed wanted)) (all.found sure h is held)
       (groups_find allowed wanted caller.id day (tables h) all.groups (subst (λ (rs : List Route). CountsGroups rs rs all.groups) e all.counts)));
 }
 
 -- ---- all selections
 
-pub same_allowed : (allowed : Allowed) (policy : Policy) (role : Role) → ((cell : Cell) (set : Relations) → allowed cell set ≡ allowed_by policy role action.List cell set) → allowed ≡ allowed_by policy role action.List
+pub same_allowed : (allowed : Allowed) (policy : Policy) (role : Role) →
+    ((cell : Cell) (set : Relations) → allowed cell set ≡ allowed_by policy role action.List cell set) → allowed ≡ allowed_by policy role action.List
 same_allowed allowed policy role same = fun_ext (λ cell. fun_ext (λ set. same cell set))
 
 -- ---- the files in order
@@ -231,10 +260,12 @@ rising_views (view ∷ views) up = (up.0, rising_views views up.1)
 abbrev IsOfRow : Tables → ℕ → ℕ → FileView → Type 0
 IsOfRow t caller day view = (row : FileRow) × IsMember row t.files × (view_found day (found_row t caller row) ≡ view)
 
-view_row : (policy : Policy) (caller : Party) (day : ℕ) (t : Tables) (routes : List Route) (view : FileView) → IsMember view (views_found policy caller day (flat_map (λ r. found_by r caller.id day t) routes)) → IsOfRow t caller.id day view
+view_row : (policy : Policy) (caller : Party) (day : ℕ) (t : Tables) (routes : List Route) (view : FileView) →
+    IsMember view (views_found policy caller day (flat_map (λ r. found_by r caller.id day t) routes)) → IsOfRow t caller.id day view
 view_row policy caller day t routes view m =
     let all = flat_map (λ r. found_by r caller.id day t) routes in
-    let made : IsMadeOf (view_found day) view (filter (may_list policy caller day) all) = made_of (view_found day) view (filter (may_list policy caller day) all) m in
+    let made : IsMadeOf (view_found day) view (filter (may_list policy caller day) all) =
+    made_of (view_found day) view (filter (may_list policy caller day) all) m in
     let there = passed (may_list policy caller day) made.0 all made.1 in
     let by : IsGiven (λ r. found_by r caller.id day t) made.0 routes = given_by (λ r. found_by r caller.id day t) made.0 routes there.0 in
     let hit = passed (is_found by.0 caller.id day) made.0 (map (found_row t caller.id) t.files) by.2 in
@@ -255,8 +286,10 @@ same_number (row ∷ rows) up a b m n e =
     apart x y less same = omega arith
 
 -- views of one number are one
-same_view : (policy : Policy) (caller : Party) (day : ℕ) (t : Tables) (routes : List Route) → IsRising (λ (row : FileRow). row.id) t.files → (views : List FileView) →
-    views ≡ views_found policy caller day (flat_map (λ r. found_by r caller.id day t) routes) → (v w : FileView) → Contains views v → Contains views w → w.row.id ≡ v.row.id → w ≡ v
+same_view : (policy : Policy) (caller : Party) (day : ℕ) (t : Tables) (routes : List Route) → IsRising (λ (row : FileRow). row.id) t.files →
+    (views : List FileView) →
+    views ≡ views_found policy caller day (flat_map (λ r. found_by r caller.id day t) routes) → (v w : FileView) → Contains views v → Contains views w →
+    w.row.id ≡ v.row.id → w ≡ v
 same_view policy caller day t routes up views e v w there here same =
     let a : IsOfRow t caller.id day v = view_row policy caller day t routes v (subst (IsMember v) e (member_from v views there)) in
     let b : IsOfRow t caller.id day w = view_row policy caller day t routes w (subst (IsMember w) e (member_from w views here)) in
@@ -271,7 +304,8 @@ pub files_listed : (policy : Policy) (h : History) (day : ℕ) (caller : Party) 
 files_listed policy h day caller wanted is views kept e up from all =
     let routes = routes_of (allowed_by policy caller.role action.List) wanted in
     listing_from_routes policy h day caller wanted is views kept
-    (subst (IsPermutation (flat_map (allowed_views policy day caller (tables h)) routes)) (views_flat policy caller day (tables h) routes ∙ sym e) (IsPermutation-refl (flat_map (allowed_views policy day caller (tables h)) routes)))
+    (subst (IsPermutation (flat_map (allowed_views policy day caller (tables h)) routes)) (views_flat policy caller day (tables h) routes ∙ sym e)
+    (IsPermutation-refl (flat_map (allowed_views policy day caller (tables h)) routes)))
     (rising_views kept up) from
     (λ v there.
     let near = all v there in
@@ -279,8 +313,10 @@ files_listed policy h day caller wanted is views kept e up from all =
     subst (Contains kept) (same_view policy caller day (tables h) routes (rows_rising h is) views e v near.1 there (from near.1 here) near.4) here)
 
 -- the same of files that were gathered in another order
-pub files_gathered : (policy : Policy) (h : History) (day : ℕ) (caller : Party) (wanted : Filter) → IsHistory h → (given : List Found) (views kept : List FileView) →
-    views ≡ views_found policy caller day given → IsPermutation given (flat_map (λ r. found_by r caller.id day (tables h)) (routes_of (allowed_by policy caller.role action.List) wanted)) →
+pub files_gathered : (policy : Policy) (h : History) (day : ℕ) (caller : Party) (wanted : Filter) → IsHistory h →
+    (given : List Found) (views kept : List FileView) →
+    views ≡ views_found policy caller day given → IsPermutation given (flat_map (λ r. found_by r caller.id day (tables h))
+    (routes_of (allowed_by policy caller.role action.List) wanted)) →
     AreInOrder kept → ((v : FileView) → Contains kept v → Contains views v) → ((v : FileView) → Contains views v → Any (λ w. w.row.id ≡ v.row.id) kept) →
     kept ≡ listing policy h day caller wanted
 files_gathered policy h day caller wanted is given views kept e moved up from all =
@@ -288,7 +324,8 @@ files_gathered policy h day caller wanted is given views kept e moved up from al
     let whole = views_found policy caller day found in
     let same : IsPermutation views whole =
     subst (λ (vs : List FileView). IsPermutation vs whole) (sym e)
-    (IsPermutation-map (view_found day) (filter (may_list policy caller day) given) (filter (may_list policy caller day) found) (pass_alike (may_list policy caller day) given found moved)) in
+    (IsPermutation-map (view_found day) (filter (may_list policy caller day) given) (filter (may_list policy caller day) found)
+    (pass_alike (may_list policy caller day) given found moved)) in
     files_listed policy h day caller wanted is whole kept refl up
     (λ v there. Contains-permutation views whole v same (from v there))
     (λ v there. all v (Contains-permutation whole views v (IsPermutation-sym views whole same) there))
@@ -303,12 +340,14 @@ pub few_read : (read n m : ℕ) → read ≡ n % 2 ^ 32 → n ≡ m → m ≤ 21
 few_read read n m e f few = omega arith
 
 -- the rows that all selections hand out are those opened, and their count is told
-pub rows_read : (policy : Policy) (h : History) (day : ℕ) (caller : Party) (wanted : Filter) → IsHistory h → (given : List Found) (listing : Listing) (old new : ℕ) →
+pub rows_read : (policy : Policy) (h : History) (day : ℕ) (caller : Party) (wanted : Filter) → IsHistory h →
+    (given : List Found) (listing : Listing) (old new : ℕ) →
     IsPermutation given (flat_map (λ r. found_by r caller.id day (tables h)) (routes_of (allowed_by policy caller.role action.List) wanted)) →
     listing.read ≡ length given % 2 ^ 32 → HandedMore (length given) old new → OpensRows (length (opened policy h day caller wanted)) listing old new
 rows_read policy h day caller wanted is given listing old new moved read handed =
     let found = flat_map (λ r. found_by r caller.id day (tables h)) (routes_of (allowed_by policy caller.role action.List) wanted) in
-    let count : length given ≡ length (opened policy h day caller wanted) = sym (length_permutation given found moved) ∙ same_count policy h day caller wanted in
+    let count : length given ≡ length (opened policy h day caller wanted) = sym (length_permutation given found moved)
+    ∙ same_count policy h day caller wanted in
     record {
       told = few_read listing.read (length given) (length (opened policy h day caller wanted)) read count (few_opened policy h day caller wanted is);
       handed = subst (λ n. HandedMore n old new) count handed;

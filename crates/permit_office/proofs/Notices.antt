@@ -33,13 +33,15 @@ open_by caller day command number acts true fresh = open_more caller day command
 open_by caller day command number acts false fresh = refl
 
 -- the open notices of each file after a command
-pub open_after : (caller day id : ℕ) (command : Command) (number : Option ℕ) (h : History) (file : ℕ) → ((id == file) ≡ true → IsFresh (acts_on file h) command number) →
+pub open_after : (caller day id : ℕ) (command : Command) (number : Option ℕ) (h : History) (file : ℕ) →
+    ((id == file) ≡ true → IsFresh (acts_on file h) command number) →
     open_in (command_entry caller day id command number ∷ h) file ≡ (if id == file then notices_after command number (open_in h file) else open_in h file)
 open_after caller day id command number h file fresh = open_by caller day command number (acts_on file h) (id == file) fresh
 
 -- ---- papers that stay
 
-paper_stays : (later now : History) (entry : Entry) (deed : Deed) (before : History) → ((file : ℕ) → open_in later file ≡ open_in now file) → paper_of_deed later entry deed before ≡ paper_of_deed now entry deed before
+paper_stays : (later now : History) (entry : Entry) (deed : Deed) (before : History) → ((file : ℕ) → open_in later file ≡ open_in now file) →
+    paper_of_deed later entry deed before ≡ paper_of_deed now entry deed before
 paper_stays later now entry (Accepted (OnFile file command)) before same = ap (λ o. paper_by file o (act_of entry command) (acts_on file before)) (same file)
 paper_stays later now entry _ before same = refl
 
@@ -62,17 +64,22 @@ AreBelow id bound [] = Unit {0}
 AreBelow id bound (entry ∷ before) = IsBelow id bound entry.deed entry.number × AreBelow id bound before
 
 below_by : (act : Act) (acts : List Act) (number : Option ℕ) (bound : ℕ) (m : Bool) → number ≡ when m (paper_count acts + 1) →
-    length (cond m (act ∷ filter (λ (a : Act). makes_paper a.command) acts) (filter (λ (a : Act). makes_paper a.command) acts)) < bound → (unwrap_or number 0 < bound) × (paper_count acts < bound)
+    length (cond m (act ∷ filter (λ (a : Act). makes_paper a.command) acts) (filter (λ (a : Act). makes_paper a.command) acts)) < bound →
+    (unwrap_or number 0 < bound) × (paper_count acts < bound)
 below_by act acts number bound true e small = let k : unwrap_or number 0 ≡ paper_count acts + 1 = ap (λ o. unwrap_or o 0) e in (omega arith, omega arith)
 below_by act acts number bound false e small = let k : unwrap_or number 0 ≡ 0 = ap (λ o. unwrap_or o 0) e in (omega arith, omega arith)
 
-number_by : (h : History) (id : ℕ) (command : Command) (o : Option Filing) → find (λ (f : Filing). f.id == id) (filings h) ≡ o → IsTrue (is_some (option_map (case_file h) o)) →
+number_by : (h : History) (id : ℕ) (command : Command) (o : Option Filing) → find (λ (f : Filing). f.id == id) (filings h) ≡ o →
+    IsTrue (is_some (option_map (case_file h) o)) →
     paper_number command (option_map (case_file h) o) ≡ when (makes_paper command) (paper_count (acts_on id h) + 1)
 number_by h id command None e there = cc
-number_by h id command (Some f) e there = ap (λ n. when (makes_paper command) (paper_count (acts_on n h) + 1)) (found_number (λ (g : Filing). g.id) id (filings h) f e)
+number_by h id command (Some f) e there = ap (λ n. when (makes_paper command) (paper_count (acts_on n h) + 1))
+    (found_number (λ (g : Filing). g.id) id (filings h) f e)
 
-below_command : (h : History) (id g caller day bound : ℕ) (command : Command) (number : Option ℕ) (b : Bool) → (g == id) ≡ b → number ≡ paper_number command (case_numbered h g) → IsTrue (is_some (case_numbered h g)) →
-    paper_count (cons_option (option_map (act_of (record { caller = caller; day = day; deed = Accepted (OnFile g command); number = number })) (if b then Some command else None)) (acts_on id h)) < bound →
+below_command : (h : History) (id g caller day bound : ℕ) (command : Command) (number : Option ℕ) (b : Bool) → (g == id) ≡ b →
+    number ≡ paper_number command (case_numbered h g) → IsTrue (is_some (case_numbered h g)) →
+    paper_count (cons_option (option_map (act_of (record { caller = caller; day = day; deed = Accepted (OnFile g command); number = number }))
+    (if b then Some command else None)) (acts_on id h)) < bound →
     (b ≡ true → unwrap_or number 0 < bound) × (paper_count (acts_on id h) < bound)
 below_command h id g caller day bound command number false e numbered there small = (λ t. cc, small)
 below_command h id g caller day bound command number true e numbered there small =
@@ -83,13 +90,17 @@ below_command h id g caller day bound command number true e numbered there small
     let both = below_by (act_now caller day command number) (acts_on id h) number bound (makes_paper command) next small in
     (λ t. both.0, both.1)
 
-below_deed : (h : History) (id caller day bound : ℕ) (deed : Deed) (number : Option ℕ) → MayFollow h (record { caller = caller; day = day; deed = deed; number = number }) deed →
-    paper_count (acts_on id (record { caller = caller; day = day; deed = deed; number = number } ∷ h)) < bound → IsBelow id bound deed number × (paper_count (acts_on id h) < bound)
+below_deed : (h : History) (id caller day bound : ℕ) (deed : Deed) (number : Option ℕ) →
+    MayFollow h (record { caller = caller; day = day; deed = deed; number = number }) deed →
+    paper_count (acts_on id (record { caller = caller; day = day; deed = deed; number = number } ∷ h)) < bound → IsBelow id bound deed number
+    × (paper_count (acts_on id h) < bound)
 below_deed h id caller day bound (Founding name digest) number may small = absurd may
-below_deed h id caller day bound (Accepted (OnFile g command)) number may small = below_command h id g caller day bound command number (g == id) refl may.numbered may.record_there small
+below_deed h id caller day bound (Accepted (OnFile g command)) number may small =
+    below_command h id g caller day bound command number (g == id) refl may.numbered may.record_there small
 below_deed h id caller day bound (Accepted request) number may small = (tt, small)
 
-below_first : (id caller day bound : ℕ) (deed : Deed) (number : Option ℕ) → IsFounding (record { caller = caller; day = day; deed = deed; number = number }) deed → IsBelow id bound deed number
+below_first : (id caller day bound : ℕ) (deed : Deed) (number : Option ℕ) →
+    IsFounding (record { caller = caller; day = day; deed = deed; number = number }) deed → IsBelow id bound deed number
 below_first id caller day bound (Founding name digest) number is = tt
 below_first id caller day bound (Accepted request) number is = absurd is
 
@@ -107,7 +118,8 @@ same_way a b = grind (arith, nat_tests)
 other : (n m : ℕ) → m < n → (n == m) ≡ false
 other n m below = grind (arith, nat_tests)
 
-opened_by : (bound number : ℕ) (open_now : List ℕ) (b : Bool) → (b ≡ true → number < bound) → has_number (if b then bound ∷ open_now else open_now) number ≡ has_number open_now number
+opened_by : (bound number : ℕ) (open_now : List ℕ) (b : Bool) → (b ≡ true → number < bound) →
+    has_number (if b then bound ∷ open_now else open_now) number ≡ has_number open_now number
 opened_by bound number open_now false small = refl
 opened_by bound number open_now true small = ap (λ (t : Bool). t || has_number open_now number) (other bound number (small refl))
 
@@ -127,7 +139,8 @@ paper_if file act before is_open_now =
     }) (paper_sort act.command)
 
 stays_below : (later now : History) (id bound : ℕ) → ((file : ℕ) → open_in later file ≡ (if id == file then bound ∷ open_in now file else open_in now file)) →
-    (entry : Entry) (deed : Deed) (before : History) → IsBelow id bound deed entry.number → paper_of_deed later entry deed before ≡ paper_of_deed now entry deed before
+    (entry : Entry) (deed : Deed) (before : History) → IsBelow id bound deed entry.number →
+    paper_of_deed later entry deed before ≡ paper_of_deed now entry deed before
 stays_below later now id bound opened entry (Accepted (OnFile file command)) before below =
     ap (λ o. paper_by file o (act_of entry command) (acts_on file before)) (opened file)
     ∙ ap (λ t. paper_if file (act_of entry command) (acts_on file before) t)
@@ -135,7 +148,8 @@ stays_below later now id bound opened entry (Accepted (OnFile file command)) bef
 stays_below later now id bound opened entry _ before below = refl
 
 -- a notice of a higher number leaves the papers that are there
-pub papers_below : (later now : History) (id bound : ℕ) → ((file : ℕ) → open_in later file ≡ (if id == file then bound ∷ open_in now file else open_in now file)) →
+pub papers_below : (later now : History) (id bound : ℕ) → ((file : ℕ) →
+    open_in later file ≡ (if id == file then bound ∷ open_in now file else open_in now file)) →
     (h : History) → AreBelow id bound h → papers_made later h ≡ papers_made now h
 papers_below later now id bound opened [] below = refl
 papers_below later now id bound opened (entry ∷ before) below =
@@ -171,7 +185,8 @@ without k m (n ∷ ns) =
     without_by k m n ns (n == k)
     ∙ cleared_by k m n (has_number ns m) (has_number (filter (λ x. not (x == k)) ns) m) (m == k) (n == k) refl refl (without k m ns)
 
-cleared_in : (k m : ℕ) (open_now : List ℕ) (b c : Bool) → (m == k) ≡ c → has_number (if b then filter (λ n. not (n == k)) open_now else open_now) m ≡ (if b && c then false else has_number open_now m)
+cleared_in : (k m : ℕ) (open_now : List ℕ) (b c : Bool) → (m == k) ≡ c →
+    has_number (if b then filter (λ n. not (n == k)) open_now else open_now) m ≡ (if b && c then false else has_number open_now m)
 cleared_in k m open_now false c e = refl
 cleared_in k m open_now true c e = without k m open_now ∙ ap (λ (t : Bool). if t then false else has_number open_now m) e
 
@@ -179,7 +194,8 @@ no_more : (b : Bool) → (b && false) ≡ false
 no_more true = refl
 no_more false = refl
 
-closed_paper : (p : Paper) (notice was : Bool) (c : Bool) → record p { is_open = notice && (if c then false else was) } ≡ (if c then record p { is_open = false } else record p { is_open = notice && was })
+closed_paper : (p : Paper) (notice was : Bool) (c : Bool) → record p { is_open = notice && (if c then false else was) }
+    ≡ (if c then record p { is_open = false } else record p { is_open = notice && was })
 closed_paper p notice was true = ap (λ t. record p { is_open = t }) (no_more notice)
 closed_paper p notice was false = refl
 
@@ -198,20 +214,24 @@ closed_if file id k act before was (Some s) e = rw (e, same_way id file) (ap Som
   is_open = false;
 }) (is_notice s) was ((file == id) && (unwrap_or act.number 0 == k))))
 
-paper_closes : (later now : History) (id k : ℕ) → ((file : ℕ) → open_in later file ≡ (if id == file then filter (λ n. not (n == k)) (open_in now file) else open_in now file)) →
+paper_closes : (later now : History) (id k : ℕ) → ((file : ℕ) → open_in later file
+    ≡ (if id == file then filter (λ n. not (n == k)) (open_in now file) else open_in now file)) →
     (entry : Entry) (deed : Deed) (before : History) → paper_of_deed later entry deed before ≡ option_map (closed_by id k) (paper_of_deed now entry deed before)
 paper_closes later now id k cleared entry (Accepted (OnFile file command)) before =
     ap (λ o. paper_by file o (act_of entry command) (acts_on file before)) (cleared file)
-    ∙ ap (λ t. paper_if file (act_of entry command) (acts_on file before) t) (cleared_in k (unwrap_or entry.number 0) (open_in now file) (id == file) (unwrap_or entry.number 0 == k) refl)
+    ∙ ap (λ t. paper_if file (act_of entry command) (acts_on file before) t)
+    (cleared_in k (unwrap_or entry.number 0) (open_in now file) (id == file) (unwrap_or entry.number 0 == k) refl)
     ∙ closed_if file id k (act_of entry command) (acts_on file before) (has_number (open_in now file) (unwrap_or entry.number 0)) (paper_sort command) refl
 paper_closes later now id k cleared entry _ before = refl
 
-closed_last : (id k : ℕ) (papers : List Paper) (o : Option Paper) → add_last (map (closed_by id k) papers) (option_map (closed_by id k) o) ≡ map (closed_by id k) (add_last papers o)
+closed_last : (id k : ℕ) (papers : List Paper) (o : Option Paper) → add_last (map (closed_by id k) papers) (option_map (closed_by id k) o)
+    ≡ map (closed_by id k) (add_last papers o)
 closed_last id k papers None = refl
 closed_last id k papers (Some p) = sym (map-append (closed_by id k) papers (p ∷ []))
 
 -- a clearing closes the file's paper of the number, and leaves each other one
-pub papers_close : (later now : History) (id k : ℕ) → ((file : ℕ) → open_in later file ≡ (if id == file then filter (λ n. not (n == k)) (open_in now file) else open_in now file)) →
+pub papers_close : (later now : History) (id k : ℕ) → ((file : ℕ) → open_in later file
+    ≡ (if id == file then filter (λ n. not (n == k)) (open_in now file) else open_in now file)) →
     (h : History) → papers_made later h ≡ map (closed_by id k) (papers_made now h)
 papers_close later now id k cleared [] = refl
 papers_close later now id k cleared (entry ∷ before) =

@@ -63,27 +63,33 @@ tautology h g s false m same = cases h g s m
 
 open_more : (file n : ℕ) (open_now : List ℕ) (act : Act) (before : List Act) (papers : List Paper) (o : Option PaperSort) → paper_sort act.command ≡ o →
     list_any (is_open_of n) papers ≡ (has_number open_now n && was_given n before) →
-    list_any (is_open_of n) (add_last papers (paper_by file open_now act before)) ≡ (has_number open_now n && ((gives_notice o && (unwrap_or act.number 0 == n)) || was_given n before))
+    list_any (is_open_of n) (add_last papers (paper_by file open_now act before))
+    ≡ (has_number open_now n && ((gives_notice o && (unwrap_or act.number 0 == n)) || was_given n before))
 open_more file n open_now act before papers None e ih = rw e ih
 open_more file n open_now act before papers (Some s) e ih =
     let m : ℕ = unwrap_or act.number 0 in
-    rw (e, list_any-append, ih) (tautology (has_number open_now n) (was_given n before) (is_notice s) (m == n) (has_number open_now m) (λ t. ap (has_number open_now) (eqb-true m n t)))
+    rw (e, list_any-append, ih) (tautology (has_number open_now n) (was_given n before) (is_notice s) (m == n) (has_number open_now m)
+    (λ t. ap (has_number open_now) (eqb-true m n t)))
 
 -- the papers of the acts say so of the notices that were given
-open_from : (file n : ℕ) (open_now : List ℕ) (acts : List Act) → list_any (is_open_of n) (papers_from file open_now acts) ≡ (has_number open_now n && was_given n acts)
+open_from : (file n : ℕ) (open_now : List ℕ) (acts : List Act) → list_any (is_open_of n) (papers_from file open_now acts)
+    ≡ (has_number open_now n && was_given n acts)
 open_from file n open_now [] = no_more (has_number open_now n)
   where
     no_more : (b : Bool) → false ≡ (b && false)
     no_more true = refl
     no_more false = refl
-open_from file n open_now (act ∷ before) = open_more file n open_now act before (papers_from file open_now before) (paper_sort act.command) refl (open_from file n open_now before)
+open_from file n open_now (act ∷ before) = open_more file n open_now act before (papers_from file open_now before) (paper_sort act.command) refl
+    (open_from file n open_now before)
 
 given_by : (b c d : Bool) → (b || c) ≡ true → (c ≡ true → d ≡ true) → (b || d) ≡ true
 given_by true c d e ih = refl
 given_by false c d e ih = ih e
 
-given_more : (caller day n : ℕ) (command : Command) (number : Option ℕ) (before : List Act) → has_number (notices_given (record { caller = caller; day = day; command = command; number = number } ∷ before)) n ≡ true →
-    (has_number (notices_given before) n ≡ true → was_given n before ≡ true) → was_given n (record { caller = caller; day = day; command = command; number = number } ∷ before) ≡ true
+given_more : (caller day n : ℕ) (command : Command) (number : Option ℕ) (before : List Act) →
+    has_number (notices_given (record { caller = caller; day = day; command = command; number = number } ∷ before)) n ≡ true →
+    (has_number (notices_given before) n ≡ true → was_given n before ≡ true) →
+    was_given n (record { caller = caller; day = day; command = command; number = number } ∷ before) ≡ true
 given_more caller day n (Notice text) None before e ih = either (0 == n) (was_given n before) (ih e)
   where
     either : (b c : Bool) → c ≡ true → (b || c) ≡ true
@@ -96,7 +102,8 @@ given_at_all : (n : ℕ) (acts : List Act) → has_number (notices_given acts) n
 given_at_all n [] e = cc
 given_at_all n (act ∷ before) e = given_more act.caller act.day n act.command act.number before e (given_at_all n before)
 
-kept_here : (b : Bool) (m n : ℕ) (rest ns : List ℕ) → has_number (cond b (m ∷ rest) rest) n ≡ true → (has_number rest n ≡ true → has_number ns n ≡ true) → ((m == n) || has_number ns n) ≡ true
+kept_here : (b : Bool) (m n : ℕ) (rest ns : List ℕ) → has_number (cond b (m ∷ rest) rest) n ≡ true → (has_number rest n ≡ true → has_number ns n ≡ true) →
+    ((m == n) || has_number ns n) ≡ true
 kept_here true m n rest ns e ih = given_by (m == n) (has_number rest n) (has_number ns n) e ih
 kept_here false m n rest ns e ih = either (m == n) (has_number ns n) (ih e)
   where

@@ -49,12 +49,15 @@ Rises k xs = AllByRecursion (λ y. number k ≤ number y) xs × AreRising xs
 same_by : (k x : FileView) (xs : List FileView) (b : Bool) → (number x == number k) ≡ b → Level x xs → b ≡ true → Level k xs
 same_by k x xs b e up is = level_same k x xs (sym (eqb-true (number x) (number k) (e ∙ is))) up
 
-rises_by : (k x : FileView) (xs : List FileView) (b : Bool) → (number x == number k) ≡ b → number k ≤ number x → (b ≡ true → Rises k (dedup_from same_number k xs)) → Rises x (dedup_from same_number x xs) →
+rises_by : (k x : FileView) (xs : List FileView) (b : Bool) → (number x == number k) ≡ b → number k ≤ number x →
+    (b ≡ true → Rises k (dedup_from same_number k xs)) → Rises x (dedup_from same_number x xs) →
     Rises k (cond b (dedup_from same_number k xs) (k ∷ dedup_from same_number x xs))
 unfolding Rises
 rises_by k x xs true e le first second = first refl
-rises_by k x xs false e le first second =
-    ((omega arith, above_more (number k) (number x) (dedup_from same_number x xs) le second.0), (below_more (number k) (number x) (dedup_from same_number x xs) (apart (number k) (number x) e le) second.0, second.1))
+rises_by k x xs false e le first second = (
+  (omega arith, above_more (number k) (number x) (dedup_from same_number x xs) le second.0),
+  (below_more (number k) (number x) (dedup_from same_number x xs) (apart (number k) (number x) e le) second.0, second.1),
+)
 
 rises : (k : FileView) (xs : List FileView) → Level k xs → Rises k (dedup_from same_number k xs)
 unfolding Level Rises
@@ -81,13 +84,17 @@ same_laws = record {
 pub in_order : (files sorted kept : List FileView) → IsNonDecreasingBy number sorted → kept ≡ dedup same_number sorted → AreRising kept
 in_order files sorted kept up e = subst AreRising (sym e) (rising sorted up)
 
-pub from_files : (files sorted kept : List FileView) → IsPermutation files sorted → kept ≡ dedup same_number sorted → (view : FileView) → Contains kept view → Contains files view
+pub from_files : (files sorted kept : List FileView) → IsPermutation files sorted → kept ≡ dedup same_number sorted → (view : FileView) → Contains kept view →
+    Contains files view
 from_files files sorted kept moved e view there =
-    Contains-permutation sorted files view (IsPermutation-sym files sorted moved) (Contains-from_dedup same_number sorted view (subst (λ xs. Contains xs view) e there))
+    Contains-permutation sorted files view (IsPermutation-sym files sorted moved)
+    (Contains-from_dedup same_number sorted view (subst (λ xs. Contains xs view) e there))
 
 numbered : (view : FileView) (kept : List FileView) → Any (λ y. same_number view y ≡ true) kept → Any (λ y. y.row.id ≡ view.row.id) kept
 numbered view kept any = (any.0, any.1, any.2, any.3, sym (eqb-true (number view) (number any.1) any.4))
 
-pub all_files : (files sorted kept : List FileView) → IsPermutation files sorted → kept ≡ dedup same_number sorted → (view : FileView) → Contains files view → Any (λ y. y.row.id ≡ view.row.id) kept
+pub all_files : (files sorted kept : List FileView) → IsPermutation files sorted → kept ≡ dedup same_number sorted → (view : FileView) → Contains files view →
+    Any (λ y. y.row.id ≡ view.row.id) kept
 all_files files sorted kept moved e view there =
-    numbered view kept (subst (Any (λ y. same_number view y ≡ true)) (sym e) (Any-dedup same_laws sorted view (Contains-permutation files sorted view moved there)))
+    numbered view kept (subst (Any (λ y. same_number view y ≡ true)) (sym e)
+    (Any-dedup same_laws sorted view (Contains-permutation files sorted view moved there)))

@@ -1,5 +1,6 @@
 -- The rows that one selection finds, passed on to a taker of files.
-use Rattle.std.proofs.Common.{◌≡◌, ◌<◌, ℕ, suc, ◌+◌, ◌%◌, ◌^◌, Bool, true, false, cond, List, [], ◌∷◌, ◌++◌, length, refl, sym, ◌∙◌, ap, subst, ⊎_elim, map, arith}
+use Rattle.std.proofs.Common.{◌≡◌, ◌<◌, ℕ, suc, ◌+◌, ◌%◌, ◌^◌, Bool, true, false, cond, List, [], ◌∷◌, ◌++◌, length, refl, sym, ◌∙◌, ap, subst, ⊎_elim, map}
+use Rattle.std.proofs.Common.{arith}
 use Rattle.std.specs.Prelude.{Result, Ok, Err, IsErr, IsTrue}
 use Rattle.permit_base.specs.declared.route.Route.{Route}
 use Rattle.permit_core.specs.Taking.{TookAll, BeganOf}
@@ -20,14 +21,16 @@ use Rattle.permit_office.specs.Passing.{Passes, PassedOn}
 use Rattle.permit_office.specs.Stops.{StopsAtLast}
 use Rattle.permit_office.proofs.Listings.{views_append, rising_rows}
 
-pub took_both : {T I : Type 0} (took : T → I → T → Bool → Type 0) (xs ys : List I) (a b c : T) → TookAll took xs a b → TookAll took ys b c → TookAll took (xs ++ ys) a c
+pub took_both : {T I : Type 0} (took : T → I → T → Bool → Type 0) (xs ys : List I) (a b c : T) → TookAll took xs a b → TookAll took ys b c →
+    TookAll took (xs ++ ys) a c
 took_both took [] ys a b c e more = subst (λ x. TookAll took ys x c) e more
 took_both took (x ∷ xs) ys a b c w more = (w.0, w.1, took_both took xs ys w.0 b c w.2 more)
 
 -- ---- one row
 
 -- a file that may be listed
-pub listed_alone : (policy : Policy) (caller : Party) (day : ℕ) (found : Found) → may_list policy caller day found ≡ true → views_found policy caller day (found ∷ []) ≡ view_found day found ∷ []
+pub listed_alone : (policy : Policy) (caller : Party) (day : ℕ) (found : Found) → may_list policy caller day found ≡ true →
+    views_found policy caller day (found ∷ []) ≡ view_found day found ∷ []
 listed_alone policy caller day found e = ap (λ b. map (view_found day) (cond b (found ∷ []) [])) e
 
 -- a passer for the caller on the day, by the policy
@@ -35,20 +38,24 @@ abbrev pub IsFor : {T : Type 0} → Policy → Party → ℕ → Passer T → Ty
 IsFor policy caller day passer = (passer.policy.now ≡ policy) × (passer.caller.now ≡ caller) × (passer.day ≡ day)
 
 module _ {T : Type 0} (took : T → FileView → T → Bool → Type 0) (policy : Policy) (caller : Party) (day : ℕ) where
-  is_for : (found : Found) (before after : Passer T) (more : Bool) → Passes took before found after more → IsFor policy caller day before → IsFor policy caller day after
+  is_for : (found : Found) (before after : Passer T) (more : Bool) → Passes took before found after more → IsFor policy caller day before →
+      IsFor policy caller day after
   is_for found before after more one was = (ap (λ p. p.now) one.policy ∙ was.0, ap (λ p. p.now) one.caller ∙ was.1, one.day ∙ was.2)
 
   -- what one row did, by the policy, the caller and the day
-  went : (found : Found) (before after : Passer T) (p : Policy) (c : Party) (d : ℕ) → p ≡ policy → c ≡ caller → d ≡ day → TookAll took (views_found p c d (found ∷ [])) before.taker.now after.taker.now
+  went : (found : Found) (before after : Passer T) (p : Policy) (c : Party) (d : ℕ) → p ≡ policy → c ≡ caller → d ≡ day →
+      TookAll took (views_found p c d (found ∷ [])) before.taker.now after.taker.now
       → TookAll took (views_found policy caller day (found ∷ [])) before.taker.now after.taker.now
   went found before after p c d ep ec ed taken =
       subst (λ (x : Policy). TookAll took (views_found x caller day (found ∷ [])) before.taker.now after.taker.now) ep
       (subst (λ (x : Party). TookAll took (views_found p x day (found ∷ [])) before.taker.now after.taker.now) ec
       (subst (λ (x : ℕ). TookAll took (views_found p c x (found ∷ [])) before.taker.now after.taker.now) ed taken))
 
-  may : (found : Found) (p : Policy) (c : Party) (d : ℕ) → p ≡ policy → c ≡ caller → d ≡ day → IsTrue (may_list p c d found) → IsTrue (may_list policy caller day found)
+  may : (found : Found) (p : Policy) (c : Party) (d : ℕ) → p ≡ policy → c ≡ caller → d ≡ day → IsTrue (may_list p c d found) →
+      IsTrue (may_list policy caller day found)
   may found p c d ep ec ed listed =
-      subst (λ (x : Policy). IsTrue (may_list x caller day found)) ep (subst (λ (x : Party). IsTrue (may_list p x day found)) ec (subst (λ (x : ℕ). IsTrue (may_list p c x found)) ed listed))
+      subst (λ (x : Policy). IsTrue (may_list x caller day found)) ep (subst (λ (x : Party). IsTrue (may_list p x day found)) ec
+      (subst (λ (x : ℕ). IsTrue (may_list p c x found)) ed listed))
 
   -- ---- rows one after the other
 
@@ -60,7 +67,8 @@ module _ {T : Type 0} (took : T → FileView → T → Bool → Type 0) (policy 
     pub short : after.is_short ≡ before.is_short
     pub taken : TookAll took (views_found policy caller day given) before.taker.now after.taker.now
 
-  pub went_on : (given : List Found) (before after : Passer T) → before.read < 2 ^ 32 → IsFor policy caller day before → TookAll (Passes took) given before after → WentOn given before after
+  pub went_on : (given : List Found) (before after : Passer T) → before.read < 2 ^ 32 → IsFor policy caller day before →
+      TookAll (Passes took) given before after → WentOn given before after
   went_on [] before after few was e = record {
     own = subst (λ (x : Passer T). IsFor policy caller day x) (sym e) was;
     same = ap (λ (x : Passer T). x.taker.ghost_name) e;
@@ -94,10 +102,12 @@ module _ {T : Type 0} (took : T → FileView → T → Bool → Type 0) (policy 
   -- what a selection handed to a passer
   abbrev pub HandedTo : ℕ → Route → StoreView → StoreView → Passer T → Passer T → Result Bool StoreError → Type 0
   HandedTo number route old new before after result =
-      (given : List Found) × Hands (Passes took) given old new before after result × (new.doubt ≡ 0 → (t : Tables) → old.holds t → AreHanded t result given (found_by route number day t))
+      (given : List Found) × Hands (Passes took) given old new before after result
+      × (new.doubt ≡ 0 → (t : Tables) → old.holds t → AreHanded t result given (found_by route number day t))
 
   -- the rows taken and those left are the ones found, in their order
-  found_apart : (result : Result Bool StoreError) (number : ℕ) (route : Route) (t : Tables) (given : List Found) → number ≡ caller.id → IsRising (λ (row : FileRow). row.id) t.files
+  found_apart : (result : Result Bool StoreError) (number : ℕ) (route : Route) (t : Tables) (given : List Found) → number ≡ caller.id →
+      IsRising (λ (row : FileRow). row.id) t.files
       → AreHanded t result given (found_by route number day t) → (rest : List Found) × IsLeft result rest × (found_by route caller.id day t ≡ given ++ rest)
   found_apart result number route t given same up handed =
       (handed.0, handed.1, ap (λ n. found_by route n day t) (sym same) ∙ sym (handed.2.order (rising_rows t.files up)))
@@ -116,8 +126,10 @@ module _ {T : Type 0} (took : T → FileView → T → Bool → Type 0) (policy 
   few n z = omega arith
 
   -- each row was taken
-  pub all_passed : (number : ℕ) (route : Route) (old new : StoreView) (before after : Passer T) → number ≡ caller.id → IsFor policy caller day before → before.read ≡ 0
-      → HandedTo number route old new before after (Ok true) → PassedOn took policy caller day route old new before.taker.now after.taker.now (Ok (ended.All after.read))
+  pub all_passed : (number : ℕ) (route : Route) (old new : StoreView) (before after : Passer T) → number ≡ caller.id → IsFor policy caller day before →
+      before.read ≡ 0
+      → HandedTo number route old new before after (Ok true) → PassedOn took policy caller day route old new before.taker.now after.taker.now
+      (Ok (ended.All after.read))
   all_passed number route old new before after same was zero handed =
       let on = went_on handed.0 before after (few before.read zero) was handed.1.taken in
       record {
@@ -128,7 +140,8 @@ module _ {T : Type 0} (took : T → FileView → T → Bool → Type 0) (policy 
       }
 
   -- the taker stopped at the last row's file
-  stopped_at : (given : List Found) (before after : Passer T) → IsFor policy caller day before → before.read ≡ 0 → before.is_short ≡ false → after.is_short ≡ false
+  stopped_at : (given : List Found) (before after : Passer T) → IsFor policy caller day before → before.read ≡ 0 → before.is_short ≡ false →
+      after.is_short ≡ false
       → Took {E = StoreError} (Passes took) given before after (Ok false) → StopsAtLast took policy caller day given before.taker.now after.taker.now
   stopped_at given before after was zero ample still (front, last, order, mid, taken, one) =
       let on = went_on front before mid (few before.read zero) was taken in
@@ -147,8 +160,10 @@ module _ {T : Type 0} (took : T → FileView → T → Bool → Type 0) (policy 
       clash : true ≡ false → ⊥
       clash e = cc
 
-  pub stop_passed : (number : ℕ) (route : Route) (old new : StoreView) (before after : Passer T) → number ≡ caller.id → IsFor policy caller day before → before.read ≡ 0 → before.is_short ≡ false
-      → after.is_short ≡ false → HandedTo number route old new before after (Ok false) → PassedOn took policy caller day route old new before.taker.now after.taker.now (Ok ended.Stopped)
+  pub stop_passed : (number : ℕ) (route : Route) (old new : StoreView) (before after : Passer T) → number ≡ caller.id → IsFor policy caller day before →
+      before.read ≡ 0 → before.is_short ≡ false
+      → after.is_short ≡ false → HandedTo number route old new before after (Ok false) →
+      PassedOn took policy caller day route old new before.taker.now after.taker.now (Ok ended.Stopped)
   stop_passed number route old new before after same was zero ample still handed = record {
     given = handed.0;
     taken = stopped_at handed.0 before after was zero ample still handed.1.taken;
@@ -159,7 +174,8 @@ module _ {T : Type 0} (took : T → FileView → T → Bool → Type 0) (policy 
   }
 
   -- memory was refused for the last row's file
-  began_before : (given : List Found) (before after : Passer T) → IsFor policy caller day before → before.read ≡ 0 → before.is_short ≡ false → after.is_short ≡ true
+  began_before : (given : List Found) (before after : Passer T) → IsFor policy caller day before → before.read ≡ 0 → before.is_short ≡ false →
+      after.is_short ≡ true
       → Took {E = StoreError} (Passes took) given before after (Ok false) → BeganOf took (views_found policy caller day given) before.taker.now after.taker.now
   began_before given before after was zero ample short (front, last, order, mid, taken, one) =
       let on = went_on front before mid (few before.read zero) was taken in
@@ -175,8 +191,10 @@ module _ {T : Type 0} (took : T → FileView → T → Bool → Type 0) (policy 
       clash : true ≡ false → ⊥
       clash e = cc
 
-  pub short_passed : (number : ℕ) (route : Route) (old new : StoreView) (before after : Passer T) → number ≡ caller.id → IsFor policy caller day before → before.read ≡ 0 → before.is_short ≡ false
-      → after.is_short ≡ true → HandedTo number route old new before after (Ok false) → (e : StoreError) → PassedOn took policy caller day route old new before.taker.now after.taker.now (Err e)
+  pub short_passed : (number : ℕ) (route : Route) (old new : StoreView) (before after : Passer T) → number ≡ caller.id → IsFor policy caller day before →
+      before.read ≡ 0 → before.is_short ≡ false
+      → after.is_short ≡ true → HandedTo number route old new before after (Ok false) → (e : StoreError) →
+      PassedOn took policy caller day route old new before.taker.now after.taker.now (Err e)
   short_passed number route old new before after same was zero ample short handed e = record {
     given = handed.0;
     taken = began_before handed.0 before after was zero ample short handed.1.taken;
@@ -187,8 +205,10 @@ module _ {T : Type 0} (took : T → FileView → T → Bool → Type 0) (policy 
   }
 
   -- a call of the store failed
-  pub failed_passed : (number : ℕ) (route : Route) (old new : StoreView) (before after : Passer T) → number ≡ caller.id → IsFor policy caller day before → before.read ≡ 0
-      → (e error : StoreError) → HandedTo number route old new before after (Err e) → PassedOn took policy caller day route old new before.taker.now after.taker.now (Err error)
+  pub failed_passed : (number : ℕ) (route : Route) (old new : StoreView) (before after : Passer T) → number ≡ caller.id → IsFor policy caller day before →
+      before.read ≡ 0
+      → (e error : StoreError) → HandedTo number route old new before after (Err e) →
+      PassedOn took policy caller day route old new before.taker.now after.taker.now (Err error)
   failed_passed number route old new before after same was zero e error handed =
       let on = went_on handed.0 before after (few before.read zero) was handed.1.taken in
       record {
@@ -201,7 +221,8 @@ module _ {T : Type 0} (took : T → FileView → T → Bool → Type 0) (policy 
       }
 
   -- the passer passed on to the taker that it had
-  pub same_taker : (result : Result Bool StoreError) (number : ℕ) (route : Route) (old new : StoreView) (before after : Passer T) → IsFor policy caller day before → before.read ≡ 0
+  pub same_taker : (result : Result Bool StoreError) (number : ℕ) (route : Route) (old new : StoreView) (before after : Passer T) →
+      IsFor policy caller day before → before.read ≡ 0
       → HandedTo number route old new before after result → after.taker.ghost_name ≡ before.taker.ghost_name
   same_taker (Ok true) number route old new before after was zero handed = (went_on handed.0 before after (few before.read zero) was handed.1.taken).same
   same_taker (Ok false) number route old new before after was zero handed =
@@ -211,39 +232,50 @@ module _ {T : Type 0} (took : T → FileView → T → Bool → Type 0) (policy 
 
   -- ---- what the selection's call answered, by its tests
 
-  was_true : (number : ℕ) (route : Route) (old new : StoreView) (before after : Passer T) (b : Bool) → b ≡ true → HandedTo number route old new before after (Ok b) → HandedTo number route old new before after (Ok true)
+  was_true : (number : ℕ) (route : Route) (old new : StoreView) (before after : Passer T) (b : Bool) → b ≡ true →
+      HandedTo number route old new before after (Ok b) → HandedTo number route old new before after (Ok true)
   was_true number route old new before after b e handed = subst (λ (x : Bool). HandedTo number route old new before after (Ok x)) e handed
 
-  was_false : (number : ℕ) (route : Route) (old new : StoreView) (before after : Passer T) (b : Bool) → b ≡ false → HandedTo number route old new before after (Ok b) → HandedTo number route old new before after (Ok false)
+  was_false : (number : ℕ) (route : Route) (old new : StoreView) (before after : Passer T) (b : Bool) → b ≡ false →
+      HandedTo number route old new before after (Ok b) → HandedTo number route old new before after (Ok false)
   was_false number route old new before after b e handed = subst (λ (x : Bool). HandedTo number route old new before after (Ok x)) e handed
 
-  pub passed_whole : (number : ℕ) (route : Route) (old new : StoreView) (before after : Passer T) → number ≡ caller.id → IsFor policy caller day before → before.read ≡ 0 → (b : Bool) → b ≡ true
-      → HandedTo number route old new before after (Ok b) → (last : T) → last ≡ after.taker.now → PassedOn took policy caller day route old new before.taker.now last (Ok (ended.All after.read))
+  pub passed_whole : (number : ℕ) (route : Route) (old new : StoreView) (before after : Passer T) → number ≡ caller.id → IsFor policy caller day before →
+      before.read ≡ 0 → (b : Bool) → b ≡ true
+      → HandedTo number route old new before after (Ok b) → (last : T) → last ≡ after.taker.now →
+      PassedOn took policy caller day route old new before.taker.now last (Ok (ended.All after.read))
   passed_whole number route old new before after same was zero b e handed last is =
       subst (λ (x : T). PassedOn took policy caller day route old new before.taker.now x (Ok (ended.All after.read))) (sym is)
       (all_passed number route old new before after same was zero (was_true number route old new before after b e handed))
 
-  pub passed_to_stop : (number : ℕ) (route : Route) (old new : StoreView) (before after : Passer T) → number ≡ caller.id → IsFor policy caller day before → before.read ≡ 0 → before.is_short ≡ false → (b : Bool)
+  pub passed_to_stop : (number : ℕ) (route : Route) (old new : StoreView) (before after : Passer T) → number ≡ caller.id → IsFor policy caller day before →
+      before.read ≡ 0 → before.is_short ≡ false → (b : Bool)
       → b ≡ false → after.is_short ≡ false → HandedTo number route old new before after (Ok b) → (last : T) → last ≡ after.taker.now
       → PassedOn took policy caller day route old new before.taker.now last (Ok ended.Stopped)
   passed_to_stop number route old new before after same was zero ample b e still handed last is =
       subst (λ (x : T). PassedOn took policy caller day route old new before.taker.now x (Ok ended.Stopped)) (sym is)
       (stop_passed number route old new before after same was zero ample still (was_false number route old new before after b e handed))
 
-  pub passed_to_want : (number : ℕ) (route : Route) (old new : StoreView) (before after : Passer T) → number ≡ caller.id → IsFor policy caller day before → before.read ≡ 0 → before.is_short ≡ false → (b : Bool)
+  pub passed_to_want : (number : ℕ) (route : Route) (old new : StoreView) (before after : Passer T) → number ≡ caller.id → IsFor policy caller day before →
+      before.read ≡ 0 → before.is_short ≡ false → (b : Bool)
       → b ≡ false → after.is_short ≡ true → HandedTo number route old new before after (Ok b) → (error : StoreError) → (last : T) → last ≡ after.taker.now
       → PassedOn took policy caller day route old new before.taker.now last (Err error)
   passed_to_want number route old new before after same was zero ample b e short handed error last is =
       subst (λ (x : T). PassedOn took policy caller day route old new before.taker.now x (Err error)) (sym is)
       (short_passed number route old new before after same was zero ample short (was_false number route old new before after b e handed) error)
 
-  pub passed_to_failure : (number : ℕ) (route : Route) (old new : StoreView) (before after : Passer T) → number ≡ caller.id → IsFor policy caller day before → before.read ≡ 0 → (e error : StoreError)
-      → HandedTo number route old new before after (Err e) → (last : T) → last ≡ after.taker.now → PassedOn took policy caller day route old new before.taker.now last (Err error)
+  pub passed_to_failure : (number : ℕ) (route : Route) (old new : StoreView) (before after : Passer T) → number ≡ caller.id → IsFor policy caller day before →
+      before.read ≡ 0 → (e error : StoreError)
+      → HandedTo number route old new before after (Err e) → (last : T) → last ≡ after.taker.now →
+      PassedOn took policy caller day route old new before.taker.now last (Err error)
   passed_to_failure number route old new before after same was zero e error handed last is =
       subst (λ (x : T). PassedOn took policy caller day route old new before.taker.now x (Err error)) (sym is)
       (failed_passed number route old new before after same was zero e error handed)
 
-  pub passed_on_err : (number : ℕ) (route : Route) (old new : StoreView) (before after : Passer T) → number ≡ caller.id → IsFor policy caller day before → before.read ≡ 0 → (e : StoreError)
-      → (result : Result RowsEnd StoreError) → IsErr result → HandedTo number route old new before after (Err e) → (last : T) → last ≡ after.taker.now → PassedOn took policy caller day route old new before.taker.now last result
+  pub passed_on_err : (number : ℕ) (route : Route) (old new : StoreView) (before after : Passer T) → number ≡ caller.id → IsFor policy caller day before →
+      before.read ≡ 0 → (e : StoreError)
+      → (result : Result RowsEnd StoreError) → IsErr result → HandedTo number route old new before after (Err e) → (last : T) → last ≡ after.taker.now →
+      PassedOn took policy caller day route old new before.taker.now last result
   passed_on_err number route old new before after same was zero e (Ok end) err handed last is = cc
-  passed_on_err number route old new before after same was zero e (Err error) err handed last is = passed_to_failure number route old new before after same was zero e error handed last is
+  passed_on_err number route old new before after same was zero e (Err error) err handed last is =
+      passed_to_failure number route old new before after same was zero e error handed last is

@@ -31,7 +31,8 @@ row_touched : (id : ℕ) (act : Act) (state : State) (file : CaseFile) → ((fil
 row_touched id act state file is = row_by file act state (id == file.filing.id) (file.filing.id == id) (same_way id file.filing.id) is
 
 -- rows of higher numbers stay
-rows_above : (h : History) (id : ℕ) (act : Act) (state : State) (first : ℕ) (made : List Filing) → IsNumberedFrom (λ (f : Filing). f.id) first made → id < first →
+rows_above : (h : History) (id : ℕ) (act : Act) (state : State) (first : ℕ) (made : List Filing) → IsNumberedFrom (λ (f : Filing). f.id) first made →
+    id < first →
     map file_row (map (touched id act) (map (case_file h) made)) ≡ map (with_state id state) (map file_row (map (case_file h) made))
 rows_above h id act state first [] numbered below = refl
 rows_above h id act state first (f ∷ made) numbered below =
@@ -39,25 +40,30 @@ rows_above h id act state first (f ∷ made) numbered below =
     ap (λ r. r ∷ map file_row (map (touched id act) (map (case_file h) made))) (row_touched id act state (case_file h f) (λ e. cc))
     ∙ ap (λ rs. with_state id state (file_row (case_file h f)) ∷ rs) (rows_above h id act state (first + 1) made numbered.1 (omega arith))
 
-rows_by : (h : History) (id : ℕ) (act : Act) (state : State) (first : ℕ) (f filing : Filing) (made : List Filing) → IsNumberedFrom (λ (g : Filing). g.id) (first + 1) made → f.id ≡ first →
+rows_by : (h : History) (id : ℕ) (act : Act) (state : State) (first : ℕ) (f filing : Filing) (made : List Filing) →
+    IsNumberedFrom (λ (g : Filing). g.id) (first + 1) made → f.id ≡ first →
     state ≡ state_of (with_act (case_file h filing) act) → (b : Bool) → (f.id == id) ≡ b → cond b (Some f) (find (λ g. g.id == id) made) ≡ Some filing →
-    (find (λ g. g.id == id) made ≡ Some filing → map file_row (map (touched id act) (map (case_file h) made)) ≡ map (with_state id state) (map file_row (map (case_file h) made))) →
+    (find (λ g. g.id == id) made ≡ Some filing → map file_row (map (touched id act) (map (case_file h) made))
+    ≡ map (with_state id state) (map file_row (map (case_file h) made))) →
     map file_row (map (touched id act) (map (case_file h) (f ∷ made))) ≡ map (with_state id state) (map file_row (map (case_file h) (f ∷ made)))
 rows_by h id act state first f filing made numbered named is true e found ih =
     let same : f ≡ filing = ap (λ o. unwrap_or o f) found in
     let here : f.id ≡ id = eqb-true f.id id e in
-    ap (λ r. r ∷ map file_row (map (touched id act) (map (case_file h) made))) (row_touched id act state (case_file h f) (λ t. is ∙ ap (λ (x : Filing). state_of (with_act (case_file h x) act)) (sym same)))
+    ap (λ r. r ∷ map file_row (map (touched id act) (map (case_file h) made)))
+    (row_touched id act state (case_file h f) (λ t. is ∙ ap (λ (x : Filing). state_of (with_act (case_file h x) act)) (sym same)))
     ∙ ap (λ rs. with_state id state (file_row (case_file h f)) ∷ rs) (rows_above h id act state (first + 1) made numbered (omega (arith, here, named)))
 rows_by h id act state first f filing made numbered named is false e found ih =
     ap (λ r. r ∷ map file_row (map (touched id act) (map (case_file h) made))) (row_touched id act state (case_file h f) (λ t. cc))
     ∙ ap (λ rs. with_state id state (file_row (case_file h f)) ∷ rs) (ih found)
 
-rows_from : (h : History) (id : ℕ) (act : Act) (state : State) (first : ℕ) (filing : Filing) (made : List Filing) → IsNumberedFrom (λ (f : Filing). f.id) first made →
+rows_from : (h : History) (id : ℕ) (act : Act) (state : State) (first : ℕ) (filing : Filing) (made : List Filing) →
+    IsNumberedFrom (λ (f : Filing). f.id) first made →
     state ≡ state_of (with_act (case_file h filing) act) → find (λ g. g.id == id) made ≡ Some filing →
     map file_row (map (touched id act) (map (case_file h) made)) ≡ map (with_state id state) (map file_row (map (case_file h) made))
 rows_from h id act state first filing [] numbered is found = refl
 rows_from h id act state first filing (f ∷ made) numbered is found =
-    rows_by h id act state first f filing made numbered.1 numbered.0 is (f.id == id) refl found (λ more. rows_from h id act state (first + 1) filing made numbered.1 is more)
+    rows_by h id act state first f filing made numbered.1 numbered.0 is (f.id == id) refl found
+    (λ more. rows_from h id act state (first + 1) filing made numbered.1 is more)
 
 -- the files' rows with the file's new state are those of the files after the act
 pub rows_with : (h : History) (id : ℕ) (act : Act) (state : State) (filing : Filing) → IsHistory h →

@@ -25,7 +25,8 @@ use Rattle.permit_office.proofs.Stepping.{stepped}
 abbrev IsInTime : History → ℕ → Option Party → Party → Type 0
 IsInTime h day found caller = (found ≡ Some caller) × (last_day h ≤ day)
 
-by_clock : (h : History) (day : ℕ) (c caller : Party) (b : Bool) → nat_lt day (last_day h) ≡ b → Ok caller ≡ (if b then Err refusal.Clock else Ok c) → IsInTime h day (Some c) caller
+by_clock : (h : History) (day : ℕ) (c caller : Party) (b : Bool) → nat_lt day (last_day h) ≡ b → Ok caller ≡ (if b then Err refusal.Clock else Ok c) →
+    IsInTime h day (Some c) caller
 by_clock h day c caller true late e = cc
 by_clock h day c caller false late e = (cc, grind (arith, nat_tests))
 
@@ -41,13 +42,15 @@ told : (a b : Refusal) → refusal_of a ≡ refusal_of b → b ≡ a
 told a b same = cc
 
 module _ {T : Type 0} (took : T → FileView → T → Bool → Type 0) (policy : Policy) (h : History) (digest : List ℕ) (day : ℕ) (wanted : Filter) where
-  pub shows_known : (caller : Party) → Ok caller ≡ caller_on h digest day → (old new : T) (end : RowsEnd) → Shows took (Listed (listing policy h day caller wanted)) old new end
+  pub shows_known : (caller : Party) → Ok caller ≡ caller_on h digest day → (old new : T) (end : RowsEnd) →
+      Shows took (Listed (listing policy h day caller wanted)) old new end
       → Shows took (step_as policy h digest (request.ListFiles wanted) day).reply old new end
   shows_known caller e old new end shown =
       let known : IsInTime h day (who h digest) caller = in_time h day (who h digest) caller e in
       subst (λ (o : Outcome). Shows took o.reply old new end) (sym (stepped policy h digest (request.ListFiles wanted) day caller (sym known.0) known.1)) shown
 
-  pub stops_known : (caller : Party) → Ok caller ≡ caller_on h digest day → (before after : T) (old new : ℕ) (end : RowsEnd) → StopsFor took policy h caller day wanted end before after old new
+  pub stops_known : (caller : Party) → Ok caller ≡ caller_on h digest day → (before after : T) (old new : ℕ) (end : RowsEnd) →
+      StopsFor took policy h caller day wanted end before after old new
       → StopsAt took policy h digest day wanted end before after old new
   stops_known caller e before after old new ended.Stopped stops = (caller, (in_time h day (who h digest) caller e).0, stops)
   stops_known caller e before after old new (ended.All read) stops = tt
@@ -64,13 +67,16 @@ module _ {T : Type 0} (took : T → FileView → T → Bool → Type 0) (policy 
   refused_by (Some c) why t e = refused_late c (nat_lt day (last_day h)) why t refl e
 
   -- a caller or a clock that is refused
-  pub shows_refused : (why : Refusal) (t : T) → Err why ≡ caller_on h digest day → Shows took (step_as policy h digest (request.ListFiles wanted) day).reply t t (ended.Refused why)
+  pub shows_refused : (why : Refusal) (t : T) → Err why ≡ caller_on h digest day →
+      Shows took (step_as policy h digest (request.ListFiles wanted) day).reply t t (ended.Refused why)
   shows_refused why t e = refused_by (who h digest) why t e
 
-pub opens_known : (policy : Policy) (h : History) (digest : List ℕ) (day : ℕ) (wanted : Filter) (caller : Party) → Ok caller ≡ caller_on h digest day → (old new : ℕ) (end : RowsEnd)
+pub opens_known : (policy : Policy) (h : History) (digest : List ℕ) (day : ℕ) (wanted : Filter) (caller : Party) → Ok caller ≡ caller_on h digest day →
+    (old new : ℕ) (end : RowsEnd)
     → OpensAt (Some (length (opened policy h day caller wanted))) end old new → OpensAt (rows_opened policy h digest (request.ListFiles wanted) day) end old new
 opens_known policy h digest day wanted caller e old new end opens =
-    subst (λ (found : Option Party). OpensAt (option_and_then (λ (c : Party). opened_for policy h day c (request.ListFiles wanted)) found) end old new) (sym (in_time h day (who h digest) caller e).0) opens
+    subst (λ (found : Option Party). OpensAt (option_and_then (λ (c : Party). opened_for policy h day c (request.ListFiles wanted)) found) end old new)
+    (sym (in_time h day (who h digest) caller e).0) opens
 
 -- of a refusal nothing is said
 pub opens_refused : (rows : Option ℕ) (why : Refusal) (old new : ℕ) → OpensAt rows (ended.Refused why) old new

@@ -27,7 +27,8 @@ use Rattle.permit_model.proofs.Histories.{found_by_number}
 in_time : (last day : ℕ) → last ≤ day → nat_lt day last ≡ false
 in_time last day h = grind (arith, nat_tests)
 
-pub stepped : (policy : Policy) (h : History) (digest : List ℕ) (request : Request) (day : ℕ) (caller : Party) → Some caller ≡ who h digest → last_day h ≤ day → step_as policy h digest request day ≡ outcome_by_request policy h day caller request
+pub stepped : (policy : Policy) (h : History) (digest : List ℕ) (request : Request) (day : ℕ) (caller : Party) → Some caller ≡ who h digest → last_day h ≤ day →
+    step_as policy h digest request day ≡ outcome_by_request policy h day caller request
 stepped policy h digest request day caller found time =
     ap (outcome_by_caller policy h day request) (sym found)
     ∙ ap (λ (b : Bool). if b then refused h refusal.Clock else outcome_by_request policy h day caller request) (in_time (last_day h) day time)
@@ -116,16 +117,20 @@ opens_refused None why old new = tt
 opens_refused (Some n) why old new = tt
 
 -- the rows that the known caller's request opens
-pub opened_known : (policy : Policy) (h : History) (digest : List ℕ) (asked : Request) (day : ℕ) (caller : Party) → Some caller ≡ who h digest → (result : Result Given StoreError) (mid old new : ℕ) → mid ≡ old →
-    IfOk result (λ reply. Opens (opened_for policy h day caller asked) reply mid new) → IfOk result (λ reply. Opens (rows_opened policy h digest asked day) reply old new)
+pub opened_known : (policy : Policy) (h : History) (digest : List ℕ) (asked : Request) (day : ℕ) (caller : Party) → Some caller ≡ who h digest →
+    (result : Result Given StoreError) (mid old new : ℕ) → mid ≡ old →
+    IfOk result (λ reply. Opens (opened_for policy h day caller asked) reply mid new) →
+    IfOk result (λ reply. Opens (rows_opened policy h digest asked day) reply old new)
 opened_known policy h digest asked day caller found result mid old new same opened =
     subst (λ n. IfOk result (λ reply. Opens (rows_opened policy h digest asked day) reply n new)) same
     (subst (λ rows. IfOk result (λ reply. Opens rows reply mid new)) (ap (option_and_then (λ (p : Party). opened_for policy h day p asked)) found) opened)
 
 -- an attempt that gives a reply of the office's own is a step
-pub stepped_ok : {S : Type 0} (view : S → StoreView) (digest : List ℕ) (asked : Request) (day : ℕ) (old new : OfficeView S) (reply : Given) → new.policy ≡ old.policy →
+pub stepped_ok : {S : Type 0} (view : S → StoreView) (digest : List ℕ) (asked : Request) (day : ℕ) (old new : OfficeView S) (reply : Given) →
+    new.policy ≡ old.policy →
     IsAttempt (reach_of asked) (view old.store) (view new.store) (Ok reply) → ((view new.store).doubt ≡ 0 → HasOneDesk (view new.store)) → IsOwn reply →
-    ((view new.store).doubt ≡ 0 → (h : History) → IsHistory h → (view old.store).holds (tables h) → Opens (rows_opened old.policy h digest asked day) reply (view old.store).handed (view new.store).handed) →
+    ((view new.store).doubt ≡ 0 → (h : History) → IsHistory h → (view old.store).holds (tables h) →
+    Opens (rows_opened old.policy h digest asked day) reply (view old.store).handed (view new.store).handed) →
     IsStep view digest asked day old new reply
 stepped_ok view digest asked day old new reply same attempt one own opened =
     let none : (view new.store).failed ≡ (view old.store).failed = none_failed (reach_of asked) reply _ _ attempt.failed in
@@ -142,7 +147,8 @@ stepped_ok view digest asked day old new reply same attempt one own opened =
     }
 
 -- an attempt that failed is a step with the store's refusal
-pub stepped_err : {S : Type 0} (view : S → StoreView) (digest : List ℕ) (asked : Request) (day : ℕ) (old new : OfficeView S) (e : StoreError) → new.policy ≡ old.policy →
+pub stepped_err : {S : Type 0} (view : S → StoreView) (digest : List ℕ) (asked : Request) (day : ℕ) (old new : OfficeView S) (e : StoreError) →
+    new.policy ≡ old.policy →
     IsAttempt (reach_of asked) (view old.store) (view new.store) (Err e) → IsStep view digest asked day old new (given.Refused refusal.Store)
 stepped_err view digest asked day old new e same attempt = record {
   policy = same;
@@ -157,9 +163,17 @@ stepped_err view digest asked day old new e same attempt = record {
 }
 
 -- one step more
-pub steps_last : {S : Type 0} (view : S → StoreView) (requests : List (Asked × ℕ)) (replies : List Given) (request : Asked × ℕ) (reply : Given) (old between new : OfficeView S) → Steps view requests replies old between →
-    IsStep view (digest_of request.0.token) request.0.request request.1 between new reply → Steps view (requests ++ request ∷ []) (replies ++ reply ∷ []) old new
-steps_last view [] [] request reply old between new ran step = (new, subst (λ o. IsStep view (digest_of request.0.token) request.0.request request.1 o new reply) ran step, refl)
+pub steps_last : {S : Type 0} (view : S → StoreView) (requests : List (Asked × ℕ)) (replies : List Given) (request : Asked × ℕ) (reply : Given)
+    (old between new : OfficeView S) → Steps view requests replies old between →
+    IsStep view (digest_of request.0.token) request.0.request request.1 between new reply →
+    Steps view (requests ++ request ∷ []) (replies ++ reply ∷ []) old new
+steps_last view [] [] request reply old between new ran step = (
+  new,
+  subst
+      (λ o. IsStep view (digest_of request.0.token) request.0.request request.1 o new reply) ran step,
+  refl,
+)
 steps_last view [] (r ∷ replies) request reply old between new ran step = absurd ran
 steps_last view (q ∷ requests) [] request reply old between new ran step = absurd ran
-steps_last view (q ∷ requests) (r ∷ replies) request reply old between new ran step = (ran.0, ran.1, steps_last view requests replies request reply ran.0 between new ran.2 step)
+steps_last view (q ∷ requests) (r ∷ replies) request reply old between new ran step =
+    (ran.0, ran.1, steps_last view requests replies request reply ran.0 between new ran.2 step)

@@ -20,11 +20,14 @@ use Rattle.permit_model.specs.Machine.{IsHistory, entry_of}
 use Rattle.permit_model.proofs.Numbers.{parcels_below, no_transfers, files_below}
 use Rattle.permit_model.proofs.Projection.{no_acts}
 
-papers_deed : (now later : History) (entry : Entry) (deed : Deed) (before : History) → ((id : ℕ) → acts_on id later ≡ acts_on id now) → papers_made later before ≡ papers_made now before →
+papers_deed : (now later : History) (entry : Entry) (deed : Deed) (before : History) → ((id : ℕ) → acts_on id later ≡ acts_on id now) →
+    papers_made later before ≡ papers_made now before →
     papers_made later (record entry { deed = deed } ∷ before) ≡ papers_made now (record entry { deed = deed } ∷ before)
 papers_deed now later entry (Accepted (OnFile file command)) before same ih =
-    ap (λ ps. add_last ps (paper_by file (open_notices (acts_on file later)) (act_of (record entry { deed = Accepted (OnFile file command) }) command) (acts_on file before))) ih
-    ∙ ap (λ acts. add_last (papers_made now before) (paper_by file (open_notices acts) (act_of (record entry { deed = Accepted (OnFile file command) }) command) (acts_on file before))) (same file)
+    ap (λ ps. add_last ps (paper_by file (open_notices (acts_on file later)) (act_of (record entry { deed = Accepted (OnFile file command) }) command)
+    (acts_on file before))) ih
+    ∙ ap (λ acts. add_last (papers_made now before) (paper_by file (open_notices acts) (act_of (record entry { deed = Accepted (OnFile file command) }) command)
+    (acts_on file before))) (same file)
 papers_deed now later entry _ before same ih = ih
 
 -- the papers stay where nothing was done to a file
@@ -44,7 +47,11 @@ party_added h day caller name role token =
     let new : Party = record { id = length (parties h) + 1; name = name; role = role; digest = digest_of token } in
     let long : length (parties h) + 1 ≡ length (parties h ++ new ∷ []) = sym (length-append (parties h) (new ∷ [])) in
     ap (λ n. record (tables h) { desk = record (tables h).desk { last = day; parties = n }; parties = parties h ++ new ∷ [] }) long
-    ∙ ap (λ ps. record (tables h) { desk = record (tables h).desk { last = day; parties = length (parties h ++ new ∷ []) }; parties = parties h ++ new ∷ []; papers = ps }) (sym (papers_same h (entry ∷ h) (λ id. refl) h))
+    ∙ ap (λ ps. record (tables h) {
+      desk = record (tables h).desk { last = day; parties = length (parties h ++ new ∷ []) };
+      parties = parties h ++ new ∷ [];
+      papers = ps;
+    }) (sym (papers_same h (entry ∷ h) (λ id. refl) h))
 
 pub party_more : (h : History) (day caller : ℕ) (name : List ℕ) (role : Role) (token digest : List ℕ) → digest ≡ digest_of token →
     record (tables h) {
@@ -52,13 +59,17 @@ pub party_more : (h : History) (day caller : ℕ) (name : List ℕ) (role : Role
       parties = parties h ++ (record { id = length (parties h) + 1; name = name; role = role; digest = digest }) ∷ [];
     } ≡ tables (entry_of h day caller (AddParty name role token) ∷ h)
 party_more h day caller name role token digest d =
-    ap (λ x. record (tables h) { desk = record (tables h).desk { last = day; parties = length (parties h) + 1 }; parties = parties h ++ (record { id = length (parties h) + 1; name = name; role = role; digest = x }) ∷ [] }) d
+    ap (λ x. record (tables h) {
+      desk = record (tables h).desk { last = day; parties = length (parties h) + 1 };
+      parties = parties h ++ (record { id = length (parties h) + 1; name = name; role = role; digest = x }) ∷ [];
+    }) d
     ∙ party_added h day caller name role token
 
 -- ---- a parcel more
 
 parcels_more : (h : History) (day caller : ℕ) (lot address : List ℕ) (owner : ℕ) → IsHistory h →
-    parcels h ++ (record { id = length (parcels h) + 1; lot = lot; address = address; owner = owner }) ∷ [] ≡ parcels (entry_of h day caller (AddParcel lot address owner) ∷ h)
+    parcels h ++ (record { id = length (parcels h) + 1; lot = lot; address = address; owner = owner })
+    ∷ [] ≡ parcels (entry_of h day caller (AddParcel lot address owner) ∷ h)
 parcels_more h day caller lot address owner is =
     let made = in_order parcel_added h in
     let id : ℕ = length (parcels h) + 1 in
@@ -78,20 +89,41 @@ parcel_more h day caller lot address owner is =
     let new : Parcel = record { id = length (parcels h) + 1; lot = lot; address = address; owner = owner } in
     let long : length (parcels h) + 1 ≡ length (parcels h ++ new ∷ []) = sym (length-append (parcels h) (new ∷ [])) in
     ap (λ n. record (tables h) { desk = record (tables h).desk { last = day; parcels = n }; parcels = parcels h ++ new ∷ [] }) long
-    ∙ ap (λ ps. record (tables h) { desk = record (tables h).desk { last = day; parcels = length ps }; parcels = ps }) (parcels_more h day caller lot address owner is)
-    ∙ ap (λ pp. record (tables h) { desk = record (tables h).desk { last = day; parcels = length (parcels (entry ∷ h)) }; parcels = parcels (entry ∷ h); papers = pp }) (sym (papers_same h (entry ∷ h) (λ id. refl) h))
+    ∙ ap (λ ps. record (tables h) { desk = record (tables h).desk { last = day; parcels = length ps }; parcels = ps })
+    (parcels_more h day caller lot address owner is)
+    ∙ ap (λ pp. record (tables h) {
+      desk = record (tables h).desk { last = day; parcels = length (parcels (entry ∷ h)) };
+      parcels = parcels (entry ∷ h);
+      papers = pp;
+    }) (sym (papers_same h (entry ∷ h) (λ id. refl) h))
 
 -- ---- a file more
 
 files_more : (h : History) (day caller parcel : ℕ) (kind : Kind) (valuation : ℕ) (description : List ℕ) → IsHistory h → (filing : Filing) →
-    filing ≡ record { id = length (filings h) + 1; parcel = parcel; applicant = caller; kind = kind; valuation = valuation; description = description; filed = day } →
+    filing ≡ record {
+      id = length (filings h) + 1;
+      parcel = parcel;
+      applicant = caller;
+      kind = kind;
+      valuation = valuation;
+      description = description;
+      filed = day;
+    } →
     case_files h ++ (record { filing = filing; acts = [] }) ∷ [] ≡ map (case_file h) (filings h ++ filing ∷ [])
 files_more h day caller parcel kind valuation description is filing e =
     let above : length (filings h) < filing.id = ap-below e in
     let none : acts_on filing.id h ≡ [] = no_acts h filing.id is (files_below h is filing.id above) in
     ap (λ acts. case_files h ++ (record { filing = filing; acts = acts }) ∷ []) (sym none) ∙ sym (map-append (case_file h) (filings h) (filing ∷ []))
   where
-    ap-below : filing ≡ record { id = length (filings h) + 1; parcel = parcel; applicant = caller; kind = kind; valuation = valuation; description = description; filed = day } → length (filings h) < filing.id
+    ap-below : filing ≡ record {
+      id = length (filings h) + 1;
+      parcel = parcel;
+      applicant = caller;
+      kind = kind;
+      valuation = valuation;
+      description = description;
+      filed = day;
+    } → length (filings h) < filing.id
     ap-below f = let k : filing.id ≡ length (filings h) + 1 = ap (λ (x : Filing). x.id) f in omega arith
 
 pub file_more : (h : History) (day caller parcel : ℕ) (kind : Kind) (valuation : ℕ) (description : List ℕ) → IsHistory h →
@@ -99,22 +131,50 @@ pub file_more : (h : History) (day caller parcel : ℕ) (kind : Kind) (valuation
       desk = record (tables h).desk { last = day; files = length (case_files h) + 1 };
       files = map file_row (case_files h) ++ (record {
         id = length (case_files h) + 1;
-        state = state_of (record { filing = record { id = length (filings h) + 1; parcel = parcel; applicant = caller; kind = kind; valuation = valuation; description = description; filed = day }; acts = [] });
+        state = state_of (record {
+          filing = record {
+            id = length (filings h) + 1;
+            parcel = parcel;
+            applicant = caller;
+            kind = kind;
+            valuation = valuation;
+            description = description;
+            filed = day;
+          };
+          acts = [];
+        });
         valuation = valuation;
         description = description;
       }) ∷ [];
     } ≡ tables (entry_of h day caller (File parcel kind valuation description) ∷ h)
 file_more h day caller parcel kind valuation description is =
     let entry : Entry = entry_of h day caller (File parcel kind valuation description) in
-    let filing : Filing = record { id = length (filings h) + 1; parcel = parcel; applicant = caller; kind = kind; valuation = valuation; description = description; filed = day } in
+    let filing : Filing = record {
+      id = length (filings h) + 1;
+      parcel = parcel;
+      applicant = caller;
+      kind = kind;
+      valuation = valuation;
+      description = description;
+      filed = day;
+    } in
     let file : CaseFile = record { filing = filing; acts = [] } in
     let count : length (case_files h) ≡ length (filings h) = length-map (filings h) (case_file h) in
     let long : length (case_files h) + 1 ≡ length (case_files h ++ file ∷ []) = sym (length-append (case_files h) (file ∷ [])) in
-    ap (λ n. record (tables h) { desk = record (tables h).desk { last = day; files = length (case_files h) + 1 }; files = map file_row (case_files h) ++ (record { id = n + 1; state = state_of file; valuation = valuation; description = description }) ∷ [] }) count
+    ap (λ n. record (tables h) {
+      desk = record (tables h).desk { last = day; files = length (case_files h) + 1 };
+      files = map file_row (case_files h) ++ (record { id = n + 1; state = state_of file; valuation = valuation; description = description }) ∷ [];
+    }) count
     ∙ ap (λ n. record (tables h) { desk = record (tables h).desk { last = day; files = n }; files = map file_row (case_files h) ++ file_row file ∷ [] }) long
-    ∙ ap (λ fs. record (tables h) { desk = record (tables h).desk { last = day; files = length (case_files h ++ file ∷ []) }; files = fs }) (sym (map-append file_row (case_files h) (file ∷ [])))
-    ∙ ap (λ (cs : List CaseFile). record (tables h) { desk = record (tables h).desk { last = day; files = length cs }; files = map file_row cs }) (files_more h day caller parcel kind valuation description is filing refl)
-    ∙ ap (λ pp. record (tables h) { desk = record (tables h).desk { last = day; files = length (case_files (entry ∷ h)) }; files = map file_row (case_files (entry ∷ h)); papers = pp }) (sym (papers_same h (entry ∷ h) (λ id. refl) h))
+    ∙ ap (λ fs. record (tables h) { desk = record (tables h).desk { last = day; files = length (case_files h ++ file ∷ []) }; files = fs })
+    (sym (map-append file_row (case_files h) (file ∷ [])))
+    ∙ ap (λ (cs : List CaseFile). record (tables h) { desk = record (tables h).desk { last = day; files = length cs }; files = map file_row cs })
+    (files_more h day caller parcel kind valuation description is filing refl)
+    ∙ ap (λ pp. record (tables h) {
+      desk = record (tables h).desk { last = day; files = length (case_files (entry ∷ h)) };
+      files = map file_row (case_files (entry ∷ h));
+      papers = pp;
+    }) (sym (papers_same h (entry ∷ h) (λ id. refl) h))
 
 -- ---- an interest more
 
@@ -125,7 +185,11 @@ pub interest_more : (h : History) (day caller parcel : ℕ) →
     } ≡ tables (entry_of h day caller (Declare parcel) ∷ h)
 interest_more h day caller parcel =
     let entry : Entry = entry_of h day caller (Declare parcel) in
-    ap (λ ps. record (tables h) { desk = record (tables h).desk { last = day }; interests = interests h ++ (record { parcel = parcel; party = caller }) ∷ []; papers = ps }) (sym (papers_same h (entry ∷ h) (λ id. refl) h))
+    ap (λ ps. record (tables h) {
+      desk = record (tables h).desk { last = day };
+      interests = interests h ++ (record { parcel = parcel; party = caller }) ∷ [];
+      papers = ps;
+    }) (sym (papers_same h (entry ∷ h) (λ id. refl) h))
 
 -- ---- another owner
 
@@ -133,7 +197,8 @@ same_way : (a b : ℕ) → (a == b) ≡ (b == a)
 same_way a b = grind (arith, nat_tests)
 
 given_by : (p : Parcel) (parcel to owner : ℕ) (before : Option ℕ) (a b : Bool) → a ≡ b →
-    (if a then record p { owner = to } else record p { owner = unwrap_or before owner }) ≡ record p { owner = unwrap_or (option_or (if b then Some to else None) before) owner }
+    (if a then record p { owner = to } else record p { owner = unwrap_or before owner })
+    ≡ record p { owner = unwrap_or (option_or (if b then Some to else None) before) owner }
 given_by p parcel to owner before true true e = refl
 given_by p parcel to owner before false false e = refl
 given_by p parcel to owner before true false e = cc
@@ -146,7 +211,8 @@ mapped_twice f g k same (x ∷ xs) = ap (λ y. y ∷ map g (map f xs)) (same x) 
 parcels_given : (h : History) (day caller parcel to : ℕ) → map (given_to parcel to) (parcels h) ≡ parcels (entry_of h day caller (Transfer parcel to) ∷ h)
 parcels_given h day caller parcel to =
     mapped_twice (parcel_now h) (given_to parcel to) (parcel_now (entry_of h day caller (Transfer parcel to) ∷ h))
-    (λ p. given_by p parcel to p.owner (latest (λ (e : Entry). receiver_by p.id e.deed) h) (p.id == parcel) (parcel == p.id) (same_way p.id parcel)) (in_order parcel_added h)
+    (λ p. given_by p parcel to p.owner (latest (λ (e : Entry). receiver_by p.id e.deed) h) (p.id == parcel) (parcel == p.id) (same_way p.id parcel))
+    (in_order parcel_added h)
 
 pub transfer_more : (h : History) (day caller parcel to : ℕ) →
     record (tables h) {
@@ -158,4 +224,8 @@ transfer_more h day caller parcel to =
     let long : length (parcels h) ≡ length (map (given_to parcel to) (parcels h)) = sym (length-map (parcels h) (given_to parcel to)) in
     ap (λ n. record (tables h) { desk = record (tables h).desk { last = day; parcels = n }; parcels = map (given_to parcel to) (parcels h) }) long
     ∙ ap (λ ps. record (tables h) { desk = record (tables h).desk { last = day; parcels = length ps }; parcels = ps }) (parcels_given h day caller parcel to)
-    ∙ ap (λ pp. record (tables h) { desk = record (tables h).desk { last = day; parcels = length (parcels (entry ∷ h)) }; parcels = parcels (entry ∷ h); papers = pp }) (sym (papers_same h (entry ∷ h) (λ id. refl) h))
+    ∙ ap (λ pp. record (tables h) {
+      desk = record (tables h).desk { last = day; parcels = length (parcels (entry ∷ h)) };
+      parcels = parcels (entry ∷ h);
+      papers = pp;
+    }) (sym (papers_same h (entry ∷ h) (λ id. refl) h))

@@ -36,7 +36,8 @@ pub record Passes {T : Type 0} (took : T → FileView → T → Bool → Type 0)
 -- what the taker did with the files among these rows that may be listed: it took each, or it stopped at the last row's, or
 -- it took a beginning before a failure
 abbrev pub TakenOf : {T : Type 0} → (T → FileView → T → Bool → Type 0) → Policy → Party → ℕ → List Found → T → T → Result RowsEnd StoreError → Type 0
-TakenOf took policy caller day given before after (Ok (ended.All read)) = (read ≡ length given % 2 ^ 32) × TookAll took (views_found policy caller day given) before after
+TakenOf took policy caller day given before after (Ok (ended.All read)) = (read ≡ length given % 2 ^ 32)
+    × TookAll took (views_found policy caller day given) before after
 TakenOf took policy caller day given before after (Ok ended.Stopped) = StopsAtLast took policy caller day given before after
 TakenOf took policy caller day given before after (Ok (ended.Refused why)) = ⊥
 TakenOf took policy caller day given before after (Err e) = BeganOf took (views_found policy caller day given) before after
@@ -48,7 +49,8 @@ LeftAt result rest = ⊤
 
 -- The files that may be listed among these rows were passed on, and the rows are a beginning of those that the selection
 -- finds.
-pub record PassedOn {T : Type 0} (took : T → FileView → T → Bool → Type 0) (policy : Policy) (caller : Party) (day : ℕ) (route : Route) (old new : StoreView) (before after : T)
+pub record PassedOn {T : Type 0} (took : T → FileView → T → Bool → Type 0) (policy : Policy) (caller : Party) (day : ℕ) (route : Route) (old new : StoreView)
+    (before after : T)
     (result : Result RowsEnd StoreError) : Type 0 where
   pub given : List Found
   pub taken : TakenOf took policy caller day given before after result

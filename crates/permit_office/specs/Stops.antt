@@ -20,7 +20,8 @@ abbrev pub routes_for : Policy → Party → Filter → List Route
 routes_for policy caller wanted = routes_of (allowed_by policy caller.role action.List) wanted
 
 -- The taker stopped at the file of the last of these rows, and took the files that may be listed of those before it.
-pub record StopsAtLast {T : Type 0} (took : T → FileView → T → Bool → Type 0) (policy : Policy) (caller : Party) (day : ℕ) (given : List Found) (old new : T) : Type 0 where
+pub record StopsAtLast {T : Type 0} (took : T → FileView → T → Bool → Type 0) (policy : Policy) (caller : Party) (day : ℕ) (given : List Found)
+    (old new : T) : Type 0 where
   pub passed : List Found
   pub last : Found
   pub order : given ≡ passed ++ last ∷ []
@@ -39,7 +40,8 @@ StopsIn took policy h caller day wanted routes before after old new = HandedMore
 
 -- the end of a listing for the caller, where the taker stopped
 abbrev pub StopsFor : {T : Type 0} → (T → FileView → T → Bool → Type 0) → Policy → History → Party → ℕ → Filter → RowsEnd → T → T → ℕ → ℕ → Type 0
-StopsFor took policy h caller day wanted ended.Stopped before after old new = StopsIn took policy h caller day wanted (routes_for policy caller wanted) before after old new
+StopsFor took policy h caller day wanted ended.Stopped before after old new =
+    StopsIn took policy h caller day wanted (routes_for policy caller wanted) before after old new
 StopsFor took policy h caller day wanted end before after old new = ⊤
 
 -- the same for the party that keeps the digest

@@ -29,7 +29,8 @@ returns-in-Some-denial-clause-model g c = λ doubt h is held time party.
     let facts = rw c.action.ensures at (c.in_ok-facts.ensures.facts doubt h file kept_2 f.state_is owner) in
     let denied = rw facts at (sym c.in-Some-denial.is ∙ c.denial.ensures) in
     rw (command_judged a.policy.now h a.day a.caller.now a.file a.command.now file f.found
-    ∙ denied_outcome a.policy.now h a.day a.caller.now (OnFile a.file a.command.now) (decision a.policy.now (file_facts h a.day a.caller.now file (command_action a.command.now))) c.in-Some-denial.name denied)
+    ∙ denied_outcome a.policy.now h a.day a.caller.now (OnFile a.file a.command.now)
+    (decision a.policy.now (file_facts h a.day a.caller.now file (command_action a.command.now))) c.in-Some-denial.name denied)
     (inl (refl, c.facts_on_file.ensures.read.kept (tables h) kept_2))
 
 pub returns-clause-model : goal.returns-clause-model
@@ -48,5 +49,6 @@ returns-clause-model g c = λ doubt h is held time party.
     let caller : c.caller.inside.id ≡ a.caller.now.id = ap (λ (p : Party). p.id) c.caller.view_is in
     let done = c.perform.ensures.model doubt h is (c.facts_on_file.ensures.read.kept (tables h) kept_2) file f.found f.state_is owner time (rw caller party) in
     rw (command_judged a.policy.now h a.day a.caller.now a.file a.command.now file f.found
-    ∙ allowed_outcome a.policy.now h a.day a.caller.now (OnFile a.file a.command.now) (decision a.policy.now (file_facts h a.day a.caller.now file (command_action a.command.now))) allowed)
+    ∙ allowed_outcome a.policy.now h a.day a.caller.now (OnFile a.file a.command.now)
+    (decision a.policy.now (file_facts h a.day a.caller.now file (command_action a.command.now))) allowed)
     (rw caller at done)

@@ -24,8 +24,15 @@ returns-clause-model g c = λ doubt h is held one there state owner time party.
     let papers = c.effect_of-effect.ensures.papers a.file c.apply.new.self.papers a.day one (papers_made h h) state in
     let more = command_more h a.day a.caller a.file a.command.now one is there c.apply.new.self after _ papers in
     let counted = ap (λ (s : State). s.papers) after ∙ papers_counted _ one.acts in
-    let effect = c.effect_of-effect.ensures.suits (tables h) c.apply.new.self (rw state counted) party (λ makes. rw state (papers_room h a.day a.caller a.file a.command.now one there none makes)) in
-    let suits = row_suits h a.file one c.apply.new.self c.effect_of-effect.result there (ap (λ (s : State). s.parcel) after) (ap (λ (s : State). s.applicant) after) (rw state at effect) in
+    let effect = c.effect_of-effect.ensures.suits (tables h) c.apply.new.self (rw state counted) party
+    (λ makes. rw state (papers_room h a.day a.caller a.file a.command.now one there none makes)) in
+    let suits = row_suits h a.file one c.apply.new.self c.effect_of-effect.result there (ap (λ (s : State). s.parcel) after)
+    (ap (λ (s : State). s.applicant) after) (rw state at effect) in
     let done = c.carry_out.ensures.model h (entry_of h a.day a.caller (OnFile a.file a.command.now)) (c.people_about.ensures.read.kept (tables h) held)
-    (λ same is_ok. (number_is (Ok c.paper_number-number.result) same _ number is_ok ∙ ap (paper_number a.command.now) (sym there), record { suits = suits; in_time = time }, more)) in
+    (λ same is_ok. (
+      number_is (Ok c.paper_number-number.result) same _ number is_ok
+          ∙ ap (paper_number a.command.now) (sym there),
+      record { suits = suits; in_time = time },
+      more,
+    )) in
     rw none done

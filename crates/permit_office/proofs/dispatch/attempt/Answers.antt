@@ -21,5 +21,6 @@ returns-clause-opened g c = λ doubt h is held.
     let a = c.args in
     let found = sym c.in-Some.is ∙ c.in_ok-caller.ensures.found late (tables h) held in
     let kept = c.party_by_token.ensures.read.kept (tables h) held in
-    opened_known a.policy.now h a.digest.now a.request.now a.day c.in-Some.caller found c.serve_known.result (g.S.Store.view c.desk.new.self).handed (g.S.Store.view a.store.now).handed (g.S.Store.view c.serve_known.new.store).handed
+    opened_known a.policy.now h a.digest.now a.request.now a.day c.in-Some.caller found c.serve_known.result (g.S.Store.view c.desk.new.self).handed
+    (g.S.Store.view a.store.now).handed (g.S.Store.view c.serve_known.new.store).handed
     (c.desk.ensures.read.handed ∙ c.party_by_token.ensures.read.handed) (c.serve_known.ensures.opened doubt h is (c.desk.ensures.read.kept (tables h) kept))

@@ -19,7 +19,8 @@ pub returns-in_default-clause-model : goal.returns-in_default-clause-model
 returns-in_default-clause-model g c = λ doubt h is held e t party.
     let a = c.args in
     let none = sym c.in_default.is ∙ c.in_ok-owner.ensures.found doubt (tables h) held in
-    rw (file_unplaced a.policy.now h a.day a.caller.now a.parcel a.kind a.valuation a.description.now none) (inl (refl, c.owner.ensures.read.kept (tables h) held))
+    rw (file_unplaced a.policy.now h a.day a.caller.now a.parcel a.kind a.valuation a.description.now none)
+    (inl (refl, c.owner.ensures.read.kept (tables h) held))
 
 pub returns-in-Some-denial-clause-model : goal.returns-in-Some-denial-clause-model
 returns-in-Some-denial-clause-model g c = λ doubt h is held e t party.
@@ -31,7 +32,8 @@ returns-in-Some-denial-clause-model g c = λ doubt h is held e t party.
     let facts = c.in_ok-facts.ensures.facts doubt h kept (sym found) in
     let denied = rw facts at (sym c.in-Some-denial.is ∙ c.denial.ensures) in
     rw (file_judged a.policy.now h a.day a.caller.now a.parcel a.kind a.valuation a.description.now owned.land owned.found
-    ∙ denied_outcome a.policy.now h a.day a.caller.now (File a.parcel a.kind a.valuation a.description.now) (decision a.policy.now (parcel_facts h a.caller.now a.parcel New action.File)) c.in-Some-denial.name denied)
+    ∙ denied_outcome a.policy.now h a.day a.caller.now (File a.parcel a.kind a.valuation a.description.now)
+    (decision a.policy.now (parcel_facts h a.caller.now a.parcel New action.File)) c.in-Some-denial.name denied)
     (inl (refl, c.facts_on_parcel.ensures.read.kept (tables h) kept))
 
 pub returns-clause-model : goal.returns-clause-model
@@ -49,9 +51,15 @@ returns-clause-model g c = λ doubt h is held e t party.
     let reason = rw count at c.next_number-admitted.ensures.reason in
     let caller = ap (λ (p : Party). p.id) c.caller.view_is in
     let state = rw caller at (c.file-state.ensures.row (length (filings h) + 1) a.valuation a.description.now) in
-    let done = c.carry_out.ensures.model h (entry_of h a.day a.caller.now.id (File a.parcel a.kind a.valuation a.description.now)) (c.facts_on_parcel.ensures.read.kept (tables h) kept)
-    (λ number is_ok. let s = file_suits h a.day a.caller.now.id a.parcel a.kind a.valuation a.description.now owned.land owned.found party (sym reason ∙ none_against _ number is_ok) in
-    (number_is _ number _ c.next_number-admitted.ensures.number is_ok ∙ ap (λ m. Some (m + 1)) count, record { suits = rw state s; in_time = t }, rw state (file_more h a.day a.caller.now.id a.parcel a.kind a.valuation a.description.now is))) in
+    let done = c.carry_out.ensures.model h (entry_of h a.day a.caller.now.id (File a.parcel a.kind a.valuation a.description.now))
+    (c.facts_on_parcel.ensures.read.kept (tables h) kept)
+    (λ number is_ok. let s = file_suits h a.day a.caller.now.id a.parcel a.kind a.valuation a.description.now owned.land owned.found party
+    (sym reason ∙ none_against _ number is_ok) in (
+      number_is _ number _ c.next_number-admitted.ensures.number is_ok ∙ ap (λ m. Some (m + 1)) count,
+      record { suits = rw state s; in_time = t },
+      rw state (file_more h a.day a.caller.now.id a.parcel a.kind a.valuation a.description.now is),
+    )) in
     rw (file_judged a.policy.now h a.day a.caller.now a.parcel a.kind a.valuation a.description.now owned.land owned.found
-    ∙ allowed_outcome a.policy.now h a.day a.caller.now (File a.parcel a.kind a.valuation a.description.now) (decision a.policy.now (parcel_facts h a.caller.now a.parcel New action.File)) allowed)
+    ∙ allowed_outcome a.policy.now h a.day a.caller.now (File a.parcel a.kind a.valuation a.description.now)
+    (decision a.policy.now (parcel_facts h a.caller.now a.parcel New action.File)) allowed)
     (rw reason at done)

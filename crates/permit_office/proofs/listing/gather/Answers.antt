@@ -18,7 +18,8 @@ loop-place-init g c = record {
   doubt = le_refl _;
   failed = refl;
   commits = refl;
-  gathers = gathers_none c.args.policy.now c.args.caller.now c.args.day c.args.routes.now (g.S.Store.view c.args.store.now) c.new.result.items c.new.ensures.items;
+  gathers = gathers_none c.args.policy.now c.args.caller.now c.args.day c.args.routes.now
+      (g.S.Store.view c.args.store.now) c.new.result.items c.new.ensures.items;
 }
 
 pub loop-place-preserved-then-has_alike : goal.loop-place-preserved-then-has_alike
@@ -40,8 +41,10 @@ loop-place-preserved-then-has_alike g c =
       doubt = l.invariant.doubt;
       failed = l.invariant.failed;
       commits = l.invariant.commits;
-      gathers = subst (λ (ys : List Route). GathersOf a.policy.now a.caller.now a.day xs ys (s a.store.now) (s l.store) l.lister.files.items l.lister.read) (sym more)
-          (gathers_seen a.policy.now a.caller.now a.day xs (take i xs) r (s a.store.now) (s l.store) l.lister.files.items l.lister.read there l.invariant.gathers);
+      gathers = subst (λ (ys : List Route). GathersOf a.policy.now a.caller.now a.day xs ys (s a.store.now) (s l.store) l.lister.files.items l.lister.read)
+          (sym more)
+          (gathers_seen a.policy.now a.caller.now a.day xs (take i xs) r (s a.store.now)
+          (s l.store) l.lister.files.items l.lister.read there l.invariant.gathers);
     }
 
 pub loop-place-preserved : goal.loop-place-preserved
@@ -68,7 +71,8 @@ loop-place-preserved g c =
       doubt = omega arith;
       failed = on.read.1.failed ∙ l.invariant.failed;
       commits = on.read.1.commits ∙ l.invariant.commits;
-      gathers = subst (λ (ys : List Route). GathersOf a.policy.now a.caller.now a.day xs ys (s a.store.now) (s c.hand_group.new.store) c.hand_group.new.lister.files.items c.hand_group.new.lister.read) (sym more) on.gathers;
+      gathers = subst (λ (ys : List Route). GathersOf a.policy.now a.caller.now a.day xs ys (s a.store.now)
+          (s c.hand_group.new.store) c.hand_group.new.lister.files.items c.hand_group.new.lister.read) (sym more) on.gathers;
     }
 
 pub returns-clause-gathered : goal.returns-clause-gathered
@@ -77,4 +81,5 @@ returns-clause-gathered g c =
     let l = c.loop-place in
     let s = g.S.Store.view in
     gathers_whole a.policy.now a.caller.now a.day a.routes.now (s a.store.now) (s l.store) l.lister.files.items l.lister.read
-    (subst (λ (ys : List Route). GathersOf a.policy.now a.caller.now a.day a.routes.now ys (s a.store.now) (s l.store) l.lister.files.items l.lister.read) (take_all l.place a.routes.now c.loop-place-test.false) l.invariant.gathers)
+    (subst (λ (ys : List Route). GathersOf a.policy.now a.caller.now a.day a.routes.now ys (s a.store.now) (s l.store) l.lister.files.items l.lister.read)
+    (take_all l.place a.routes.now c.loop-place-test.false) l.invariant.gathers)

@@ -14,5 +14,6 @@ invariant-loop-place g l = record {
   doubt : (g.S.Store.view l.fn.store).doubt ≤ (g.S.Store.view l.store).doubt;
   failed : (g.S.Store.view l.store).failed ≡ (g.S.Store.view l.fn.store).failed;
   commits : (g.S.Store.view l.store).commits ≡ (g.S.Store.view l.fn.store).commits;
-  gathers : GathersOf l.fn.policy l.fn.caller l.fn.day l.routes (take l.place l.routes) (g.S.Store.view l.fn.store) (g.S.Store.view l.store) l.lister.files.items l.lister.read;
+  gathers : GathersOf l.fn.policy l.fn.caller l.fn.day l.routes (take l.place l.routes) (g.S.Store.view l.fn.store)
+      (g.S.Store.view l.store) l.lister.files.items l.lister.read;
 }

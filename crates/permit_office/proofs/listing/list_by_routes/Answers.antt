@@ -6,7 +6,8 @@ pub returns-clause-files : goal.returns-clause-files
 returns-clause-files g c = λ doubt h is held wanted e.
     let a = c.args in
     let all = c.in_ok-all.ensures.gathered in
-    files_gathered a.policy.now h a.day a.caller.now wanted is all.given c.in_ok-all.all.files.items c.in_order.result.items all.files (subst (GivenBy a.caller.now.id a.day h all.given) e (all.found doubt h is held wanted e))
+    files_gathered a.policy.now h a.day a.caller.now wanted is all.given c.in_ok-all.all.files.items c.in_order.result.items all.files
+    (subst (GivenBy a.caller.now.id a.day h all.given) e (all.found doubt h is held wanted e))
     c.in_order.ensures.order c.in_order.ensures.from c.in_order.ensures.all
 
 pub returns-clause-opened : goal.returns-clause-opened
@@ -14,4 +15,5 @@ returns-clause-opened g c = λ doubt h is held wanted e.
     let a = c.args in
     let s = g.S.Store.view in
     let all = c.in_ok-all.ensures.gathered in
-    rows_read a.policy.now h a.day a.caller.now wanted is all.given _ (s a.store.now).handed (s c.gather.new.store).handed (subst (GivenBy a.caller.now.id a.day h all.given) e (all.found doubt h is held wanted e)) all.read all.handed
+    rows_read a.policy.now h a.day a.caller.now wanted is all.given _ (s a.store.now).handed (s c.gather.new.store).handed
+    (subst (GivenBy a.caller.now.id a.day h all.given) e (all.found doubt h is held wanted e)) all.read all.handed

@@ -8,4 +8,5 @@ use Rattle.permit_office.proofs.listing.listing_routes.Goals as goal
 pub returns : goal.returns
 returns c =
     let a = c.args in
-    c.in-Ok-routes.ensures.exact ∙ ap (λ (allowed : Allowed). routes_of allowed a.wanted) (same_allowed (may c.in-Ok.masks) a.policy.now a.role c.in-Ok.ensures.exact)
+    c.in-Ok-routes.ensures.exact ∙ ap (λ (allowed : Allowed). routes_of allowed a.wanted)
+    (same_allowed (may c.in-Ok.masks) a.policy.now a.role c.in-Ok.ensures.exact)

@@ -17,5 +17,6 @@ returns-clause-model g c = λ doubt h is held.
 pub returns-clause-opened : goal.returns-clause-opened
 returns-clause-opened g c = λ doubt h is held.
     let a = c.args in
-    subst (λ (w : Filter). OpensRows (length (opened a.policy.now h a.day a.caller.now w)) c.in_ok-listing.listing (g.S.Store.view a.store.now).handed (g.S.Store.view c.make_listing.new.store).handed) c.register_filter.ensures
+    subst (λ (w : Filter). OpensRows (length (opened a.policy.now h a.day a.caller.now w)) c.in_ok-listing.listing (g.S.Store.view a.store.now).handed
+    (g.S.Store.view c.make_listing.new.store).handed) c.register_filter.ensures
     (c.in_ok-listing.ensures.opened doubt h is held)

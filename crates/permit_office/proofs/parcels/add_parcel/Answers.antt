@@ -16,7 +16,8 @@ returns-in-Some-clause-model g c = λ doubt h is held e t.
     let role = ap (λ (p : Party). p.role) c.caller.view_is in
     let denied = rw (c.office.ensures, role) at (sym c.in-Some.is ∙ c.denial.ensures) in
     let a = c.args in
-    rw (denied_outcome a.policy.now h a.day a.caller.now (AddParcel a.lot.now a.address.now a.owner) (decision a.policy.now (office_facts a.caller.now.role action.AddParcel)) c.in-Some.name denied)
+    rw (denied_outcome a.policy.now h a.day a.caller.now (AddParcel a.lot.now a.address.now a.owner)
+    (decision a.policy.now (office_facts a.caller.now.role action.AddParcel)) c.in-Some.name denied)
     (inl (refl, held))
 
 pub returns-clause-model : goal.returns-clause-model
@@ -27,8 +28,13 @@ returns-clause-model g c = λ doubt h is held e t.
     let allowed = rw (c.office.ensures, role) at (sym c.in_default.is ∙ c.denial.ensures) in
     let reason = c.in_ok-admitted.ensures.reason late h a.day a.caller.now.id a.address.now held e in
     let count = ap (λ (d : Desk). Some (d.parcels + 1)) e in
-    let done = c.carry_out.ensures.model h (entry_of h a.day a.caller.now.id (AddParcel a.lot.now a.address.now a.owner)) (c.admit_parcel.ensures.read.kept (tables h) held)
-    (λ number is_ok. let s = parcel_suits h a.day a.caller.now.id a.lot.now a.address.now a.owner (sym reason ∙ none_against _ number is_ok) in
-    (number_is _ number _ c.in_ok-admitted.ensures.number is_ok ∙ count, record { suits = s; in_time = t }, parcel_more h a.day a.caller.now.id a.lot.now a.address.now a.owner is)) in
-    rw (allowed_outcome a.policy.now h a.day a.caller.now (AddParcel a.lot.now a.address.now a.owner) (decision a.policy.now (office_facts a.caller.now.role action.AddParcel)) allowed)
+    let done = c.carry_out.ensures.model h (entry_of h a.day a.caller.now.id (AddParcel a.lot.now a.address.now a.owner))
+    (c.admit_parcel.ensures.read.kept (tables h) held)
+    (λ number is_ok. let s = parcel_suits h a.day a.caller.now.id a.lot.now a.address.now a.owner (sym reason ∙ none_against _ number is_ok) in (
+      number_is _ number _ c.in_ok-admitted.ensures.number is_ok ∙ count,
+      record { suits = s; in_time = t },
+      parcel_more h a.day a.caller.now.id a.lot.now a.address.now a.owner is,
+    )) in
+    rw (allowed_outcome a.policy.now h a.day a.caller.now (AddParcel a.lot.now a.address.now a.owner)
+    (decision a.policy.now (office_facts a.caller.now.role action.AddParcel)) allowed)
     (rw reason at done)

@@ -24,7 +24,8 @@ returns-in-Some-denial-clause-model g c = λ doubt h held t party.
     let facts = c.in_ok-facts.ensures.facts doubt h kept (sym found) in
     let denied = rw facts at (sym c.in-Some-denial.is ∙ c.denial.ensures) in
     rw (declare_judged a.policy.now h a.day a.caller.now a.parcel owned.land owned.found
-    ∙ denied_outcome a.policy.now h a.day a.caller.now (Declare a.parcel) (decision a.policy.now (parcel_facts h a.caller.now a.parcel Office action.Declare)) c.in-Some-denial.name denied)
+    ∙ denied_outcome a.policy.now h a.day a.caller.now (Declare a.parcel)
+    (decision a.policy.now (parcel_facts h a.caller.now a.parcel Office action.Declare)) c.in-Some-denial.name denied)
     (inl (refl, c.facts_on_parcel.ensures.read.kept (tables h) kept))
 
 pub returns-clause-model : goal.returns-clause-model
@@ -39,10 +40,15 @@ returns-clause-model g c = λ doubt h held t party.
     let allowed = rw facts at (sym c.in_default-denial.is ∙ c.denial.ensures) in
     let kept_2 = c.facts_on_parcel.ensures.read.kept (tables h) kept in
     let caller = ap (λ (p : Party). p.id) c.caller.view_is in
-    let reason = c.admit_declaration-admitted.ensures.reason ∙ ap (λ (f : Facts). first_failing ((f.relations.conflict, Taken) ∷ [])) (c.facts.view_is ∙ facts) in
+    let reason = c.admit_declaration-admitted.ensures.reason ∙ ap (λ (f : Facts). first_failing ((f.relations.conflict, Taken) ∷ []))
+    (c.facts.view_is ∙ facts) in
     let done = c.carry_out.ensures.model h (entry_of h a.day a.caller.now.id (Declare a.parcel)) kept_2
-    (λ number is_ok. let s = interest_suits h a.day a.caller.now.id a.parcel owned.land owned.found party (sym reason ∙ none_against _ number is_ok) in
-    (number_is _ number _ c.admit_declaration-admitted.ensures.number is_ok, record { suits = rw caller s; in_time = t }, rw caller (interest_more h a.day a.caller.now.id a.parcel))) in
+    (λ number is_ok. let s = interest_suits h a.day a.caller.now.id a.parcel owned.land owned.found party (sym reason ∙ none_against _ number is_ok) in (
+      number_is _ number _ c.admit_declaration-admitted.ensures.number is_ok,
+      record { suits = rw caller s; in_time = t },
+      rw caller (interest_more h a.day a.caller.now.id a.parcel),
+    )) in
     rw (declare_judged a.policy.now h a.day a.caller.now a.parcel owned.land owned.found
-    ∙ allowed_outcome a.policy.now h a.day a.caller.now (Declare a.parcel) (decision a.policy.now (parcel_facts h a.caller.now a.parcel Office action.Declare)) allowed)
+    ∙ allowed_outcome a.policy.now h a.day a.caller.now (Declare a.parcel)
+    (decision a.policy.now (parcel_facts h a.caller.now a.parcel Office action.Declare)) allowed)
     (rw reason at done)

@@ -21,7 +21,8 @@ returns-in-Some-denial-clause-model g c = λ doubt h held t.
     let facts = c.in_ok-facts.ensures.facts doubt h kept (sym found) in
     let denied = rw facts at (sym c.in-Some-denial.is ∙ c.denial.ensures) in
     rw (transfer_judged a.policy.now h a.day a.caller.now a.parcel a.to owned.land owned.found
-    ∙ denied_outcome a.policy.now h a.day a.caller.now (Transfer a.parcel a.to) (decision a.policy.now (parcel_facts h a.caller.now a.parcel Office action.Transfer)) c.in-Some-denial.name denied)
+    ∙ denied_outcome a.policy.now h a.day a.caller.now (Transfer a.parcel a.to)
+    (decision a.policy.now (parcel_facts h a.caller.now a.parcel Office action.Transfer)) c.in-Some-denial.name denied)
     (inl (refl, c.facts_on_parcel.ensures.read.kept (tables h) kept))
 
 pub returns-clause-model : goal.returns-clause-model
@@ -41,5 +42,6 @@ returns-clause-model g c = λ doubt h held t.
     (λ number is_ok. let s = transfer_suits h a.day a.caller.now.id a.parcel a.to owned.land owned.found (sym reason ∙ none_against _ number is_ok) in
     (number_is _ number _ c.in_ok-admitted.ensures.number is_ok, record { suits = s; in_time = t }, transfer_more h a.day a.caller.now.id a.parcel a.to)) in
     rw (transfer_judged a.policy.now h a.day a.caller.now a.parcel a.to owned.land owned.found
-    ∙ allowed_outcome a.policy.now h a.day a.caller.now (Transfer a.parcel a.to) (decision a.policy.now (parcel_facts h a.caller.now a.parcel Office action.Transfer)) allowed)
+    ∙ allowed_outcome a.policy.now h a.day a.caller.now (Transfer a.parcel a.to)
+    (decision a.policy.now (parcel_facts h a.caller.now a.parcel Office action.Transfer)) allowed)
     (rw reason at done)

@@ -19,7 +19,8 @@ returns-in-Some-clause-model g c = λ doubt h is held e t.
     let role = ap (λ (p : Party). p.role) c.caller.view_is in
     let denied = rw (c.office.ensures, role, c.adding.ensures) at (sym c.in-Some.is ∙ c.denial.ensures) in
     let a = c.args in
-    rw (denied_outcome a.policy.now h a.day a.caller.now (AddParty a.name.now a.role a.token.now) (decision a.policy.now (office_facts a.caller.now.role (adding_action a.role))) c.in-Some.rule denied)
+    rw (denied_outcome a.policy.now h a.day a.caller.now (AddParty a.name.now a.role a.token.now)
+    (decision a.policy.now (office_facts a.caller.now.role (adding_action a.role))) c.in-Some.rule denied)
     (inl (refl, held))
 
 pub returns-clause-model : goal.returns-clause-model
@@ -31,8 +32,13 @@ returns-clause-model g c = λ doubt h is held e t.
     let digest = same_ok c.digest.result _ _ c.in-Ok.is c.digest.ensures in
     let reason = c.in_ok-admitted.ensures.reason late h a.day a.caller.now.id a.name.now a.role a.token.now held e digest in
     let count = ap (λ (d : Desk). Some (d.parties + 1)) e in
-    let done = c.carry_out.ensures.model h (entry_of h a.day a.caller.now.id (AddParty a.name.now a.role a.token.now)) (c.admit_party.ensures.read.kept (tables h) held)
-    (λ number is_ok. let s = party_suits h a.day a.caller.now.id a.name.now a.role a.token.now _ digest (sym reason ∙ none_against _ number is_ok) in
-    (number_is _ number _ c.in_ok-admitted.ensures.number is_ok ∙ count, record { suits = s; in_time = t }, party_more h a.day a.caller.now.id a.name.now a.role a.token.now _ digest)) in
-    rw (allowed_outcome a.policy.now h a.day a.caller.now (AddParty a.name.now a.role a.token.now) (decision a.policy.now (office_facts a.caller.now.role (adding_action a.role))) allowed)
+    let done = c.carry_out.ensures.model h (entry_of h a.day a.caller.now.id (AddParty a.name.now a.role a.token.now))
+    (c.admit_party.ensures.read.kept (tables h) held)
+    (λ number is_ok. let s = party_suits h a.day a.caller.now.id a.name.now a.role a.token.now _ digest (sym reason ∙ none_against _ number is_ok) in (
+      number_is _ number _ c.in_ok-admitted.ensures.number is_ok ∙ count,
+      record { suits = s; in_time = t },
+      party_more h a.day a.caller.now.id a.name.now a.role a.token.now _ digest,
+    )) in
+    rw (allowed_outcome a.policy.now h a.day a.caller.now (AddParty a.name.now a.role a.token.now)
+    (decision a.policy.now (office_facts a.caller.now.role (adding_action a.role))) allowed)
     (rw reason at done)

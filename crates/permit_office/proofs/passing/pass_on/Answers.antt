@@ -8,8 +8,10 @@ returns-then-is_whole-clause-passed g c =
     let a = c.args in
     let s = g.S.Store.view in
     let handed = c.in_ok-is_whole.ensures.handed in
-    let named = same_taker g.T.Taker.took a.policy.now a.caller.now a.day _ _ a.route.now (s a.store.now) (s c.each.new.self) _ c.each.new.taker (refl, refl, refl) refl handed in
-    passed_whole g.T.Taker.took a.policy.now a.caller.now a.day _ a.route.now (s a.store.now) (s c.each.new.self) _ c.each.new.taker (ap (λ (p : Party). p.id) c.caller.view_is) (refl, refl, refl) refl
+    let named = same_taker g.T.Taker.took a.policy.now a.caller.now a.day _ _ a.route.now (s a.store.now) (s c.each.new.self) _ c.each.new.taker
+    (refl, refl, refl) refl handed in
+    passed_whole g.T.Taker.took a.policy.now a.caller.now a.day _ a.route.now (s a.store.now) (s c.each.new.self) _ c.each.new.taker
+    (ap (λ (p : Party). p.id) c.caller.view_is) (refl, refl, refl) refl
     c.in_ok-is_whole.is_whole c.if-is_whole.true handed _ (search rules)
 
 pub returns-then-passer-clause-passed : goal.returns-then-passer-clause-passed
@@ -17,8 +19,10 @@ returns-then-passer-clause-passed g c =
     let a = c.args in
     let s = g.S.Store.view in
     let handed = c.in_ok-is_whole.ensures.handed in
-    let named = same_taker g.T.Taker.took a.policy.now a.caller.now a.day _ _ a.route.now (s a.store.now) (s c.each.new.self) _ c.each.new.taker (refl, refl, refl) refl handed in
-    passed_to_want g.T.Taker.took a.policy.now a.caller.now a.day _ a.route.now (s a.store.now) (s c.each.new.self) _ c.each.new.taker (ap (λ (p : Party). p.id) c.caller.view_is) (refl, refl, refl) refl refl
+    let named = same_taker g.T.Taker.took a.policy.now a.caller.now a.day _ _ a.route.now (s a.store.now) (s c.each.new.self) _ c.each.new.taker
+    (refl, refl, refl) refl handed in
+    passed_to_want g.T.Taker.took a.policy.now a.caller.now a.day _ a.route.now (s a.store.now) (s c.each.new.self) _ c.each.new.taker
+    (ap (λ (p : Party). p.id) c.caller.view_is) (refl, refl, refl) refl refl
     c.in_ok-is_whole.is_whole c.if-is_whole.false c.if-passer.true handed _ _ (search rules)
 
 pub returns-clause-passed : goal.returns-clause-passed
@@ -26,8 +30,10 @@ returns-clause-passed g c =
     let a = c.args in
     let s = g.S.Store.view in
     let handed = c.in_ok-is_whole.ensures.handed in
-    let named = same_taker g.T.Taker.took a.policy.now a.caller.now a.day _ _ a.route.now (s a.store.now) (s c.each.new.self) _ c.each.new.taker (refl, refl, refl) refl handed in
-    passed_to_stop g.T.Taker.took a.policy.now a.caller.now a.day _ a.route.now (s a.store.now) (s c.each.new.self) _ c.each.new.taker (ap (λ (p : Party). p.id) c.caller.view_is) (refl, refl, refl) refl refl
+    let named = same_taker g.T.Taker.took a.policy.now a.caller.now a.day _ _ a.route.now (s a.store.now) (s c.each.new.self) _ c.each.new.taker
+    (refl, refl, refl) refl handed in
+    passed_to_stop g.T.Taker.took a.policy.now a.caller.now a.day _ a.route.now (s a.store.now) (s c.each.new.self) _ c.each.new.taker
+    (ap (λ (p : Party). p.id) c.caller.view_is) (refl, refl, refl) refl refl
     c.in_ok-is_whole.is_whole c.if-is_whole.false c.if-passer.false handed _ (search rules)
 
 pub returns-in_err-is_whole-clause-passed : goal.returns-in_err-is_whole-clause-passed
@@ -35,6 +41,8 @@ returns-in_err-is_whole-clause-passed g c =
     let a = c.args in
     let s = g.S.Store.view in
     let handed = c.in_err-is_whole.ensures.handed in
-    let named = same_taker g.T.Taker.took a.policy.now a.caller.now a.day _ _ a.route.now (s a.store.now) (s c.each.new.self) _ c.each.new.taker (refl, refl, refl) refl handed in
-    passed_on_err g.T.Taker.took a.policy.now a.caller.now a.day _ a.route.now (s a.store.now) (s c.each.new.self) _ c.each.new.taker (ap (λ (p : Party). p.id) c.caller.view_is) (refl, refl, refl) refl
+    let named = same_taker g.T.Taker.took a.policy.now a.caller.now a.day _ _ a.route.now (s a.store.now) (s c.each.new.self) _ c.each.new.taker
+    (refl, refl, refl) refl handed in
+    passed_on_err g.T.Taker.took a.policy.now a.caller.now a.day _ a.route.now (s a.store.now) (s c.each.new.self) _ c.each.new.taker
+    (ap (λ (p : Party). p.id) c.caller.view_is) (refl, refl, refl) refl
     _ c.from_residual.result c.from_residual.ensures.0 handed _ (search rules)

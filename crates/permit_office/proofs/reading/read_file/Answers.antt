@@ -29,7 +29,8 @@ returns-in-Some-denial-clause-model g c = λ doubt h held.
     let facts = c.in_ok-facts.ensures.facts doubt h file kept_2 state_is owner in
     let denied = rw facts at (sym c.in-Some-denial.is ∙ c.denial.ensures) in
     rw (read_judged a.policy.now h a.day a.caller.now a.file file f.found
-    ∙ denied_outcome a.policy.now h a.day a.caller.now (ReadFile a.file) (decision a.policy.now (file_facts h a.day a.caller.now file action.Read)) c.in-Some-denial.name denied)
+    ∙ denied_outcome a.policy.now h a.day a.caller.now (ReadFile a.file)
+    (decision a.policy.now (file_facts h a.day a.caller.now file action.Read)) c.in-Some-denial.name denied)
     (inl (refl, c.facts_on_file.ensures.read.kept (tables h) kept_2))
 
 pub returns-clause-model : goal.returns-clause-model
@@ -50,4 +51,8 @@ returns-clause-model g c = λ doubt h held.
     let papers = c.in_ok-papers.ensures.found doubt (tables h) kept_3 in
     let state = ap (λ (r : FileRow). r.state) c.row.view_is in
     rw (read_shown a.policy.now h a.day a.caller.now a.file file f.found allowed)
-    (inl (shown_as h a.day a.file f.filing c.in-Some.row _ _ _ f.row_is f.named (rw state at c.stage-stage.ensures.row) (rw state at c.timing-timing.ensures.row) papers, c.papers.ensures.read.kept (tables h) kept_3))
+    (inl (
+      shown_as h a.day a.file f.filing c.in-Some.row _ _ _ f.row_is f.named (rw state at c.stage-stage.ensures.row)
+          (rw state at c.timing-timing.ensures.row) papers,
+      c.papers.ensures.read.kept (tables h) kept_3,
+    ))

@@ -18,11 +18,13 @@ returns-in-Some-denial-clause-model g c = λ doubt h held.
     let a = c.args in
     let found = sym c.in-Some.is ∙ c.in_ok-land.ensures.found late (tables h) held in
     let kept = c.parcel.ensures.read.kept (tables h) held in
-    let there : Parcels.owner h a.parcel ≡ Some c.land.inside.owner = ap (option_map (λ (p : Parcel). p.owner)) (sym found) ∙ ap (λ (p : Parcel). Some p.owner) (sym c.land.view_is) in
+    let there : Parcels.owner h a.parcel ≡ Some c.land.inside.owner = ap (option_map (λ (p : Parcel). p.owner)) (sym found)
+    ∙ ap (λ (p : Parcel). Some p.owner) (sym c.land.view_is) in
     let facts = c.in_ok-facts.ensures.facts doubt h kept there in
     let denied = rw facts at (sym c.in-Some-denial.is ∙ c.denial.ensures) in
     rw (parcel_judged a.policy.now h a.day a.caller.now a.parcel c.in-Some.land (sym found)
-    ∙ denied_outcome a.policy.now h a.day a.caller.now (ReadParcel a.parcel) (decision a.policy.now (parcel_facts h a.caller.now a.parcel Office action.ReadParcel)) c.in-Some-denial.name denied)
+    ∙ denied_outcome a.policy.now h a.day a.caller.now (ReadParcel a.parcel)
+    (decision a.policy.now (parcel_facts h a.caller.now a.parcel Office action.ReadParcel)) c.in-Some-denial.name denied)
     (inl (refl, c.facts_on_parcel.ensures.read.kept (tables h) kept))
 
 pub returns-clause-model : goal.returns-clause-model
@@ -31,7 +33,9 @@ returns-clause-model g c = λ doubt h held.
     let a = c.args in
     let found = sym c.in-Some.is ∙ c.in_ok-land.ensures.found late (tables h) held in
     let kept = c.parcel.ensures.read.kept (tables h) held in
-    let there : Parcels.owner h a.parcel ≡ Some c.land.inside.owner = ap (option_map (λ (p : Parcel). p.owner)) (sym found) ∙ ap (λ (p : Parcel). Some p.owner) (sym c.land.view_is) in
+    let there : Parcels.owner h a.parcel ≡ Some c.land.inside.owner = ap (option_map (λ (p : Parcel). p.owner)) (sym found)
+    ∙ ap (λ (p : Parcel). Some p.owner) (sym c.land.view_is) in
     let facts = c.in_ok-facts.ensures.facts doubt h kept there in
     let allowed = rw facts at (sym c.in_default-denial.is ∙ c.denial.ensures) in
-    rw (parcel_read a.policy.now h a.day a.caller.now a.parcel c.in-Some.land (sym found) allowed) (inl (refl, c.facts_on_parcel.ensures.read.kept (tables h) kept))
+    rw (parcel_read a.policy.now h a.day a.caller.now a.parcel c.in-Some.land (sym found) allowed)
+    (inl (refl, c.facts_on_parcel.ensures.read.kept (tables h) kept))

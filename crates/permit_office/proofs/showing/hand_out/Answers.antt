@@ -6,7 +6,8 @@ use Rattle.permit_office.proofs.showing.hand_out.Goals as goal
 
 pub returns-then-not-take : goal.returns-then-not-take
 returns-then-not-take g c =
-    stops g.T.Taker.took c.args.files.now c.loop-view.view-index c.view-item.result c.args.taker.now c.loop-view.taker c.take.new.self (omega arith) c.view-item.is c.loop-view.invariant c.if-not-take.ensures
+    stops g.T.Taker.took c.args.files.now c.loop-view.view-index c.view-item.result c.args.taker.now c.loop-view.taker c.take.new.self
+    (omega arith) c.view-item.is c.loop-view.invariant c.if-not-take.ensures
 
 pub loop-view-preserved : goal.loop-view-preserved
 loop-view-preserved g c =

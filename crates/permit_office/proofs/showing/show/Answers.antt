@@ -16,7 +16,8 @@ returns-in-Ok-clause-shown g c = λ doubt h is held.
     let s = g.S.Store.view in
     let late : (s c.caller_for.new.store).doubt ≡ 0 = omega arith in
     let known : Ok c.in-Ok-Ok.caller ≡ caller_on h a.digest.now a.day = sym c.in-Ok-Ok.field-0-is ∙ c.in-Ok-Ok.ensures.known late h is held in
-    shows_known g.T.Taker.took a.policy.now h a.digest.now a.day a.wanted c.in-Ok-Ok.caller known a.taker.now c.hand_files.new.taker c.in-Ok.end (c.in-Ok.ensures.shown doubt h is (c.caller_for.ensures.read.kept (tables h) held))
+    shows_known g.T.Taker.took a.policy.now h a.digest.now a.day a.wanted c.in-Ok-Ok.caller known a.taker.now c.hand_files.new.taker c.in-Ok.end
+    (c.in-Ok.ensures.shown doubt h is (c.caller_for.ensures.read.kept (tables h) held))
 
 pub returns-in-Ok-clause-opened : goal.returns-in-Ok-clause-opened
 returns-in-Ok-clause-opened g c = λ doubt h is held.
@@ -33,7 +34,8 @@ returns-in-Ok-clause-stopped g c = λ doubt h is held.
     let s = g.S.Store.view in
     let late : (s c.caller_for.new.store).doubt ≡ 0 = omega arith in
     let known : Ok c.in-Ok-Ok.caller ≡ caller_on h a.digest.now a.day = sym c.in-Ok-Ok.field-0-is ∙ c.in-Ok-Ok.ensures.known late h is held in
-    stops_known g.T.Taker.took a.policy.now h a.digest.now a.day a.wanted c.in-Ok-Ok.caller known a.taker.now c.hand_files.new.taker (s a.store.now).handed (s c.hand_files.new.store).handed c.in-Ok.end
+    stops_known g.T.Taker.took a.policy.now h a.digest.now a.day a.wanted c.in-Ok-Ok.caller known a.taker.now c.hand_files.new.taker (s a.store.now).handed
+    (s c.hand_files.new.store).handed c.in-Ok.end
     (rw c.caller_for.ensures.read.handed at (c.in-Ok.ensures.stopped doubt h is (c.caller_for.ensures.read.kept (tables h) held)))
 
 pub returns-in-Ok-Ok-clause-shown : goal.returns-in-Ok-Ok-clause-shown
@@ -42,7 +44,8 @@ returns-in-Ok-Ok-clause-shown g c = λ doubt h is held.
     let s = g.S.Store.view in
     let late : (s c.caller_for.new.store).doubt ≡ 0 = omega arith in
     let known : Ok c.in-Ok-Ok.caller ≡ caller_on h a.digest.now a.day = sym c.in-Ok-Ok.field-0-is ∙ c.in-Ok-Ok.ensures.known late h is held in
-    shows_known g.T.Taker.took a.policy.now h a.digest.now a.day a.wanted c.in-Ok-Ok.caller known a.taker.now c.hand_files.new.taker (ended.Refused refusal.Store)
+    shows_known g.T.Taker.took a.policy.now h a.digest.now a.day a.wanted c.in-Ok-Ok.caller known a.taker.now c.hand_files.new.taker
+    (ended.Refused refusal.Store)
     (c.in-Err-hand_files.ensures.shown doubt h is (c.caller_for.ensures.read.kept (tables h) held))
 
 pub returns-in-Ok-Ok-clause-opened : goal.returns-in-Ok-Ok-clause-opened

@@ -16,6 +16,7 @@ returns-clause-step g c =
     elim c.match-attempt.branch [
       | in-Ok w ↦ rw w.result-is (subst (λ (o : OfficeView g.row.S.Denot). IsStep s a.digest.now a.request.now a.day o new w.in-Ok.reply) c.self.view_is
           (stepped_ok s a.digest.now a.request.now a.day old new w.in-Ok.reply refl w.in-Ok.ensures.attempt w.in-Ok.ensures.one w.in-Ok.ensures.own w.in-Ok.ensures.opened))
-      | in-Err w ↦ rw w.result-is (subst (λ (o : OfficeView g.row.S.Denot). IsStep s a.digest.now a.request.now a.day o new (given.Refused refusal.Store)) c.self.view_is
+      | in-Err w ↦ rw w.result-is (subst (λ (o : OfficeView g.row.S.Denot). IsStep s a.digest.now a.request.now a.day o new
+          (given.Refused refusal.Store)) c.self.view_is
           (stepped_err s a.digest.now a.request.now a.day old new w.in-Err.field-0 refl w.in-Err.ensures.attempt))
     ]
