@@ -24,7 +24,7 @@ const EVERYBODY = Object.keys(VIEWS);
 const PLACES = [
   { href: '#/waiting', label: 'Waiting', views: EVERYBODY },
   { href: '#/files', label: 'All files', views: EVERYBODY },
-  { href: '#/registers/files', label: 'Registers', views: EVERYBODY },
+  { href: '#/registers/files', area: '#/registers', label: 'Registers', views: EVERYBODY },
   { href: '#/apply', label: 'File an application', views: ['public', 'official'] },
   { href: '#/parcels', label: 'Parcels', views: EVERYBODY },
   { href: '#/parties', label: 'Parties', views: ['clerk', 'official'] },
@@ -46,7 +46,7 @@ const ROUTES = [
   [/^#\/parties$/, () => partiesView(done)],
 ];
 
-const isHere = href => location.hash === href || (href !== '#/registers/files' ? location.hash.startsWith(`${href}/`) : location.hash.startsWith('#/registers/'));
+const isHere = ({ href, area = href }) => location.hash === href || location.hash.startsWith(`${area}/`);
 
 function drawHead() {
   const isIn = session.token() !== null;
@@ -54,7 +54,8 @@ function drawHead() {
   account.hidden = !isIn;
   if (!isIn) return;
   const shown = PLACES.filter(place => place.views.includes(session.view()));
-  places.replaceChildren(el('ul', {}, shown.map(({ href, label }) => el('li', {}, el('a', { href, 'aria-current': isHere(href) ? 'page' : null }, label)))));
+  const link = place => el('a', { href: place.href, 'aria-current': isHere(place) ? 'page' : null }, place.label);
+  places.replaceChildren(el('ul', {}, shown.map(place => el('li', {}, link(place)))));
   const id = freshId();
   const options = Object.entries(VIEWS).map(([view, name]) => el('option', { value: view, selected: view === session.view() }, name));
   account.replaceChildren(el('label', { for: id }, 'View'), el('select', { id, onchange: changeView }, options),

@@ -8,7 +8,7 @@ export const REFUSALS = {
   'large': ['This is more than the office takes at once.', 'Shorten the texts, and send it again.'],
   'route': ['The office has no place of that name.', 'Check the number: it is 1 to 99999.'],
   'caller': ['Nobody in this office has this token.', 'Check each letter of it, or ask the clerk or the official who gave it to you.'],
-  'clock': ['The clock of the office is behind the last thing it accepted.', 'Tell who runs the machine that its date is wrong. Until it is set right nothing is accepted.'],
+  'clock': ['The clock of the office is behind the last thing it accepted.', 'Nothing is accepted until it is set right: tell who runs the machine.'],
   'record': ['There is no file or parcel with this number.', 'Check the number, or look for it in the list of files.'],
   'denied': ['The policy of the office denies this.', 'See below which rule denied it.'],
   'not-admitted': ['The state of things stands against it.', 'See below what stands against it.'],

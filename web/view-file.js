@@ -37,15 +37,17 @@ function waySection(file) {
   const passed = PASSED[file.stage];
   const last = isCertifiable(file.kind) ? ['finaled', 'certified'] : ['finaled'];
   const whole = ['filed', 'review', 'approved', 'issued', 'working', ...last];
-  const coming = CLOSED.includes(file.stage) ? [] : whole.slice(passed.length).filter(stage => stage !== file.stage);
-  const stages = [...passed, file.stage, ...(file.stage === 'returned' ? ['review', ...whole.slice(2)] : coming)];
+  const place = whole.indexOf(file.stage === 'returned' ? 'filed' : file.stage);
+  const coming = CLOSED.includes(file.stage) ? [] : whole.slice(place + 1);
+  const stages = [...passed, file.stage, ...coming];
   const items = stages.map((stage, place) => {
     const how = place < passed.length ? 'passed' : place === passed.length ? 'here' : 'coming';
     const words = { passed: 'done', here: CLOSED.includes(stage) ? 'ended here' : 'now', coming: 'to come' };
     return el('li', { class: `${how} ${stage}`, 'aria-current': how === 'here' ? 'step' : null },
       el('span', { class: 'stage' }, STAGES[stage]), el('span', { class: 'how' }, words[how]));
   });
-  return el('section', {}, el('h2', {}, isCertifiable(file.kind) ? 'The way to the certificate' : 'The way to the final inspection'), el('ol', { class: 'way' }, items));
+  const title = isCertifiable(file.kind) ? 'The way to the certificate' : 'The way to the final inspection';
+  return el('section', {}, el('h2', {}, title), el('ol', { class: 'way' }, items));
 }
 
 function stepWords(file, step) {

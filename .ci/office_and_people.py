@@ -1,0 +1,249 @@
+"""What the trials of the page stand on: an office in a file, the proxy before it, and the people who use the page."""
+import json
+import os
+import signal
+import subprocess
+import time
+import urllib.error
+import urllib.request
+from datetime import datetime, timezone
+from pathlib import Path
+
+import webdriver
+from webdriver import Failed, free_port
+
+TOP = Path(__file__).resolve().parent.parent
+PROGRAM = Path(os.environ.get("PERMIT") or TOP / "crates/permit/out/permit").resolve()
+POLICY = TOP / "policies/standard.toml"
+TODAY = datetime.now(timezone.utc).date()
+CHIEF = "abcdefghijklmnopqrstuvwxyz"
+TOKENS = {"clerk": "clerk2clerk2clerk2", "reviewer": "reviewer3reviewer3", "inspector": "inspector4inspector4",
+          "public": "public5public5public5", "official": CHIEF}
+WORST = 60  # seconds that a view may take, with 99,999 files and on a machine that does other things too
+
+
+class Wrong(Exception):
+    """The page did something else than is wanted."""
+
+
+def want(got, wanted, what):
+    if got != wanted:
+        raise Wrong(f"{what}\n  wanted {repr(wanted)[:800]}\n  got    {repr(got)[:800]}")
+
+
+def want_in(part, whole, what):
+    if part not in whole:
+        raise Wrong(f"{what}\n  wanted {part!r}\n  in     {whole!r}")
+
+
+# The office and the proxy.
+
+
+class Proxy:
+    """nginx with the configuration of `./counter`, with the page, before an office on a port."""
+
+    def __init__(self, folder, office):
+        port = free_port()
+        self.url = f"http://127.0.0.1:{port}"
+        words = [TOP / "counter", "configuration", folder, str(port), str(office)]
+        configuration, self.log = Path(folder) / "nginx.conf", Path(folder) / "nginx.log"
+        configuration.write_text(subprocess.run(words, check=True, capture_output=True, text=True).stdout)
+        self.process = subprocess.Popen(["nginx", "-e", "stderr", "-p", folder, "-c", configuration], stderr=self.log.open("w"))
+        self.wait()
+
+    def wait(self):
+        for _ in range(100):
+            try:
+                with urllib.request.urlopen(f"{self.url}/office/") as answer:
+                    return answer.read()
+            except OSError:
+                time.sleep(0.1)
+        raise Wrong("nginx does not answer: " + self.log.read_text())
+
+    def close(self):
+        self.process.terminate()
+        self.process.wait(30)
+
+
+class Office:
+    """An office in a file, which goes away and comes back on one port, and the proxy before it."""
+
+    def __init__(self, folder):
+        self.db = str(Path(folder) / "office.db")
+        self.port = free_port()
+        words = ["init", "--db", self.db, "--name", "Chief", "--token", CHIEF, "--day", str(TODAY)]
+        subprocess.run([PROGRAM, *words], check=True, stdout=subprocess.DEVNULL)
+        self.start()
+        self.proxy = Proxy(folder, self.port)
+        self.url = self.proxy.url
+
+    def start(self, day=TODAY):
+        words = ["serve", "--db", self.db, "--policy", str(POLICY), "--day", str(day), "--listen", f"127.0.0.1:{self.port}"]
+        self.process = subprocess.Popen([PROGRAM, *words], stdout=subprocess.PIPE, text=True)
+        want(self.process.stdout.readline(), f"listening 127.0.0.1:{self.port}\n", "the office listens")
+
+    def stop(self):
+        self.process.send_signal(signal.SIGKILL)
+        self.process.communicate()
+
+    def restart(self, day=TODAY):
+        self.stop()
+        self.start(day)
+
+    def close(self):
+        self.stop()
+        self.proxy.close()
+
+    def ask(self, method, path, body=None, who="official"):
+        """The status and the body of an answer, without the page."""
+        data = json.dumps(body or {}).encode() if method == "POST" else None
+        heads = {"Authorization": f"Bearer {TOKENS[who]}"}
+        request = urllib.request.Request(f"http://127.0.0.1:{self.port}{path}", data, heads, method=method)
+        try:
+            with urllib.request.urlopen(request) as answer:
+                return answer.status, answer.read().decode()
+        except urllib.error.HTTPError as fault:
+            return fault.code, fault.read().decode()
+
+    def do(self, path, body=None, who="official"):
+        """A command that has to be accepted; its number."""
+        status, answer = self.ask("POST", path, body, who)
+        want(status, 200, f"{path} {body}: {answer}")
+        return json.loads(answer)["number"]
+
+
+# A person's tab.
+
+SETTLED = """const main = document.querySelector('main');
+return main.querySelector('h1') !== null && !main.hasAttribute('aria-busy') && main.dataset.place === location.hash"""
+FORM = """return [...document.querySelectorAll('form')].find(form => form.getAttribute('aria-label') === arguments[0])"""
+
+
+class Person:
+    """A tab of the browser, in which one person uses the page."""
+
+    def __init__(self, browser, office):
+        self.browser, self.office = browser, office
+        self.tab = browser.new_tab()
+        browser.resize(1200, 900)
+        browser.go(f"{office.url}/office/")
+        self.wait(SETTLED, "the page")
+
+    def use(self):
+        if self.browser.used != self.tab:
+            self.browser.use(self.tab)
+            self.browser.devtools("Page.bringToFront", {})
+
+    def wait(self, script, what, *values, seconds=15):
+        self.use()
+        ends = time.time() + seconds
+        while time.time() < ends:
+            try:
+                found = self.browser.script(script, *values)
+                if found:
+                    return found
+            except Failed:
+                pass
+            time.sleep(0.05)
+        raise Wrong(f"{what} did not come; the page shows:\n{self.text()}")
+
+    def text(self, css="body"):
+        self.use()
+        return self.browser.script("return document.querySelector(arguments[0])?.innerText ?? null", css)
+
+    def sign_in(self, view, token=None):
+        self.use()
+        self.browser.type(self.browser.find("input[type=password]"), token or TOKENS[view])
+        self.browser.click(self.browser.find(f"input[value={view}]"))
+        self.browser.click(self.browser.find("form button"))
+        if token is None:
+            self.wait("return document.querySelector('main h1').textContent === 'What waits for me'", f"signing in as {view}")
+        return self
+
+    def open(self, place):
+        """Shows a place anew."""
+        self.use()
+        self.browser.script("document.querySelector('main').replaceChildren()")
+        self.browser.script(
+            "if (location.hash === arguments[0]) location.reload(); else location.hash = arguments[0]", f"#/{place}")
+        self.wait(SETTLED, place, seconds=WORST)
+
+    def open_again(self, place):
+        """Goes to a place without reading the page anew."""
+        self.use()
+        self.browser.script("location.hash = arguments[0]", f"#/{place}")
+        self.wait(SETTLED, place)
+
+    def form(self, label):
+        self.use()
+        form = self.browser.by_script(FORM, label)
+        if form is None:
+            raise Wrong(f"no form {label}; the page shows:\n{self.text()}")
+        self.browser.script(
+            "for (let at = arguments[0]; at; at = at.parentElement?.closest('details')) if (at.tagName === 'DETAILS') at.open = true",
+            {webdriver.ELEMENT: form})
+        return form
+
+    def fill(self, label, **values):
+        """Fills in a form's fields, by their names in a body."""
+        form = {webdriver.ELEMENT: self.form(label)}
+        for name, value in values.items():
+            field = self.browser.by_script("return arguments[0].elements[arguments[1]]", form, name)
+            is_select = self.browser.script("return arguments[0].elements[arguments[1]].tagName === 'SELECT'", form, name)
+            if is_select or not value.isprintable() or not value.isascii() or len(value) > 200:
+                self.browser.script(
+                    "const field = arguments[0].elements[arguments[1]]; field.value = arguments[2];"
+                    "field.dispatchEvent(new Event('input', {bubbles: true}))", form, name, value)
+            else:
+                self.browser.clear(field)
+                self.browser.type(field, value)
+
+    def submit(self, label):
+        form = {webdriver.ELEMENT: self.form(label)}
+        self.browser.script("document.getElementById('said').textContent = ''")
+        self.browser.click(self.browser.by_script("return arguments[0].querySelector('button[type=submit]')", form))
+
+    def answered(self):
+        """What was said to what was sent: of what was done, or of a refusal."""
+        return self.wait(
+            "const done = document.getElementById('said').textContent, refused = document.querySelector('.refusal');"
+            "return done || (refused && refused.innerText)", "an answer")
+
+    def send(self, label, **values):
+        self.fill(label, **values)
+        self.submit(label)
+        return self.answered()
+
+    def command(self, file, label, **values):
+        """Opens a file and does a command on it, which has to be accepted."""
+        self.open(f"files/{file}")
+        want(self.send(label, **values), f"Done: {label}.", label)
+        self.wait(SETTLED, "the file")
+
+    def refused(self, file, label, words, **values):
+        """The same, which has to be refused in these words."""
+        self.open(f"files/{file}")
+        said = self.send(label, **values)
+        for part in ("Refused.", *words):
+            want_in(part, said, label)
+
+    def type_text(self, css, text):
+        """Puts a text into a field that is found by a selector."""
+        self.use()
+        self.browser.script(
+            "const field = document.querySelector(arguments[0]); field.value = arguments[1];"
+            "field.dispatchEvent(new Event('input', {bubbles: true}))", css, text)
+
+    def click_button(self, label):
+        self.use()
+        self.browser.click(self.browser.by_script(
+            "return [...document.querySelectorAll('button')].find(button => button.textContent === arguments[0])", label))
+
+    def waits(self, file, title):
+        """A file stands in a group of what waits."""
+        self.open("waiting")
+        groups = self.browser.script(
+            "return [...document.querySelectorAll('main section')].map(at => [at.querySelector('h2').textContent, at.innerText])")
+        found = [text for heading, text in groups if heading.startswith(title + " (")]
+        want_in(f"File {file}", "".join(found), f"what waits under {title}")
+        return "".join(found)
