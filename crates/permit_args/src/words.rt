@@ -61,7 +61,8 @@ fn matches<'a>(
     command: Command<'a>,
     words: &'a [String],
 ) -> Result<ArgMatches<'a>, PlanFault>
-    ensures { IfOk result (λ m. is_simple (app_of command.entry) ≡ true → rows_of (found_of m) ≡ matches_of (app_of command.entry) (map string_bytes words.now)) }
+    ensures { IfOk result (λ m. is_simple (app_of command.entry) ≡ true
+        → rows_of (found_of m) ≡ matches_of (app_of command.entry) (map string_bytes words.now)) }
 {
     match command.try_get_matches_from(words) {
         Ok(matches) => Ok(matches),
