@@ -5,9 +5,9 @@
 #[cfg(test)]
 mod answers;
 #[cfg(test)]
-mod hall;
+mod connections;
 #[cfg(test)]
-mod hall_streams;
+mod hall;
 #[cfg(test)]
 mod imports;
 #[cfg(test)]
@@ -15,8 +15,12 @@ mod memory_doors;
 #[cfg(test)]
 mod messages;
 #[cfg(test)]
+mod offices;
+#[cfg(test)]
 mod registers;
 #[cfg(test)]
-mod streams;
+mod requests;
 #[cfg(test)]
-mod wire;
+mod serving;
+#[cfg(test)]
+mod streams;
