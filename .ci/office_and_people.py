@@ -168,6 +168,12 @@ class Person:
             "if (location.hash === arguments[0]) location.reload(); else location.hash = arguments[0]", f"#/{place}")
         self.wait(SETTLED, place, seconds=WORST)
 
+    def reload(self):
+        """Reads the page anew, which knows then nothing of the day."""
+        self.use()
+        self.browser.script("document.querySelector('main').replaceChildren(); location.reload()")
+        self.wait(SETTLED, "the page anew")
+
     def open_again(self, place):
         """Goes to a place without reading the page anew."""
         self.use()

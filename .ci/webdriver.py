@@ -9,7 +9,7 @@ import urllib.error
 import urllib.request
 
 ELEMENT = "element-6066-11e4-a52e-4f735466cecf"
-PACKAGES = {"chromium": "chromium", "chromedriver": "chromium-driver", "nginx": "nginx-light"}
+PACKAGES = {"chromium": "chromium", "chromedriver": "chromium-driver", "nginx": "nginx"}
 # The keys of the protocol.
 TAB, ENTER, SPACE, DOWN, END, SHIFT = "\ue004", "\ue007", " ", "\ue015", "\ue010", "\ue008"
 

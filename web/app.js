@@ -74,7 +74,7 @@ function place(view) {
   main.dataset.place = location.hash;
   const heading = main.querySelector('h1');
   document.title = `${heading.textContent} · Building permits`;
-  heading.focus({ preventScroll: true });
+  if (account.hidden || !account.contains(document.activeElement)) heading.focus({ preventScroll: true });
 }
 
 // Only what was asked for last is shown.

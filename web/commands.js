@@ -69,12 +69,12 @@ export const FILING = { path: '/files', label: 'File an application', fields: [
 
 export const NEW_PARCEL = { path: '/parcels', label: 'Add a parcel', fields: [
   { key: 'lot', type: 'lot', label: 'Lot' },
-  { key: 'address', type: 'text', label: 'Address' },
+  { key: 'address', type: 'line', label: 'Address' },
   { key: 'owner', type: 'party', label: 'Number of the owner' },
 ] };
 
 export const NEW_PARTY = { path: '/parties', label: 'Add a party', fields: [
-  { key: 'name', type: 'text', label: 'Name' },
+  { key: 'name', type: 'line', label: 'Name' },
   { key: 'role', type: 'role', label: 'Role' },
   { key: 'token', type: 'newToken', label: 'Token' },
 ] };

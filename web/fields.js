@@ -21,13 +21,13 @@ function patternInput(pattern, title, more = {}) {
 }
 
 // Line ends become spaces, and bytes are counted as they are typed.
-function textArea() {
-  const area = el('textarea', { rows: '3', required: true, dir: 'auto' });
-  area.addEventListener('input', () => {
-    if (/[\r\n\t]/.test(area.value)) area.value = area.value.replace(/[\r\n\t]+/g, ' ');
-    area.setCustomValidity(textFault(area.value));
+function textControl(tag, attributes) {
+  const control = el(tag, { required: true, dir: 'auto', autocomplete: 'off', ...attributes });
+  control.addEventListener('input', () => {
+    if (/[\r\n\t]/.test(control.value)) control.value = control.value.replace(/[\r\n\t]+/g, ' ');
+    control.setCustomValidity(textFault(control.value));
   });
-  return area;
+  return control;
 }
 
 export function textFault(text) {
@@ -68,7 +68,8 @@ const TYPES = {
     hint: (file, field) => `1 to ${field.most(file)} days.`,
     value: Number,
   },
-  text: { control: textArea, hint: `One paragraph, at most ${MOST_BYTES} bytes.`, value: String },
+  line: { control: () => textControl('input', { type: 'text' }), hint: `At most ${MOST_BYTES} bytes.`, value: String },
+  text: { control: () => textControl('textarea', { rows: '3' }), hint: `One paragraph, at most ${MOST_BYTES} bytes.`, value: String },
   lot: {
     control: () => patternInput('[A-Z0-9\\-]{1,20}', '1 to 20 of A-Z, 0-9 and hyphen', { autocapitalize: 'characters', maxlength: '20' }),
     hint: '1 to 20 of A-Z, 0-9 and hyphen.',
@@ -76,7 +77,7 @@ const TYPES = {
   },
   money: {
     control: () => patternInput('[0-9]{1,11}([.,][0-9]{1,2})?', 'An amount such as 2500 or 2500.00', { inputmode: 'decimal' }),
-    hint: 'Such as 2500 or 2500.00, without a sign between thousands.',
+    hint: 'Such as 2500 or 2500.00; nothing stands between the thousands.',
     value: centsOf,
   },
   newToken: {

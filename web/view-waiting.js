@@ -68,7 +68,7 @@ function groupSection({ title, has, columns, sorted }, files) {
   const heading = el('h2', {}, `${title} (${mine.length})`);
   if (mine.length === 0) return el('section', {}, heading, el('p', { class: 'none' }, 'Nothing waits here.'));
   const all = [id, kind, description, ...columns];
-  const table = makeTable({ caption: title, columns: all, kept: { ...sorted }, layout: 'waiting', heights: [56, 118] });
+  const table = makeTable({ caption: title, columns: all, kept: { ...sorted }, layout: 'waiting', heights: [72, 118] });
   table.show(mine);
   return el('section', {}, heading, table.element);
 }
