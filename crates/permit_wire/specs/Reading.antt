@@ -51,7 +51,7 @@ pub record LetGo (old new : InboxData) (left : Option (List ℕ)) (closes : Bool
   pub count : new.count ≡ min 100 (old.count + 1)
   pub closed : new.closed ≡ closes_after old closes
 
--- what was read where there is a fault; memory is wanted only for a whole message
+-- what was read where there is a fault; memory runs out only for a whole message
 abbrev pub FaultRead : List ℕ → InboxData → InboxData → Option (List ℕ) → Fault → Type 0
 FaultRead bytes old new left Head = AskedFrom old.closed bytes (Refused Head)
 FaultRead bytes old new left Version = AskedFrom old.closed bytes (Refused Version)
@@ -86,13 +86,13 @@ abbrev pub stays_open : WireError → Bool
 stays_open (error.Fault fault) = is_kept fault
 stays_open _ = false
 
--- the result is this meaning; want of memory says nothing of it
+-- the result is this meaning; that memory ran out says nothing of it
 abbrev pub MeansAsked : Result Asked Fault → Result Asked Fault → Type 0
 MeansAsked (Ok asked) meaning = meaning ≡ Ok asked
 MeansAsked (Err Memory) meaning = Unit {0}
 MeansAsked (Err fault) meaning = (meaning ≡ Err fault) × (is_kept fault ≡ true)
 
--- a message was read out: unless memory is wanted, its bytes are gone and one answer more is counted
+-- a message was read out: unless memory ran out, its bytes are gone and one answer more is counted
 abbrev pub ReadsOut : InboxData → InboxData → MessageSpans → Result Asked Fault → Type 0
 ReadsOut old new s (Err Memory) = new.closed ≡ true
 ReadsOut old new s r =

@@ -3,10 +3,8 @@ use Rattle.std.specs.Prelude.{◌≡◌, ◌⊎◌, ℕ, Bool, true, false, List
 use Rattle.permit_base.specs.Actions.{action_of}
 use Rattle.permit_base.specs.Digests.{digest_of}
 use Rattle.permit_base.specs.declared.request.Asked.{Asked}
-use Rattle.permit_model.specs.History.{History}
-use Rattle.permit_model.specs.Tables.{tables}
-use Rattle.permit_model.specs.Machine.{IsHistory, step as machine_step}
-use Rattle.permit_store.specs.Frames.{StoreView}
+use Rattle.permit_model.specs.Machine.{step as machine_step}
+use Rattle.permit_store.specs.Frames.{StoreView, OverHistory}
 use Rattle.permit_office.specs.Answers.{Answers, reply_of}
 use Rattle.permit_office.specs.Frames.{IsStep}
 use Rattle.permit_office.specs.Office.{OfficeView}
@@ -35,8 +33,7 @@ is_shut _ = true
 -- the office made one step for the request, and the reply is the machine's, or the store's refusal where a call failed
 pub record Steps {S : Type 0} (view : S → StoreView) (day : ℕ) (asked : Asked) (reply : Reply) (office office' : OfficeView S) : Type 0 where
   pub step : IsStep view (digest_of asked.token) asked.request day office office' reply
-  pub model : (view office'.store).doubt ≡ 0 → (h : History) → IsHistory h → (view office.store).holds (tables h)
-      → Answers (view office'.store).holds reply (machine_step office.policy h asked day) h
+  pub model : OverHistory (view office.store) (view office'.store) (λ h. Answers (view office'.store).holds reply (machine_step office.policy h asked day) h)
 
 -- a request was read, the office made one step for it, and the reply's text went out
 pub record ServesRequest {S : Type 0} (view : S → StoreView) (day : ℕ) (office office' : OfficeView S) (bytes : List ℕ) (old new : InboxData)
@@ -73,7 +70,7 @@ Serves view day office office' bytes old new left before after ReadFailed = Unit
 Serves view day office office' bytes old new left before after served =
     ServesEither view day office office' bytes old new left before after served
 
--- whatever the reader told, the office is as it was, or made one step
+-- whatever the reader gave, the office is as it was, or made one step
 abbrev pub Moves : {S : Type 0} → (S → StoreView) → ℕ → OfficeView S → OfficeView S → Type 0
 Moves view day office office' = (office' ≡ office) ⊎ ((asked : Asked) × (reply : Reply) × Steps view day asked reply office office')
 

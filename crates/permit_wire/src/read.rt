@@ -1,6 +1,6 @@
 //! Reading a request.
 
-ghost use Rattle.std.specs.Prelude.{◌≡◌, ℕ, List, ◌++◌, true, false, Ok, None, IfErr, IsTrue};
+ghost use Rattle.std.specs.Prelude.{◌≡◌, ℕ, List, ◌++◌, true, false, Ok, None, IfErr};
 ghost use Rattle.std.specs.Io.KnownBytes.{Keeps};
 ghost use Rattle.permit_http.specs.Errors.{StopsAt, fault_of};
 ghost use Rattle.permit_http.specs.Stream.{stream};
@@ -40,7 +40,7 @@ fn asked_by(alloc: Global, message: &Message<'_>) -> Result<Asked, Fault>
     }
 }
 
-/// What the message that stands in the inbox asks. Its bytes are let go; want of memory closes the connection.
+/// What the message that stands in the inbox asks. Its bytes are dropped; where memory ran out the connection closes.
 fn read_out(alloc: Global, inbox: &mut Inbox, spans: &MessageSpans) -> Result<Asked, Fault>
     requires { Holds inbox.old spans.now }
     ensures asked { MeansAsked result (asked_in (message_at inbox.old.bytes spans.now)) }
@@ -58,7 +58,7 @@ fn read_out(alloc: Global, inbox: &mut Inbox, spans: &MessageSpans) -> Result<As
 /// connection is closed.
 ///
 /// The faults are tested in the order of `Fault`: those of the head on the head alone, the others after the whole body
-/// came. A request that was read whole, also one with such a fault, lets its bytes go and counts
+/// came. The bytes of a request that was read whole, also of one with such a fault, are dropped, and it counts
 /// among the 100 answers of the connection, which closes with the 100th or where the head asks for it. After another
 /// fault the connection is closed. Memory is taken for the request's texts and the table of the routes alone.
 pub fn read_request<R: Read>(

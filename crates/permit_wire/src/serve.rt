@@ -87,7 +87,7 @@ pub fn serve_one<S: Store + Drop, R: Read, W: Write>(
         Ok(Some(asked)) => {
             let reply = office.step(&asked, day);
             let action = action(&asked.request);
-            // Both values are let go by a call, so that the proof does not go through what each variant owns.
+            // Both values are dropped by a call, so that the proof does not go through what each variant owns.
             drop(asked);
             let answer = Answer::Replied { reply, action, day };
             let served = answer_with(alloc, inbox, &answer, writer);
