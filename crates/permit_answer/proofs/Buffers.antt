@@ -1,7 +1,8 @@
 -- Laws of the bytes that a buffer holds, and of what a writer was given.
 use Rattle.std.proofs.lemmas.Fmt.{decimal_step, decimal_digit}
 use Rattle.std.specs.Fmt.{decimal}
-use Rattle.std.proofs.Common.{lit<, lit≤, IfSome, Bool, true, false, ◌≡◌, ◌⊎◌, ◌^◌, ◌/◌, ◌%◌, append-nil, ℕ, suc, ◌+◌, ◌<◌, ◌≤◌, List, [], ◌∷◌, ◌++◌, length, get_or, take, drop, Option, Some, None, refl, sym, ap, ◌∙◌, arith, append_assoc, add-one, length-append, inl, inr}
+use Rattle.std.proofs.Common.{lit<, lit≤, IfSome, Bool, true, false, ◌≡◌, ◌⊎◌, ◌^◌, ◌/◌, ◌%◌, append-nil, ℕ, suc, ◌+◌, ◌<◌, ◌≤◌, List, [], ◌∷◌, ◌++◌, length}
+use Rattle.std.proofs.Common.{get_or, take, drop, Option, Some, None, refl, sym, ap, ◌∙◌, arith, append_assoc, add-one, length-append, inl, inr}
 use Rattle.std.proofs.Math.Seq.{take-add, take-suc}
 use Rattle.std.proofs.lemmas.List.{take-append-le, take_all, length-take-le, take_more_set}
 use Rattle.std.specs.Io.KnownBytes.{Appends}
@@ -97,7 +98,8 @@ pub push_as : (mid next old said piece : List ℕ) → mid ≡ take room old →
 push_as mid next old said piece e s f = push_on mid next old piece e (f ∙ ap (λ x. take room (mid ++ x)) s)
 
 -- a body behind a head
-pub whole_push : (first body said next : List ℕ) → length first ≤ 256 → length body ≤ 128 → said ≡ body → next ≡ take room (first ++ said) → next ≡ first ++ body
+pub whole_push : (first body said next : List ℕ) → length first ≤ 256 → length body ≤ 128 → said ≡ body → next ≡ take room (first ++ said) →
+    next ≡ first ++ body
 whole_push first body said next h k s f =
     let short : length (first ++ body) ≤ 512 = omega (arith, length-append first body) in
     fitting next (first ++ body) short (f ∙ ap (λ x. take room (first ++ x)) s)

@@ -1,6 +1,7 @@
 -- No answer in place is longer than its buffer.
 use Rattle.std.proofs.lemmas.Bool.Decides.{nat_tests}
-use Rattle.std.proofs.Common.{lit<, lit≤, Bool, true, false, ◌==◌, if◌then◌else◌, ◌≡◌, ◌^◌, ℕ, ◌<◌, ◌≤◌, List, [], ◌∷◌, ◌++◌, length, Option, codes, arith, length-append, append_assoc}
+use Rattle.std.proofs.Common.{lit<, lit≤, Bool, true, false, ◌==◌, if◌then◌else◌, ◌≡◌, ◌^◌, ℕ, ◌<◌, ◌≤◌, List, [], ◌∷◌, ◌++◌, length, Option, codes, arith}
+use Rattle.std.proofs.Common.{length-append, append_assoc}
 use Rattle.std.specs.Fmt.{decimal}
 use Rattle.std.proofs.lemmas.Fmt.{length-decimal-le}
 use Rattle.permit_base.specs.declared.words.Action.{Action}
@@ -118,8 +119,10 @@ pieces a d s p t k l n x y e = simp append_assoc
 
 -- the pieces of a head, one after another
 pub head_pieces : (code : ℕ) (kind : List ℕ) (size : ℕ) (close : Bool)
-    → codes "HTTP/1.1 " ++ decimal code ++ codes " " ++ phrase code ++ (13 ∷ 10 ∷ codes "Content-Type: ") ++ kind ++ (13 ∷ 10 ∷ codes "Content-Length: ") ++ decimal size ++ (13 ∷ 10 ∷ [])
+    → codes "HTTP/1.1 " ++ decimal code ++ codes " " ++ phrase code ++ (13 ∷ 10 ∷ codes "Content-Type: ") ++ kind ++ (13 ∷ 10 ∷ codes "Content-Length: ")
+    ++ decimal size ++ (13 ∷ 10 ∷ [])
     ++ challenge code ++ closing close ++ (13 ∷ 10 ∷ [])
     ≡ head_text code kind size close
 head_pieces code kind size close =
-    pieces (codes "HTTP/1.1 ") (decimal code) (codes " ") (phrase code) (codes "Content-Type: ") kind (codes "Content-Length: ") (decimal size) (challenge code) (closing close) (13 ∷ 10 ∷ [])
+    pieces (codes "HTTP/1.1 ") (decimal code) (codes " ") (phrase code) (codes "Content-Type: ") kind (codes "Content-Length: ") (decimal size) (challenge code)
+    (closing close) (13 ∷ 10 ∷ [])

@@ -25,8 +25,10 @@ made_in_memory (Err _) said body close s e = tt
 
 -- the same of what may be made of a register
 pub made_register : {E : Type 0} → (result : Result Made E) (kind : RegisterKind) (day : ℕ) (said files : List FileView) (close : Bool) → said ≡ files
-    → IfOk result (λ made. made_bytes made ≡ head_text 200 (codes "text/plain; charset=utf-8") (length (register_text kind day said)) close ++ register_text kind day said)
-    → IfOk result (λ made. made_bytes made ≡ head_text 200 (codes "text/plain; charset=utf-8") (length (register_text kind day files)) close ++ register_text kind day files)
+    → IfOk result (λ made. made_bytes made ≡ head_text 200 (codes "text/plain; charset=utf-8") (length (register_text kind day said)) close
+    ++ register_text kind day said)
+    → IfOk result (λ made. made_bytes made ≡ head_text 200 (codes "text/plain; charset=utf-8") (length (register_text kind day files)) close
+    ++ register_text kind day files)
 made_register (Ok made) kind day said files close s e =
     e ∙ ap (λ x. head_text 200 (codes "text/plain; charset=utf-8") (length (register_text kind day x)) close ++ register_text kind day x) s
 made_register (Err _) kind day said files close s e = tt

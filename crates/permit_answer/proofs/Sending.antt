@@ -11,7 +11,8 @@ items_length : {A : Type 0} (value : A → Data) (xs : List A) → items_len (it
 items_length value [] = refl
 items_length value (x ∷ xs) = ap suc (items_length value xs)
 
-items_sent : {A : Type 0} (value : A → Data) (xs : List A) (first last new : Log) → WritesEach (λ x. SendsValue (value x)) xs first last → Logs last new seq_ends
+items_sent : {A : Type 0} (value : A → Data) (xs : List A) (first last new : Log) → WritesEach (λ x. SendsValue (value x)) xs first last →
+    Logs last new seq_ends
     → SendsItems (items_of (map value xs)) first new
 items_sent value [] first last new each ended = subst (λ log. Logs log new seq_ends) each ended
 items_sent value (x ∷ xs) first last new each ended = (each.0, each.1, items_sent value xs each.0 last new each.2 ended)
@@ -34,7 +35,8 @@ pub record SendsRest (others : Members) (old new : Log) : Type 0 where
   pub all : SendsMembers others old new
 
 -- a member before others
-pub before : (key : List ℕ) (value : Data) {said : Data} {others : Members} {old mid new : Log} → SendsMember key said old mid → said ≡ value → SendsRest others mid new
+pub before : (key : List ℕ) (value : Data) {said : Data} {others : Members} {old mid new : Log} → SendsMember key said old mid → said ≡ value →
+    SendsRest others mid new
     → SendsRest (member key value others) old new
 before key value {said} {others} {old} {mid} {new} one same rest =
     record { all = (one.named, mid, one.first, subst (λ v. SendsValue v one.named mid) same one.then, rest.all) }

@@ -66,7 +66,8 @@ module _ (bytes : List ℕ) (old mid new : InboxData) (left : Option (List ℕ))
       → OutRead bytes old new left r
   unfolding reading_of
   out_read (Ok asked) means out = whole_read (Ok asked) means out
-  out_read (Err Memory) means out = let g : GivesMessage bytes mid left s = given old.closed refl in (message_at mid.bytes s, g.0, not_true old.closed serving, g.1)
+  out_read (Err Memory) means out = let g : GivesMessage bytes mid left s =
+      given old.closed refl in (message_at mid.bytes s, g.0, not_true old.closed serving, g.1)
   out_read (Err Route) means out = whole_read (Err Route) means.0 out
   out_read (Err Caller) means out = whole_read (Err Caller) means.0 out
   out_read (Err Body) means out = whole_read (Err Body) means.0 out

@@ -14,7 +14,8 @@ returns c =
     let size : c.args.size < 2 ^ 64 = omega arith in
     let short : length (head_text c.args.status c.args.content_type.now c.args.size c.args.close) ≤ 256 =
     head_short c.args.status c.args.content_type.now c.args.size c.args.close code phrase_short c.requires size in
-    let status = push_as _ _ _ _ _ (push_first _ _ _ c.new-text.ensures c.push_bytes.ensures) (ap decimal (c.from.ensures ∙ c.as_u16.ensures.value)) c.push_decimal.ensures in
+    let status = push_as _ _ _ _ _ (push_first _ _ _ c.new-text.ensures c.push_bytes.ensures)
+    (ap decimal (c.from.ensures ∙ c.as_u16.ensures.value)) c.push_decimal.ensures in
     let named = push_as _ _ _ _ _ (push_on _ _ _ _ status c.push_bytes-2.ensures) (c.as_bytes.ensures.value ∙ c.phrase.ensures.text) c.push_bytes-3.ensures in
     let typed = push_as _ _ _ _ _ (push_on _ _ _ _ named c.push_bytes-4.ensures) c.as_bytes-2.ensures.value c.push_bytes-5.ensures in
     let sized = push_on _ _ _ _ (push_on _ _ _ _ typed c.push_bytes-6.ensures) c.push_decimal-2.ensures in

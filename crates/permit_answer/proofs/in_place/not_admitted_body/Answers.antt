@@ -11,5 +11,6 @@ returns c =
     let short : length (not_admitted_text (reason_word c.args.reason)) ≤ 128 = not_admitted_short c.args.reason in
     let text : c.push_bytes-3.new.self ≡ not_admitted_text (reason_word c.args.reason) =
     fitting _ (not_admitted_text (reason_word c.args.reason)) (le_trans short (lit≤ tt))
-    (push_on _ _ _ _ (push_as _ _ _ _ _ (push_first _ _ _ c.new-text.ensures c.push_bytes.ensures) (c.as_bytes.ensures.value ∙ c.word.ensures) c.push_bytes-2.ensures) c.push_bytes-3.ensures) in
+    (push_on _ _ _ _ (push_as _ _ _ _ _ (push_first _ _ _ c.new-text.ensures c.push_bytes.ensures)
+    (c.as_bytes.ensures.value ∙ c.word.ensures) c.push_bytes-2.ensures) c.push_bytes-3.ensures) in
     record { text = text; short = rw text short }

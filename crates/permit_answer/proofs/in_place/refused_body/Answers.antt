@@ -10,5 +10,6 @@ returns c =
     let short : length (refused_text c.args.word.now) ≤ 128 = refused_short c.args.word.now c.requires in
     let text : c.push_bytes-3.new.self ≡ refused_text c.args.word.now =
     fitting _ (refused_text c.args.word.now) (le_trans short (lit≤ tt))
-    (push_on _ _ _ _ (push_as _ _ _ _ _ (push_first _ _ _ c.new-text.ensures c.push_bytes.ensures) c.as_bytes.ensures.value c.push_bytes-2.ensures) c.push_bytes-3.ensures) in
+    (push_on _ _ _ _ (push_as _ _ _ _ _
+    (push_first _ _ _ c.new-text.ensures c.push_bytes.ensures) c.as_bytes.ensures.value c.push_bytes-2.ensures) c.push_bytes-3.ensures) in
     record { text = text; short = rw text short }

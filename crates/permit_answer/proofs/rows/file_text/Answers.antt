@@ -6,4 +6,5 @@ use Rattle.permit_answer.proofs.rows.file_text.Goals as goal
 
 pub returns : goal.returns
 returns c =
-    IfOk-weaker c.text_of.result _ _ (λ text sent. text_of_value (file_data c.args.file.now c.args.papers.now) sent.0 text.items sent.1 sent.2 (file_plain c.args.file.now c.args.papers.now)) c.text_of.ensures
+    IfOk-weaker c.text_of.result _ _ (λ text sent. text_of_value (file_data c.args.file.now c.args.papers.now) sent.0 text.items sent.1 sent.2
+    (file_plain c.args.file.now c.args.papers.now)) c.text_of.ensures

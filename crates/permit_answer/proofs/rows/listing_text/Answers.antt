@@ -6,4 +6,5 @@ use Rattle.permit_answer.proofs.rows.listing_text.Goals as goal
 
 pub returns : goal.returns
 returns c =
-    IfOk-weaker c.text_of.result _ _ (λ text sent. text_of_value (listing_data c.args.files.now) sent.0 text.items sent.1 sent.2 (listing_plain c.args.files.now)) c.text_of.ensures
+    IfOk-weaker c.text_of.result _ _ (λ text sent. text_of_value (listing_data c.args.files.now) sent.0 text.items sent.1 sent.2
+    (listing_plain c.args.files.now)) c.text_of.ensures

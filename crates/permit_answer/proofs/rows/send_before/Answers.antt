@@ -20,9 +20,11 @@ returns g c =
     let count : c.from-2.result ≡ file.row.state.done = search rules in
     let required : c.required_steps-required.result.now ≡ required_steps file.row.state.kind = search rules in
     let least : c.min.result ≡ min c.from-2.result (length c.required_steps-required.result.now) = search rules in
-    ap (λ n. take n c.required_steps-required.result.now) least ∙ take_min c.from-2.result c.required_steps-required.result.now ∙ ap (λ n. take n c.required_steps-required.result.now) count
+    ap (λ n. take n c.required_steps-required.result.now) least ∙ take_min c.from-2.result c.required_steps-required.result.now
+    ∙ ap (λ n. take n c.required_steps-required.result.now) count
     ∙ ap (take file.row.state.done) required in
-    let done : SendsMember (codes "done") (steps_data (take c.min.result c.required_steps-required.result.now)) _ _ = record { named = _; first = c.in_ok-key.ensures; then = c.in_ok-send_steps.ensures } in
+    let done : SendsMember (codes "done") (steps_data (take c.min.result c.required_steps-required.result.now)) _ _ =
+    record { named = _; first = c.in_ok-key.ensures; then = c.in_ok-send_steps.ensures } in
     on_ok_weaker c.put_count-4.result (λ notices others last rest. (
     before (codes "applicant") (count file.row.state.applicant) c.in_ok-put_count.ensures (search rules)
     (before (codes "ask") (count_or_null file.row.state.ask) c.in_ok-put_number.ensures (search (rules, ask))

@@ -10,4 +10,5 @@ loop-file-preserved g c =
 
 pub returns : goal.returns
 returns g c =
-    on_ok_weaker c.end_seq.result (array_sent listed_data _ _ _ _ _ _ _ _ refl (search rules) (search rules) c.in_ok-begin_seq.ensures c.loop-file.invariant) c.end_seq.ensures
+    on_ok_weaker c.end_seq.result (array_sent listed_data _ _ _ _ _ _ _ _ refl (search rules)
+    (search rules) c.in_ok-begin_seq.ensures c.loop-file.invariant) c.end_seq.ensures

@@ -5,4 +5,5 @@ use Rattle.permit_answer.specs.RowData.{listed_data}
 use Rattle.permit_answer.proofs.rows.send_files.Given as goal
 
 abbrev pub invariant-loop-file : goal.invariant-loop-file
-invariant-loop-file g l = WritesEach (λ file. SendsValue (listed_data file)) (take l.file-index l.files) (g.S.Serializer.written l.initial.out) (g.S.Serializer.written l.out)
+invariant-loop-file g l = WritesEach (λ file. SendsValue (listed_data file)) (take l.file-index l.files) (g.S.Serializer.written l.initial.out)
+    (g.S.Serializer.written l.out)
