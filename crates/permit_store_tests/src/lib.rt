@@ -2,15 +2,13 @@
 #![tactic(auto)]
 
 #[cfg(test)]
-mod by_digest;
+mod calls;
 #[cfg(test)]
-mod clock;
+mod changes;
 #[cfg(test)]
 mod database;
 #[cfg(test)]
 mod opening;
-#[cfg(test)]
-mod oversized_and_cut;
 #[cfg(test)]
 mod reopening;
 #[cfg(test)]

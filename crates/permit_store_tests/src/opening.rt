@@ -1,73 +1,84 @@
-//! Opening over memory.
+//! Foundings and openings over memory.
 
-use crate::database::founded;
+use crate::database::{create, founded};
 use permit_sql::store::SqlStore;
 use permit_store::store::OpenError;
-use sqlite::Connection;
+use sqlite::{Connection, MemStore};
 use std::alloc::Global;
 use std::test::Fail;
 
-/// Why a founded database isn't opened once a statement has run; none where it is.
-fn refusal(alloc: Global, statement: &str) -> Result<Option<OpenError>, Fail> {
-    let mut conn = founded(alloc)?.into_connection();
-    conn.execute(statement, &[])?;
+/// What the official's row shows in a database.
+const NAME: &str = "SELECT name FROM party WHERE id = 1 AND role = 4";
+
+/// The same of the token's digest.
+const DIGEST: &str = "SELECT digest FROM party WHERE id = 1 AND role = 4";
+
+/// A statement that is run in a founded database, if any, and behind it the official's name where the database is
+/// opened, or why it isn't.
+const OPENINGS: [(Option<&str>, Result<&str, OpenError>); 9] = [
+    (None, Ok("Chief")),
+    (Some("UPDATE party SET name = 'Another'"), Ok("Another")),
+    (
+        Some("UPDATE desk SET version = 2, parties = 7"),
+        Err(OpenError::Version),
+    ),
+    (
+        Some("CREATE TABLE more (id INTEGER PRIMARY KEY) STRICT"),
+        Err(OpenError::Store),
+    ),
+    (Some("DROP INDEX interest_party"), Err(OpenError::Store)),
+    (Some("UPDATE party SET role = 9"), Err(OpenError::Damaged)),
+    (
+        Some("UPDATE party SET digest = 'x'"),
+        Err(OpenError::Damaged),
+    ),
+    (Some("UPDATE desk SET parties = 2"), Err(OpenError::Damaged)),
+    (Some("DELETE FROM desk"), Err(OpenError::Damaged)),
+];
+
+/// The text that a query of one row gives.
+fn text_of(conn: &mut Connection<MemStore>, query: &str) -> Result<String, Fail> {
+    Ok(conn.query_row(query, &[])?.get(0)?)
+}
+
+/// The official's name in a database once it was opened, or why it isn't opened.
+fn opened(alloc: Global, conn: Connection<MemStore>) -> Result<Result<String, OpenError>, Fail> {
     match SqlStore::open(alloc, conn) {
-        Ok(_) => Ok(None),
-        Err((_, why)) => Ok(Some(why)),
+        Ok(store) => Ok(Ok(text_of(&mut store.into_connection(), NAME)?)),
+        Err((_, why)) => Ok(Err(why)),
     }
 }
 
 #[test]
-fn a_founded_database_is_opened(rt: HostRuntime) -> Result<(), Fail> {
-    let conn = founded(rt.alloc())?.into_connection();
-    let store = match SqlStore::open(rt.alloc(), conn) {
-        Ok(store) => store,
-        Err((_, _)) => {
-            assert!(rt; false);
-            return Ok(());
+fn databases_are_opened(rt: HostRuntime) -> Result<(), Fail> {
+    let alloc = rt.alloc();
+    for (statement, wanted) in OPENINGS {
+        let mut conn = founded(alloc)?.into_connection();
+        if let Some(statement) = statement {
+            conn.execute(statement, &[])?;
         }
-    };
-    let mut conn = store.into_connection();
-    let row = conn.query_row("SELECT name FROM party WHERE id = 1 AND role = 4", &[])?;
-    let name: String = row.get(0)?;
-    assert_eq!(rt; name.as_str(), "Chief");
-    Ok(())
-}
-
-#[test]
-fn another_version_is_told_first(rt: HostRuntime) -> Result<(), Fail> {
-    let why = refusal(rt.alloc(), "UPDATE desk SET version = 2, parties = 7")?;
-    assert_eq!(rt; why, Some(OpenError::Version));
-    Ok(())
-}
-
-#[test]
-fn another_schema_is_refused(rt: HostRuntime) -> Result<(), Fail> {
-    let more = refusal(
-        rt.alloc(),
-        "CREATE TABLE more (id INTEGER PRIMARY KEY) STRICT",
-    )?;
-    assert_eq!(rt; more, Some(OpenError::Store));
-    let fewer = refusal(rt.alloc(), "DROP INDEX interest_party")?;
-    assert_eq!(rt; fewer, Some(OpenError::Store));
-    match SqlStore::open(rt.alloc(), Connection::open_in_memory(rt.alloc())?) {
-        Ok(_) => assert!(rt; false),
-        Err((_, why)) => assert_eq!(rt; why, OpenError::Store),
+        let is_so = match (opened(alloc, conn)?, wanted) {
+            (Ok(name), Ok(wanted)) => name.as_str() == wanted,
+            (Err(why), Err(wanted)) => why == wanted,
+            _ => false,
+        };
+        assert!(rt; is_so, "{statement:?}");
     }
+    let none = opened(alloc, Connection::open_in_memory(alloc)?)?;
+    assert!(rt; none.err() == Some(OpenError::Store));
     Ok(())
 }
 
 #[test]
-fn damaged_rows_are_refused(rt: HostRuntime) -> Result<(), Fail> {
-    let role = refusal(rt.alloc(), "UPDATE party SET role = 9")?;
-    assert_eq!(rt; role, Some(OpenError::Damaged));
-    let digest = refusal(rt.alloc(), "UPDATE party SET digest = 'x'")?;
-    assert_eq!(rt; digest, Some(OpenError::Damaged));
-    let count = refusal(rt.alloc(), "UPDATE desk SET parties = 2")?;
-    assert_eq!(rt; count, Some(OpenError::Damaged));
-    let none = refusal(rt.alloc(), "DELETE FROM desk")?;
-    assert_eq!(rt; none, Some(OpenError::Damaged));
-    let renamed = refusal(rt.alloc(), "UPDATE party SET name = 'Another'")?;
-    assert_eq!(rt; renamed, None);
+fn a_founding_is_made_once(rt: HostRuntime) -> Result<(), Fail> {
+    let mut conn = founded(rt.alloc())?.into_connection();
+    assert_eq!(rt;
+        text_of(&mut conn, DIGEST)?.as_str(),
+        "71c480df93d6ae2f1efad1447c66c9525e316218cf51fc8d9ed832f2daf18b73"
+    );
+    match create(rt.alloc(), conn)? {
+        Ok(_) => assert!(rt; false),
+        Err((_, why)) => assert_eq!(rt; why, OpenError::Exists),
+    }
     Ok(())
 }

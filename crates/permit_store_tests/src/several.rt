@@ -5,32 +5,54 @@ use permit_base::route::By;
 use permit_base::words::{Relation, Timing};
 use permit_samples::found::{Numbers, add_files, filed};
 use permit_samples::makers::{day, party};
-use permit_sql::store::SqlStore;
 use permit_store::store::Store;
-use sqlite::MemStore;
 use std::alloc::Global;
 use std::test::Fail;
 
-/// A database with three files.
-fn with_files(alloc: Global) -> Result<SqlStore<MemStore>, Fail> {
-    let mut store = founded(alloc)?;
-    add_files(&mut store, alloc)?;
-    Ok(store)
-}
+const APPLICANT: By = By::One(Relation::Applicant);
 
-/// How many rows of these files, near or ahead, the caller is handed on day 19860, and their numbers added up.
+const CONTRACTOR: By = By::One(Relation::Contractor);
+
+const OWNER: By = By::One(Relation::Owner);
+
+const REVIEWER: By = By::One(Relation::AssignedReviewer);
+
+const INSPECTOR: By = By::One(Relation::AssignedInspector);
+
+const CONFLICT: By = By::One(Relation::Conflict);
+
+const BOTH: By = By::Two(Relation::Conflict, Relation::Applicant);
+
+/// A caller, by what the files near their deadline are selected and by what those ahead of it, and how many are found on
+/// day 19860, with their numbers added up.
+const SELECTIONS: [(u32, By, By, usize, u32); 12] = [
+    (2, APPLICANT, APPLICANT, 2, 4),
+    (3, APPLICANT, APPLICANT, 1, 2),
+    (2, OWNER, OWNER, 2, 3),
+    (3, OWNER, OWNER, 1, 3),
+    (3, CONFLICT, CONFLICT, 2, 3),
+    (2, CONFLICT, CONFLICT, 0, 0),
+    (2, CONTRACTOR, CONTRACTOR, 0, 0),
+    (2, REVIEWER, REVIEWER, 0, 0),
+    (2, INSPECTOR, INSPECTOR, 0, 0),
+    (3, BOTH, BOTH, 1, 2),
+    (3, By::Whole, OWNER, 3, 6),
+    (3, APPLICANT, OWNER, 2, 5),
+];
+
+/// How many rows of these files the caller is given, and their numbers added up.
 fn sum<S: Store>(
     store: &mut S,
     alloc: Global,
     caller: u32,
-    first: By,
-    second: By,
+    near: By,
+    ahead: By,
 ) -> Result<(usize, u32), Fail> {
     let mut taker = Numbers {
         taken: Vec::new(alloc),
         most: 9,
     };
-    let routes = [filed(first, Timing::Near), filed(second, Timing::Ahead)];
+    let routes = [filed(near, Timing::Near), filed(ahead, Timing::Ahead)];
     let all = store.each_of_any(&routes, party(caller)?, day(19860)?, &mut taker)?;
     if !all {
         return Err("stopped")?;
@@ -42,49 +64,17 @@ fn sum<S: Store>(
     Ok((taker.taken.len(), sum))
 }
 
-fn sum_by<S: Store>(
-    store: &mut S,
-    alloc: Global,
-    caller: u32,
-    relation: Relation,
-) -> Result<(usize, u32), Fail> {
-    sum(store, alloc, caller, By::One(relation), By::One(relation))
-}
-
 #[test]
 fn several_selections(rt: HostRuntime) -> Result<(), Fail> {
-    let mut store = with_files(rt.alloc())?;
-    let s = &mut store;
-    assert_eq!(rt; sum_by(s, rt.alloc(), 2, Relation::Applicant)?, (2, 4));
-    assert_eq!(rt; sum_by(s, rt.alloc(), 3, Relation::Applicant)?, (1, 2));
-    assert_eq!(rt; sum_by(s, rt.alloc(), 2, Relation::Owner)?, (2, 3));
-    assert_eq!(rt; sum_by(s, rt.alloc(), 3, Relation::Owner)?, (1, 3));
-    assert_eq!(rt; sum_by(s, rt.alloc(), 3, Relation::Conflict)?, (2, 3));
-    assert_eq!(rt; sum_by(s, rt.alloc(), 2, Relation::Conflict)?, (0, 0));
-    assert_eq!(rt; sum_by(s, rt.alloc(), 2, Relation::Contractor)?, (0, 0));
-    assert_eq!(rt;
-        sum_by(s, rt.alloc(), 2, Relation::AssignedReviewer)?,
-        (0, 0)
-    );
-    assert_eq!(rt;
-        sum_by(s, rt.alloc(), 2, Relation::AssignedInspector)?,
-        (0, 0)
-    );
-    let both = By::Two(Relation::Conflict, Relation::Applicant);
-    assert_eq!(rt; sum(s, rt.alloc(), 3, both, both)?, (1, 2));
-    assert_eq!(rt;
-        sum(s, rt.alloc(), 3, By::Whole, By::One(Relation::Owner))?,
-        (3, 6)
-    );
-    assert_eq!(rt;
-        sum(
-            s,
-            rt.alloc(),
-            3,
-            By::One(Relation::Applicant),
-            By::One(Relation::Owner)
-        )?,
-        (2, 5)
-    );
+    let alloc = rt.alloc();
+    let mut store = founded(alloc)?;
+    add_files(&mut store, alloc)?;
+    for (place, (caller, near, ahead, count, total)) in SELECTIONS.iter().enumerate() {
+        let given = sum(&mut store, alloc, *caller, *near, *ahead)?;
+        assert!(rt;
+            given == (*count, *total),
+            "selection {place} of caller {caller}"
+        );
+    }
     Ok(())
 }
