@@ -1,4 +1,4 @@
-//! The rows that are written out, played in an office over vectors and in one over a database.
+//! The scenarios that are written out, played in an office over vectors and in one over a database.
 
 use crate::database::over_database;
 use permit_office::office::Office;
@@ -38,7 +38,7 @@ fn hold(alloc: Global, scripts: &[&str], last: Option<&UnderPolicy>) -> Result<(
 }
 
 #[test]
-fn each_row_holds(rt: HostRuntime) -> Result<(), Fail> {
+fn each_scenario_holds(rt: HostRuntime) -> Result<(), Fail> {
     let alloc = rt.alloc();
     for rows in [
         scenarios::filings(),
