@@ -21,7 +21,7 @@ def missing():
     if wanted:
         quiet = {"stdout": subprocess.DEVNULL, "stderr": subprocess.DEVNULL}
         environment = {**os.environ, "DEBIAN_FRONTEND": "noninteractive"}
-        install = ["apt-get", "install", "-y", "--no-install-recommends", *wanted]
+        install = ["apt-get", "-o", "DPkg::Lock::Timeout=60", "install", "-y", "--no-install-recommends", *wanted]
         try:
             if subprocess.run(install, env=environment, timeout=240, **quiet).returncode != 0:
                 subprocess.run(["apt-get", "update"], timeout=120, **quiet)

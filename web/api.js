@@ -10,9 +10,11 @@ export class Refusal extends Error {
   }
 }
 
+const typeOf = answer => (answer.headers.get('Content-Type') ?? '').split(';')[0];
+
 // A refusal of the office is JSON. Others come from what stands before it.
 async function refusalOf(answer) {
-  if (answer.headers.get('Content-Type') === 'application/json') {
+  if (typeOf(answer) === 'application/json') {
     const body = await answer.json();
     return new Refusal(body.refused, body);
   }
@@ -26,7 +28,9 @@ async function fetched(method, path, body, bearer) {
   if (body !== undefined) options.body = JSON.stringify(body);
   const answer = await fetch(path, options);
   if (!answer.ok) throw await refusalOf(answer);
-  return answer.headers.get('Content-Type') === 'application/json' ? await answer.json() : await answer.text();
+  if (typeOf(answer) === 'application/json') return await answer.json();
+  if (typeOf(answer) === 'text/plain') return await answer.text();
+  throw new Refusal('unclear');
 }
 
 // The answer's value, or a register's text. A refusal is thrown.

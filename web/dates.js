@@ -10,8 +10,8 @@ export const isoDate = day => new Date(day * MILLISECONDS).toISOString().slice(0
 
 export const dayOfIso = text => Date.parse(text) / MILLISECONDS;
 
-// By so many days the office's day is ahead of the browser's, and when that was learned: no route tells the office's day,
-// answers do by the way.
+// By so many days the office's day is ahead of the browser's, and when that was learned: no route says the office's day,
+// but answers have it beside what they are for.
 let ahead = 0;
 let learned = -Infinity;
 

@@ -1,4 +1,4 @@
-// Signing in: the token, and the view to begin with, since no route tells whose a token is.
+// Signing in: the token, and the view to begin with, since no route says whose a token is.
 
 import { ask } from './api.js';
 import { el, freshId } from './dom.js';
