@@ -136,12 +136,14 @@ function signOut(refusal = null) {
 
 // Says what was done, and reads anew what is shown.
 async function done(words) {
+  if (session.token() === null) return;
   forgetFiles();
   saidLine.textContent = words;
   await show();
 }
 
 function goTo(hash, words) {
+  if (session.token() === null) return;
   forgetFiles();
   location.hash = hash;
   said = words;

@@ -38,10 +38,10 @@ export function makeTable({ caption, columns, kept, layout, heights }) {
     const height = rowHeight();
     const first = Math.max(0, Math.floor(element.scrollTop / height) - MARGIN);
     const last = Math.min(rows.length, Math.ceil((element.scrollTop + element.clientHeight) / height) + MARGIN);
-    const kept = new Map([...body.children].map(line => [Number(line.dataset.index), line]));
+    const drawn = new Map([...body.children].map(line => [Number(line.dataset.index), line]));
     const lines = [];
-    for (let index = first; index < last; index += 1) lines.push(kept.get(index) ?? bodyRow(columns, rows[index], index, height));
-    for (const [index, line] of kept) if (index < first || index >= last) line.remove();
+    for (let index = first; index < last; index += 1) lines.push(drawn.get(index) ?? bodyRow(columns, rows[index], index, height));
+    for (const [index, line] of drawn) if (index < first || index >= last) line.remove();
     lines.forEach((line, place) => { if (body.children[place] !== line) body.insertBefore(line, body.children[place] ?? null); });
   }
 

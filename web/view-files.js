@@ -1,17 +1,20 @@
-// All files that I may see, to sort and to narrow. The list is read once and kept until something is changed from here,
-// or the reader asks for it again.
+// All files that I may see, to sort and to narrow. The list is read once and kept for some minutes, until something is
+// changed from here, or until the reader asks for it again.
 
 import { listed } from './api.js';
 import { COLUMNS } from './columns.js';
 import { el, freshId } from './dom.js';
-import { whenSignedOut } from './session.js';
+import { token, whenSignedOut } from './session.js';
 import { makeTable } from './table.js';
 import { learnToday } from './today.js';
 import { KINDS, STAGES, plural } from './words.js';
 
 const { id, kind, description, stage, parcel, applicant, deadline } = COLUMNS;
 
+const KEPT = 300_000; // Milliseconds.
+
 let files = null;
+let readAt = 0;
 let kept = null;
 
 // How the list is sorted and narrowed stays while the reader is elsewhere.
@@ -24,21 +27,25 @@ export function forgetFiles() {
   files = null;
 }
 
+// The list, read unless it is kept. What comes for somebody who has signed out meanwhile isn't kept.
 async function readFiles() {
-  if (files === null) {
-    const read = await listed();
-    await learnToday(read);
+  if (files !== null && Date.now() - readAt < KEPT) return files;
+  const mine = token();
+  const read = await listed();
+  await learnToday(read);
+  if (token() === mine) {
     files = read;
+    readAt = Date.now();
   }
-  return files;
+  return read;
 }
 
 // What a text is looked for in.
 const textOf = file => `${file.id} ${file.description} parcel ${file.parcel} party ${file.applicant}`.toLowerCase();
 
-function narrowed() {
+function narrowed(all) {
   const text = kept.text.trim().toLowerCase();
-  return files.filter(file => (kept.stage === '' || file.stage === kept.stage)
+  return all.filter(file => (kept.stage === '' || file.stage === kept.stage)
     && (kept.kind === '' || file.kind === kept.kind) && (text === '' || textOf(file).includes(text)));
 }
 
@@ -52,21 +59,24 @@ function chooser(words, chosen, changed) {
   return el('select', { onchange: event => changed(event.target.value) }, el('option', { value: '' }, 'All'), options);
 }
 
+const timeFormat = new Intl.DateTimeFormat(undefined, { timeStyle: 'short' });
+
 export async function filesView(again) {
+  const all = await readFiles();
   kept ??= fresh();
-  await readFiles();
   const count = el('p', { role: 'status', class: 'lead' });
   const columns = [id, kind, description, stage, parcel, applicant, deadline];
   const table = makeTable({ caption: 'Files', columns, kept: kept.table, layout: 'files', heights: [56, 92] });
 
   function show() {
-    const shown = narrowed();
+    const shown = narrowed(all);
     table.show(shown);
-    count.textContent = `${shown.length} of ${plural(files.length, 'file')}`;
+    count.textContent = `${shown.length} of ${plural(all.length, 'file')}`;
   }
 
-  // Another narrowing begins at its top.
+  // Another narrowing begins at its top. It may come after the view has gone.
   function narrow(change) {
+    if (!table.element.isConnected) return;
     Object.assign(kept, change);
     kept.table.top = 0;
     show();
@@ -89,5 +99,5 @@ export async function filesView(again) {
       labelled('Stage', chooser(STAGES, kept.stage, value => narrow({ stage: value }))),
       labelled('Kind', chooser(KINDS, kept.kind, value => narrow({ kind: value }))),
       labelled('Text or number', text), look),
-    count, table.element);
+    count, table.element, el('p', { class: 'hint' }, `The list was read at ${timeFormat.format(readAt)}.`));
 }
