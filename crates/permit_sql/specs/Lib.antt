@@ -5,3 +5,4 @@ pub mod Taken
 pub mod Found
 pub mod Seen
 pub mod Reopening
+pub mod Frames

@@ -3,13 +3,13 @@
 ghost use Rattle.std.specs.Prelude.{◌≡◌, false, [], IsTrue, MatchBool, IfOk, IfSome};
 ghost use Rattle.sqlite.specs.Given.{IsPlain};
 ghost use Rattle.sqlite.specs.Listing.{understood};
-ghost use Rattle.sqlite.specs.State.{HasCleanDisk, Survives};
+ghost use Rattle.sqlite.specs.State.{HasCleanDisk};
 ghost use Rattle.sqlite.specs.Held.{state};
 ghost use Rattle.permit_sql_rows.specs.Schema.{office_schema};
-ghost use Rattle.permit_model.specs.Tables.{Tables};
-ghost use Rattle.permit_sql_rows.specs.Kept.{IsFine, Keeps};
 ghost use Rattle.permit_sql.specs.Taken.{TookRows};
-ghost use Rattle.permit_sql.specs.Found.{TookTable, TakesParty, TakesParcel, TakesInterest, RefusesParty, RefusesParcel, RefusesInterest, HasParties, HasParcels, HasInterests, AreTyped};
+ghost use Rattle.permit_sql.specs.Found.{TookTable, TakesParty, TakesParcel, TakesInterest};
+ghost use Rattle.permit_sql.specs.Found.{RefusesParty, RefusesParcel, RefusesInterest, HasParties, HasParcels, HasInterests};
+ghost use Rattle.permit_sql.specs.Frames.{OverTyped, LeavesRows, LeavesOverCrash};
 
 use crate::each::{Taker, each_row};
 use crate::texts::{EACH_INTEREST, EACH_PARCEL, EACH_PARTY};
@@ -26,13 +26,16 @@ pub(crate) fn takes_all<S: Alter, T: Taker>(
     sql: &str,
     taker: &mut T,
 ) -> Got<bool>
-    requires calm { conn.old.in_transaction ≡ false }
+    requires not_in_transaction { conn.old.in_transaction ≡ false }
     requires plain { IsPlain (understood office_schema sql.now) }
-    ensures all { HasCleanDisk (state S.Store conn.new) → IfOk result (λ all. IsTrue all → ((state S.Store conn.old).now.schema ≡ office_schema) × TookTable T.Taker.took S.Store sql.now conn.old conn.new taker.old taker.new) }
-    ensures handed { HasCleanDisk (state S.Store conn.new) → IfOk result (λ all. TookRows T.Taker.took S.Store sql.now [] conn.old conn.new taker.old taker.new all) }
-    ensures left { IsFine (state S.Store conn.new) → IsFine (state S.Store conn.old) × ((state S.Store conn.new).now ≡ (state S.Store conn.old).now) }
-    ensures crash { Survives (state S.Store conn.old) (state S.Store conn.new) (λ _. ⊥) }
-    ensures calm { conn.new.in_transaction ≡ false }
+    ensures all { HasCleanDisk (state S.Store conn.new)
+        → IfOk result (λ all. IsTrue all → ((state S.Store conn.old).now.schema ≡ office_schema)
+        × TookTable T.Taker.took S.Store sql.now conn.old conn.new taker.old taker.new) }
+    ensures handed { HasCleanDisk (state S.Store conn.new)
+        → IfOk result (λ all. TookRows T.Taker.took S.Store sql.now [] conn.old conn.new taker.old taker.new all) }
+    ensures left { LeavesRows S.Store conn.old conn.new }
+    ensures crash { LeavesOverCrash S.Store conn.old conn.new }
+    ensures not_in_transaction { conn.new.in_transaction ≡ false }
 {
     if !is_office(conn.schema()) {
         return Err(StoreError);
@@ -75,12 +78,14 @@ impl Taker for Parties {
 
 /// Whether there are so many parties, numbered from 1, each within its limits.
 pub(crate) fn check_parties<S: Alter>(conn: &mut Connection<S>, count: u32) -> Got<bool>
-    requires calm { conn.old.in_transaction ≡ false }
-    ensures good { HasCleanDisk (state S.Store conn.new) → IfOk result (λ good. IsTrue good → HasParties count ((state S.Store conn.old).now.trees 1)) }
-    ensures kept { HasCleanDisk (state S.Store conn.new) → (t : Tables) → AreTyped t → Keeps t (state S.Store conn.old).now → count ≡ t.desk.parties → IfOk result IsTrue }
-    ensures left { IsFine (state S.Store conn.new) → IsFine (state S.Store conn.old) × ((state S.Store conn.new).now ≡ (state S.Store conn.old).now) }
-    ensures crash { Survives (state S.Store conn.old) (state S.Store conn.new) (λ _. ⊥) }
-    ensures calm { conn.new.in_transaction ≡ false }
+    requires not_in_transaction { conn.old.in_transaction ≡ false }
+    ensures good { HasCleanDisk (state S.Store conn.new)
+        → IfOk result (λ good. IsTrue good → HasParties count ((state S.Store conn.old).now.trees 1)) }
+    ensures kept { HasCleanDisk (state S.Store conn.new)
+        → OverTyped S.Store conn.old (λ t. count ≡ t.desk.parties → IfOk result IsTrue) }
+    ensures left { LeavesRows S.Store conn.old conn.new }
+    ensures crash { LeavesOverCrash S.Store conn.old conn.new }
+    ensures not_in_transaction { conn.new.in_transaction ≡ false }
 {
     let mut parties = Parties {
         count: 0,
@@ -125,12 +130,14 @@ impl Taker for Parcels {
 
 /// Whether there are so many parcels, numbered from 1, each within its limits.
 pub(crate) fn check_parcels<S: Alter>(conn: &mut Connection<S>, count: u32) -> Got<bool>
-    requires calm { conn.old.in_transaction ≡ false }
-    ensures good { HasCleanDisk (state S.Store conn.new) → IfOk result (λ good. IsTrue good → HasParcels count ((state S.Store conn.old).now.trees 3)) }
-    ensures kept { HasCleanDisk (state S.Store conn.new) → (t : Tables) → AreTyped t → Keeps t (state S.Store conn.old).now → count ≡ t.desk.parcels → IfOk result IsTrue }
-    ensures left { IsFine (state S.Store conn.new) → IsFine (state S.Store conn.old) × ((state S.Store conn.new).now ≡ (state S.Store conn.old).now) }
-    ensures crash { Survives (state S.Store conn.old) (state S.Store conn.new) (λ _. ⊥) }
-    ensures calm { conn.new.in_transaction ≡ false }
+    requires not_in_transaction { conn.old.in_transaction ≡ false }
+    ensures good { HasCleanDisk (state S.Store conn.new)
+        → IfOk result (λ good. IsTrue good → HasParcels count ((state S.Store conn.old).now.trees 3)) }
+    ensures kept { HasCleanDisk (state S.Store conn.new)
+        → OverTyped S.Store conn.old (λ t. count ≡ t.desk.parcels → IfOk result IsTrue) }
+    ensures left { LeavesRows S.Store conn.old conn.new }
+    ensures crash { LeavesOverCrash S.Store conn.old conn.new }
+    ensures not_in_transaction { conn.new.in_transaction ≡ false }
 {
     let mut parcels = Parcels {
         count: 0,
@@ -169,12 +176,13 @@ impl Taker for Interests {
 
 /// Whether each interest is of numbers within their limits.
 pub(crate) fn check_interests<S: Alter>(conn: &mut Connection<S>) -> Got<bool>
-    requires calm { conn.old.in_transaction ≡ false }
-    ensures good { HasCleanDisk (state S.Store conn.new) → IfOk result (λ good. IsTrue good → HasInterests ((state S.Store conn.old).now.trees 5)) }
-    ensures kept { HasCleanDisk (state S.Store conn.new) → (t : Tables) → AreTyped t → Keeps t (state S.Store conn.old).now → IfOk result IsTrue }
-    ensures left { IsFine (state S.Store conn.new) → IsFine (state S.Store conn.old) × ((state S.Store conn.new).now ≡ (state S.Store conn.old).now) }
-    ensures crash { Survives (state S.Store conn.old) (state S.Store conn.new) (λ _. ⊥) }
-    ensures calm { conn.new.in_transaction ≡ false }
+    requires not_in_transaction { conn.old.in_transaction ≡ false }
+    ensures good { HasCleanDisk (state S.Store conn.new)
+        → IfOk result (λ good. IsTrue good → HasInterests ((state S.Store conn.old).now.trees 5)) }
+    ensures kept { HasCleanDisk (state S.Store conn.new) → OverTyped S.Store conn.old (λ t. IfOk result IsTrue) }
+    ensures left { LeavesRows S.Store conn.old conn.new }
+    ensures crash { LeavesOverCrash S.Store conn.old conn.new }
+    ensures not_in_transaction { conn.new.in_transaction ≡ false }
 {
     takes_all(conn, EACH_INTEREST, &mut Interests)
 }

@@ -1,11 +1,11 @@
 //! The rows of files and papers, tested one at a time.
 
 ghost use Rattle.std.specs.Prelude.{◌≡◌, ◌↔◌, false, IsTrue, MatchBool, IfOk, IfSome, IsSomeAnd, length, map};
-ghost use Rattle.sqlite.specs.State.{HasCleanDisk, Survives};
+ghost use Rattle.sqlite.specs.State.{HasCleanDisk};
 ghost use Rattle.sqlite.specs.Held.{state};
-ghost use Rattle.permit_model.specs.Tables.{Tables};
-ghost use Rattle.permit_sql_rows.specs.Kept.{IsFine, Keeps};
-ghost use Rattle.permit_sql.specs.Found.{TakesFile, TakesPaper, TakesRowid, RefusesFile, RefusesPaper, RefusesRowid, IsLater, HasFiles, HasPapers, IsApart, AreTyped};
+ghost use Rattle.permit_sql.specs.Found.{TakesFile, TakesPaper, TakesRowid, RefusesFile, RefusesPaper, RefusesRowid};
+ghost use Rattle.permit_sql.specs.Found.{IsLater, HasFiles, HasPapers, IsApart};
+ghost use Rattle.permit_sql.specs.Frames.{OverTyped, LeavesRows, LeavesOverCrash};
 
 use crate::check::takes_all;
 use crate::each::Taker;
@@ -54,13 +54,15 @@ pub(crate) fn check_files<S: Alter>(
     alloc: Global,
     count: u32,
 ) -> Got<Option<Vec<u16>>>
-    requires calm { conn.old.in_transaction ≡ false }
-    ensures good { HasCleanDisk (state S.Store conn.new) → IfOk result (λ o. IfSome o (λ counts. HasFiles counts.items ((state S.Store conn.old).now.trees 7))) }
+    requires not_in_transaction { conn.old.in_transaction ≡ false }
+    ensures good { HasCleanDisk (state S.Store conn.new)
+        → IfOk result (λ o. IfSome o (λ counts. HasFiles counts.items ((state S.Store conn.old).now.trees 7))) }
     ensures counted { IfOk result (λ o. IfSome o (λ counts. length counts.items ≡ count)) }
-    ensures kept { HasCleanDisk (state S.Store conn.new) → (t : Tables) → AreTyped t → Keeps t (state S.Store conn.old).now → count ≡ t.desk.files → IfOk result (λ o. IsSomeAnd o (λ counts. counts.items ≡ map (λ f. f.state.papers) t.files)) }
-    ensures left { IsFine (state S.Store conn.new) → IsFine (state S.Store conn.old) × ((state S.Store conn.new).now ≡ (state S.Store conn.old).now) }
-    ensures crash { Survives (state S.Store conn.old) (state S.Store conn.new) (λ _. ⊥) }
-    ensures calm { conn.new.in_transaction ≡ false }
+    ensures kept { HasCleanDisk (state S.Store conn.new)
+        → OverTyped S.Store conn.old (λ t. count ≡ t.desk.files → IfOk result (λ o. IsSomeAnd o (λ counts. counts.items ≡ map (λ f. f.state.papers) t.files))) }
+    ensures left { LeavesRows S.Store conn.old conn.new }
+    ensures crash { LeavesOverCrash S.Store conn.old conn.new }
+    ensures not_in_transaction { conn.new.in_transaction ≡ false }
 {
     let mut files = Files {
         counts: Vec::new(alloc),
@@ -101,7 +103,9 @@ struct Papers {
 }
 
 impl Taker for Papers {
-    ghost took = { λ a row b good. MatchBool good (TakesPaper a.counts.items a.file a.number row b.file b.number × (b.counts.items ≡ a.counts.items)) (RefusesPaper a.counts.items a.file a.number row b.lacks_memory) };
+    ghost took = { λ a row b good. MatchBool good
+        (TakesPaper a.counts.items a.file a.number row b.file b.number × (b.counts.items ≡ a.counts.items))
+        (RefusesPaper a.counts.items a.file a.number row b.lacks_memory) };
 
     fn take(&mut self, row: &Row) -> bool {
         let paper = match paper_of(row) {
@@ -132,12 +136,14 @@ impl Taker for Papers {
 /// Whether each paper is within its limits, and each file's papers have numbers of their own, none above the file's
 /// count.
 pub(crate) fn check_papers<S: Alter>(conn: &mut Connection<S>, counts: Vec<u16>) -> Got<bool>
-    requires calm { conn.old.in_transaction ≡ false }
-    ensures good { HasCleanDisk (state S.Store conn.new) → IfOk result (λ good. IsTrue good → HasPapers counts.items ((state S.Store conn.old).now.trees 8)) }
-    ensures kept { HasCleanDisk (state S.Store conn.new) → (t : Tables) → AreTyped t → Keeps t (state S.Store conn.old).now → counts.items ≡ map (λ f. f.state.papers) t.files → IfOk result IsTrue }
-    ensures left { IsFine (state S.Store conn.new) → IsFine (state S.Store conn.old) × ((state S.Store conn.new).now ≡ (state S.Store conn.old).now) }
-    ensures crash { Survives (state S.Store conn.old) (state S.Store conn.new) (λ _. ⊥) }
-    ensures calm { conn.new.in_transaction ≡ false }
+    requires not_in_transaction { conn.old.in_transaction ≡ false }
+    ensures good { HasCleanDisk (state S.Store conn.new)
+        → IfOk result (λ good. IsTrue good → HasPapers counts.items ((state S.Store conn.old).now.trees 8)) }
+    ensures kept { HasCleanDisk (state S.Store conn.new)
+        → OverTyped S.Store conn.old (λ t. counts.items ≡ map (λ f. f.state.papers) t.files → IfOk result IsTrue) }
+    ensures left { LeavesRows S.Store conn.old conn.new }
+    ensures crash { LeavesOverCrash S.Store conn.old conn.new }
+    ensures not_in_transaction { conn.new.in_transaction ≡ false }
 {
     let mut papers = Papers {
         file: 0,
@@ -179,12 +185,13 @@ impl Taker for Rowids {
 
 /// Whether no rowid of a paper comes twice.
 pub(crate) fn check_rowids<S: Alter>(conn: &mut Connection<S>) -> Got<bool>
-    requires calm { conn.old.in_transaction ≡ false }
-    ensures good { HasCleanDisk (state S.Store conn.new) → IfOk result (λ good. IsTrue good → IsApart ((state S.Store conn.old).now.trees 8)) }
-    ensures kept { HasCleanDisk (state S.Store conn.new) → (t : Tables) → AreTyped t → Keeps t (state S.Store conn.old).now → IfOk result IsTrue }
-    ensures left { IsFine (state S.Store conn.new) → IsFine (state S.Store conn.old) × ((state S.Store conn.new).now ≡ (state S.Store conn.old).now) }
-    ensures crash { Survives (state S.Store conn.old) (state S.Store conn.new) (λ _. ⊥) }
-    ensures calm { conn.new.in_transaction ≡ false }
+    requires not_in_transaction { conn.old.in_transaction ≡ false }
+    ensures good { HasCleanDisk (state S.Store conn.new)
+        → IfOk result (λ good. IsTrue good → IsApart ((state S.Store conn.old).now.trees 8)) }
+    ensures kept { HasCleanDisk (state S.Store conn.new) → OverTyped S.Store conn.old (λ t. IfOk result IsTrue) }
+    ensures left { LeavesRows S.Store conn.old conn.new }
+    ensures crash { LeavesOverCrash S.Store conn.old conn.new }
+    ensures not_in_transaction { conn.new.in_transaction ≡ false }
 {
     let mut rowids = Rowids {
         last: None,

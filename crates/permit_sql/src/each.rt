@@ -2,13 +2,13 @@
 
 ghost use Rattle.std.specs.Prelude.{◌≡◌, Bool, false, IfOk};
 ghost use Rattle.sqlite_value.specs.Order.{Row as SqlRow};
-ghost use Rattle.sqlite.specs.State.{HasCleanDisk, Survives};
+ghost use Rattle.sqlite.specs.State.{HasCleanDisk};
 ghost use Rattle.sqlite.specs.Values.{bound};
 ghost use Rattle.sqlite.specs.Held.{state};
 ghost use Rattle.sqlite.specs.Given.{IsPlain};
 ghost use Rattle.sqlite.specs.Listing.{understood};
-ghost use Rattle.permit_sql_rows.specs.Kept.{IsFine};
 ghost use Rattle.permit_sql.specs.Taken.{TookRows};
+ghost use Rattle.permit_sql.specs.Frames.{LeavesRows, LeavesOverCrash};
 
 use sqlite::{Alter, Connection, Error, ErrorCode, Row};
 use sqlite_value::value::ValueRef;
@@ -28,12 +28,13 @@ pub fn each_row<S: Alter, T: Taker>(
     params: &[ValueRef<'_>],
     taker: &mut T,
 ) -> Result<bool, Error>
-    requires calm { conn.old.in_transaction ≡ false }
+    requires not_in_transaction { conn.old.in_transaction ≡ false }
     requires plain { IsPlain (understood conn.old.schema sql.now) }
-    ensures ok { HasCleanDisk (state S.Store conn.new) → IfOk result (λ all. TookRows T.Taker.took S.Store sql.now (bound params.now) conn.old conn.new taker.old taker.new all) }
-    ensures left { IsFine (state S.Store conn.new) → IsFine (state S.Store conn.old) × ((state S.Store conn.new).now ≡ (state S.Store conn.old).now) }
-    ensures crash { Survives (state S.Store conn.old) (state S.Store conn.new) (λ _. ⊥) }
-    ensures calm { conn.new.in_transaction ≡ false }
+    ensures ok { HasCleanDisk (state S.Store conn.new)
+        → IfOk result (λ all. TookRows T.Taker.took S.Store sql.now (bound params.now) conn.old conn.new taker.old taker.new all) }
+    ensures left { LeavesRows S.Store conn.old conn.new }
+    ensures crash { LeavesOverCrash S.Store conn.old conn.new }
+    ensures not_in_transaction { conn.new.in_transaction ≡ false }
 {
     let _settled = conn.is_autocommit();
     let mut rows = conn.query(sql, params)?;

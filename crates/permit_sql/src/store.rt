@@ -41,7 +41,7 @@ pub struct SqlStore<S: Alter> {
     handed: u64,
     failed: u64,
     commits: u64,
-    ghost calm: { conn.in_transaction ≡ false },
+    ghost not_in_transaction: { conn.in_transaction ≡ false },
 }
 
 /// Whether the database has no table, no index and no view.
@@ -80,7 +80,8 @@ impl<S: Alter> SqlStore<S> {
         conn: Connection<S>,
         founder: &Founder,
     ) -> Result<SqlStore<S>, (Connection<S>, OpenError)>
-        ensures founded { IfOk result (λ s. (⟦<SqlStore<S> as Store>⟧.view s).holds (tables (founding founder.now.name founder.now.digest founder.now.day))) }
+        ensures founded { IfOk result (λ s. (⟦<SqlStore<S> as Store>⟧.view s).holds
+            (tables (founding founder.now.name founder.now.digest founder.now.day))) }
         ensures keeps { IfOk result (λ s. HasCleanDisk (state S.Store s.conn)
             → Keeps (tables (founding founder.now.name founder.now.digest founder.now.day)) (state S.Store s.conn).now) }
         ensures doubt { IfOk result (λ s. (⟦<SqlStore<S> as Store>⟧.view s).doubt ≡ doubt (state S.Store s.conn).is_clean) }
@@ -126,14 +127,16 @@ impl<S: Alter> SqlStore<S> {
         conn: Connection<S>,
     ) -> Result<SqlStore<S>, (Connection<S>, OpenError)>
         ensures held { IfOk result (λ s. (t : Tables) → HasCleanDisk (state S.Store s.conn) → Shows t (state S.Store conn) → Shows t (state S.Store s.conn)) }
-        ensures typed { IfOk result (λ s. HasCleanDisk (state S.Store s.conn) → IsTrue (state S.Store s.conn).is_open → KeepsTyped (state S.Store s.conn).now) }
+        ensures typed { IfOk result (λ s. HasCleanDisk (state S.Store s.conn)
+            → IsTrue (state S.Store s.conn).is_open → KeepsTyped (state S.Store s.conn).now) }
         ensures doubt { IfOk result (λ s. (⟦<SqlStore<S> as Store>⟧.view s).doubt ≡ doubt (state S.Store s.conn).is_clean) }
         ensures counts { IfOk result (λ s. (s.handed ≡ 0) × (s.failed ≡ 0) × (s.commits ≡ 0)) }
         ensures crash { IfOk result (λ s. Survives (state S.Store conn) (state S.Store s.conn) (λ _. ⊥)) }
         ensures same { IfErr result (λ e. IsFine (state S.Store e.0) → (state S.Store e.0).now ≡ (state S.Store conn).now) }
         ensures kept { IfErr result (λ e. Survives (state S.Store conn) (state S.Store e.0) (λ _. ⊥)) }
         ensures version { IfErr result (λ e. e.1 ≡ open_error.Version → HasCleanDisk (state S.Store e.0) → HasOtherVersion (state S.Store conn).now) }
-        ensures told { IfErr result (λ e. HasCleanDisk (state S.Store e.0) → HasOtherVersion (state S.Store conn).now → (e.1 ≡ open_error.Version) ⊎ (e.1 ≡ open_error.Store)) }
+        ensures told { IfErr result (λ e. HasCleanDisk (state S.Store e.0) → HasOtherVersion (state S.Store conn).now
+            → (e.1 ≡ open_error.Version) ⊎ (e.1 ≡ open_error.Store)) }
         ensures first { IfOk result (λ s. HasCleanDisk (state S.Store s.conn) → ¬ HasOtherVersion (state S.Store conn).now) }
         ensures damaged { IfErr result (λ e. e.1 ≡ open_error.Damaged → IsFine (state S.Store e.0) → ¬ KeepsTyped (state S.Store conn).now) }
         ensures refusal { IfErr result (λ e. (e.1 ≡ open_error.Damaged) ⊎ ((e.1 ≡ open_error.Version) ⊎ (e.1 ≡ open_error.Store))) }

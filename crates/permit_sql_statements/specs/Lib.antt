@@ -5,3 +5,4 @@ pub mod Gave
 pub mod Statements
 pub mod TextAndParams
 pub mod Founding
+pub mod Frames

@@ -1,22 +1,22 @@
 //! The changes of the tables, each in one transaction. The desk that a change is given is the one after it.
 
-ghost use Rattle.std.specs.Prelude.{◌≡◌, ◌≢◌, ◌≤◌, ◌+◌, ℕ, false, Some, OnOk, OnErr, IfOk, IsTrue};
-ghost use Rattle.sqlite_trees.specs.View.{doubt};
+ghost use Rattle.std.specs.Prelude.{◌≡◌, ◌≢◌, ◌+◌, false, Some, OnOk, IfOk};
 ghost use Rattle.sqlite.specs.Effect.{Database};
-ghost use Rattle.sqlite.specs.State.{HasCleanDisk, Survives};
+ghost use Rattle.sqlite.specs.State.{Survives};
 ghost use Rattle.sqlite.specs.Held.{state};
 ghost use Rattle.permit_model.specs.Tables.{Tables};
 ghost use Rattle.permit_store.specs.Changes.{changed, Fits};
 ghost use Rattle.permit_store.specs.declared.change.Change.TheVariants.{NewParty, NewParcel, NewOwner, NewInterest, NewFile, NewRow};
 ghost use Rattle.permit_store.specs.declared.change.RowEffect.TheVariants as effect;
 ghost use Rattle.permit_sql_rows.specs.Kept.{IsNamed, Keeps, Shows};
+ghost use Rattle.permit_sql_statements.specs.Frames.{OverShown, FailureLeavesTables, IsOpenAfter, KeepsDoubt, MakesChange, ChangeSurvives};
 
 use crate::read::read_desk;
+use crate::runs::{run_three, run_two};
 use crate::texts::{
     ADD_FILE, ADD_INTEREST, ADD_PAPER, ADD_PARCEL, ADD_PARTY, CLOSE_NOTICE, SET_OWNER, WRITE_DESK,
     WRITE_FILE,
 };
-use crate::turns::{turn_three, turn_two};
 use permit_base::limits::number_after;
 use permit_base::values::{
     Cents, Day, Days, Digest, FileId, Lot, PaperNumber, ParcelId, PartyId, Text,
@@ -70,19 +70,17 @@ fn add_party<S: Alter>(
     role: Role,
     digest: &Digest,
 ) -> Got<()>
-    requires calm { conn.old.in_transaction ≡ false }
-    ensures made { (t : Tables) (day : ℕ) → HasCleanDisk (state S.Store conn.new) → Shows t (state S.Store conn.old) → desk.now ≡ (changed t (NewParty name.entry role digest.entry) day).desk → Fits t (NewParty name.entry role digest.entry) day
-        → OnOk result (Shows (changed t (NewParty name.entry role digest.entry) day) (state S.Store conn.new)) }
-    ensures kept { (t : Tables) → HasCleanDisk (state S.Store conn.new) → Shows t (state S.Store conn.old) → OnErr result (Shows t (state S.Store conn.new)) }
-    ensures calm { conn.new.in_transaction ≡ false }
-    ensures open { HasCleanDisk (state S.Store conn.new) → OnOk result (IsTrue (state S.Store conn.new).is_open) }
-    ensures doubt { doubt (state S.Store conn.old).is_clean ≤ doubt (state S.Store conn.new).is_clean }
-    ensures crash { Survives (state S.Store conn.old) (state S.Store conn.new) (λ trees. (t : Tables) (day : ℕ) → Keeps t (state S.Store conn.old).now → desk.now ≡ (changed t (NewParty name.entry role digest.entry) day).desk → Fits t (NewParty name.entry role digest.entry) day
-        → (db : Database) × Keeps (changed t (NewParty name.entry role digest.entry) day) db × (trees ≡ db.trees)) }
+    requires not_in_transaction { conn.old.in_transaction ≡ false }
+    ensures made { MakesChange S.Store desk.now (NewParty name.entry role digest.entry) conn.old conn.new result }
+    ensures kept { FailureLeavesTables S.Store conn.old conn.new result }
+    ensures not_in_transaction { conn.new.in_transaction ≡ false }
+    ensures open { IsOpenAfter S.Store conn.new result }
+    ensures doubt { KeepsDoubt S.Store conn.old conn.new }
+    ensures crash { ChangeSurvives S.Store desk.now (NewParty name.entry role digest.entry) conn.old conn.new }
 {
     let party = party_values(desk, name, role, digest);
     let office = desk_values(desk);
-    turn_two(conn, ADD_PARTY, &party, WRITE_DESK, &office)
+    run_two(conn, ADD_PARTY, &party, WRITE_DESK, &office)
 }
 
 /// Adds a parcel, whose number is the desk's count of parcels.
@@ -93,19 +91,17 @@ fn add_parcel<S: Alter>(
     address: &Text,
     owner: PartyId,
 ) -> Got<()>
-    requires calm { conn.old.in_transaction ≡ false }
-    ensures made { (t : Tables) (day : ℕ) → HasCleanDisk (state S.Store conn.new) → Shows t (state S.Store conn.old) → desk.now ≡ (changed t (NewParcel lot.entry address.entry owner) day).desk → Fits t (NewParcel lot.entry address.entry owner) day
-        → OnOk result (Shows (changed t (NewParcel lot.entry address.entry owner) day) (state S.Store conn.new)) }
-    ensures kept { (t : Tables) → HasCleanDisk (state S.Store conn.new) → Shows t (state S.Store conn.old) → OnErr result (Shows t (state S.Store conn.new)) }
-    ensures calm { conn.new.in_transaction ≡ false }
-    ensures open { HasCleanDisk (state S.Store conn.new) → OnOk result (IsTrue (state S.Store conn.new).is_open) }
-    ensures doubt { doubt (state S.Store conn.old).is_clean ≤ doubt (state S.Store conn.new).is_clean }
-    ensures crash { Survives (state S.Store conn.old) (state S.Store conn.new) (λ trees. (t : Tables) (day : ℕ) → Keeps t (state S.Store conn.old).now → desk.now ≡ (changed t (NewParcel lot.entry address.entry owner) day).desk → Fits t (NewParcel lot.entry address.entry owner) day
-        → (db : Database) × Keeps (changed t (NewParcel lot.entry address.entry owner) day) db × (trees ≡ db.trees)) }
+    requires not_in_transaction { conn.old.in_transaction ≡ false }
+    ensures made { MakesChange S.Store desk.now (NewParcel lot.entry address.entry owner) conn.old conn.new result }
+    ensures kept { FailureLeavesTables S.Store conn.old conn.new result }
+    ensures not_in_transaction { conn.new.in_transaction ≡ false }
+    ensures open { IsOpenAfter S.Store conn.new result }
+    ensures doubt { KeepsDoubt S.Store conn.old conn.new }
+    ensures crash { ChangeSurvives S.Store desk.now (NewParcel lot.entry address.entry owner) conn.old conn.new }
 {
     let parcel = parcel_values(desk, lot, address, owner);
     let office = desk_values(desk);
-    turn_two(conn, ADD_PARCEL, &parcel, WRITE_DESK, &office)
+    run_two(conn, ADD_PARCEL, &parcel, WRITE_DESK, &office)
 }
 
 /// Gives a parcel another owner.
@@ -115,19 +111,17 @@ fn set_owner<S: Alter>(
     parcel: ParcelId,
     owner: PartyId,
 ) -> Got<()>
-    requires calm { conn.old.in_transaction ≡ false }
-    ensures made { (t : Tables) (day : ℕ) → HasCleanDisk (state S.Store conn.new) → Shows t (state S.Store conn.old) → desk.now ≡ (changed t (NewOwner parcel owner) day).desk → Fits t (NewOwner parcel owner) day
-        → OnOk result (Shows (changed t (NewOwner parcel owner) day) (state S.Store conn.new)) }
-    ensures kept { (t : Tables) → HasCleanDisk (state S.Store conn.new) → Shows t (state S.Store conn.old) → OnErr result (Shows t (state S.Store conn.new)) }
-    ensures calm { conn.new.in_transaction ≡ false }
-    ensures open { HasCleanDisk (state S.Store conn.new) → OnOk result (IsTrue (state S.Store conn.new).is_open) }
-    ensures doubt { doubt (state S.Store conn.old).is_clean ≤ doubt (state S.Store conn.new).is_clean }
-    ensures crash { Survives (state S.Store conn.old) (state S.Store conn.new) (λ trees. (t : Tables) (day : ℕ) → Keeps t (state S.Store conn.old).now → desk.now ≡ (changed t (NewOwner parcel owner) day).desk → Fits t (NewOwner parcel owner) day
-        → (db : Database) × Keeps (changed t (NewOwner parcel owner) day) db × (trees ≡ db.trees)) }
+    requires not_in_transaction { conn.old.in_transaction ≡ false }
+    ensures made { MakesChange S.Store desk.now (NewOwner parcel owner) conn.old conn.new result }
+    ensures kept { FailureLeavesTables S.Store conn.old conn.new result }
+    ensures not_in_transaction { conn.new.in_transaction ≡ false }
+    ensures open { IsOpenAfter S.Store conn.new result }
+    ensures doubt { KeepsDoubt S.Store conn.old conn.new }
+    ensures crash { ChangeSurvives S.Store desk.now (NewOwner parcel owner) conn.old conn.new }
 {
     let pair = pair_values(parcel.get(), owner.get());
     let office = desk_values(desk);
-    turn_two(conn, SET_OWNER, &pair, WRITE_DESK, &office)
+    run_two(conn, SET_OWNER, &pair, WRITE_DESK, &office)
 }
 
 /// Adds an interest of a party in a parcel.
@@ -137,19 +131,17 @@ fn add_interest<S: Alter>(
     parcel: ParcelId,
     party: PartyId,
 ) -> Got<()>
-    requires calm { conn.old.in_transaction ≡ false }
-    ensures made { (t : Tables) (day : ℕ) → HasCleanDisk (state S.Store conn.new) → Shows t (state S.Store conn.old) → desk.now ≡ (changed t (NewInterest parcel party) day).desk → Fits t (NewInterest parcel party) day
-        → OnOk result (Shows (changed t (NewInterest parcel party) day) (state S.Store conn.new)) }
-    ensures kept { (t : Tables) → HasCleanDisk (state S.Store conn.new) → Shows t (state S.Store conn.old) → OnErr result (Shows t (state S.Store conn.new)) }
-    ensures calm { conn.new.in_transaction ≡ false }
-    ensures open { HasCleanDisk (state S.Store conn.new) → OnOk result (IsTrue (state S.Store conn.new).is_open) }
-    ensures doubt { doubt (state S.Store conn.old).is_clean ≤ doubt (state S.Store conn.new).is_clean }
-    ensures crash { Survives (state S.Store conn.old) (state S.Store conn.new) (λ trees. (t : Tables) (day : ℕ) → Keeps t (state S.Store conn.old).now → desk.now ≡ (changed t (NewInterest parcel party) day).desk → Fits t (NewInterest parcel party) day
-        → (db : Database) × Keeps (changed t (NewInterest parcel party) day) db × (trees ≡ db.trees)) }
+    requires not_in_transaction { conn.old.in_transaction ≡ false }
+    ensures made { MakesChange S.Store desk.now (NewInterest parcel party) conn.old conn.new result }
+    ensures kept { FailureLeavesTables S.Store conn.old conn.new result }
+    ensures not_in_transaction { conn.new.in_transaction ≡ false }
+    ensures open { IsOpenAfter S.Store conn.new result }
+    ensures doubt { KeepsDoubt S.Store conn.old conn.new }
+    ensures crash { ChangeSurvives S.Store desk.now (NewInterest parcel party) conn.old conn.new }
 {
     let pair = pair_values(parcel.get(), party.get());
     let office = desk_values(desk);
-    turn_two(conn, ADD_INTEREST, &pair, WRITE_DESK, &office)
+    run_two(conn, ADD_INTEREST, &pair, WRITE_DESK, &office)
 }
 
 /// Adds a file, whose number is the desk's count of files.
@@ -160,19 +152,17 @@ fn add_file<S: Alter>(
     valuation: Cents,
     description: &Text,
 ) -> Got<()>
-    requires calm { conn.old.in_transaction ≡ false }
-    ensures made { (t : Tables) (day : ℕ) → HasCleanDisk (state S.Store conn.new) → Shows t (state S.Store conn.old) → desk.now ≡ (changed t (NewFile new.now valuation description.entry) day).desk → Fits t (NewFile new.now valuation description.entry) day
-        → OnOk result (Shows (changed t (NewFile new.now valuation description.entry) day) (state S.Store conn.new)) }
-    ensures kept { (t : Tables) → HasCleanDisk (state S.Store conn.new) → Shows t (state S.Store conn.old) → OnErr result (Shows t (state S.Store conn.new)) }
-    ensures calm { conn.new.in_transaction ≡ false }
-    ensures open { HasCleanDisk (state S.Store conn.new) → OnOk result (IsTrue (state S.Store conn.new).is_open) }
-    ensures doubt { doubt (state S.Store conn.old).is_clean ≤ doubt (state S.Store conn.new).is_clean }
-    ensures crash { Survives (state S.Store conn.old) (state S.Store conn.new) (λ trees. (t : Tables) (day : ℕ) → Keeps t (state S.Store conn.old).now → desk.now ≡ (changed t (NewFile new.now valuation description.entry) day).desk → Fits t (NewFile new.now valuation description.entry) day
-        → (db : Database) × Keeps (changed t (NewFile new.now valuation description.entry) day) db × (trees ≡ db.trees)) }
+    requires not_in_transaction { conn.old.in_transaction ≡ false }
+    ensures made { MakesChange S.Store desk.now (NewFile new.now valuation description.entry) conn.old conn.new result }
+    ensures kept { FailureLeavesTables S.Store conn.old conn.new result }
+    ensures not_in_transaction { conn.new.in_transaction ≡ false }
+    ensures open { IsOpenAfter S.Store conn.new result }
+    ensures doubt { KeepsDoubt S.Store conn.old conn.new }
+    ensures crash { ChangeSurvives S.Store desk.now (NewFile new.now valuation description.entry) conn.old conn.new }
 {
     let file = file_values(desk, valuation, description, &fields_of(new));
     let office = desk_values(desk);
-    turn_two(conn, ADD_FILE, &file, WRITE_DESK, &office)
+    run_two(conn, ADD_FILE, &file, WRITE_DESK, &office)
 }
 
 /// Sets a file's row.
@@ -182,19 +172,17 @@ fn set_row<S: Alter>(
     file: FileId,
     new: &FileState,
 ) -> Got<()>
-    requires calm { conn.old.in_transaction ≡ false }
-    ensures made { (t : Tables) (day : ℕ) → HasCleanDisk (state S.Store conn.new) → Shows t (state S.Store conn.old) → desk.now ≡ (changed t (NewRow file new.now effect.None) day).desk → Fits t (NewRow file new.now effect.None) day
-        → OnOk result (Shows (changed t (NewRow file new.now effect.None) day) (state S.Store conn.new)) }
-    ensures kept { (t : Tables) → HasCleanDisk (state S.Store conn.new) → Shows t (state S.Store conn.old) → OnErr result (Shows t (state S.Store conn.new)) }
-    ensures calm { conn.new.in_transaction ≡ false }
-    ensures open { HasCleanDisk (state S.Store conn.new) → OnOk result (IsTrue (state S.Store conn.new).is_open) }
-    ensures doubt { doubt (state S.Store conn.old).is_clean ≤ doubt (state S.Store conn.new).is_clean }
-    ensures crash { Survives (state S.Store conn.old) (state S.Store conn.new) (λ trees. (t : Tables) (day : ℕ) → Keeps t (state S.Store conn.old).now → desk.now ≡ (changed t (NewRow file new.now effect.None) day).desk → Fits t (NewRow file new.now effect.None) day
-        → (db : Database) × Keeps (changed t (NewRow file new.now effect.None) day) db × (trees ≡ db.trees)) }
+    requires not_in_transaction { conn.old.in_transaction ≡ false }
+    ensures made { MakesChange S.Store desk.now (NewRow file new.now effect.None) conn.old conn.new result }
+    ensures kept { FailureLeavesTables S.Store conn.old conn.new result }
+    ensures not_in_transaction { conn.new.in_transaction ≡ false }
+    ensures open { IsOpenAfter S.Store conn.new result }
+    ensures doubt { KeepsDoubt S.Store conn.old conn.new }
+    ensures crash { ChangeSurvives S.Store desk.now (NewRow file new.now effect.None) conn.old conn.new }
 {
     let fields = row_values(file, &fields_of(new));
     let office = desk_values(desk);
-    turn_two(conn, WRITE_FILE, &fields, WRITE_DESK, &office)
+    run_two(conn, WRITE_FILE, &fields, WRITE_DESK, &office)
 }
 
 /// Sets a file's row and adds a paper on the desk's day, whose number is the row's count of papers.
@@ -205,21 +193,19 @@ fn add_paper<S: Alter>(
     new: &FileState,
     paper: &NewPaper<'_>,
 ) -> Got<()>
-    requires calm { conn.old.in_transaction ≡ false }
-    ensures made { (t : Tables) (day : ℕ) → HasCleanDisk (state S.Store conn.new) → Shows t (state S.Store conn.old) → desk.now ≡ (changed t (NewRow file new.now (effect.Paper paper.now)) day).desk → Fits t (NewRow file new.now (effect.Paper paper.now)) day
-        → OnOk result (Shows (changed t (NewRow file new.now (effect.Paper paper.now)) day) (state S.Store conn.new)) }
-    ensures kept { (t : Tables) → HasCleanDisk (state S.Store conn.new) → Shows t (state S.Store conn.old) → OnErr result (Shows t (state S.Store conn.new)) }
-    ensures calm { conn.new.in_transaction ≡ false }
-    ensures open { HasCleanDisk (state S.Store conn.new) → OnOk result (IsTrue (state S.Store conn.new).is_open) }
-    ensures doubt { doubt (state S.Store conn.old).is_clean ≤ doubt (state S.Store conn.new).is_clean }
-    ensures crash { Survives (state S.Store conn.old) (state S.Store conn.new) (λ trees. (t : Tables) (day : ℕ) → Keeps t (state S.Store conn.old).now → desk.now ≡ (changed t (NewRow file new.now (effect.Paper paper.now)) day).desk → Fits t (NewRow file new.now (effect.Paper paper.now)) day
-        → (db : Database) × Keeps (changed t (NewRow file new.now (effect.Paper paper.now)) day) db × (trees ≡ db.trees)) }
+    requires not_in_transaction { conn.old.in_transaction ≡ false }
+    ensures made { MakesChange S.Store desk.now (NewRow file new.now (effect.Paper paper.now)) conn.old conn.new result }
+    ensures kept { FailureLeavesTables S.Store conn.old conn.new result }
+    ensures not_in_transaction { conn.new.in_transaction ≡ false }
+    ensures open { IsOpenAfter S.Store conn.new result }
+    ensures doubt { KeepsDoubt S.Store conn.old conn.new }
+    ensures crash { ChangeSurvives S.Store desk.now (NewRow file new.now (effect.Paper paper.now)) conn.old conn.new }
 {
     let now = fields_of(new);
     let fields = row_values(file, &now);
     let added = paper_values(file, &now, desk, paper);
     let office = desk_values(desk);
-    turn_three(
+    run_three(
         conn, WRITE_FILE, &fields, ADD_PAPER, &added, WRITE_DESK, &office,
     )
 }
@@ -232,20 +218,18 @@ fn close_notice<S: Alter>(
     new: &FileState,
     number: PaperNumber,
 ) -> Got<()>
-    requires calm { conn.old.in_transaction ≡ false }
-    ensures made { (t : Tables) (day : ℕ) → HasCleanDisk (state S.Store conn.new) → Shows t (state S.Store conn.old) → desk.now ≡ (changed t (NewRow file new.now (effect.NoticeClosed number)) day).desk → Fits t (NewRow file new.now (effect.NoticeClosed number)) day
-        → OnOk result (Shows (changed t (NewRow file new.now (effect.NoticeClosed number)) day) (state S.Store conn.new)) }
-    ensures kept { (t : Tables) → HasCleanDisk (state S.Store conn.new) → Shows t (state S.Store conn.old) → OnErr result (Shows t (state S.Store conn.new)) }
-    ensures calm { conn.new.in_transaction ≡ false }
-    ensures open { HasCleanDisk (state S.Store conn.new) → OnOk result (IsTrue (state S.Store conn.new).is_open) }
-    ensures doubt { doubt (state S.Store conn.old).is_clean ≤ doubt (state S.Store conn.new).is_clean }
-    ensures crash { Survives (state S.Store conn.old) (state S.Store conn.new) (λ trees. (t : Tables) (day : ℕ) → Keeps t (state S.Store conn.old).now → desk.now ≡ (changed t (NewRow file new.now (effect.NoticeClosed number)) day).desk → Fits t (NewRow file new.now (effect.NoticeClosed number)) day
-        → (db : Database) × Keeps (changed t (NewRow file new.now (effect.NoticeClosed number)) day) db × (trees ≡ db.trees)) }
+    requires not_in_transaction { conn.old.in_transaction ≡ false }
+    ensures made { MakesChange S.Store desk.now (NewRow file new.now (effect.NoticeClosed number)) conn.old conn.new result }
+    ensures kept { FailureLeavesTables S.Store conn.old conn.new result }
+    ensures not_in_transaction { conn.new.in_transaction ≡ false }
+    ensures open { IsOpenAfter S.Store conn.new result }
+    ensures doubt { KeepsDoubt S.Store conn.old conn.new }
+    ensures crash { ChangeSurvives S.Store desk.now (NewRow file new.now (effect.NoticeClosed number)) conn.old conn.new }
 {
     let fields = row_values(file, &fields_of(new));
     let pair = pair_values(file.get(), number.get());
     let office = desk_values(desk);
-    turn_three(
+    run_three(
         conn,
         WRITE_FILE,
         &fields,
@@ -264,15 +248,13 @@ fn make_row<S: Alter>(
     new: &FileState,
     effect: &RowEffect<'_>,
 ) -> Got<()>
-    requires calm { conn.old.in_transaction ≡ false }
-    ensures made { (t : Tables) (day : ℕ) → HasCleanDisk (state S.Store conn.new) → Shows t (state S.Store conn.old) → desk.now ≡ (changed t (NewRow file new.now effect.now) day).desk → Fits t (NewRow file new.now effect.now) day
-        → OnOk result (Shows (changed t (NewRow file new.now effect.now) day) (state S.Store conn.new)) }
-    ensures kept { (t : Tables) → HasCleanDisk (state S.Store conn.new) → Shows t (state S.Store conn.old) → OnErr result (Shows t (state S.Store conn.new)) }
-    ensures calm { conn.new.in_transaction ≡ false }
-    ensures open { HasCleanDisk (state S.Store conn.new) → OnOk result (IsTrue (state S.Store conn.new).is_open) }
-    ensures doubt { doubt (state S.Store conn.old).is_clean ≤ doubt (state S.Store conn.new).is_clean }
-    ensures crash { Survives (state S.Store conn.old) (state S.Store conn.new) (λ trees. (t : Tables) (day : ℕ) → Keeps t (state S.Store conn.old).now → desk.now ≡ (changed t (NewRow file new.now effect.now) day).desk → Fits t (NewRow file new.now effect.now) day
-        → (db : Database) × Keeps (changed t (NewRow file new.now effect.now) day) db × (trees ≡ db.trees)) }
+    requires not_in_transaction { conn.old.in_transaction ≡ false }
+    ensures made { MakesChange S.Store desk.now (NewRow file new.now effect.now) conn.old conn.new result }
+    ensures kept { FailureLeavesTables S.Store conn.old conn.new result }
+    ensures not_in_transaction { conn.new.in_transaction ≡ false }
+    ensures open { IsOpenAfter S.Store conn.new result }
+    ensures doubt { KeepsDoubt S.Store conn.old conn.new }
+    ensures crash { ChangeSurvives S.Store desk.now (NewRow file new.now effect.now) conn.old conn.new }
 {
     match effect {
         RowEffect::None => set_row(conn, desk, file, new),
@@ -283,15 +265,13 @@ fn make_row<S: Alter>(
 
 /// Makes a change.
 fn make<S: Alter>(conn: &mut Connection<S>, desk: &Desk, change: &Change<'_>) -> Got<()>
-    requires calm { conn.old.in_transaction ≡ false }
-    ensures made { (t : Tables) (day : ℕ) → HasCleanDisk (state S.Store conn.new) → Shows t (state S.Store conn.old) → desk.now ≡ (changed t (change.now) day).desk → Fits t (change.now) day
-        → OnOk result (Shows (changed t (change.now) day) (state S.Store conn.new)) }
-    ensures kept { (t : Tables) → HasCleanDisk (state S.Store conn.new) → Shows t (state S.Store conn.old) → OnErr result (Shows t (state S.Store conn.new)) }
-    ensures calm { conn.new.in_transaction ≡ false }
-    ensures open { HasCleanDisk (state S.Store conn.new) → OnOk result (IsTrue (state S.Store conn.new).is_open) }
-    ensures doubt { doubt (state S.Store conn.old).is_clean ≤ doubt (state S.Store conn.new).is_clean }
-    ensures crash { Survives (state S.Store conn.old) (state S.Store conn.new) (λ trees. (t : Tables) (day : ℕ) → Keeps t (state S.Store conn.old).now → desk.now ≡ (changed t (change.now) day).desk → Fits t (change.now) day
-        → (db : Database) × Keeps (changed t (change.now) day) db × (trees ≡ db.trees)) }
+    requires not_in_transaction { conn.old.in_transaction ≡ false }
+    ensures made { MakesChange S.Store desk.now change.now conn.old conn.new result }
+    ensures kept { FailureLeavesTables S.Store conn.old conn.new result }
+    ensures not_in_transaction { conn.new.in_transaction ≡ false }
+    ensures open { IsOpenAfter S.Store conn.new result }
+    ensures doubt { KeepsDoubt S.Store conn.old conn.new }
+    ensures crash { ChangeSurvives S.Store desk.now change.now conn.old conn.new }
 {
     match change {
         Change::NewParty { name, role, digest } => add_party(conn, desk, name, *role, digest),
@@ -348,14 +328,16 @@ fn desk_after(desk: &Desk, change: &Change<'_>, day: Day) -> Got<Desk>
 
 /// Makes a change that fits on a day, or changes nothing, also over a crash.
 pub fn commit_in<S: Alter>(conn: &mut Connection<S>, change: &Change<'_>, day: Day) -> Got<()>
-    requires calm { conn.old.in_transaction ≡ false }
-    ensures made { (t : Tables) → HasCleanDisk (state S.Store conn.new) → Shows t (state S.Store conn.old) → Fits t change.now day → OnOk result (Shows (changed t change.now day) (state S.Store conn.new)) }
-    ensures kept { (t : Tables) → HasCleanDisk (state S.Store conn.new) → Shows t (state S.Store conn.old) → OnErr result (Shows t (state S.Store conn.new)) }
-    ensures calm { conn.new.in_transaction ≡ false }
-    ensures open { HasCleanDisk (state S.Store conn.new) → OnOk result (IsTrue (state S.Store conn.new).is_open) }
-    ensures doubt { doubt (state S.Store conn.old).is_clean ≤ doubt (state S.Store conn.new).is_clean }
+    requires not_in_transaction { conn.old.in_transaction ≡ false }
+    ensures made { OverShown S.Store conn.old conn.new
+        (λ t. Fits t change.now day → OnOk result (Shows (changed t change.now day) (state S.Store conn.new))) }
+    ensures kept { FailureLeavesTables S.Store conn.old conn.new result }
+    ensures not_in_transaction { conn.new.in_transaction ≡ false }
+    ensures open { IsOpenAfter S.Store conn.new result }
+    ensures doubt { KeepsDoubt S.Store conn.old conn.new }
     ensures crash { (t : Tables) → Keeps t (state S.Store conn.old).now → Fits t change.now day
-        → Survives (state S.Store conn.old) (state S.Store conn.new) (λ trees. (db : Database) × Keeps (changed t change.now day) db × (trees ≡ db.trees)) }
+        → Survives (state S.Store conn.old) (state S.Store conn.new)
+        (λ trees. (db : Database) × Keeps (changed t change.now day) db × (trees ≡ db.trees)) }
 {
     let desk = read_desk(conn)?;
     let after = desk_after(&desk, change, day)?;

@@ -10,6 +10,7 @@ ghost use Rattle.permit_sql_rows.specs.Schema.{empty_schema};
 ghost use Rattle.permit_sql_statements.specs.Statements.{RanAll};
 ghost use Rattle.permit_sql_statements.specs.Founding.{founding_statements};
 ghost use Rattle.permit_sql_rows.specs.Kept.{Keeps};
+ghost use Rattle.permit_sql_statements.specs.Frames.{StatementsSurvive};
 
 use crate::statements::{Statement, run_all};
 use crate::texts::{
@@ -36,14 +37,16 @@ fn found<'a, S: Alter>(
     desk: &'a [ValueRef<'a>],
     party: &'a [ValueRef<'a>],
 ) -> Result<(), Error>
-    requires calm { conn.old.in_transaction ≡ false }
+    requires not_in_transaction { conn.old.in_transaction ≡ false }
     requires bare { none.now ≡ [] }
-    ensures all { HasCleanDisk (state S.Store conn.new) → OnOk result (RanAll S.Store (founding_statements (bound desk.now) (bound party.now)) conn.old (state S.Store conn.new).committed) }
+    ensures all { HasCleanDisk (state S.Store conn.new)
+        → OnOk result (RanAll S.Store (founding_statements (bound desk.now) (bound party.now)) conn.old (state S.Store conn.new).committed) }
     ensures shown { HasCleanDisk (state S.Store conn.new) → OnOk result ((state S.Store conn.new).now ≡ (state S.Store conn.new).committed) }
     ensures none { HasCleanDisk (state S.Store conn.new) → IsTrue (state S.Store conn.new).is_open
-        → OnErr result (((state S.Store conn.new).now ≡ (state S.Store conn.old).now) × ((state S.Store conn.new).committed ≡ (state S.Store conn.old).committed)) }
-    ensures calm { conn.new.in_transaction ≡ false }
-    ensures crash { Survives (state S.Store conn.old) (state S.Store conn.new) (λ trees. (db : _) × RanAll S.Store (founding_statements (bound desk.now) (bound party.now)) conn.old db × (trees ≡ db.trees)) }
+        → OnErr result (((state S.Store conn.new).now ≡ (state S.Store conn.old).now)
+        × ((state S.Store conn.new).committed ≡ (state S.Store conn.old).committed)) }
+    ensures not_in_transaction { conn.new.in_transaction ≡ false }
+    ensures crash { StatementsSurvive S.Store (founding_statements (bound desk.now) (bound party.now)) conn.old conn.new }
 {
     run_all(
         conn,
@@ -73,13 +76,16 @@ const FOUNDER: u32 = 1;
 
 /// Makes the tables with their founding in a database that has none, or changes nothing, also over a crash.
 pub fn create_in<S: Alter>(conn: &mut Connection<S>, founder: &Founder) -> Result<(), Error>
-    requires calm { conn.old.in_transaction ≡ false }
+    requires not_in_transaction { conn.old.in_transaction ≡ false }
     requires empty { (state S.Store conn.old).now.schema ≡ empty_schema }
-    ensures made { HasCleanDisk (state S.Store conn.new) → OnOk result (Keeps (tables (founding founder.now.name founder.now.digest founder.now.day)) (state S.Store conn.new).now) }
+    ensures made { HasCleanDisk (state S.Store conn.new)
+        → OnOk result (Keeps (tables (founding founder.now.name founder.now.digest founder.now.day)) (state S.Store conn.new).now) }
     ensures none { HasCleanDisk (state S.Store conn.new) → IsTrue (state S.Store conn.new).is_open
-        → OnErr result (((state S.Store conn.new).now ≡ (state S.Store conn.old).now) × ((state S.Store conn.new).committed ≡ (state S.Store conn.old).committed)) }
-    ensures calm { conn.new.in_transaction ≡ false }
-    ensures crash { Survives (state S.Store conn.old) (state S.Store conn.new) (λ trees. (db : _) × Keeps (tables (founding founder.now.name founder.now.digest founder.now.day)) db × (trees ≡ db.trees)) }
+        → OnErr result (((state S.Store conn.new).now ≡ (state S.Store conn.old).now)
+        × ((state S.Store conn.new).committed ≡ (state S.Store conn.old).committed)) }
+    ensures not_in_transaction { conn.new.in_transaction ≡ false }
+    ensures crash { Survives (state S.Store conn.old) (state S.Store conn.new)
+        (λ trees. (db : _) × Keeps (tables (founding founder.now.name founder.now.digest founder.now.day)) db × (trees ≡ db.trees)) }
 {
     found(
         conn,

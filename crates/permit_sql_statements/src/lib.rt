@@ -10,7 +10,7 @@ pub mod create;
 pub mod query;
 mod question;
 pub mod read;
+mod runs;
 pub mod select;
 mod statements;
 pub mod texts;
-mod turns;

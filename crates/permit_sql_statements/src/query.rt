@@ -1,15 +1,14 @@
 //! A read, and what it leaves.
 
-ghost use Rattle.std.specs.Prelude.{◌≡◌, ◌≤◌, false, IsTrue, IfOk, OnOk};
+ghost use Rattle.std.specs.Prelude.{◌≡◌, false, IfOk};
 ghost use Rattle.sqlite.specs.Given.{IsPlain};
 ghost use Rattle.sqlite.specs.Listing.{understood};
-ghost use Rattle.sqlite_trees.specs.View.{doubt};
 ghost use Rattle.sqlite.specs.State.{HasCleanDisk, Survives, Shown};
 ghost use Rattle.sqlite.specs.Values.{bound};
 ghost use Rattle.sqlite.specs.Held.{state};
-ghost use Rattle.permit_model.specs.Tables.{Tables};
 ghost use Rattle.permit_sql_rows.specs.Schema.{office_schema};
-ghost use Rattle.permit_sql_rows.specs.Kept.{IsFine, Keeps, Shows};
+ghost use Rattle.permit_sql_rows.specs.Kept.{IsFine};
+ghost use Rattle.permit_sql_statements.specs.Frames.{LeavesTables, IsOpenAfter, KeepsDoubt, ReadSurvives};
 
 use permit_store::store::{Got, StoreError};
 use sqlite::{Alter, Connection, Error, Row};
@@ -22,12 +21,14 @@ pub fn read_all<S: Alter>(
     params: &[ValueRef<'_>],
 ) -> Result<Vec<Row>, Error>
     requires { conn.old.in_transaction ≡ false }
-    ensures rows { HasCleanDisk (state S.Store conn.new) → IfOk result (λ rows. Shown sql.now (bound params.now) (state S.Store conn.old) (state S.Store conn.new) rows.items) }
+    ensures rows { HasCleanDisk (state S.Store conn.new)
+        → IfOk result (λ rows. Shown sql.now (bound params.now) (state S.Store conn.old) (state S.Store conn.new) rows.items) }
     ensures fine { IsFine (state S.Store conn.new) → IsFine (state S.Store conn.old) }
-    ensures same { IsFine (state S.Store conn.new) → IsPlain (understood conn.old.schema sql.now) → ((state S.Store conn.new).now ≡ (state S.Store conn.old).now) × ((state S.Store conn.new).committed ≡ (state S.Store conn.old).committed) }
+    ensures same { IsFine (state S.Store conn.new) → IsPlain (understood conn.old.schema sql.now)
+        → ((state S.Store conn.new).now ≡ (state S.Store conn.old).now) × ((state S.Store conn.new).committed ≡ (state S.Store conn.old).committed) }
     ensures mode { conn.new.in_transaction ≡ false }
-    ensures doubt { doubt (state S.Store conn.old).is_clean ≤ doubt (state S.Store conn.new).is_clean }
-    ensures open { HasCleanDisk (state S.Store conn.new) → OnOk result (IsTrue (state S.Store conn.new).is_open) }
+    ensures doubt { KeepsDoubt S.Store conn.old conn.new }
+    ensures open { IsOpenAfter S.Store conn.new result }
     ensures crash { IsPlain (understood conn.old.schema sql.now) → Survives (state S.Store conn.old) (state S.Store conn.new) (λ _. ⊥) }
 {
     let _settled = conn.is_autocommit();
@@ -40,13 +41,14 @@ pub(crate) fn rows_of<S: Alter>(
     sql: &str,
     params: &[ValueRef<'_>],
 ) -> Got<Vec<Row>>
-    requires calm { conn.old.in_transaction ≡ false }
-    ensures shown { HasCleanDisk (state S.Store conn.new) → IfOk result (λ rows. Shown sql.now (bound params.now) (state S.Store conn.old) (state S.Store conn.new) rows.items) }
-    ensures kept { IsPlain (understood office_schema sql.now) → (t : Tables) → HasCleanDisk (state S.Store conn.new) → Shows t (state S.Store conn.old) → Shows t (state S.Store conn.new) }
-    ensures doubt { doubt (state S.Store conn.old).is_clean ≤ doubt (state S.Store conn.new).is_clean }
-    ensures open { HasCleanDisk (state S.Store conn.new) → OnOk result (IsTrue (state S.Store conn.new).is_open) }
-    ensures crash { IsPlain (understood office_schema sql.now) → (t : Tables) → Keeps t (state S.Store conn.old).now → Survives (state S.Store conn.old) (state S.Store conn.new) (λ _. ⊥) }
-    ensures calm { conn.new.in_transaction ≡ false }
+    requires not_in_transaction { conn.old.in_transaction ≡ false }
+    ensures shown { HasCleanDisk (state S.Store conn.new)
+        → IfOk result (λ rows. Shown sql.now (bound params.now) (state S.Store conn.old) (state S.Store conn.new) rows.items) }
+    ensures kept { IsPlain (understood office_schema sql.now) → LeavesTables S.Store conn.old conn.new }
+    ensures doubt { KeepsDoubt S.Store conn.old conn.new }
+    ensures open { IsOpenAfter S.Store conn.new result }
+    ensures crash { IsPlain (understood office_schema sql.now) → ReadSurvives S.Store conn.old conn.new }
+    ensures not_in_transaction { conn.new.in_transaction ≡ false }
 {
     match read_all(conn, sql, params) {
         Ok(rows) => Ok(rows),

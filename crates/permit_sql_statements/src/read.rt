@@ -1,15 +1,15 @@
 //! What is read of the tables, over a connection.
 
-ghost use Rattle.std.specs.Prelude.{◌≡◌, ◌≤◌, Bool, IsTrue, ◌==◌, ◌&&◌, false, not, List, [], ◌∷◌, ◌++◌, map, filter, find, length, option_map, slice_get, bytes_eq, Option, IfOk, OnOk, IfSome};
+ghost use Rattle.std.specs.Prelude.{◌≡◌, ◌==◌, ◌&&◌, Bool, false, not, List, [], ◌∷◌, ◌++◌, map, filter, find, length};
+ghost use Rattle.std.specs.Prelude.{Option, option_map, slice_get, bytes_eq, IfOk, OnOk, IfSome};
 ghost use Rattle.std.specs.List.{list_any};
-ghost use Rattle.sqlite_trees.specs.View.{doubt};
-ghost use Rattle.sqlite.specs.State.{HasCleanDisk, Survives};
 ghost use Rattle.sqlite.specs.Held.{state};
 ghost use Rattle.permit_model.specs.Caller.{Party as TheParty};
 ghost use Rattle.permit_model.specs.Parcels.{Parcel as TheParcel};
-ghost use Rattle.permit_model.specs.Tables.{Tables, Desk as TheDesk, FileRow as TheRow, Paper as ThePaper};
+ghost use Rattle.permit_model.specs.Tables.{Desk as TheDesk, FileRow as TheRow, Paper as ThePaper};
 ghost use Rattle.permit_sql_rows.specs.Rows.{flag, shown_desk, shown_party, shown_parcel, shown_file, shown_paper};
-ghost use Rattle.permit_sql_rows.specs.Kept.{Keeps, Shows, IsNamed};
+ghost use Rattle.permit_sql_rows.specs.Kept.{IsNamed};
+ghost use Rattle.permit_sql_statements.specs.Frames.{OverShown, LeavesTables, IsOpenAfter, KeepsDoubt, ReadSurvives};
 
 use crate::query::rows_of;
 use crate::texts::{
@@ -29,65 +29,70 @@ use std::alloc::Global;
 
 /// The row of the desk.
 fn desk_rows<S: Alter>(conn: &mut Connection<S>) -> Got<Vec<Row>>
-    requires calm { conn.old.in_transaction ≡ false }
-    ensures found { (t : Tables) → HasCleanDisk (state S.Store conn.new) → Shows t (state S.Store conn.old) → IfOk result (λ rows. rows.items ≡ shown_desk t.desk ∷ []) }
-    ensures kept { (t : Tables) → HasCleanDisk (state S.Store conn.new) → Shows t (state S.Store conn.old) → Shows t (state S.Store conn.new) }
-    ensures open { HasCleanDisk (state S.Store conn.new) → OnOk result (IsTrue (state S.Store conn.new).is_open) }
-    ensures doubt { doubt (state S.Store conn.old).is_clean ≤ doubt (state S.Store conn.new).is_clean }
-    ensures crash { (t : Tables) → Keeps t (state S.Store conn.old).now → Survives (state S.Store conn.old) (state S.Store conn.new) (λ _. ⊥) }
-    ensures calm { conn.new.in_transaction ≡ false }
+    requires not_in_transaction { conn.old.in_transaction ≡ false }
+    ensures found { OverShown S.Store conn.old conn.new
+        (λ t. IfOk result (λ rows. rows.items ≡ shown_desk t.desk ∷ [])) }
+    ensures kept { LeavesTables S.Store conn.old conn.new }
+    ensures open { IsOpenAfter S.Store conn.new result }
+    ensures doubt { KeepsDoubt S.Store conn.old conn.new }
+    ensures crash { ReadSurvives S.Store conn.old conn.new }
+    ensures not_in_transaction { conn.new.in_transaction ≡ false }
 {
     rows_of(conn, READ_DESK, &[])
 }
 
 /// The row of the party with the number, if there is one.
 fn party_rows<S: Alter>(conn: &mut Connection<S>, party: PartyId) -> Got<Vec<Row>>
-    requires calm { conn.old.in_transaction ≡ false }
-    ensures found { (t : Tables) → HasCleanDisk (state S.Store conn.new) → Shows t (state S.Store conn.old) → IfOk result (λ rows. slice_get rows.items 0 ≡ option_map shown_party (find (λ p. p.id == party) t.parties)) }
-    ensures kept { (t : Tables) → HasCleanDisk (state S.Store conn.new) → Shows t (state S.Store conn.old) → Shows t (state S.Store conn.new) }
-    ensures open { HasCleanDisk (state S.Store conn.new) → OnOk result (IsTrue (state S.Store conn.new).is_open) }
-    ensures doubt { doubt (state S.Store conn.old).is_clean ≤ doubt (state S.Store conn.new).is_clean }
-    ensures crash { (t : Tables) → Keeps t (state S.Store conn.old).now → Survives (state S.Store conn.old) (state S.Store conn.new) (λ _. ⊥) }
-    ensures calm { conn.new.in_transaction ≡ false }
+    requires not_in_transaction { conn.old.in_transaction ≡ false }
+    ensures found { OverShown S.Store conn.old conn.new
+        (λ t. IfOk result (λ rows. slice_get rows.items 0 ≡ option_map shown_party (find (λ p. p.id == party) t.parties))) }
+    ensures kept { LeavesTables S.Store conn.old conn.new }
+    ensures open { IsOpenAfter S.Store conn.new result }
+    ensures doubt { KeepsDoubt S.Store conn.old conn.new }
+    ensures crash { ReadSurvives S.Store conn.old conn.new }
+    ensures not_in_transaction { conn.new.in_transaction ≡ false }
 {
     rows_of(conn, READ_PARTY, params![party.get()])
 }
 
 /// The row of the party that keeps the digest, if there is one.
 fn digest_rows<S: Alter>(conn: &mut Connection<S>, digest: &Digest) -> Got<Vec<Row>>
-    requires calm { conn.old.in_transaction ≡ false }
-    ensures found { (t : Tables) → HasCleanDisk (state S.Store conn.new) → Shows t (state S.Store conn.old) → IfOk result (λ rows. slice_get rows.items 0 ≡ option_map shown_party (find (λ p. bytes_eq p.digest digest.now) t.parties)) }
-    ensures kept { (t : Tables) → HasCleanDisk (state S.Store conn.new) → Shows t (state S.Store conn.old) → Shows t (state S.Store conn.new) }
-    ensures open { HasCleanDisk (state S.Store conn.new) → OnOk result (IsTrue (state S.Store conn.new).is_open) }
-    ensures doubt { doubt (state S.Store conn.old).is_clean ≤ doubt (state S.Store conn.new).is_clean }
-    ensures crash { (t : Tables) → Keeps t (state S.Store conn.old).now → Survives (state S.Store conn.old) (state S.Store conn.new) (λ _. ⊥) }
-    ensures calm { conn.new.in_transaction ≡ false }
+    requires not_in_transaction { conn.old.in_transaction ≡ false }
+    ensures found { OverShown S.Store conn.old conn.new
+        (λ t. IfOk result (λ rows. slice_get rows.items 0 ≡ option_map shown_party (find (λ p. bytes_eq p.digest digest.now) t.parties))) }
+    ensures kept { LeavesTables S.Store conn.old conn.new }
+    ensures open { IsOpenAfter S.Store conn.new result }
+    ensures doubt { KeepsDoubt S.Store conn.old conn.new }
+    ensures crash { ReadSurvives S.Store conn.old conn.new }
+    ensures not_in_transaction { conn.new.in_transaction ≡ false }
 {
     rows_of(conn, FIND_PARTY, params![digest.as_str()])
 }
 
 /// The row of the parcel with the number, if there is one.
 fn parcel_rows<S: Alter>(conn: &mut Connection<S>, parcel: ParcelId) -> Got<Vec<Row>>
-    requires calm { conn.old.in_transaction ≡ false }
-    ensures found { (t : Tables) → HasCleanDisk (state S.Store conn.new) → Shows t (state S.Store conn.old) → IfOk result (λ rows. slice_get rows.items 0 ≡ option_map shown_parcel (find (λ p. p.id == parcel) t.parcels)) }
-    ensures kept { (t : Tables) → HasCleanDisk (state S.Store conn.new) → Shows t (state S.Store conn.old) → Shows t (state S.Store conn.new) }
-    ensures open { HasCleanDisk (state S.Store conn.new) → OnOk result (IsTrue (state S.Store conn.new).is_open) }
-    ensures doubt { doubt (state S.Store conn.old).is_clean ≤ doubt (state S.Store conn.new).is_clean }
-    ensures crash { (t : Tables) → Keeps t (state S.Store conn.old).now → Survives (state S.Store conn.old) (state S.Store conn.new) (λ _. ⊥) }
-    ensures calm { conn.new.in_transaction ≡ false }
+    requires not_in_transaction { conn.old.in_transaction ≡ false }
+    ensures found { OverShown S.Store conn.old conn.new
+        (λ t. IfOk result (λ rows. slice_get rows.items 0 ≡ option_map shown_parcel (find (λ p. p.id == parcel) t.parcels))) }
+    ensures kept { LeavesTables S.Store conn.old conn.new }
+    ensures open { IsOpenAfter S.Store conn.new result }
+    ensures doubt { KeepsDoubt S.Store conn.old conn.new }
+    ensures crash { ReadSurvives S.Store conn.old conn.new }
+    ensures not_in_transaction { conn.new.in_transaction ≡ false }
 {
     rows_of(conn, READ_PARCEL, params![parcel.get()])
 }
 
 /// The row of the parcel of the lot, if there is one.
 fn lot_rows<S: Alter>(conn: &mut Connection<S>, lot: &Lot) -> Got<Vec<Row>>
-    requires calm { conn.old.in_transaction ≡ false }
-    ensures found { (t : Tables) → HasCleanDisk (state S.Store conn.new) → Shows t (state S.Store conn.old) → IfOk result (λ rows. slice_get rows.items 0 ≡ option_map shown_parcel (find (λ p. bytes_eq p.lot lot.now) t.parcels)) }
-    ensures kept { (t : Tables) → HasCleanDisk (state S.Store conn.new) → Shows t (state S.Store conn.old) → Shows t (state S.Store conn.new) }
-    ensures open { HasCleanDisk (state S.Store conn.new) → OnOk result (IsTrue (state S.Store conn.new).is_open) }
-    ensures doubt { doubt (state S.Store conn.old).is_clean ≤ doubt (state S.Store conn.new).is_clean }
-    ensures crash { (t : Tables) → Keeps t (state S.Store conn.old).now → Survives (state S.Store conn.old) (state S.Store conn.new) (λ _. ⊥) }
-    ensures calm { conn.new.in_transaction ≡ false }
+    requires not_in_transaction { conn.old.in_transaction ≡ false }
+    ensures found { OverShown S.Store conn.old conn.new
+        (λ t. IfOk result (λ rows. slice_get rows.items 0 ≡ option_map shown_parcel (find (λ p. bytes_eq p.lot lot.now) t.parcels))) }
+    ensures kept { LeavesTables S.Store conn.old conn.new }
+    ensures open { IsOpenAfter S.Store conn.new result }
+    ensures doubt { KeepsDoubt S.Store conn.old conn.new }
+    ensures crash { ReadSurvives S.Store conn.old conn.new }
+    ensures not_in_transaction { conn.new.in_transaction ≡ false }
 {
     rows_of(conn, FIND_PARCEL, params![lot.as_str()])
 }
@@ -98,53 +103,58 @@ fn interest_rows<S: Alter>(
     parcel: ParcelId,
     party: PartyId,
 ) -> Got<Vec<Row>>
-    requires calm { conn.old.in_transaction ≡ false }
-    ensures found { (t : Tables) → HasCleanDisk (state S.Store conn.new) → Shows t (state S.Store conn.old) → IfOk result (λ rows. not (length rows.items == 0) ≡ list_any (λ i. (i.parcel == parcel) && (i.party == party)) t.interests) }
-    ensures kept { (t : Tables) → HasCleanDisk (state S.Store conn.new) → Shows t (state S.Store conn.old) → Shows t (state S.Store conn.new) }
-    ensures open { HasCleanDisk (state S.Store conn.new) → OnOk result (IsTrue (state S.Store conn.new).is_open) }
-    ensures doubt { doubt (state S.Store conn.old).is_clean ≤ doubt (state S.Store conn.new).is_clean }
-    ensures crash { (t : Tables) → Keeps t (state S.Store conn.old).now → Survives (state S.Store conn.old) (state S.Store conn.new) (λ _. ⊥) }
-    ensures calm { conn.new.in_transaction ≡ false }
+    requires not_in_transaction { conn.old.in_transaction ≡ false }
+    ensures found { OverShown S.Store conn.old conn.new
+        (λ t. IfOk result (λ rows. not (length rows.items == 0) ≡ list_any (λ i. (i.parcel == parcel) && (i.party == party)) t.interests)) }
+    ensures kept { LeavesTables S.Store conn.old conn.new }
+    ensures open { IsOpenAfter S.Store conn.new result }
+    ensures doubt { KeepsDoubt S.Store conn.old conn.new }
+    ensures crash { ReadSurvives S.Store conn.old conn.new }
+    ensures not_in_transaction { conn.new.in_transaction ≡ false }
 {
     rows_of(conn, FIND_INTEREST, params![parcel.get(), party.get()])
 }
 
 /// A row that says whether the party has declared an interest.
 fn interested_rows<S: Alter>(conn: &mut Connection<S>, party: PartyId) -> Got<Vec<Row>>
-    requires calm { conn.old.in_transaction ≡ false }
-    ensures found { (t : Tables) → HasCleanDisk (state S.Store conn.new) → Shows t (state S.Store conn.old) → IfOk result (λ rows. rows.items ≡ (flag (list_any (λ i. i.party == party) t.interests) ∷ []) ∷ []) }
-    ensures kept { (t : Tables) → HasCleanDisk (state S.Store conn.new) → Shows t (state S.Store conn.old) → Shows t (state S.Store conn.new) }
-    ensures open { HasCleanDisk (state S.Store conn.new) → OnOk result (IsTrue (state S.Store conn.new).is_open) }
-    ensures doubt { doubt (state S.Store conn.old).is_clean ≤ doubt (state S.Store conn.new).is_clean }
-    ensures crash { (t : Tables) → Keeps t (state S.Store conn.old).now → Survives (state S.Store conn.old) (state S.Store conn.new) (λ _. ⊥) }
-    ensures calm { conn.new.in_transaction ≡ false }
+    requires not_in_transaction { conn.old.in_transaction ≡ false }
+    ensures found { OverShown S.Store conn.old conn.new
+        (λ t. IfOk result (λ rows. rows.items ≡ (flag (list_any (λ i. i.party == party) t.interests) ∷ []) ∷ [])) }
+    ensures kept { LeavesTables S.Store conn.old conn.new }
+    ensures open { IsOpenAfter S.Store conn.new result }
+    ensures doubt { KeepsDoubt S.Store conn.old conn.new }
+    ensures crash { ReadSurvives S.Store conn.old conn.new }
+    ensures not_in_transaction { conn.new.in_transaction ≡ false }
 {
     rows_of(conn, FIND_INTERESTED, params![party.get()])
 }
 
 /// The row of the file with the number, if there is one.
 fn file_rows<S: Alter>(conn: &mut Connection<S>, file: FileId) -> Got<Vec<Row>>
-    requires calm { conn.old.in_transaction ≡ false }
-    ensures found { (t : Tables) → HasCleanDisk (state S.Store conn.new) → Shows t (state S.Store conn.old) → IfOk result (λ rows. slice_get rows.items 0 ≡ option_map shown_file (find (λ f. f.id == file) t.files)) }
-    ensures named { (t : Tables) → HasCleanDisk (state S.Store conn.new) → Shows t (state S.Store conn.old) → IfOk result (λ rows. IfSome (find (λ f. f.id == file) t.files) (λ f. IsNamed f.state)) }
-    ensures kept { (t : Tables) → HasCleanDisk (state S.Store conn.new) → Shows t (state S.Store conn.old) → Shows t (state S.Store conn.new) }
-    ensures open { HasCleanDisk (state S.Store conn.new) → OnOk result (IsTrue (state S.Store conn.new).is_open) }
-    ensures doubt { doubt (state S.Store conn.old).is_clean ≤ doubt (state S.Store conn.new).is_clean }
-    ensures crash { (t : Tables) → Keeps t (state S.Store conn.old).now → Survives (state S.Store conn.old) (state S.Store conn.new) (λ _. ⊥) }
-    ensures calm { conn.new.in_transaction ≡ false }
+    requires not_in_transaction { conn.old.in_transaction ≡ false }
+    ensures found { OverShown S.Store conn.old conn.new
+        (λ t. IfOk result (λ rows. slice_get rows.items 0 ≡ option_map shown_file (find (λ f. f.id == file) t.files))) }
+    ensures named { OverShown S.Store conn.old conn.new
+        (λ t. IfOk result (λ rows. IfSome (find (λ f. f.id == file) t.files) (λ f. IsNamed f.state))) }
+    ensures kept { LeavesTables S.Store conn.old conn.new }
+    ensures open { IsOpenAfter S.Store conn.new result }
+    ensures doubt { KeepsDoubt S.Store conn.old conn.new }
+    ensures crash { ReadSurvives S.Store conn.old conn.new }
+    ensures not_in_transaction { conn.new.in_transaction ≡ false }
 {
     rows_of(conn, READ_FILE, params![file.get()])
 }
 
 /// The rows of the papers of the file, in rising number.
 fn paper_rows<S: Alter>(conn: &mut Connection<S>, file: FileId) -> Got<Vec<Row>>
-    requires calm { conn.old.in_transaction ≡ false }
-    ensures found { (t : Tables) → HasCleanDisk (state S.Store conn.new) → Shows t (state S.Store conn.old) → IfOk result (λ rows. rows.items ≡ map shown_paper (filter (λ p. p.file == file) t.papers)) }
-    ensures kept { (t : Tables) → HasCleanDisk (state S.Store conn.new) → Shows t (state S.Store conn.old) → Shows t (state S.Store conn.new) }
-    ensures open { HasCleanDisk (state S.Store conn.new) → OnOk result (IsTrue (state S.Store conn.new).is_open) }
-    ensures doubt { doubt (state S.Store conn.old).is_clean ≤ doubt (state S.Store conn.new).is_clean }
-    ensures crash { (t : Tables) → Keeps t (state S.Store conn.old).now → Survives (state S.Store conn.old) (state S.Store conn.new) (λ _. ⊥) }
-    ensures calm { conn.new.in_transaction ≡ false }
+    requires not_in_transaction { conn.old.in_transaction ≡ false }
+    ensures found { OverShown S.Store conn.old conn.new
+        (λ t. IfOk result (λ rows. rows.items ≡ map shown_paper (filter (λ p. p.file == file) t.papers))) }
+    ensures kept { LeavesTables S.Store conn.old conn.new }
+    ensures open { IsOpenAfter S.Store conn.new result }
+    ensures doubt { KeepsDoubt S.Store conn.old conn.new }
+    ensures crash { ReadSurvives S.Store conn.old conn.new }
+    ensures not_in_transaction { conn.new.in_transaction ≡ false }
 {
     rows_of(conn, READ_PAPERS, params![file.get()])
 }
@@ -155,13 +165,14 @@ fn notice_rows<S: Alter>(
     file: FileId,
     number: PaperNumber,
 ) -> Got<Vec<Row>>
-    requires calm { conn.old.in_transaction ≡ false }
-    ensures found { (t : Tables) → HasCleanDisk (state S.Store conn.new) → Shows t (state S.Store conn.old) → IfOk result (λ rows. not (length rows.items == 0) ≡ list_any (λ p. (p.file == file) && (p.is_open && (p.number == number))) t.papers) }
-    ensures kept { (t : Tables) → HasCleanDisk (state S.Store conn.new) → Shows t (state S.Store conn.old) → Shows t (state S.Store conn.new) }
-    ensures open { HasCleanDisk (state S.Store conn.new) → OnOk result (IsTrue (state S.Store conn.new).is_open) }
-    ensures doubt { doubt (state S.Store conn.old).is_clean ≤ doubt (state S.Store conn.new).is_clean }
-    ensures crash { (t : Tables) → Keeps t (state S.Store conn.old).now → Survives (state S.Store conn.old) (state S.Store conn.new) (λ _. ⊥) }
-    ensures calm { conn.new.in_transaction ≡ false }
+    requires not_in_transaction { conn.old.in_transaction ≡ false }
+    ensures found { OverShown S.Store conn.old conn.new
+        (λ t. IfOk result (λ rows. not (length rows.items == 0) ≡ list_any (λ p. (p.file == file) && (p.is_open && (p.number == number))) t.papers)) }
+    ensures kept { LeavesTables S.Store conn.old conn.new }
+    ensures open { IsOpenAfter S.Store conn.new result }
+    ensures doubt { KeepsDoubt S.Store conn.old conn.new }
+    ensures crash { ReadSurvives S.Store conn.old conn.new }
+    ensures not_in_transaction { conn.new.in_transaction ≡ false }
 {
     rows_of(conn, FIND_NOTICE, params![file.get(), number.get()])
 }
@@ -194,7 +205,8 @@ fn first_parcel(rows: &[Row]) -> Got<Option<Parcel>>
 
 /// The first row as a typed value, if there is a row.
 fn first_file(rows: &[Row]) -> Got<Option<FileRow>>
-    ensures { (found : Option TheRow) → IfSome found (λ f. IsNamed f.state) → slice_get rows.now 0 ≡ option_map shown_file found → IfOk result (λ x. x ≡ found) }
+    ensures { (found : Option TheRow) → IfSome found (λ f. IsNamed f.state) → slice_get rows.now 0 ≡ option_map shown_file found
+        → IfOk result (λ x. x ≡ found) }
 {
     match rows.get(0) {
         None => Ok(None),
@@ -214,7 +226,8 @@ fn file_state(row: &Row) -> Option<FileState>
 
 /// The role in the first row, if there is a row.
 fn first_role(rows: &[Row]) -> Got<Option<Role>>
-    ensures { (found : Option TheParty) → slice_get rows.now 0 ≡ option_map shown_party found → IfOk result (λ x. x ≡ option_map (λ p. p.role) found) }
+    ensures { (found : Option TheParty) → slice_get rows.now 0 ≡ option_map shown_party found
+        → IfOk result (λ x. x ≡ option_map (λ p. p.role) found) }
 {
     match rows.get(0) {
         None => Ok(None),
@@ -227,7 +240,8 @@ fn first_role(rows: &[Row]) -> Got<Option<Role>>
 
 /// The owner in the first row, if there is a row.
 fn first_owner(rows: &[Row]) -> Got<Option<PartyId>>
-    ensures { (found : Option TheParcel) → slice_get rows.now 0 ≡ option_map shown_parcel found → IfOk result (λ x. x ≡ option_map (λ p. p.owner) found) }
+    ensures { (found : Option TheParcel) → slice_get rows.now 0 ≡ option_map shown_parcel found
+        → IfOk result (λ x. x ≡ option_map (λ p. p.owner) found) }
 {
     match rows.get(0) {
         None => Ok(None),
@@ -253,7 +267,8 @@ fn first_truth(rows: &[Row]) -> Got<bool>
 
 /// The state in the first row, if there is a row.
 fn first_state(rows: &[Row]) -> Got<Option<FileState>>
-    ensures { (found : Option TheRow) → IfSome found (λ f. IsNamed f.state) → slice_get rows.now 0 ≡ option_map shown_file found → IfOk result (λ x. x ≡ option_map (λ f. f.state) found) }
+    ensures { (found : Option TheRow) → IfSome found (λ f. IsNamed f.state) → slice_get rows.now 0 ≡ option_map shown_file found
+        → IfOk result (λ x. x ≡ option_map (λ f. f.state) found) }
 {
     match rows.get(0) {
         None => Ok(None),
@@ -279,13 +294,13 @@ fn first_desk(rows: &[Row]) -> Got<Desk>
 
 /// The desk.
 pub fn read_desk<S: Alter>(conn: &mut Connection<S>) -> Got<Desk>
-    requires calm { conn.old.in_transaction ≡ false }
-    ensures found { (t : Tables) → HasCleanDisk (state S.Store conn.new) → Shows t (state S.Store conn.old) → IfOk result (λ d. d ≡ t.desk) }
-    ensures kept { (t : Tables) → HasCleanDisk (state S.Store conn.new) → Shows t (state S.Store conn.old) → Shows t (state S.Store conn.new) }
-    ensures open { HasCleanDisk (state S.Store conn.new) → OnOk result (IsTrue (state S.Store conn.new).is_open) }
-    ensures doubt { doubt (state S.Store conn.old).is_clean ≤ doubt (state S.Store conn.new).is_clean }
-    ensures crash { (t : Tables) → Keeps t (state S.Store conn.old).now → Survives (state S.Store conn.old) (state S.Store conn.new) (λ _. ⊥) }
-    ensures calm { conn.new.in_transaction ≡ false }
+    requires not_in_transaction { conn.old.in_transaction ≡ false }
+    ensures found { OverShown S.Store conn.old conn.new (λ t. IfOk result (λ d. d ≡ t.desk)) }
+    ensures kept { LeavesTables S.Store conn.old conn.new }
+    ensures open { IsOpenAfter S.Store conn.new result }
+    ensures doubt { KeepsDoubt S.Store conn.old conn.new }
+    ensures crash { ReadSurvives S.Store conn.old conn.new }
+    ensures not_in_transaction { conn.new.in_transaction ≡ false }
 {
     let rows = desk_rows(conn)?;
     first_desk(&rows)
@@ -293,13 +308,14 @@ pub fn read_desk<S: Alter>(conn: &mut Connection<S>) -> Got<Desk>
 
 /// The party with the number.
 pub fn read_party<S: Alter>(conn: &mut Connection<S>, party: PartyId) -> Got<Option<Party>>
-    requires calm { conn.old.in_transaction ≡ false }
-    ensures found { (t : Tables) → HasCleanDisk (state S.Store conn.new) → Shows t (state S.Store conn.old) → IfOk result (λ p. p ≡ find (λ p. p.id == party) t.parties) }
-    ensures kept { (t : Tables) → HasCleanDisk (state S.Store conn.new) → Shows t (state S.Store conn.old) → Shows t (state S.Store conn.new) }
-    ensures open { HasCleanDisk (state S.Store conn.new) → OnOk result (IsTrue (state S.Store conn.new).is_open) }
-    ensures doubt { doubt (state S.Store conn.old).is_clean ≤ doubt (state S.Store conn.new).is_clean }
-    ensures crash { (t : Tables) → Keeps t (state S.Store conn.old).now → Survives (state S.Store conn.old) (state S.Store conn.new) (λ _. ⊥) }
-    ensures calm { conn.new.in_transaction ≡ false }
+    requires not_in_transaction { conn.old.in_transaction ≡ false }
+    ensures found { OverShown S.Store conn.old conn.new
+        (λ t. IfOk result (λ p. p ≡ find (λ p. p.id == party) t.parties)) }
+    ensures kept { LeavesTables S.Store conn.old conn.new }
+    ensures open { IsOpenAfter S.Store conn.new result }
+    ensures doubt { KeepsDoubt S.Store conn.old conn.new }
+    ensures crash { ReadSurvives S.Store conn.old conn.new }
+    ensures not_in_transaction { conn.new.in_transaction ≡ false }
 {
     let rows = party_rows(conn, party)?;
     first_party(&rows)
@@ -307,13 +323,14 @@ pub fn read_party<S: Alter>(conn: &mut Connection<S>, party: PartyId) -> Got<Opt
 
 /// The role of the party with the number, read of its row without a copy of its name.
 pub fn read_role<S: Alter>(conn: &mut Connection<S>, party: PartyId) -> Got<Option<Role>>
-    requires calm { conn.old.in_transaction ≡ false }
-    ensures found { (t : Tables) → HasCleanDisk (state S.Store conn.new) → Shows t (state S.Store conn.old) → IfOk result (λ r. r ≡ option_map (λ p. p.role) (find (λ p. p.id == party) t.parties)) }
-    ensures kept { (t : Tables) → HasCleanDisk (state S.Store conn.new) → Shows t (state S.Store conn.old) → Shows t (state S.Store conn.new) }
-    ensures open { HasCleanDisk (state S.Store conn.new) → OnOk result (IsTrue (state S.Store conn.new).is_open) }
-    ensures doubt { doubt (state S.Store conn.old).is_clean ≤ doubt (state S.Store conn.new).is_clean }
-    ensures crash { (t : Tables) → Keeps t (state S.Store conn.old).now → Survives (state S.Store conn.old) (state S.Store conn.new) (λ _. ⊥) }
-    ensures calm { conn.new.in_transaction ≡ false }
+    requires not_in_transaction { conn.old.in_transaction ≡ false }
+    ensures found { OverShown S.Store conn.old conn.new
+        (λ t. IfOk result (λ r. r ≡ option_map (λ p. p.role) (find (λ p. p.id == party) t.parties))) }
+    ensures kept { LeavesTables S.Store conn.old conn.new }
+    ensures open { IsOpenAfter S.Store conn.new result }
+    ensures doubt { KeepsDoubt S.Store conn.old conn.new }
+    ensures crash { ReadSurvives S.Store conn.old conn.new }
+    ensures not_in_transaction { conn.new.in_transaction ≡ false }
 {
     let rows = party_rows(conn, party)?;
     first_role(&rows)
@@ -321,13 +338,14 @@ pub fn read_role<S: Alter>(conn: &mut Connection<S>, party: PartyId) -> Got<Opti
 
 /// The party that keeps the digest.
 pub fn find_party<S: Alter>(conn: &mut Connection<S>, digest: &Digest) -> Got<Option<Party>>
-    requires calm { conn.old.in_transaction ≡ false }
-    ensures found { (t : Tables) → HasCleanDisk (state S.Store conn.new) → Shows t (state S.Store conn.old) → IfOk result (λ p. p ≡ find (λ p. bytes_eq p.digest digest.now) t.parties) }
-    ensures kept { (t : Tables) → HasCleanDisk (state S.Store conn.new) → Shows t (state S.Store conn.old) → Shows t (state S.Store conn.new) }
-    ensures open { HasCleanDisk (state S.Store conn.new) → OnOk result (IsTrue (state S.Store conn.new).is_open) }
-    ensures doubt { doubt (state S.Store conn.old).is_clean ≤ doubt (state S.Store conn.new).is_clean }
-    ensures crash { (t : Tables) → Keeps t (state S.Store conn.old).now → Survives (state S.Store conn.old) (state S.Store conn.new) (λ _. ⊥) }
-    ensures calm { conn.new.in_transaction ≡ false }
+    requires not_in_transaction { conn.old.in_transaction ≡ false }
+    ensures found { OverShown S.Store conn.old conn.new
+        (λ t. IfOk result (λ p. p ≡ find (λ p. bytes_eq p.digest digest.now) t.parties)) }
+    ensures kept { LeavesTables S.Store conn.old conn.new }
+    ensures open { IsOpenAfter S.Store conn.new result }
+    ensures doubt { KeepsDoubt S.Store conn.old conn.new }
+    ensures crash { ReadSurvives S.Store conn.old conn.new }
+    ensures not_in_transaction { conn.new.in_transaction ≡ false }
 {
     let rows = digest_rows(conn, digest)?;
     first_party(&rows)
@@ -335,13 +353,14 @@ pub fn find_party<S: Alter>(conn: &mut Connection<S>, digest: &Digest) -> Got<Op
 
 /// The parcel with the number.
 pub fn read_parcel<S: Alter>(conn: &mut Connection<S>, parcel: ParcelId) -> Got<Option<Parcel>>
-    requires calm { conn.old.in_transaction ≡ false }
-    ensures found { (t : Tables) → HasCleanDisk (state S.Store conn.new) → Shows t (state S.Store conn.old) → IfOk result (λ p. p ≡ find (λ p. p.id == parcel) t.parcels) }
-    ensures kept { (t : Tables) → HasCleanDisk (state S.Store conn.new) → Shows t (state S.Store conn.old) → Shows t (state S.Store conn.new) }
-    ensures open { HasCleanDisk (state S.Store conn.new) → OnOk result (IsTrue (state S.Store conn.new).is_open) }
-    ensures doubt { doubt (state S.Store conn.old).is_clean ≤ doubt (state S.Store conn.new).is_clean }
-    ensures crash { (t : Tables) → Keeps t (state S.Store conn.old).now → Survives (state S.Store conn.old) (state S.Store conn.new) (λ _. ⊥) }
-    ensures calm { conn.new.in_transaction ≡ false }
+    requires not_in_transaction { conn.old.in_transaction ≡ false }
+    ensures found { OverShown S.Store conn.old conn.new
+        (λ t. IfOk result (λ p. p ≡ find (λ p. p.id == parcel) t.parcels)) }
+    ensures kept { LeavesTables S.Store conn.old conn.new }
+    ensures open { IsOpenAfter S.Store conn.new result }
+    ensures doubt { KeepsDoubt S.Store conn.old conn.new }
+    ensures crash { ReadSurvives S.Store conn.old conn.new }
+    ensures not_in_transaction { conn.new.in_transaction ≡ false }
 {
     let rows = parcel_rows(conn, parcel)?;
     first_parcel(&rows)
@@ -349,13 +368,14 @@ pub fn read_parcel<S: Alter>(conn: &mut Connection<S>, parcel: ParcelId) -> Got<
 
 /// The owner of the parcel with the number, read of its row without a copy of its texts.
 pub fn read_owner<S: Alter>(conn: &mut Connection<S>, parcel: ParcelId) -> Got<Option<PartyId>>
-    requires calm { conn.old.in_transaction ≡ false }
-    ensures found { (t : Tables) → HasCleanDisk (state S.Store conn.new) → Shows t (state S.Store conn.old) → IfOk result (λ o. o ≡ option_map (λ p. p.owner) (find (λ p. p.id == parcel) t.parcels)) }
-    ensures kept { (t : Tables) → HasCleanDisk (state S.Store conn.new) → Shows t (state S.Store conn.old) → Shows t (state S.Store conn.new) }
-    ensures open { HasCleanDisk (state S.Store conn.new) → OnOk result (IsTrue (state S.Store conn.new).is_open) }
-    ensures doubt { doubt (state S.Store conn.old).is_clean ≤ doubt (state S.Store conn.new).is_clean }
-    ensures crash { (t : Tables) → Keeps t (state S.Store conn.old).now → Survives (state S.Store conn.old) (state S.Store conn.new) (λ _. ⊥) }
-    ensures calm { conn.new.in_transaction ≡ false }
+    requires not_in_transaction { conn.old.in_transaction ≡ false }
+    ensures found { OverShown S.Store conn.old conn.new
+        (λ t. IfOk result (λ o. o ≡ option_map (λ p. p.owner) (find (λ p. p.id == parcel) t.parcels))) }
+    ensures kept { LeavesTables S.Store conn.old conn.new }
+    ensures open { IsOpenAfter S.Store conn.new result }
+    ensures doubt { KeepsDoubt S.Store conn.old conn.new }
+    ensures crash { ReadSurvives S.Store conn.old conn.new }
+    ensures not_in_transaction { conn.new.in_transaction ≡ false }
 {
     let rows = parcel_rows(conn, parcel)?;
     first_owner(&rows)
@@ -363,13 +383,14 @@ pub fn read_owner<S: Alter>(conn: &mut Connection<S>, parcel: ParcelId) -> Got<O
 
 /// The parcel of the lot.
 pub fn find_parcel<S: Alter>(conn: &mut Connection<S>, lot: &Lot) -> Got<Option<Parcel>>
-    requires calm { conn.old.in_transaction ≡ false }
-    ensures found { (t : Tables) → HasCleanDisk (state S.Store conn.new) → Shows t (state S.Store conn.old) → IfOk result (λ p. p ≡ find (λ p. bytes_eq p.lot lot.now) t.parcels) }
-    ensures kept { (t : Tables) → HasCleanDisk (state S.Store conn.new) → Shows t (state S.Store conn.old) → Shows t (state S.Store conn.new) }
-    ensures open { HasCleanDisk (state S.Store conn.new) → OnOk result (IsTrue (state S.Store conn.new).is_open) }
-    ensures doubt { doubt (state S.Store conn.old).is_clean ≤ doubt (state S.Store conn.new).is_clean }
-    ensures crash { (t : Tables) → Keeps t (state S.Store conn.old).now → Survives (state S.Store conn.old) (state S.Store conn.new) (λ _. ⊥) }
-    ensures calm { conn.new.in_transaction ≡ false }
+    requires not_in_transaction { conn.old.in_transaction ≡ false }
+    ensures found { OverShown S.Store conn.old conn.new
+        (λ t. IfOk result (λ p. p ≡ find (λ p. bytes_eq p.lot lot.now) t.parcels)) }
+    ensures kept { LeavesTables S.Store conn.old conn.new }
+    ensures open { IsOpenAfter S.Store conn.new result }
+    ensures doubt { KeepsDoubt S.Store conn.old conn.new }
+    ensures crash { ReadSurvives S.Store conn.old conn.new }
+    ensures not_in_transaction { conn.new.in_transaction ≡ false }
 {
     let rows = lot_rows(conn, lot)?;
     first_parcel(&rows)
@@ -381,13 +402,14 @@ pub fn has_interest<S: Alter>(
     parcel: ParcelId,
     party: PartyId,
 ) -> Got<bool>
-    requires calm { conn.old.in_transaction ≡ false }
-    ensures found { (t : Tables) → HasCleanDisk (state S.Store conn.new) → Shows t (state S.Store conn.old) → IfOk result (λ b. b ≡ list_any (λ i. (i.parcel == parcel) && (i.party == party)) t.interests) }
-    ensures kept { (t : Tables) → HasCleanDisk (state S.Store conn.new) → Shows t (state S.Store conn.old) → Shows t (state S.Store conn.new) }
-    ensures open { HasCleanDisk (state S.Store conn.new) → OnOk result (IsTrue (state S.Store conn.new).is_open) }
-    ensures doubt { doubt (state S.Store conn.old).is_clean ≤ doubt (state S.Store conn.new).is_clean }
-    ensures crash { (t : Tables) → Keeps t (state S.Store conn.old).now → Survives (state S.Store conn.old) (state S.Store conn.new) (λ _. ⊥) }
-    ensures calm { conn.new.in_transaction ≡ false }
+    requires not_in_transaction { conn.old.in_transaction ≡ false }
+    ensures found { OverShown S.Store conn.old conn.new
+        (λ t. IfOk result (λ b. b ≡ list_any (λ i. (i.parcel == parcel) && (i.party == party)) t.interests)) }
+    ensures kept { LeavesTables S.Store conn.old conn.new }
+    ensures open { IsOpenAfter S.Store conn.new result }
+    ensures doubt { KeepsDoubt S.Store conn.old conn.new }
+    ensures crash { ReadSurvives S.Store conn.old conn.new }
+    ensures not_in_transaction { conn.new.in_transaction ≡ false }
 {
     let rows = interest_rows(conn, parcel, party)?;
     Ok(rows.len() != 0)
@@ -395,13 +417,14 @@ pub fn has_interest<S: Alter>(
 
 /// Whether the party has declared an interest in any parcel.
 pub(crate) fn is_interested<S: Alter>(conn: &mut Connection<S>, party: PartyId) -> Got<bool>
-    requires calm { conn.old.in_transaction ≡ false }
-    ensures found { (t : Tables) → HasCleanDisk (state S.Store conn.new) → Shows t (state S.Store conn.old) → IfOk result (λ b. b ≡ list_any (λ i. i.party == party) t.interests) }
-    ensures kept { (t : Tables) → HasCleanDisk (state S.Store conn.new) → Shows t (state S.Store conn.old) → Shows t (state S.Store conn.new) }
-    ensures open { HasCleanDisk (state S.Store conn.new) → OnOk result (IsTrue (state S.Store conn.new).is_open) }
-    ensures doubt { doubt (state S.Store conn.old).is_clean ≤ doubt (state S.Store conn.new).is_clean }
-    ensures crash { (t : Tables) → Keeps t (state S.Store conn.old).now → Survives (state S.Store conn.old) (state S.Store conn.new) (λ _. ⊥) }
-    ensures calm { conn.new.in_transaction ≡ false }
+    requires not_in_transaction { conn.old.in_transaction ≡ false }
+    ensures found { OverShown S.Store conn.old conn.new
+        (λ t. IfOk result (λ b. b ≡ list_any (λ i. i.party == party) t.interests)) }
+    ensures kept { LeavesTables S.Store conn.old conn.new }
+    ensures open { IsOpenAfter S.Store conn.new result }
+    ensures doubt { KeepsDoubt S.Store conn.old conn.new }
+    ensures crash { ReadSurvives S.Store conn.old conn.new }
+    ensures not_in_transaction { conn.new.in_transaction ≡ false }
 {
     let rows = interested_rows(conn, party)?;
     first_truth(&rows)
@@ -409,13 +432,13 @@ pub(crate) fn is_interested<S: Alter>(conn: &mut Connection<S>, party: PartyId) 
 
 /// The row of the file with the number.
 pub fn read_file<S: Alter>(conn: &mut Connection<S>, file: FileId) -> Got<Option<FileRow>>
-    requires calm { conn.old.in_transaction ≡ false }
-    ensures found { (t : Tables) → HasCleanDisk (state S.Store conn.new) → Shows t (state S.Store conn.old) → IfOk result (λ f. f ≡ find (λ f. f.id == file) t.files) }
-    ensures kept { (t : Tables) → HasCleanDisk (state S.Store conn.new) → Shows t (state S.Store conn.old) → Shows t (state S.Store conn.new) }
-    ensures open { HasCleanDisk (state S.Store conn.new) → OnOk result (IsTrue (state S.Store conn.new).is_open) }
-    ensures doubt { doubt (state S.Store conn.old).is_clean ≤ doubt (state S.Store conn.new).is_clean }
-    ensures crash { (t : Tables) → Keeps t (state S.Store conn.old).now → Survives (state S.Store conn.old) (state S.Store conn.new) (λ _. ⊥) }
-    ensures calm { conn.new.in_transaction ≡ false }
+    requires not_in_transaction { conn.old.in_transaction ≡ false }
+    ensures found { OverShown S.Store conn.old conn.new (λ t. IfOk result (λ f. f ≡ find (λ f. f.id == file) t.files)) }
+    ensures kept { LeavesTables S.Store conn.old conn.new }
+    ensures open { IsOpenAfter S.Store conn.new result }
+    ensures doubt { KeepsDoubt S.Store conn.old conn.new }
+    ensures crash { ReadSurvives S.Store conn.old conn.new }
+    ensures not_in_transaction { conn.new.in_transaction ≡ false }
 {
     let rows = file_rows(conn, file)?;
     first_file(&rows)
@@ -423,13 +446,14 @@ pub fn read_file<S: Alter>(conn: &mut Connection<S>, file: FileId) -> Got<Option
 
 /// The state of the file with the number, read of its row without a copy of its description.
 pub fn read_state<S: Alter>(conn: &mut Connection<S>, file: FileId) -> Got<Option<FileState>>
-    requires calm { conn.old.in_transaction ≡ false }
-    ensures found { (t : Tables) → HasCleanDisk (state S.Store conn.new) → Shows t (state S.Store conn.old) → IfOk result (λ s. s ≡ option_map (λ f. f.state) (find (λ f. f.id == file) t.files)) }
-    ensures kept { (t : Tables) → HasCleanDisk (state S.Store conn.new) → Shows t (state S.Store conn.old) → Shows t (state S.Store conn.new) }
-    ensures open { HasCleanDisk (state S.Store conn.new) → OnOk result (IsTrue (state S.Store conn.new).is_open) }
-    ensures doubt { doubt (state S.Store conn.old).is_clean ≤ doubt (state S.Store conn.new).is_clean }
-    ensures crash { (t : Tables) → Keeps t (state S.Store conn.old).now → Survives (state S.Store conn.old) (state S.Store conn.new) (λ _. ⊥) }
-    ensures calm { conn.new.in_transaction ≡ false }
+    requires not_in_transaction { conn.old.in_transaction ≡ false }
+    ensures found { OverShown S.Store conn.old conn.new
+        (λ t. IfOk result (λ s. s ≡ option_map (λ f. f.state) (find (λ f. f.id == file) t.files))) }
+    ensures kept { LeavesTables S.Store conn.old conn.new }
+    ensures open { IsOpenAfter S.Store conn.new result }
+    ensures doubt { KeepsDoubt S.Store conn.old conn.new }
+    ensures crash { ReadSurvives S.Store conn.old conn.new }
+    ensures not_in_transaction { conn.new.in_transaction ≡ false }
 {
     let rows = file_rows(conn, file)?;
     first_state(&rows)
@@ -441,13 +465,14 @@ pub fn has_open_notice<S: Alter>(
     file: FileId,
     number: PaperNumber,
 ) -> Got<bool>
-    requires calm { conn.old.in_transaction ≡ false }
-    ensures found { (t : Tables) → HasCleanDisk (state S.Store conn.new) → Shows t (state S.Store conn.old) → IfOk result (λ b. b ≡ list_any (λ p. (p.file == file) && (p.is_open && (p.number == number))) t.papers) }
-    ensures kept { (t : Tables) → HasCleanDisk (state S.Store conn.new) → Shows t (state S.Store conn.old) → Shows t (state S.Store conn.new) }
-    ensures open { HasCleanDisk (state S.Store conn.new) → OnOk result (IsTrue (state S.Store conn.new).is_open) }
-    ensures doubt { doubt (state S.Store conn.old).is_clean ≤ doubt (state S.Store conn.new).is_clean }
-    ensures crash { (t : Tables) → Keeps t (state S.Store conn.old).now → Survives (state S.Store conn.old) (state S.Store conn.new) (λ _. ⊥) }
-    ensures calm { conn.new.in_transaction ≡ false }
+    requires not_in_transaction { conn.old.in_transaction ≡ false }
+    ensures found { OverShown S.Store conn.old conn.new
+        (λ t. IfOk result (λ b. b ≡ list_any (λ p. (p.file == file) && (p.is_open && (p.number == number))) t.papers)) }
+    ensures kept { LeavesTables S.Store conn.old conn.new }
+    ensures open { IsOpenAfter S.Store conn.new result }
+    ensures doubt { KeepsDoubt S.Store conn.old conn.new }
+    ensures crash { ReadSurvives S.Store conn.old conn.new }
+    ensures not_in_transaction { conn.new.in_transaction ≡ false }
 {
     let rows = notice_rows(conn, file, number)?;
     Ok(rows.len() != 0)
@@ -483,13 +508,14 @@ pub fn read_papers<S: Alter>(
     file: FileId,
     alloc: Global,
 ) -> Got<Vec<Paper>>
-    requires calm { conn.old.in_transaction ≡ false }
-    ensures found { (t : Tables) → HasCleanDisk (state S.Store conn.new) → Shows t (state S.Store conn.old) → IfOk result (λ v. v.items ≡ filter (λ p. p.file == file) t.papers) }
-    ensures kept { (t : Tables) → HasCleanDisk (state S.Store conn.new) → Shows t (state S.Store conn.old) → Shows t (state S.Store conn.new) }
-    ensures open { HasCleanDisk (state S.Store conn.new) → OnOk result (IsTrue (state S.Store conn.new).is_open) }
-    ensures doubt { doubt (state S.Store conn.old).is_clean ≤ doubt (state S.Store conn.new).is_clean }
-    ensures crash { (t : Tables) → Keeps t (state S.Store conn.old).now → Survives (state S.Store conn.old) (state S.Store conn.new) (λ _. ⊥) }
-    ensures calm { conn.new.in_transaction ≡ false }
+    requires not_in_transaction { conn.old.in_transaction ≡ false }
+    ensures found { OverShown S.Store conn.old conn.new
+        (λ t. IfOk result (λ v. v.items ≡ filter (λ p. p.file == file) t.papers)) }
+    ensures kept { LeavesTables S.Store conn.old conn.new }
+    ensures open { IsOpenAfter S.Store conn.new result }
+    ensures doubt { KeepsDoubt S.Store conn.old conn.new }
+    ensures crash { ReadSurvives S.Store conn.old conn.new }
+    ensures not_in_transaction { conn.new.in_transaction ≡ false }
 {
     let rows = paper_rows(conn, file)?;
     all_papers(alloc, &rows)

@@ -1,7 +1,6 @@
 //! The file rows that a selection finds, all at once or one at a time.
 
-ghost use Rattle.std.specs.Prelude.{◌≡◌, ◌≤◌, ◌++◌, [], ◌∷◌, List, false, IsTrue, filter, map, length, IfOk, OnOk};
-ghost use Rattle.sqlite_trees.specs.View.{doubt};
+ghost use Rattle.std.specs.Prelude.{◌≡◌, ◌++◌, [], ◌∷◌, List, false, IsTrue, filter, map, length, IfOk, OnOk};
 ghost use Rattle.sqlite.specs.State.{HasCleanDisk, Survives};
 ghost use Rattle.sqlite.specs.Given.{IsPlain};
 ghost use Rattle.sqlite.specs.Listing.{understood};
@@ -11,10 +10,11 @@ ghost use Rattle.permit_base.specs.declared.route.Route.TheVariants.{Every};
 ghost use Rattle.permit_model.specs.Tables.{Tables};
 ghost use Rattle.permit_model.specs.Routes.{Found as TheFound, found_by};
 ghost use Rattle.permit_store.specs.Handing.{AreAmong, AreFound, AreHanded, Took, found_by_any, is_found_by_any, more_handed};
-ghost use Rattle.permit_sql_rows.specs.Kept.{IsFine, Keeps, Shows};
+ghost use Rattle.permit_sql_rows.specs.Kept.{IsFine, Keeps};
 ghost use Rattle.permit_sql_rows.specs.Rows.{shown_found};
 ghost use Rattle.permit_sql_statements.specs.Selected.{AreNamed, ShowFound};
 ghost use Rattle.permit_sql_statements.specs.Gave.{Gave};
+ghost use Rattle.permit_sql_statements.specs.Frames.{OverShown, LeavesTables, IsOpenAfter, KeepsDoubt, ReadSurvives};
 
 use crate::query::rows_of;
 use crate::question::{
@@ -40,13 +40,14 @@ fn found_rows<S: Alter>(
     caller: PartyId,
     day: Day,
 ) -> Got<Vec<Row>>
-    requires calm { conn.old.in_transaction ≡ false }
-    ensures found { (t : Tables) → HasCleanDisk (state S.Store conn.new) → Shows t (state S.Store conn.old) → IfOk result (λ rows. ShowFound t rows.items (found_by route.now caller day t)) }
-    ensures kept { (t : Tables) → HasCleanDisk (state S.Store conn.new) → Shows t (state S.Store conn.old) → Shows t (state S.Store conn.new) }
-    ensures open { HasCleanDisk (state S.Store conn.new) → OnOk result (IsTrue (state S.Store conn.new).is_open) }
-    ensures doubt { doubt (state S.Store conn.old).is_clean ≤ doubt (state S.Store conn.new).is_clean }
-    ensures crash { (t : Tables) → Keeps t (state S.Store conn.old).now → Survives (state S.Store conn.old) (state S.Store conn.new) (λ _. ⊥) }
-    ensures calm { conn.new.in_transaction ≡ false }
+    requires not_in_transaction { conn.old.in_transaction ≡ false }
+    ensures found { OverShown S.Store conn.old conn.new
+        (λ t. IfOk result (λ rows. ShowFound t rows.items (found_by route.now caller day t))) }
+    ensures kept { LeavesTables S.Store conn.old conn.new }
+    ensures open { IsOpenAfter S.Store conn.new result }
+    ensures doubt { KeepsDoubt S.Store conn.old conn.new }
+    ensures crash { ReadSurvives S.Store conn.old conn.new }
+    ensures not_in_transaction { conn.new.in_transaction ≡ false }
 {
     // Its number isn't 0, which stands for none in a row.
     let _id = caller.get();
@@ -86,13 +87,14 @@ pub fn select_found<S: Alter>(
     day: Day,
     alloc: Global,
 ) -> Got<Vec<Found>>
-    requires calm { conn.old.in_transaction ≡ false }
-    ensures found { (t : Tables) → HasCleanDisk (state S.Store conn.new) → Shows t (state S.Store conn.old) → IfOk result (λ v. AreFound t v.items (found_by route.now caller day t)) }
-    ensures kept { (t : Tables) → HasCleanDisk (state S.Store conn.new) → Shows t (state S.Store conn.old) → Shows t (state S.Store conn.new) }
-    ensures open { HasCleanDisk (state S.Store conn.new) → OnOk result (IsTrue (state S.Store conn.new).is_open) }
-    ensures doubt { doubt (state S.Store conn.old).is_clean ≤ doubt (state S.Store conn.new).is_clean }
-    ensures crash { (t : Tables) → Keeps t (state S.Store conn.old).now → Survives (state S.Store conn.old) (state S.Store conn.new) (λ _. ⊥) }
-    ensures calm { conn.new.in_transaction ≡ false }
+    requires not_in_transaction { conn.old.in_transaction ≡ false }
+    ensures found { OverShown S.Store conn.old conn.new
+        (λ t. IfOk result (λ v. AreFound t v.items (found_by route.now caller day t))) }
+    ensures kept { LeavesTables S.Store conn.old conn.new }
+    ensures open { IsOpenAfter S.Store conn.new result }
+    ensures doubt { KeepsDoubt S.Store conn.old conn.new }
+    ensures crash { ReadSurvives S.Store conn.old conn.new }
+    ensures not_in_transaction { conn.new.in_transaction ≡ false }
 {
     let rows = found_rows(conn, route, caller, day)?;
     all_found(alloc, &rows)
@@ -107,15 +109,18 @@ fn hand_rows<S: Alter, T: Taker<Found>>(
     handed: &mut u64,
     taker: &mut T,
 ) -> Got<bool>
-    requires calm { conn.old.in_transaction ≡ false }
+    requires not_in_transaction { conn.old.in_transaction ≡ false }
     ensures handed { (given : List TheFound) × Took T.took given taker.old taker.new result × (handed.new ≡ more_handed (length given) handed.old)
-        × (HasCleanDisk (state S.Store conn.new) → (IsTrue (state S.Store conn.old).is_open → IsPlain (understood conn.old.schema sql.now)) → Gave result sql.now (bound params.now) (state S.Store conn.old) (state S.Store conn.new) given) }
+        × (HasCleanDisk (state S.Store conn.new) → (IsTrue (state S.Store conn.old).is_open → IsPlain (understood conn.old.schema sql.now))
+        → Gave result sql.now (bound params.now) (state S.Store conn.old) (state S.Store conn.new) given) }
     ensures fine { IsFine (state S.Store conn.new) → IsFine (state S.Store conn.old) }
-    ensures same { IsFine (state S.Store conn.new) → IsPlain (understood conn.old.schema sql.now) → (state S.Store conn.new).now ≡ (state S.Store conn.old).now }
-    ensures open { HasCleanDisk (state S.Store conn.new) → OnOk result (IsTrue (state S.Store conn.new).is_open) }
-    ensures doubt { doubt (state S.Store conn.old).is_clean ≤ doubt (state S.Store conn.new).is_clean }
-    ensures crash { (HasCleanDisk (state S.Store conn.new) → IsPlain (understood conn.old.schema sql.now)) → Survives (state S.Store conn.old) (state S.Store conn.new) (λ _. ⊥) }
-    ensures calm { conn.new.in_transaction ≡ false }
+    ensures same { IsFine (state S.Store conn.new) → IsPlain (understood conn.old.schema sql.now)
+        → (state S.Store conn.new).now ≡ (state S.Store conn.old).now }
+    ensures open { IsOpenAfter S.Store conn.new result }
+    ensures doubt { KeepsDoubt S.Store conn.old conn.new }
+    ensures crash { (HasCleanDisk (state S.Store conn.new) → IsPlain (understood conn.old.schema sql.now))
+        → Survives (state S.Store conn.old) (state S.Store conn.new) (λ _. ⊥) }
+    ensures not_in_transaction { conn.new.in_transaction ≡ false }
 {
     let before = *handed;
     prove!(before <= u64::MAX);
@@ -150,14 +155,15 @@ fn each_by_text<S: Alter, T: Taker<Found>>(
     handed: &mut u64,
     taker: &mut T,
 ) -> Got<bool>
-    requires calm { conn.old.in_transaction ≡ false }
+    requires not_in_transaction { conn.old.in_transaction ≡ false }
     ensures handed { (given : List TheFound) × Took T.took given taker.old taker.new result × (handed.new ≡ more_handed (length given) handed.old)
-        × ((t : Tables) → HasCleanDisk (state S.Store conn.new) → Shows t (state S.Store conn.old) → AreHanded t result given (found_by route.now caller day t)) }
-    ensures kept { (t : Tables) → HasCleanDisk (state S.Store conn.new) → Shows t (state S.Store conn.old) → Shows t (state S.Store conn.new) }
-    ensures open { HasCleanDisk (state S.Store conn.new) → OnOk result (IsTrue (state S.Store conn.new).is_open) }
-    ensures doubt { doubt (state S.Store conn.old).is_clean ≤ doubt (state S.Store conn.new).is_clean }
-    ensures crash { (t : Tables) → (HasCleanDisk (state S.Store conn.new) → Keeps t (state S.Store conn.old).now) → Survives (state S.Store conn.old) (state S.Store conn.new) (λ _. ⊥) }
-    ensures calm { conn.new.in_transaction ≡ false }
+        × OverShown S.Store conn.old conn.new (λ t. AreHanded t result given (found_by route.now caller day t)) }
+    ensures kept { LeavesTables S.Store conn.old conn.new }
+    ensures open { IsOpenAfter S.Store conn.new result }
+    ensures doubt { KeepsDoubt S.Store conn.old conn.new }
+    ensures crash { (t : Tables) → (HasCleanDisk (state S.Store conn.new) → Keeps t (state S.Store conn.old).now)
+        → Survives (state S.Store conn.old) (state S.Store conn.new) (λ _. ⊥) }
+    ensures not_in_transaction { conn.new.in_transaction ≡ false }
 {
     // Its number isn't 0, which stands for none in a row.
     let _id = caller.get();
@@ -179,14 +185,14 @@ fn each_of_every<S: Alter, T: Taker<Found>>(
     handed: &mut u64,
     taker: &mut T,
 ) -> Got<bool>
-    requires calm { conn.old.in_transaction ≡ false }
+    requires not_in_transaction { conn.old.in_transaction ≡ false }
     ensures handed { (given : List TheFound) × Took T.took given taker.old taker.new result × (handed.new ≡ more_handed (length given) handed.old)
-        × ((t : Tables) → HasCleanDisk (state S.Store conn.new) → Shows t (state S.Store conn.old) → AreHanded t result given (found_by Every caller day t)) }
-    ensures kept { (t : Tables) → HasCleanDisk (state S.Store conn.new) → Shows t (state S.Store conn.old) → Shows t (state S.Store conn.new) }
-    ensures open { HasCleanDisk (state S.Store conn.new) → OnOk result (IsTrue (state S.Store conn.new).is_open) }
-    ensures doubt { doubt (state S.Store conn.old).is_clean ≤ doubt (state S.Store conn.new).is_clean }
-    ensures crash { (t : Tables) → Keeps t (state S.Store conn.old).now → Survives (state S.Store conn.old) (state S.Store conn.new) (λ _. ⊥) }
-    ensures calm { conn.new.in_transaction ≡ false }
+        × OverShown S.Store conn.old conn.new (λ t. AreHanded t result given (found_by Every caller day t)) }
+    ensures kept { LeavesTables S.Store conn.old conn.new }
+    ensures open { IsOpenAfter S.Store conn.new result }
+    ensures doubt { KeepsDoubt S.Store conn.old conn.new }
+    ensures crash { ReadSurvives S.Store conn.old conn.new }
+    ensures not_in_transaction { conn.new.in_transaction ≡ false }
 {
     let before = *handed;
     prove!(before <= u64::MAX);
@@ -207,14 +213,14 @@ pub fn each_found<S: Alter, T: Taker<Found>>(
     handed: &mut u64,
     taker: &mut T,
 ) -> Got<bool>
-    requires calm { conn.old.in_transaction ≡ false }
+    requires not_in_transaction { conn.old.in_transaction ≡ false }
     ensures handed { (given : List TheFound) × Took T.took given taker.old taker.new result × (handed.new ≡ more_handed (length given) handed.old)
-        × ((t : Tables) → HasCleanDisk (state S.Store conn.new) → Shows t (state S.Store conn.old) → AreHanded t result given (found_by route.now caller day t)) }
-    ensures kept { (t : Tables) → HasCleanDisk (state S.Store conn.new) → Shows t (state S.Store conn.old) → Shows t (state S.Store conn.new) }
-    ensures open { HasCleanDisk (state S.Store conn.new) → OnOk result (IsTrue (state S.Store conn.new).is_open) }
-    ensures doubt { doubt (state S.Store conn.old).is_clean ≤ doubt (state S.Store conn.new).is_clean }
-    ensures crash { (t : Tables) → Keeps t (state S.Store conn.old).now → Survives (state S.Store conn.old) (state S.Store conn.new) (λ _. ⊥) }
-    ensures calm { conn.new.in_transaction ≡ false }
+        × OverShown S.Store conn.old conn.new (λ t. AreHanded t result given (found_by route.now caller day t)) }
+    ensures kept { LeavesTables S.Store conn.old conn.new }
+    ensures open { IsOpenAfter S.Store conn.new result }
+    ensures doubt { KeepsDoubt S.Store conn.old conn.new }
+    ensures crash { ReadSurvives S.Store conn.old conn.new }
+    ensures not_in_transaction { conn.new.in_transaction ≡ false }
 {
     match *route {
         Route::Every => each_of_every(conn, caller, day, handed, taker),
@@ -233,16 +239,19 @@ fn hand_sifted<S: Alter, T: Taker<Found>>(
     handed: &mut u64,
     taker: &mut T,
 ) -> Got<bool>
-    requires calm { conn.old.in_transaction ≡ false }
+    requires not_in_transaction { conn.old.in_transaction ≡ false }
     ensures handed { (given : List TheFound) × Took T.took (filter (is_found_by_any routes.now caller day) given) taker.old taker.new result
         × (handed.new ≡ more_handed (length (filter (is_found_by_any routes.now caller day) given)) handed.old)
-        × (HasCleanDisk (state S.Store conn.new) → (IsTrue (state S.Store conn.old).is_open → IsPlain (understood conn.old.schema sql.now)) → Gave result sql.now (bound params.now) (state S.Store conn.old) (state S.Store conn.new) given) }
+        × (HasCleanDisk (state S.Store conn.new) → (IsTrue (state S.Store conn.old).is_open → IsPlain (understood conn.old.schema sql.now))
+        → Gave result sql.now (bound params.now) (state S.Store conn.old) (state S.Store conn.new) given) }
     ensures fine { IsFine (state S.Store conn.new) → IsFine (state S.Store conn.old) }
-    ensures same { IsFine (state S.Store conn.new) → IsPlain (understood conn.old.schema sql.now) → (state S.Store conn.new).now ≡ (state S.Store conn.old).now }
-    ensures open { HasCleanDisk (state S.Store conn.new) → OnOk result (IsTrue (state S.Store conn.new).is_open) }
-    ensures doubt { doubt (state S.Store conn.old).is_clean ≤ doubt (state S.Store conn.new).is_clean }
-    ensures crash { (HasCleanDisk (state S.Store conn.new) → IsPlain (understood conn.old.schema sql.now)) → Survives (state S.Store conn.old) (state S.Store conn.new) (λ _. ⊥) }
-    ensures calm { conn.new.in_transaction ≡ false }
+    ensures same { IsFine (state S.Store conn.new) → IsPlain (understood conn.old.schema sql.now)
+        → (state S.Store conn.new).now ≡ (state S.Store conn.old).now }
+    ensures open { IsOpenAfter S.Store conn.new result }
+    ensures doubt { KeepsDoubt S.Store conn.old conn.new }
+    ensures crash { (HasCleanDisk (state S.Store conn.new) → IsPlain (understood conn.old.schema sql.now))
+        → Survives (state S.Store conn.old) (state S.Store conn.new) (λ _. ⊥) }
+    ensures not_in_transaction { conn.new.in_transaction ≡ false }
 {
     // Counts also the rows that none of the selections finds, so it isn't what was handed out.
     let mut seen = 0;
@@ -267,14 +276,15 @@ fn each_by_any_text<S: Alter, T: Taker<Found>>(
     handed: &mut u64,
     taker: &mut T,
 ) -> Got<bool>
-    requires calm { conn.old.in_transaction ≡ false }
+    requires not_in_transaction { conn.old.in_transaction ≡ false }
     ensures handed { (given : List TheFound) × Took T.took given taker.old taker.new result × (handed.new ≡ more_handed (length given) handed.old)
-        × ((t : Tables) → HasCleanDisk (state S.Store conn.new) → Shows t (state S.Store conn.old) → AreAmong result given (found_by_any routes.now caller day t)) }
-    ensures kept { (t : Tables) → HasCleanDisk (state S.Store conn.new) → Shows t (state S.Store conn.old) → Shows t (state S.Store conn.new) }
-    ensures open { HasCleanDisk (state S.Store conn.new) → OnOk result (IsTrue (state S.Store conn.new).is_open) }
-    ensures doubt { doubt (state S.Store conn.old).is_clean ≤ doubt (state S.Store conn.new).is_clean }
-    ensures crash { (t : Tables) → (HasCleanDisk (state S.Store conn.new) → Keeps t (state S.Store conn.old).now) → Survives (state S.Store conn.old) (state S.Store conn.new) (λ _. ⊥) }
-    ensures calm { conn.new.in_transaction ≡ false }
+        × OverShown S.Store conn.old conn.new (λ t. AreAmong result given (found_by_any routes.now caller day t)) }
+    ensures kept { LeavesTables S.Store conn.old conn.new }
+    ensures open { IsOpenAfter S.Store conn.new result }
+    ensures doubt { KeepsDoubt S.Store conn.old conn.new }
+    ensures crash { (t : Tables) → (HasCleanDisk (state S.Store conn.new) → Keeps t (state S.Store conn.old).now)
+        → Survives (state S.Store conn.old) (state S.Store conn.new) (λ _. ⊥) }
+    ensures not_in_transaction { conn.new.in_transaction ≡ false }
 {
     // Its number isn't 0, which stands for none in a row.
     let params = [number(caller.get())];
@@ -300,14 +310,14 @@ pub fn each_of_any_found<S: Alter, T: Taker<Found>>(
     handed: &mut u64,
     taker: &mut T,
 ) -> Got<bool>
-    requires calm { conn.old.in_transaction ≡ false }
+    requires not_in_transaction { conn.old.in_transaction ≡ false }
     ensures handed { (given : List TheFound) × Took T.took given taker.old taker.new result × (handed.new ≡ more_handed (length given) handed.old)
-        × ((t : Tables) → HasCleanDisk (state S.Store conn.new) → Shows t (state S.Store conn.old) → AreAmong result given (found_by_any routes.now caller day t)) }
-    ensures kept { (t : Tables) → HasCleanDisk (state S.Store conn.new) → Shows t (state S.Store conn.old) → Shows t (state S.Store conn.new) }
-    ensures open { HasCleanDisk (state S.Store conn.new) → OnOk result (IsTrue (state S.Store conn.new).is_open) }
-    ensures doubt { doubt (state S.Store conn.old).is_clean ≤ doubt (state S.Store conn.new).is_clean }
-    ensures crash { (t : Tables) → Keeps t (state S.Store conn.old).now → Survives (state S.Store conn.old) (state S.Store conn.new) (λ _. ⊥) }
-    ensures calm { conn.new.in_transaction ≡ false }
+        × OverShown S.Store conn.old conn.new (λ t. AreAmong result given (found_by_any routes.now caller day t)) }
+    ensures kept { LeavesTables S.Store conn.old conn.new }
+    ensures open { IsOpenAfter S.Store conn.new result }
+    ensures doubt { KeepsDoubt S.Store conn.old conn.new }
+    ensures crash { ReadSurvives S.Store conn.old conn.new }
+    ensures not_in_transaction { conn.new.in_transaction ≡ false }
 {
     let before = *handed;
     prove!(before <= u64::MAX);

@@ -84,7 +84,7 @@ returns-in_err-rows-clause-left g c fine =
     let held = c.query.follows.holds-at-none in
     let refused : IsRefused g.S.Store sql params c.args.conn.now c.query.result last = search rules in
     let failed : FailsToQuery sql params old new c.in_err-rows.field-0.0 = rw c.in_err-rows.was at (refused.err fine.0) in
-    let settled = c.is_autocommit-settled.ensures.settled (c.is_autocommit-settled.ensures.value ∙ ap not c.requires.calm) in (
+    let settled = c.is_autocommit-settled.ensures.settled (c.is_autocommit-settled.ensures.value ∙ ap not c.requires.not_in_transaction) in (
       (omega (arith, fine.0, refused.survives.clean), failed_open sql params old new c.in_err-rows.field-0.0 fine.1 failed),
       (failed_same sql params old new c.in_err-rows.field-0.0 c.requires.plain settled fine.1 failed).0,
     )

@@ -48,7 +48,7 @@ returns-in_default-clause-same g c fine plain =
     let held = c.query.follows.holds-at-none in
     let refused : IsRefused g.S.Store sql params c.args.conn.now c.query.result last = search rules in
     let failed = rw c.in_default.is at (refused.err fine.0) in
-    let settled = c.is_autocommit-settled.ensures.settled (c.is_autocommit-settled.ensures.value ∙ ap not c.requires.calm) in
+    let settled = c.is_autocommit-settled.ensures.settled (c.is_autocommit-settled.ensures.value ∙ ap not c.requires.not_in_transaction) in
     (failed_same sql params (state g.S.Store c.args.conn.now) (state g.S.Store last) c.in_default.field-0 plain settled fine.1 failed).0
 
 pub returns-in_default-clause-crash : goal.returns-in_default-clause-crash
@@ -68,7 +68,7 @@ rows-init g c =
       refl,
       made.survives.clean,
       made.survives,
-      made.mode c.requires.calm,
+      made.mode c.requires.not_in_transaction,
       [],
       refl,
       none_counted c.args.handed.now (omega (arith, c.if-prove.false)),
