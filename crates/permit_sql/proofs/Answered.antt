@@ -24,7 +24,8 @@ use Rattle.permit_sql_rows.specs.Kept.{Keeps}
 use Rattle.permit_sql.specs.Found.{IsNumbered, AreTyped}
 use Rattle.permit_sql.specs.declared.texts.TheConstants.{EACH_PARTY, EACH_PARCEL, EACH_FILE}
 use Rattle.permit_sql_statements.proofs.Lookups.{plain_query, answers}
-use Rattle.permit_sql.proofs.WholeMeanings.{each_party_query, each_party_is, each_party_plain, each_party_unlisted, each_parcel_query, each_parcel_is, each_parcel_plain, each_parcel_unlisted, each_file_query, each_file_is, each_file_plain, each_file_unlisted}
+use Rattle.permit_sql.proofs.WholeMeanings.{each_party_query, each_party_is, each_party_plain, each_party_unlisted, each_parcel_query, each_parcel_is}
+use Rattle.permit_sql.proofs.WholeMeanings.{each_parcel_plain, each_parcel_unlisted, each_file_query, each_file_is, each_file_plain, each_file_unlisted}
 
 -- ---- a table whose rows are keyed by their numbers
 
@@ -44,9 +45,11 @@ module _ {X : Type 0} (number : X → ℕ) where
   numbers_rise n [] h = tt
   numbers_rise n (x ∷ xs) h = let e : number x ≡ n = h.0 in (all_above (number x) (suc n) xs (omega (arith, e)) h.1, numbers_rise (suc n) xs h.1)
 
-  module _ (enc shown : X → Row) (tree : ℕ) (project : List Term) (outs : (x : X) → output (by_number tree project) ([] ∷ enc x ∷ []) ≡ (int (number x) ∷ [], shown x)) where
+  module _ (enc shown : X → Row) (tree : ℕ) (project : List Term) (outs : (x : X) →
+      output (by_number tree project) ([] ∷ enc x ∷ []) ≡ (int (number x) ∷ [], shown x)) where
     -- in the order of the numbers there is one answer
-    pub numbered_shown : (db : Trees) (xs : List X) (n : ℕ) → IsNumbered number n xs → IsPermutation (map enc xs) (db tree) → (rows : List Row) → IsAnswer (by_number tree project) db [] rows → rows ≡ map shown xs
+    pub numbered_shown : (db : Trees) (xs : List X) (n : ℕ) → IsNumbered number n xs → IsPermutation (map enc xs) (db tree) → (rows : List Row) →
+        IsAnswer (by_number tree project) db [] rows → rows ≡ map shown xs
     numbered_shown db xs n numbered kept rows a =
         let q = by_number tree project in
         let out : X → Output = λ x. (int (number x) ∷ [], shown x) in
@@ -56,7 +59,8 @@ module _ {X : Type 0} (number : X → ℕ) where
         let there = subst (λ l. IsPermutation l (map (λ r. output q ([] ∷ r ∷ [])) (db tree))) here moved in
         let same : IsPermutation (map out xs) got.0 = IsPermutation-trans _ _ _ there (subst (λ l. IsPermutation l got.0) (each_one q (db tree)) got.1) in
         let up = ascending-map (λ a b. output_cmp q a b ≡ Less) out xs (ascending_weaker _ _ rise _ (numbers_rise n xs numbered)) in
-        got.3 ∙ ap (map (λ (o : Output). o.1)) (sorted_unique (output_cmp q) (output_cmp_total q) (map out xs) got.0 up same got.2) ∙ map-map (λ (o : Output). o.1) out xs
+        got.3 ∙ ap (map (λ (o : Output). o.1)) (sorted_unique (output_cmp q) (output_cmp_total q) (map out xs) got.0 up same got.2)
+        ∙ map-map (λ (o : Output). o.1) out xs
       where
         rise : (a b : X) → number a < number b → output_cmp (by_number tree project) (int (number a) ∷ [], shown a) (int (number b) ∷ [], shown b) ≡ Less
         rise a b low =
@@ -67,14 +71,17 @@ module _ (old new : State) (t : Tables) (typed : AreTyped t) (k : Keeps t old.no
   pub parties_shown : Shown EACH_PARTY.now [] old new rows → rows ≡ map shown_party t.parties
   parties_shown h =
       let read = reads_as EACH_PARTY.now [] old new office_schema k.schema _ each_party_is each_party_plain each_party_unlisted rows h in
-      numbered_shown (λ p. p.id) party_row shown_party 1 each_party_query.project (λ p. refl) (overlay old.now.trees []) t.parties 1 typed.party_numbers k.rows.parties rows (read.answer Null)
+      numbered_shown (λ p. p.id) party_row shown_party 1 each_party_query.project (λ p. refl)
+      (overlay old.now.trees []) t.parties 1 typed.party_numbers k.rows.parties rows (read.answer Null)
 
   pub parcels_shown : Shown EACH_PARCEL.now [] old new rows → rows ≡ map shown_parcel t.parcels
   parcels_shown h =
       let read = reads_as EACH_PARCEL.now [] old new office_schema k.schema _ each_parcel_is each_parcel_plain each_parcel_unlisted rows h in
-      numbered_shown (λ p. p.id) parcel_row shown_parcel 3 each_parcel_query.project (λ p. refl) (overlay old.now.trees []) t.parcels 1 typed.parcel_numbers k.rows.parcels rows (read.answer Null)
+      numbered_shown (λ p. p.id) parcel_row shown_parcel 3 each_parcel_query.project (λ p. refl)
+      (overlay old.now.trees []) t.parcels 1 typed.parcel_numbers k.rows.parcels rows (read.answer Null)
 
   pub files_shown : Shown EACH_FILE.now [] old new rows → rows ≡ map shown_file t.files
   files_shown h =
       let read = reads_as EACH_FILE.now [] old new office_schema k.schema _ each_file_is each_file_plain each_file_unlisted rows h in
-      numbered_shown (λ f. f.id) file_row shown_file 7 each_file_query.project (λ f. refl) (overlay old.now.trees []) t.files 1 typed.file_numbers k.rows.files rows (read.answer Null)
+      numbered_shown (λ f. f.id) file_row shown_file 7 each_file_query.project (λ f. refl)
+      (overlay old.now.trees []) t.files 1 typed.file_numbers k.rows.files rows (read.answer Null)

@@ -75,7 +75,8 @@ module _ {S : Type 0} (g : Ghosts S) (old new : Held S) (handed failed commits :
     handed = is;
   }
 
-  pub hand_err : {A E : Type 0} (e : E) (count now : ℕ) → now ≡ count → KeepsShown → Doubts → Reads {A = A} {E = E} ⊤ count (seen (state g old) handed failed commits) (seen (state g new) now (next_count failed) commits) (Err e)
+  pub hand_err : {A E : Type 0} (e : E) (count now : ℕ) → now ≡ count → KeepsShown → Doubts →
+      Reads {A = A} {E = E} ⊤ count (seen (state g old) handed failed commits) (seen (state g new) now (next_count failed) commits) (Err e)
   hand_err e count now is kept doubt = record {
     kept = λ t held clean. kept t clean (held (omega (arith, doubt, clean)));
     one = λ _ _. tt;
@@ -100,11 +101,13 @@ module _ {S : Type 0} (g : Ghosts S) (old new : Held S) (handed failed commits :
   -- a call that failed, where the store counts it and answers the error
   module _ (store : Held S) (handed' failed' commits' : ℕ) where
     -- in a read
-    pub read_err : {A E : Type 0} (r : Result A E) → IsErr r → store ≡ new → failed' ≡ next_count failed → (handed' ≡ handed) × (commits' ≡ commits) → KeepsShown → Doubts →
+    pub read_err : {A E : Type 0} (r : Result A E) → IsErr r → store ≡ new → failed' ≡ next_count failed → (handed' ≡ handed) × (commits' ≡ commits) →
+        KeepsShown → Doubts →
         Reads ⊤ handed (seen (state g old) handed failed commits) (seen (state g store) handed' failed' commits') r
     read_err (Ok x) is same counted others kept doubt = absurd (never is)
     read_err (Err e) is same counted others kept doubt = record {
-      kept = λ t held. subst (λ conn. HasCleanDisk (state g conn) → Shows t (state g conn)) (sym same) (λ clean. kept t clean (held (omega (arith, doubt, clean))));
+      kept = λ t held. subst (λ conn. HasCleanDisk (state g conn) → Shows t (state g conn)) (sym same)
+          (λ clean. kept t clean (held (omega (arith, doubt, clean))));
       one = λ _ _. tt;
       doubt = subst (λ conn. disk_doubt (state g old).is_clean ≤ disk_doubt (state g conn).is_clean) (sym same) doubt;
       failed = counted;
@@ -113,26 +116,30 @@ module _ {S : Type 0} (g : Ghosts S) (old new : Held S) (handed failed commits :
     }
 
     -- in a look-up
-    pub look_up_err : {A E : Type 0} (r : Result (Option A) E) → IsErr r → store ≡ new → failed' ≡ next_count failed → (handed' ≡ handed) × (commits' ≡ commits) →
+    pub look_up_err : {A E : Type 0} (r : Result (Option A) E) → IsErr r → store ≡ new → failed' ≡ next_count failed → (handed' ≡ handed)
+        × (commits' ≡ commits) →
         ((t : Tables) → HasCleanDisk (state g new) → Shows t (state g old) → Shows t (state g new)) → Doubts →
         Reads ⊤ (handed_after r handed) (seen (state g old) handed failed commits) (seen (state g store) handed' failed' commits') r
     look_up_err (Ok x) is same counted others kept doubt = absurd (never is)
     look_up_err (Err e) is same counted others kept doubt = read_err (Err e) is same counted others kept doubt
 
     -- in a selection
-    pub select_err : {A E : Type 0} (count : A → ℕ) (r : Result A E) → IsErr r → store ≡ new → failed' ≡ next_count failed → (handed' ≡ handed) × (commits' ≡ commits) →
+    pub select_err : {A E : Type 0} (count : A → ℕ) (r : Result A E) → IsErr r → store ≡ new → failed' ≡ next_count failed → (handed' ≡ handed)
+        × (commits' ≡ commits) →
         ((t : Tables) → HasCleanDisk (state g new) → Shows t (state g old) → Shows t (state g new)) → Doubts →
         Reads ⊤ (selected_after count r handed) (seen (state g old) handed failed commits) (seen (state g store) handed' failed' commits') r
     select_err count (Ok x) is same counted others kept doubt = absurd (never is)
     select_err count (Err e) is same counted others kept doubt = read_err (Err e) is same counted others kept doubt
 
     -- in a commit
-    pub commit_err : {A E : Type 0} (r : Result A E) → IsErr r → store ≡ new → failed' ≡ next_count failed → (handed' ≡ handed) × (commits' ≡ next_count commits) →
+    pub commit_err : {A E : Type 0} (r : Result A E) → IsErr r → store ≡ new → failed' ≡ next_count failed → (handed' ≡ handed)
+        × (commits' ≡ next_count commits) →
         ((t : Tables) → HasCleanDisk (state g new) → Shows t (state g old) → Shows t (state g new)) → Doubts →
         IsCommit (seen (state g old) handed failed commits) (seen (state g store) handed' failed' commits') r
     commit_err (Ok x) is same counted others kept doubt = absurd (never is)
     commit_err (Err e) is same counted others kept doubt = record {
-      kept = λ t held. subst (λ conn. HasCleanDisk (state g conn) → Shows t (state g conn)) (sym same) (λ clean. kept t clean (held (omega (arith, doubt, clean))));
+      kept = λ t held. subst (λ conn. HasCleanDisk (state g conn) → Shows t (state g conn)) (sym same)
+          (λ clean. kept t clean (held (omega (arith, doubt, clean))));
       one = λ _. tt;
       doubt = subst (λ conn. disk_doubt (state g old).is_clean ≤ disk_doubt (state g conn).is_clean) (sym same) doubt;
       failed = counted;

@@ -1,5 +1,6 @@
 -- What the rows of interests, files and papers are where all were taken.
-use Rattle.std.proofs.Common.{◌≡◌, ◌⊎◌, inl, inr, ℕ, ℤ, suc, ◌≤◌, ◌<ℤ◌, Bool, true, Option, Some, IfSome, List, [], ◌∷◌, ◌++◌, map, drop, filter, length, refl, sym, ap, ap₂, subst, ◌∙◌, arith, append-nil, append_assoc, IsPermutation}
+use Rattle.std.proofs.Common.{◌≡◌, ◌⊎◌, inl, inr, ℕ, ℤ, suc, ◌≤◌, ◌<ℤ◌, Bool, true, Option, Some, IfSome, List, [], ◌∷◌, ◌++◌, map, drop, filter, length, refl}
+use Rattle.std.proofs.Common.{sym, ap, ap₂, subst, ◌∙◌, arith, append-nil, append_assoc, IsPermutation}
 use Rattle.std.specs.Prelude.{MatchBool, ⊤}
 use Rattle.std.specs.List.{AllByRecursion}
 use Rattle.std.specs.Ordering.{is_eq, int_cmp, MatchOrdering}
@@ -28,14 +29,17 @@ use Rattle.permit_sql_rows.specs.Schema.{office_schema, key_column, file_table, 
 use Rattle.permit_sql_rows.specs.Rows.{file_row, shown_file, shown_interest, shown_paper}
 use Rattle.permit_sql_rows.specs.Typed.{firsts, IsInterest, IsPaper}
 use Rattle.permit_sql.specs.Taken.{TookAll}
-use Rattle.permit_sql.specs.Found.{TookTable, TakesFile, TakesInterest, TakesPaper, TakesRowid, RefusesFile, RefusesInterest, RefusesPaper, RefusesRowid, IsLater, IsNumbered, IsRising, IsGoodFile, IsApart, counted_in, HasFiles, HasInterests, HasPapers}
+use Rattle.permit_sql.specs.Found.{TookTable, TakesFile, TakesInterest, TakesPaper, TakesRowid, RefusesFile, RefusesInterest, RefusesPaper, RefusesRowid}
+use Rattle.permit_sql.specs.Found.{IsLater, IsNumbered, IsRising, IsGoodFile, IsApart, counted_in, HasFiles, HasInterests, HasPapers}
 use Rattle.permit_sql.specs.declared.check.Interests.{Interests}
 use Rattle.permit_sql.specs.declared.check_files.Files.{Files}
 use Rattle.permit_sql.specs.declared.check_files.Papers.{Papers}
 use Rattle.permit_sql.specs.declared.check_files.Rowids.{Rowids}
 use Rattle.permit_sql.specs.declared.texts.TheConstants.{EACH_INTEREST, EACH_FILE, EACH_PAPER, EACH_ROWID}
 use Rattle.permit_sql.proofs.Wholes.{whole_shown}
-use Rattle.permit_sql.proofs.WholeMeanings.{each_interest_query, each_interest_is, each_interest_plain, each_interest_unlisted, each_file_query, each_file_is, each_file_plain, each_file_unlisted, each_paper_query, each_paper_is, each_paper_plain, each_paper_unlisted, each_rowid_query, each_rowid_is, each_rowid_plain, each_rowid_unlisted}
+use Rattle.permit_sql.proofs.WholeMeanings.{each_interest_query, each_interest_is, each_interest_plain, each_interest_unlisted, each_file_query, each_file_is}
+use Rattle.permit_sql.proofs.WholeMeanings.{each_file_plain, each_file_unlisted, each_paper_query, each_paper_is, each_paper_plain, each_paper_unlisted}
+use Rattle.permit_sql.proofs.WholeMeanings.{each_rowid_query, each_rowid_is, each_rowid_plain, each_rowid_unlisted}
 use Rattle.permit_sql.proofs.Shaped.{keyed_rows, paired_rows}
 use Rattle.permit_sql.proofs.Taking.{in_tree, map_itself}
 use Rattle.permit_sql.proofs.Checks.{with_null}
@@ -45,7 +49,8 @@ use Rattle.permit_sql.proofs.Checks.{with_null}
 abbrev pub interest_took : Interests → Row → Interests → Bool → Type 0
 interest_took a row b good = MatchBool good (TakesInterest row) (RefusesInterest row)
 
-took_interests : (rows : List Row) (a b : Interests) → TookAll interest_took rows a b → (xs : List Interest) × AllByRecursion IsInterest xs × (map (firsts 2 0) rows ≡ map shown_interest xs)
+took_interests : (rows : List Row) (a b : Interests) → TookAll interest_took rows a b → (xs : List Interest) × AllByRecursion IsInterest xs
+    × (map (firsts 2 0) rows ≡ map shown_interest xs)
 took_interests [] a b h = ([], tt, refl)
 took_interests (r ∷ rows) a b h = let more = took_interests rows h.0 b h.2 in (h.1.0 ∷ more.0, (h.1.1, more.1), ap₂ ◌∷◌ h.1.2 more.2)
 
@@ -57,7 +62,8 @@ long_more [] x = refl
 long_more (y ∷ xs) x = ap suc (long_more xs x)
 
 took_files : (rows : List Row) (a b : Files) → TookAll file_took rows a b
-    → (xs : List FileRow) × AllByRecursion IsGoodFile xs × IsNumbered (λ f. f.id) (suc (length a.counts.items)) xs × (b.counts.items ≡ a.counts.items ++ map (λ f. f.state.papers) xs) × (map (firsts 20 0) rows ≡ map shown_file xs)
+    → (xs : List FileRow) × AllByRecursion IsGoodFile xs × IsNumbered (λ f. f.id) (suc (length a.counts.items)) xs
+    × (b.counts.items ≡ a.counts.items ++ map (λ f. f.state.papers) xs) × (map (firsts 20 0) rows ≡ map shown_file xs)
 took_files [] a b h = ([], tt, tt, ap (λ (t : Files). t.counts.items) h ∙ sym (append-nil a.counts.items), refl)
 took_files (r ∷ rows) a b h =
     let it = h.1 in
@@ -66,23 +72,28 @@ took_files (r ∷ rows) a b h =
       it.0 ∷ more.0,
       (it.1, more.1),
       (it.3, subst (λ n. IsNumbered (λ (f : FileRow). f.id) (suc n) more.0) next more.2),
-      more.3 ∙ ap (λ l. l ++ map (λ (f : FileRow). f.state.papers) more.0) it.4 ∙ append_assoc a.counts.items (it.0.state.papers ∷ []) (map (λ (f : FileRow). f.state.papers) more.0),
+      more.3 ∙ ap (λ l. l ++ map (λ (f : FileRow). f.state.papers) more.0) it.4
+          ∙ append_assoc a.counts.items (it.0.state.papers ∷ []) (map (λ (f : FileRow). f.state.papers) more.0),
       ap₂ ◌∷◌ it.2 more.4,
     )
 
 abbrev pub paper_took : Papers → Row → Papers → Bool → Type 0
-paper_took a row b good = MatchBool good (TakesPaper a.counts.items a.file a.number row b.file b.number × (b.counts.items ≡ a.counts.items)) (RefusesPaper a.counts.items a.file a.number row b.lacks_memory)
+paper_took a row b good = MatchBool good (TakesPaper a.counts.items a.file a.number row b.file b.number × (b.counts.items ≡ a.counts.items))
+    (RefusesPaper a.counts.items a.file a.number row b.lacks_memory)
 
 took_papers : (rows : List Row) (a b : Papers) (counts : List ℕ) → a.counts.items ≡ counts → TookAll paper_took rows a b
-    → (xs : List Paper) × AllByRecursion IsPaper xs × IsRising a.file a.number xs × AllByRecursion (λ p. p.number ≤ counted_in counts p.file) xs × (map (firsts 9 0) rows ≡ map shown_paper xs)
+    → (xs : List Paper) × AllByRecursion IsPaper xs × IsRising a.file a.number xs × AllByRecursion (λ p. p.number ≤ counted_in counts p.file) xs
+    × (map (firsts 9 0) rows ≡ map shown_paper xs)
 took_papers [] a b counts has h = ([], tt, tt, tt, refl)
 took_papers (r ∷ rows) a b counts has h =
     let it = h.1.0 in
     let p = it.0 in
     let more = took_papers rows h.0 b counts (h.1.1 ∙ has) h.2 in
-    let up : IsLater a.file a.number p.file p.number = subst (λ n. IsLater a.file a.number p.file n) (sym it.4) (subst (λ f. IsLater a.file a.number f h.0.number) (sym it.3) it.5) in
+    let up : IsLater a.file a.number p.file p.number = subst (λ n. IsLater a.file a.number p.file n) (sym it.4)
+    (subst (λ f. IsLater a.file a.number f h.0.number) (sym it.3) it.5) in
     let on : IsRising p.file p.number more.0 = subst (λ n. IsRising p.file n more.0) (sym it.4) (subst (λ f. IsRising f h.0.number more.0) (sym it.3) more.2) in
-    let low : p.number ≤ counted_in counts p.file = subst (λ n. n ≤ counted_in counts p.file) (sym it.4) (subst (λ f. h.0.number ≤ counted_in counts f) (sym it.3) (subst (λ c. h.0.number ≤ counted_in c h.0.file) has it.6)) in
+    let low : p.number ≤ counted_in counts p.file = subst (λ n. n ≤ counted_in counts p.file) (sym it.4)
+    (subst (λ f. h.0.number ≤ counted_in counts f) (sym it.3) (subst (λ c. h.0.number ≤ counted_in c h.0.file) has it.6)) in
     (p ∷ more.0, (it.1, more.1), (up, on), (low, more.3), ap₂ ◌∷◌ it.2 more.4)
 
 abbrev pub rowid_took : Rowids → Row → Rowids → Bool → Type 0
@@ -141,35 +152,46 @@ abbrev file_columns : List Column
 file_columns = drop 1 file_table.columns
 
 module _ {S : Type 0} (g : Ghosts S) (old new : Held S) (schema : (state g old).now.schema ≡ office_schema) where
-  rule : (sound : Rattle.sqlite.specs.Effect.IsDatabase (state g old).now) (c : Rattle.sqlite_schema.specs.declared.schema.Constraint.Constraint) → KeepsRule c office_schema (state g old).now.trees
+  rule : (sound : Rattle.sqlite.specs.Effect.IsDatabase (state g old).now) (c : Rattle.sqlite_schema.specs.declared.schema.Constraint.Constraint) →
+      KeepsRule c office_schema (state g old).now.trees
   rule sound c = subst (λ s. KeepsRule c s (state g old).now.trees) schema (sound.obeys.rules c)
 
   pub interests_are : (a b : Interests) → TookTable interest_took g EACH_INTEREST.now old new a b → HasInterests ((state g old).now.trees 5)
   interests_are a b took =
       let was = state g took.1 in
       let now = (state g old).now in
-      let read = reads_as EACH_INTEREST.now [] was (state g new) office_schema (ap (λ (d : Database). d.schema) took.2 ∙ schema) _ each_interest_is each_interest_plain each_interest_unlisted took.0 took.4 in
+      let read = reads_as EACH_INTEREST.now [] was (state g new) office_schema
+      (ap (λ (d : Database). d.schema) took.2 ∙ schema) _ each_interest_is each_interest_plain each_interest_unlisted took.0 took.4 in
       let seen = whole_shown 5 each_interest_query.project each_interest_query.order (overlay was.now.trees []) took.0 (read.answer Null) in
       let here = subst (λ (d : Database). IsPermutation (map (λ r. firsts 2 1 r) (d.trees 5)) took.0) took.2 seen in
       let taken = took_interests took.0 a b took.5 in
       let typed : KeepsRule Datatype office_schema now.trees = rule took.3 Datatype in
       let there : KeepsRule NotNull office_schema now.trees = rule took.3 NotNull in
-      let whole = paired_rows office_schema now.trees interest_table interest_table.columns refl refl (refl, (refl, tt)) (omega arith) (now.trees 5) typed.1.1.1.0 there.1.1.1.0 in
-      record { all = taken.0; good = taken.1; here = in_tree 2 shown_interest shown_interest (λ r. firsts 2 1 r) (λ q. q) (drop 1) (λ r. refl) (λ p. refl) (now.trees 5) took.0 taken.0 here taken.2 whole }
+      let whole = paired_rows office_schema now.trees interest_table interest_table.columns refl refl (refl, (refl, tt)) (omega arith)
+      (now.trees 5) typed.1.1.1.0 there.1.1.1.0 in
+      record {
+        all = taken.0;
+        good = taken.1;
+        here = in_tree 2 shown_interest shown_interest (λ r. firsts 2 1 r) (λ q. q) (drop 1) (λ r. refl) (λ p. refl)
+            (now.trees 5) took.0 taken.0 here taken.2 whole;
+      }
 
   pub files_are : (a b : Files) → a.counts.items ≡ [] → TookTable file_took g EACH_FILE.now old new a b → HasFiles b.counts.items ((state g old).now.trees 7)
   files_are a b none took =
       let was = state g took.1 in
       let now = (state g old).now in
-      let read = reads_as EACH_FILE.now [] was (state g new) office_schema (ap (λ (d : Database). d.schema) took.2 ∙ schema) _ each_file_is each_file_plain each_file_unlisted took.0 took.4 in
+      let read = reads_as EACH_FILE.now [] was (state g new) office_schema
+      (ap (λ (d : Database). d.schema) took.2 ∙ schema) _ each_file_is each_file_plain each_file_unlisted took.0 took.4 in
       let seen = whole_shown 7 each_file_query.project each_file_query.order (overlay was.now.trees []) took.0 (read.answer Null) in
       let here = subst (λ (d : Database). IsPermutation (map (λ r. column r 0 ∷ firsts 19 2 r) (d.trees 7)) took.0) took.2 seen in
       let taken = took_files took.0 a b took.5 in
       let typed : KeepsRule Datatype office_schema now.trees = rule took.3 Datatype in
       let there : KeepsRule NotNull office_schema now.trees = rule took.3 NotNull in
       let whole = keyed_rows office_schema now.trees file_table key_column file_columns refl refl
-      (refl, (refl, (refl, (refl, (refl, (refl, (refl, (refl, (refl, (refl, (refl, (refl, (refl, (refl, (refl, (refl, (refl, (refl, (refl, tt))))))))))))))))))) (omega arith) (now.trees 7) typed.1.1.1.1.0 there.1.1.1.1.0 in
-      let inside = in_tree 20 shown_file file_row (λ r. column r 0 ∷ firsts 19 2 r) with_null (λ r. r) (λ r. refl) (λ p. refl) (now.trees 7) took.0 taken.0 here taken.4 whole in
+      (refl, (refl, (refl, (refl, (refl, (refl, (refl, (refl, (refl, (refl, (refl, (refl, (refl, (refl, (refl, (refl, (refl, (refl, (refl, tt)))))))))))))))))))
+      (omega arith) (now.trees 7) typed.1.1.1.1.0 there.1.1.1.1.0 in
+      let inside = in_tree 20 shown_file file_row (λ r. column r 0 ∷ firsts 19 2 r) with_null (λ r. r) (λ r. refl) (λ p. refl)
+      (now.trees 7) took.0 taken.0 here taken.4 whole in
       record {
         all = taken.0;
         good = taken.1;
@@ -178,17 +200,20 @@ module _ {S : Type 0} (g : Ghosts S) (old new : Held S) (schema : (state g old).
         here = subst (IsPermutation (map file_row taken.0)) (map_itself (now.trees 7)) inside;
       }
 
-  pub papers_are : (a b : Papers) → a.file ≡ 0 → a.number ≡ 0 → (counts : List ℕ) → a.counts.items ≡ counts → TookTable paper_took g EACH_PAPER.now old new a b → HasPapers counts ((state g old).now.trees 8)
+  pub papers_are : (a b : Papers) → a.file ≡ 0 → a.number ≡ 0 → (counts : List ℕ) → a.counts.items ≡ counts →
+      TookTable paper_took g EACH_PAPER.now old new a b → HasPapers counts ((state g old).now.trees 8)
   papers_are a b no_file no_number counts has took =
       let was = state g took.1 in
       let now = (state g old).now in
-      let read = reads_as EACH_PAPER.now [] was (state g new) office_schema (ap (λ (d : Database). d.schema) took.2 ∙ schema) _ each_paper_is each_paper_plain each_paper_unlisted took.0 took.4 in
+      let read = reads_as EACH_PAPER.now [] was (state g new) office_schema
+      (ap (λ (d : Database). d.schema) took.2 ∙ schema) _ each_paper_is each_paper_plain each_paper_unlisted took.0 took.4 in
       let seen = whole_shown 8 each_paper_query.project each_paper_query.order (overlay was.now.trees []) took.0 (read.answer Null) in
       let here = subst (λ (d : Database). IsPermutation (map (λ r. firsts 9 1 r) (d.trees 8)) took.0) took.2 seen in
       let taken = took_papers took.0 a b counts has took.5 in
       let typed : KeepsRule Datatype office_schema now.trees = rule took.3 Datatype in
       let there : KeepsRule NotNull office_schema now.trees = rule took.3 NotNull in
-      let whole = paired_rows office_schema now.trees paper_table paper_table.columns refl refl (refl, (refl, (refl, (refl, (refl, (refl, (refl, (refl, (refl, tt))))))))) (omega arith) (now.trees 8) typed.1.1.1.1.1.0 there.1.1.1.1.1.0 in
+      let whole = paired_rows office_schema now.trees paper_table paper_table.columns refl refl
+      (refl, (refl, (refl, (refl, (refl, (refl, (refl, (refl, (refl, tt))))))))) (omega arith) (now.trees 8) typed.1.1.1.1.1.0 there.1.1.1.1.1.0 in
       record {
         all = taken.0;
         good = taken.1;
@@ -201,11 +226,14 @@ module _ {S : Type 0} (g : Ghosts S) (old new : Held S) (schema : (state g old).
   rowids_are a b took = λ id.
       let was = state g took.1 in
       let now = (state g old).now in
-      let read = reads_as EACH_ROWID.now [] was (state g new) office_schema (ap (λ (d : Database). d.schema) took.2 ∙ schema) _ each_rowid_is each_rowid_plain each_rowid_unlisted took.0 took.4 in
+      let read = reads_as EACH_ROWID.now [] was (state g new) office_schema
+      (ap (λ (d : Database). d.schema) took.2 ∙ schema) _ each_rowid_is each_rowid_plain each_rowid_unlisted took.0 took.4 in
       let seen = whole_shown 8 each_rowid_query.project each_rowid_query.order (overlay was.now.trees []) took.0 (read.answer Null) in
       let here = subst (λ (d : Database). IsPermutation (map (λ r. column r 0 ∷ []) (d.trees 8)) took.0) took.2 seen in
       let once = once_above id a.last took.0 (took_rowids took.0 a b took.5) in
       let same = length_permutation _ _ (IsPermutation-filter (is_it id) _ _ here) in
-      let moved : filter (is_it id) (map (λ r. column r 0 ∷ []) (now.trees 8)) ≡ map (λ r. column r 0 ∷ []) (filter (has_rowid id) (now.trees 8)) = filter-map (is_it id) (λ r. column r 0 ∷ []) (now.trees 8) in
-      let long : length (filter (has_rowid id) (now.trees 8)) ≡ length (filter (is_it id) took.0) = sym (long_map (λ r. column r 0 ∷ []) (filter (has_rowid id) (now.trees 8))) ∙ ap length (sym moved) ∙ sym same in
+      let moved : filter (is_it id) (map (λ r. column r 0 ∷ []) (now.trees 8)) ≡ map (λ r. column r 0 ∷ []) (filter (has_rowid id) (now.trees 8)) =
+      filter-map (is_it id) (λ r. column r 0 ∷ []) (now.trees 8) in
+      let long : length (filter (has_rowid id) (now.trees 8)) ≡ length (filter (is_it id) took.0) =
+      sym (long_map (λ r. column r 0 ∷ []) (filter (has_rowid id) (now.trees 8))) ∙ ap length (sym moved) ∙ sym same in
       omega (arith, long, once)

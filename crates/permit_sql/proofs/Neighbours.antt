@@ -1,5 +1,6 @@
 -- Each value of a sorted answer and the next.
-use Rattle.std.proofs.Common.{◌≡◌, ℕ, suc, ◌+◌, ◌≤◌, Bool, true, false, cond, List, [], ◌∷◌, map, filter, length, refl, sym, ap, ap₂, subst, ◌∙◌, arith, IsSorted, Ordering, Less, Equal, Greater, is_lt, is_eq, true≢false}
+use Rattle.std.proofs.Common.{◌≡◌, ℕ, suc, ◌+◌, ◌≤◌, Bool, true, false, cond, List, [], ◌∷◌, map, filter, length, refl, sym, ap, ap₂, subst, ◌∙◌, arith}
+use Rattle.std.proofs.Common.{IsSorted, Ordering, Less, Equal, Greater, is_lt, is_eq, true≢false}
 use Rattle.std.specs.Prelude.{⊤}
 use Rattle.std.specs.List.{AllByRecursion}
 use Rattle.std.specs.Cmp.{IsTotalOrder}
@@ -51,20 +52,24 @@ module _ {Y : Type 0} (cmp : Y → Y → Ordering) (total : IsTotalOrder cmp) (I
       go Greater e = absurd (true≢false (sym (ap is_lt (total.antisymm y x ∙ ap ordering_reverse e)) ∙ sorted))
 
   -- values with no like are strictly below the next
-  pub climbs : (ys : List Y) → IsSorted cmp ys → ((a : Y) → IsKeyed a → length (filter (λ b. is_eq (cmp a b)) ys) ≤ 1) → Adjacent (λ a b. IsKeyed a → cmp a b ≡ Less) ys
+  pub climbs : (ys : List Y) → IsSorted cmp ys → ((a : Y) → IsKeyed a → length (filter (λ b. is_eq (cmp a b)) ys) ≤ 1) →
+      Adjacent (λ a b. IsKeyed a → cmp a b ≡ Less) ys
   climbs [] sorted once = tt
   climbs (x ∷ []) sorted once = (tt, tt)
   climbs (x ∷ y ∷ ys) sorted once =
-      let tail : IsSorted cmp (y ∷ ys) = λ k d p q. rw Rattle.std.proofs.Common.add-one (rw Rattle.std.proofs.Common.add-one at (sorted (suc k) d (omega arith) (omega arith))) in
+      let tail : IsSorted cmp (y ∷ ys) = λ k d p q. rw Rattle.std.proofs.Common.add-one
+      (rw Rattle.std.proofs.Common.add-one at (sorted (suc k) d (omega arith) (omega arith))) in
       let first : is_lt (cmp y x) ≡ false = sorted 0 x (omega arith) (omega arith) in
       (λ keyed. below x y ys first (once x keyed), climbs (y ∷ ys) tail (λ a keyed. fewer (λ b. is_eq (cmp a b)) x (y ∷ ys) (once a keyed)))
 
 -- a list each of whose values is of some form is of that form
-pub all_of_form : {X Y : Type 0} (out : X → Y) (P : X → Type 0) (ys : List Y) → AllByRecursion (λ y. (x : X) × (y ≡ out x) × P x) ys → (xs : List X) × (ys ≡ map out xs) × AllByRecursion P xs
+pub all_of_form : {X Y : Type 0} (out : X → Y) (P : X → Type 0) (ys : List Y) → AllByRecursion (λ y. (x : X) × (y ≡ out x) × P x) ys → (xs : List X)
+    × (ys ≡ map out xs) × AllByRecursion P xs
 all_of_form out P [] h = ([], refl, tt)
 all_of_form out P (y ∷ ys) h = let more = all_of_form out P ys h.1 in (h.0.0 ∷ more.0, ap₂ ◌∷◌ h.0.1 more.1, (h.0.2, more.2))
 
-pub all_in_form : {X Y : Type 0} (out : X → Y) (P : X → Type 0) (xs : List X) → AllByRecursion P xs → AllByRecursion (λ y. (x : X) × (y ≡ out x) × P x) (map out xs)
+pub all_in_form : {X Y : Type 0} (out : X → Y) (P : X → Type 0) (xs : List X) → AllByRecursion P xs →
+    AllByRecursion (λ y. (x : X) × (y ≡ out x) × P x) (map out xs)
 all_in_form out P [] h = tt
 all_in_form out P (x ∷ xs) h = ((x, refl, h.0), all_in_form out P xs h.1)
 

@@ -1,5 +1,6 @@
 -- The tables that the tested rows are.
-use Rattle.std.proofs.Common.{◌≡◌, inl, inr, ℕ, zero, suc, ◌-◌, ◌<◌, ◌≤◌, Bool, true, false, cond, eqb, List, [], ◌∷◌, map, filter, find, length, slice_get, Option, option_map, unwrap_or, refl, sym, ap, subst, ◌∙◌, arith}
+use Rattle.std.proofs.Common.{◌≡◌, inl, inr, ℕ, zero, suc, ◌-◌, ◌<◌, ◌≤◌, Bool, true, false, cond, eqb, List, [], ◌∷◌, map, filter, find, length, slice_get}
+use Rattle.std.proofs.Common.{Option, option_map, unwrap_or, refl, sym, ap, subst, ◌∙◌, arith}
 use Rattle.std.specs.List.{AllByRecursion}
 use Rattle.std.proofs.lemmas.Bool.{cases_Bool, eqb-true}
 use Rattle.std.proofs.lemmas.Bool.Decides.{nat_tests}
@@ -9,13 +10,15 @@ use Rattle.permit_model.specs.Tables.{Tables, Desk, FileRow, Paper}
 use Rattle.permit_sql_rows.specs.Schema.{office_schema}
 use Rattle.permit_sql_rows.specs.Kept.{IsNamed, AreKeyed, AreInTrees, papers_counted}
 use Rattle.permit_sql_rows.specs.Typed.{IsFile, IsPaper}
-use Rattle.permit_sql.specs.Found.{IsNumbered, IsLater, IsRising, IsGoodFile, IsApart, counted_in, HasDesk, HasParties, HasParcels, HasFiles, HasInterests, HasPapers, AreTyped, KeepsTyped}
+use Rattle.permit_sql.specs.Found.{IsNumbered, IsLater, IsRising, IsGoodFile, IsApart, counted_in, HasDesk, HasParties, HasParcels, HasFiles, HasInterests}
+use Rattle.permit_sql.specs.Found.{HasPapers, AreTyped, KeepsTyped}
 
 all_of : {A : Type 0} {P Q : A → Type 0} → ((x : A) → P x → Q x) → (xs : List A) → AllByRecursion P xs → AllByRecursion Q xs
 all_of f [] h = tt
 all_of f (x ∷ xs) h = (f x h.0, all_of f xs h.1)
 
-all_passing : {A : Type 0} {P Q : A → Type 0} (test : A → Bool) → ((x : A) → test x ≡ true → P x → Q x) → (xs : List A) → AllByRecursion P xs → AllByRecursion Q (filter test xs)
+all_passing : {A : Type 0} {P Q : A → Type 0} (test : A → Bool) → ((x : A) → test x ≡ true → P x → Q x) → (xs : List A) → AllByRecursion P xs →
+    AllByRecursion Q (filter test xs)
 all_passing test f [] h = tt
 all_passing {P = P} {Q = Q} test f (x ∷ xs) h = go (test x) refl (all_passing test f xs h.1)
   where
@@ -64,9 +67,11 @@ get_map f [] at = refl
 get_map f (x ∷ xs) zero = refl
 get_map f (x ∷ xs) (suc at) = get_map f xs at
 
-pub counts_of : (files : List FileRow) → IsNumbered (λ f. f.id) 1 files → (file : ℕ) → 1 ≤ file → papers_counted file files ≡ counted_in (map (λ f. f.state.papers) files) file
+pub counts_of : (files : List FileRow) → IsNumbered (λ f. f.id) 1 files → (file : ℕ) → 1 ≤ file →
+    papers_counted file files ≡ counted_in (map (λ f. f.state.papers) files) file
 counts_of files up file low =
-    ap (λ (o : Option FileRow). unwrap_or (option_map (λ f. f.state.papers) o) 0) (find_numbered (λ f. f.id) 1 files up file low) ∙ ap (λ o. unwrap_or o 0) (sym (get_map (λ f. f.state.papers) files (file - 1)))
+    ap (λ (o : Option FileRow). unwrap_or (option_map (λ f. f.state.papers) o) 0) (find_numbered (λ f. f.id) 1 files up file low)
+    ∙ ap (λ o. unwrap_or o 0) (sym (get_map (λ f. f.state.papers) files (file - 1)))
 
 -- ---- papers in rising order
 
@@ -92,13 +97,15 @@ rise_in f n (p ∷ ps) up file = go (eqb p.file file) refl (rise_in p.file p.num
     past here b same (inl h) = h.1
     past here b same (inr h) = absurd (let e = eqb-true b.file file same in omega (arith, e, here, h))
 
-    go : (t : Bool) → eqb p.file file ≡ t → IsAscending (λ a b. a.number < b.number) (filter (λ p. eqb p.file file) ps) → IsAscending (λ a b. a.number < b.number) (cond t (p ∷ filter (λ p. eqb p.file file) ps) (filter (λ p. eqb p.file file) ps))
+    go : (t : Bool) → eqb p.file file ≡ t → IsAscending (λ a b. a.number < b.number) (filter (λ p. eqb p.file file) ps) →
+        IsAscending (λ a b. a.number < b.number) (cond t (p ∷ filter (λ p. eqb p.file file) ps) (filter (λ p. eqb p.file file) ps))
     go true e more = (all_passing (λ (q : Paper). eqb q.file file) (past (eqb-true p.file file e)) ps (rising_from p.file p.number ps up.1), more)
     go false e more = more
 
 -- ---- all six together
 
-pub tables_found : (db : Database) (d : Desk) (counts : List ℕ) → db.schema ≡ office_schema → HasDesk d (db.trees 0) → HasParties d.parties (db.trees 1) → HasParcels d.parcels (db.trees 3) → HasInterests (db.trees 5)
+pub tables_found : (db : Database) (d : Desk) (counts : List ℕ) → db.schema ≡ office_schema → HasDesk d (db.trees 0) → HasParties d.parties (db.trees 1) →
+    HasParcels d.parcels (db.trees 3) → HasInterests (db.trees 5)
     → HasFiles counts (db.trees 7) → length counts ≡ d.files → HasPapers counts (db.trees 8) → IsApart (db.trees 8) → KeepsTyped db
 tables_found db d counts schema desk parties parcels interests files long papers apart =
     let t : Tables = record { desk = d; parties = parties.all; parcels = parcels.all; interests = interests.all; files = files.all; papers = papers.all } in
@@ -142,7 +149,8 @@ tables_found db d counts schema desk parties parcels interests files long papers
     long_map f [] = refl
     long_map f (x ∷ xs) = ap suc (long_map f xs)
 
-    both : (ps : List Paper) → AllByRecursion IsPaper ps → AllByRecursion (λ p. p.number ≤ counted_in counts p.file) ps → AllByRecursion (λ p. IsPaper p × (p.number ≤ counted_in counts p.file)) ps
+    both : (ps : List Paper) → AllByRecursion IsPaper ps → AllByRecursion (λ p. p.number ≤ counted_in counts p.file) ps →
+        AllByRecursion (λ p. IsPaper p × (p.number ≤ counted_in counts p.file)) ps
     both [] a b = tt
     both (p ∷ ps) a b = ((a.0, b.0), both ps a.1 b.1)
 
@@ -150,5 +158,6 @@ tables_found db d counts schema desk parties parcels interests files long papers
     counted_at file p same h =
         let here = eqb-true p.file file same in
         let some : 1 ≤ file = let e = h.0.file.0 in omega (arith, e, here) in
-        let is : papers_counted file files.all ≡ counted_in counts file = counts_of files.all files.numbered file some ∙ ap (λ c. counted_in c file) files.counted in
+        let is : papers_counted file files.all ≡ counted_in counts file = counts_of files.all files.numbered file some
+        ∙ ap (λ c. counted_in c file) files.counted in
         subst (λ n. p.number ≤ n) (ap (counted_in counts) here ∙ sym is) h.1

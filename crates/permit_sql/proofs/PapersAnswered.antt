@@ -1,5 +1,6 @@
 -- What the texts that read all interests, papers and rowids show of typed tables.
-use Rattle.std.proofs.Common.{◌≡◌, inl, inr, ℕ, ℤ, pos, ◌<◌, ◌≤◌, ◌<ℤ◌, Bool, true, false, cond, eqb, List, [], ◌∷◌, map, filter, drop, length, refl, sym, ap, ap₂, subst, ◌∙◌, arith, IsPermutation, Ordering, Less, Equal, Greater, is_eq, true≢false}
+use Rattle.std.proofs.Common.{◌≡◌, inl, inr, ℕ, ℤ, pos, ◌<◌, ◌≤◌, ◌<ℤ◌, Bool, true, false, cond, eqb, List, [], ◌∷◌, map, filter, drop, length, refl, sym, ap}
+use Rattle.std.proofs.Common.{ap₂, subst, ◌∙◌, arith, IsPermutation, Ordering, Less, Equal, Greater, is_eq, true≢false}
 use Rattle.std.specs.Prelude.{⊤}
 use Rattle.std.specs.List.{flat_map, AllByRecursion}
 use Rattle.std.specs.Ordering.{int_cmp, MatchOrdering, ordering_then, ordering_reverse}
@@ -34,7 +35,8 @@ use Rattle.permit_sql.proofs.Opened.{counts_of}
 use Rattle.permit_sql.proofs.Wholes.{whole_shown}
 use Rattle.permit_sql.proofs.Answered.{each_one}
 use Rattle.permit_sql.proofs.Neighbours.{First, Adjacent, one_passes, climbs, all_of_form, all_in_form, long_map}
-use Rattle.permit_sql.proofs.WholeMeanings.{each_interest_query, each_interest_is, each_interest_plain, each_interest_unlisted, each_paper_query, each_paper_is, each_paper_plain, each_paper_unlisted, each_rowid_query, each_rowid_is, each_rowid_plain, each_rowid_unlisted}
+use Rattle.permit_sql.proofs.WholeMeanings.{each_interest_query, each_interest_is, each_interest_plain, each_interest_unlisted, each_paper_query, each_paper_is}
+use Rattle.permit_sql.proofs.WholeMeanings.{each_paper_plain, each_paper_unlisted, each_rowid_query, each_rowid_is, each_rowid_plain, each_rowid_unlisted}
 
 -- ---- the order of papers
 
@@ -44,7 +46,8 @@ paper_out p = (int p.file ∷ int p.number ∷ [], shown_paper p)
 abbrev paper_cmp : Output → Output → Ordering
 paper_cmp = output_cmp each_paper_query
 
-pair_cmp_is : (a b : Paper) → paper_cmp (paper_out a) (paper_out b) ≡ ordering_then (int_cmp (pos a.file) (pos b.file)) (ordering_then (int_cmp (pos a.number) (pos b.number)) Equal)
+pair_cmp_is : (a b : Paper) → paper_cmp (paper_out a) (paper_out b) ≡ ordering_then (int_cmp (pos a.file) (pos b.file))
+    (ordering_then (int_cmp (pos a.number) (pos b.number)) Equal)
 pair_cmp_is a b =
     let file = value_cmp-Int (pos a.file) (pos b.file) in
     let number = value_cmp-Int (pos a.number) (pos b.number) in
@@ -56,7 +59,8 @@ below a b h = omega (arith, ints)
 pair_less : (f n g m : ℕ) → ordering_then (int_cmp (pos f) (pos g)) (ordering_then (int_cmp (pos n) (pos m)) Equal) ≡ Less → IsLater f n g m
 pair_less f n g m h = go (int_cmp (pos f) (pos g)) (int_cmp (pos n) (pos m)) (int_ranks (pos f) (pos g)) (int_ranks (pos n) (pos m)) h
   where
-    go : (a b : Ordering) → MatchOrdering a (pos f <ℤ pos g) (pos f ≡ pos g) (pos g <ℤ pos f) → MatchOrdering b (pos n <ℤ pos m) (pos n ≡ pos m) (pos m <ℤ pos n) → ordering_then a (ordering_then b Equal) ≡ Less → IsLater f n g m
+    go : (a b : Ordering) → MatchOrdering a (pos f <ℤ pos g) (pos f ≡ pos g) (pos g <ℤ pos f) →
+        MatchOrdering b (pos n <ℤ pos m) (pos n ≡ pos m) (pos m <ℤ pos n) → ordering_then a (ordering_then b Equal) ≡ Less → IsLater f n g m
     go Less b p q h = inr (below f g p)
     go Equal Less p q h = inl (let e : f ≡ g = cc in sym e, below n m q)
     go Equal Equal p q h = absurd cc
@@ -66,7 +70,8 @@ pair_less f n g m h = go (int_cmp (pos f) (pos g)) (int_cmp (pos n) (pos m)) (in
 pair_equal : (f n g m : ℕ) → is_eq (ordering_then (int_cmp (pos f) (pos g)) (ordering_then (int_cmp (pos n) (pos m)) Equal)) ≡ true → (f ≡ g) × (n ≡ m)
 pair_equal f n g m h = go (int_cmp (pos f) (pos g)) (int_cmp (pos n) (pos m)) (int_ranks (pos f) (pos g)) (int_ranks (pos n) (pos m)) h
   where
-    go : (a b : Ordering) → MatchOrdering a (pos f <ℤ pos g) (pos f ≡ pos g) (pos g <ℤ pos f) → MatchOrdering b (pos n <ℤ pos m) (pos n ≡ pos m) (pos m <ℤ pos n) → is_eq (ordering_then a (ordering_then b Equal)) ≡ true → (f ≡ g) × (n ≡ m)
+    go : (a b : Ordering) → MatchOrdering a (pos f <ℤ pos g) (pos f ≡ pos g) (pos g <ℤ pos f) →
+        MatchOrdering b (pos n <ℤ pos m) (pos n ≡ pos m) (pos m <ℤ pos n) → is_eq (ordering_then a (ordering_then b Equal)) ≡ true → (f ≡ g) × (n ≡ m)
     go Less b p q h = absurd (true≢false (sym h))
     go Equal Less p q h = absurd (true≢false (sym h))
     go Equal Equal p q h = (cc, cc)
@@ -78,14 +83,16 @@ abbrev RisesInFile : Paper → Paper → Type 0
 RisesInFile a b = eqb b.file a.file ≡ true → a.number < b.number
 
 -- what holds of each file's papers
-by_file : (P : ℕ → Paper → Type 0) (ps : List Paper) → ((file : ℕ) → AllByRecursion (P file) (filter (λ p. eqb p.file file) ps)) → AllByRecursion (λ p. P p.file p) ps
+by_file : (P : ℕ → Paper → Type 0) (ps : List Paper) → ((file : ℕ) → AllByRecursion (P file) (filter (λ p. eqb p.file file) ps)) →
+    AllByRecursion (λ p. P p.file p) ps
 by_file P [] h = tt
 by_file P (p ∷ ps) h =
     let same : eqb p.file p.file ≡ true = grind (arith, nat_tests) in
     let here : AllByRecursion (P p.file) (p ∷ filter (λ q. eqb q.file p.file) ps) = rw same at (h p.file) in
     (here.0, by_file P ps (λ file. rest file (eqb p.file file) (h file)))
   where
-    rest : (file : ℕ) (b : Bool) → AllByRecursion (P file) (cond b (p ∷ filter (λ q. eqb q.file file) ps) (filter (λ q. eqb q.file file) ps)) → AllByRecursion (P file) (filter (λ q. eqb q.file file) ps)
+    rest : (file : ℕ) (b : Bool) → AllByRecursion (P file) (cond b (p ∷ filter (λ q. eqb q.file file) ps) (filter (λ q. eqb q.file file) ps)) →
+        AllByRecursion (P file) (filter (λ q. eqb q.file file) ps)
     rest file true h = h.1
     rest file false h = h
 
@@ -96,7 +103,8 @@ rises_in_files (p ∷ ps) h =
     let here : IsAscending (λ a b. a.number < b.number) (p ∷ filter (λ q. eqb q.file p.file) ps) = rw same at (h p.file) in
     (all_kept (λ q. p.number < q.number) (λ q. eqb q.file p.file) ps here.0, rises_in_files ps (λ file. rest file (eqb p.file file) (h file)))
   where
-    rest : (file : ℕ) (b : Bool) → IsAscending (λ a b. a.number < b.number) (cond b (p ∷ filter (λ q. eqb q.file file) ps) (filter (λ q. eqb q.file file) ps)) → IsAscending (λ a b. a.number < b.number) (filter (λ q. eqb q.file file) ps)
+    rest : (file : ℕ) (b : Bool) → IsAscending (λ a b. a.number < b.number) (cond b (p ∷ filter (λ q. eqb q.file file) ps) (filter (λ q. eqb q.file file) ps)) →
+        IsAscending (λ a b. a.number < b.number) (filter (λ q. eqb q.file file) ps)
     rest file true h = h.1
     rest file false h = h
 
@@ -124,11 +132,13 @@ papers_apart z ps up =
       | inr other ↦ other
     ]
 
-rising_from : (file number : ℕ) (ps : List Paper) → First (λ p. IsLater file number p.file p.number) ps → Adjacent (λ a b. IsLater a.file a.number b.file b.number) ps → IsRising file number ps
+rising_from : (file number : ℕ) (ps : List Paper) → First (λ p. IsLater file number p.file p.number) ps →
+    Adjacent (λ a b. IsLater a.file a.number b.file b.number) ps → IsRising file number ps
 rising_from file number [] first next = tt
 rising_from file number (p ∷ ps) first next = (first, rising_from p.file p.number ps next.0 next.1)
 
-adjacent_papers : (ps : List Paper) → Adjacent (λ a b. (z : Paper) × (a ≡ paper_out z) → paper_cmp a b ≡ Less) (map paper_out ps) → Adjacent (λ a b. IsLater a.file a.number b.file b.number) ps
+adjacent_papers : (ps : List Paper) → Adjacent (λ a b. (z : Paper) × (a ≡ paper_out z) → paper_cmp a b ≡ Less) (map paper_out ps) →
+    Adjacent (λ a b. IsLater a.file a.number b.file b.number) ps
 adjacent_papers [] h = tt
 adjacent_papers (p ∷ []) h = (tt, tt)
 adjacent_papers (p ∷ q ∷ ps) h = (pair_less p.file p.number q.file q.number (sym (pair_cmp_is p q) ∙ h.0 (p, refl)), adjacent_papers (q ∷ ps) h.1)
@@ -175,11 +185,13 @@ same_rowid a l r is =
     ap is_eq (then-Equal (value_cmp (column a.0 0) (column r 0))) ∙ ap (λ v. is_eq (value_cmp v (column r 0))) first
     ∙ ap is_eq (value_cmp_total.antisymm (Int l) (column r 0)) ∙ turned (value_cmp (column r 0) (Int l))
 
-rowids_apart : (a : Output) (l : ℤ) (rows : List Row) → a.0 ≡ Int l ∷ [] → length (filter (has_rowid l) rows) ≤ 1 → length (filter (λ b. is_eq (rowid_cmp a b)) (map (λ r. value_out (column r 0)) rows)) ≤ 1
+rowids_apart : (a : Output) (l : ℤ) (rows : List Row) → a.0 ≡ Int l ∷ [] → length (filter (has_rowid l) rows) ≤ 1 →
+    length (filter (λ b. is_eq (rowid_cmp a b)) (map (λ r. value_out (column r 0)) rows)) ≤ 1
 rowids_apart a l rows is once =
     let moved = filter-map (λ b. is_eq (rowid_cmp a b)) (λ (r : Row). value_out (column r 0)) rows in
     let same = filter_same (λ r. is_eq (rowid_cmp a (value_out (column r 0)))) (has_rowid l) (λ r. same_rowid a l r is) rows in
-    let long = ap length moved ∙ long_map (λ (r : Row). value_out (column r 0)) (filter (λ r. is_eq (rowid_cmp a (value_out (column r 0)))) rows) ∙ ap length same in
+    let long = ap length moved ∙ long_map (λ (r : Row). value_out (column r 0)) (filter (λ r. is_eq (rowid_cmp a (value_out (column r 0)))) rows)
+    ∙ ap length same in
     subst (λ n. n ≤ 1) (sym long) once
 
 adjacent_values : (vs : List Value) → Adjacent (λ a b. IsWhole a → rowid_cmp a b ≡ Less) (map value_out vs) → Adjacent AreUp vs
@@ -199,47 +211,65 @@ module _ (old new : State) (t : Tables) (typed : AreTyped t) (k : Keeps t old.no
   pub interests_shown : Shown EACH_INTEREST.now [] old new rows → (xs : List Interest) × (rows ≡ map shown_interest xs) × AllByRecursion IsInterest xs
   interests_shown h =
       let read = reads_as EACH_INTEREST.now [] old new office_schema k.schema _ each_interest_is each_interest_plain each_interest_unlisted rows h in
-      let seen : IsPermutation (map (λ r. firsts 2 1 r) (old.now.trees 5)) rows = whole_shown 5 each_interest_query.project each_interest_query.order (overlay old.now.trees []) rows (read.answer Null) in
+      let seen : IsPermutation (map (λ r. firsts 2 1 r) (old.now.trees 5)) rows =
+      whole_shown 5 each_interest_query.project each_interest_query.order (overlay old.now.trees []) rows (read.answer Null) in
       let moved = IsPermutation-map (firsts 2 0) _ _ k.rows.interests in
-      let here : map (firsts 2 0) (map (drop 1) (old.now.trees 5)) ≡ map (λ r. firsts 2 1 r) (old.now.trees 5) = map-map (firsts 2 0) (drop 1) _ ∙ map_same _ _ cut _ in
+      let here : map (firsts 2 0) (map (drop 1) (old.now.trees 5)) ≡ map (λ r. firsts 2 1 r) (old.now.trees 5) = map-map (firsts 2 0) (drop 1) _
+      ∙ map_same _ _ cut _ in
       let same = IsPermutation-trans _ _ _ moved (subst (λ l. IsPermutation l rows) (sym here) seen) in
-      let plain : map (firsts 2 0) (map shown_interest t.interests) ≡ map shown_interest t.interests = map-map (firsts 2 0) shown_interest _ ∙ map_same _ _ (λ i. refl) _ in
+      let plain : map (firsts 2 0) (map shown_interest t.interests) ≡ map shown_interest t.interests = map-map (firsts 2 0) shown_interest _
+      ∙ map_same _ _ (λ i. refl) _ in
       all_of_form shown_interest IsInterest rows
-      (all-permutation _ (map shown_interest t.interests) rows (subst (λ l. IsPermutation l rows) plain same) (all_in_form shown_interest IsInterest t.interests typed.interests))
+      (all-permutation _ (map shown_interest t.interests) rows (subst (λ l. IsPermutation l rows) plain same)
+      (all_in_form shown_interest IsInterest t.interests typed.interests))
     where
       cut : (r : Row) → firsts 2 0 (drop 1 r) ≡ firsts 2 1 r
       cut [] = refl
       cut (x ∷ r) = refl
 
   pub papers_shown : Shown EACH_PAPER.now [] old new rows → let counts = map (λ f. f.state.papers) t.files in
-      (xs : List Paper) × (rows ≡ map shown_paper xs) × AllByRecursion IsPaper xs × IsRising 0 0 xs × AllByRecursion (λ p. p.number ≤ counted_in counts p.file) xs
+      (xs : List Paper) × (rows ≡ map shown_paper xs) × AllByRecursion IsPaper xs × IsRising 0 0 xs
+      × AllByRecursion (λ p. p.number ≤ counted_in counts p.file) xs
   papers_shown h =
       let q = each_paper_query in
       let db = overlay old.now.trees [] in
       let counts = map (λ (f : Rattle.permit_model.specs.Tables.FileRow). f.state.papers) t.files in
       let read = reads_as EACH_PAPER.now [] old new office_schema k.schema _ each_paper_is each_paper_plain each_paper_unlisted rows h in
       let got = answers q.from q.filter q.project q.order db [] rows (read.answer Null) in
-      let over : map (output q) (flat_map (λ r. ([] ∷ r ∷ []) ∷ []) (old.now.trees 8)) ≡ map (λ c. output q ([] ∷ (Null ∷ c) ∷ [])) (map (drop 1) (old.now.trees 8)) =
-      each_one q (old.now.trees 8) ∙ map_same _ (λ r. output q ([] ∷ (Null ∷ drop 1 r) ∷ [])) cut (old.now.trees 8) ∙ sym (map-map (λ c. output q ([] ∷ (Null ∷ c) ∷ [])) (drop 1) (old.now.trees 8)) in
+      let over : map (output q) (flat_map (λ r. ([] ∷ r ∷ []) ∷ []) (old.now.trees 8))
+      ≡ map (λ c. output q ([] ∷ (Null ∷ c) ∷ [])) (map (drop 1) (old.now.trees 8)) =
+      each_one q (old.now.trees 8) ∙ map_same _ (λ r. output q ([] ∷ (Null ∷ drop 1 r) ∷ [])) cut (old.now.trees 8)
+      ∙ sym (map-map (λ c. output q ([] ∷ (Null ∷ c) ∷ [])) (drop 1) (old.now.trees 8)) in
       let moved = IsPermutation-map (λ c. output q ([] ∷ (Null ∷ c) ∷ [])) _ _ k.rows.papers in
-      let plain : map (λ c. output q ([] ∷ (Null ∷ c) ∷ [])) (map shown_paper t.papers) ≡ map paper_out t.papers = map-map (λ c. output q ([] ∷ (Null ∷ c) ∷ [])) shown_paper _ ∙ map_same _ paper_out (λ p. refl) _ in
+      let plain : map (λ c. output q ([] ∷ (Null ∷ c) ∷ [])) (map shown_paper t.papers) ≡ map paper_out t.papers =
+      map-map (λ c. output q ([] ∷ (Null ∷ c) ∷ [])) shown_paper _ ∙ map_same _ paper_out (λ p. refl) _ in
       let there = subst (λ l. IsPermutation l (map (λ c. output q ([] ∷ (Null ∷ c) ∷ [])) (map (drop 1) (old.now.trees 8)))) plain moved in
       let same : IsPermutation (map paper_out t.papers) got.0 = IsPermutation-trans _ _ _ there (subst (λ l. IsPermutation l got.0) over got.1) in
       let up = rises_in_files t.papers k.keyed.papers in
-      let low = by_file (λ file p. 1 ≤ file → p.number ≤ counted_in counts file) t.papers (λ file. counted file (filter (λ p. eqb p.file file) t.papers) (k.keyed.counted file)) in
+      let low = by_file (λ file p. 1 ≤ file → p.number ≤ counted_in counts file) t.papers
+      (λ file. counted file (filter (λ p. eqb p.file file) t.papers) (k.keyed.counted file)) in
       let fit = joined counts t.papers typed.papers low in
-      let form = all_of_form paper_out (IsFit counts) got.0 (all-permutation _ (map paper_out t.papers) got.0 same (all_in_form paper_out (IsFit counts) t.papers fit)) in
+      let form = all_of_form paper_out (IsFit counts) got.0 (all-permutation _ (map paper_out t.papers) got.0 same
+      (all_in_form paper_out (IsFit counts) t.papers fit)) in
       let xs = form.0 in
-      let apart = λ (a : Output) (keyed : (z : Paper) × (a ≡ paper_out z)). no_more (λ b. is_eq (paper_cmp a b)) _ got.0 same (subst (λ o. length (filter (λ b. is_eq (paper_cmp o b)) (map paper_out t.papers)) ≤ 1) (sym keyed.1) (papers_apart keyed.0 t.papers up)) in
-      let next = adjacent_papers xs (subst (Adjacent (λ a b. (z : Paper) × (a ≡ paper_out z) → paper_cmp a b ≡ Less)) form.1 (climbs paper_cmp (output_cmp_total q) (λ a. (z : Paper) × (a ≡ paper_out z)) got.0 got.2 apart)) in
-      let good = parts counts xs form.2 in
-      (xs, got.3 ∙ ap (map (λ (o : Output). o.1)) form.1 ∙ map-map (λ (o : Output). o.1) paper_out xs, good.0, rising_from 0 0 xs (fit_first counts xs form.2) next, good.1)
+      let apart = λ (a : Output) (keyed : (z : Paper) × (a ≡ paper_out z)). no_more (λ b. is_eq (paper_cmp a b)) _ got.0 same
+      (subst (λ o. length (filter (λ b. is_eq (paper_cmp o b)) (map paper_out t.papers)) ≤ 1) (sym keyed.1) (papers_apart keyed.0 t.papers up)) in
+      let next = adjacent_papers xs (subst (Adjacent (λ a b. (z : Paper) × (a ≡ paper_out z) → paper_cmp a b ≡ Less)) form.1
+      (climbs paper_cmp (output_cmp_total q) (λ a. (z : Paper) × (a ≡ paper_out z)) got.0 got.2 apart)) in
+      let good = parts counts xs form.2 in (
+        xs,
+        got.3 ∙ ap (map (λ (o : Output). o.1)) form.1 ∙ map-map (λ (o : Output). o.1) paper_out xs,
+        good.0,
+        rising_from 0 0 xs (fit_first counts xs form.2) next,
+        good.1,
+      )
     where
       cut : (r : Row) → output each_paper_query ([] ∷ r ∷ []) ≡ output each_paper_query ([] ∷ (Null ∷ drop 1 r) ∷ [])
       cut [] = refl
       cut (x ∷ r) = refl
 
-      counted : (file : ℕ) (ps : List Paper) → AllByRecursion (λ p. p.number ≤ papers_counted file t.files) ps → AllByRecursion (λ p. 1 ≤ file → p.number ≤ counted_in (map (λ f. f.state.papers) t.files) file) ps
+      counted : (file : ℕ) (ps : List Paper) → AllByRecursion (λ p. p.number ≤ papers_counted file t.files) ps →
+          AllByRecursion (λ p. 1 ≤ file → p.number ≤ counted_in (map (λ f. f.state.papers) t.files) file) ps
       counted file [] h = tt
       counted file (p ∷ ps) h = (λ some. subst (λ n. p.number ≤ n) (counts_of t.files typed.file_numbers file some) h.0, counted file ps h.1)
 
@@ -248,10 +278,13 @@ module _ (old new : State) (t : Tables) (typed : AreTyped t) (k : Keeps t old.no
       let q = each_rowid_query in
       let read = reads_as EACH_ROWID.now [] old new office_schema k.schema _ each_rowid_is each_rowid_plain each_rowid_unlisted rows h in
       let got = answers q.from q.filter q.project q.order (overlay old.now.trees []) [] rows (read.answer Null) in
-      let same : IsPermutation (map (λ r. value_out (column r 0)) (old.now.trees 8)) got.0 = subst (λ l. IsPermutation l got.0) (each_one q (old.now.trees 8)) got.1 in
+      let same : IsPermutation (map (λ r. value_out (column r 0)) (old.now.trees 8)) got.0 =
+      subst (λ l. IsPermutation l got.0) (each_one q (old.now.trees 8)) got.1 in
       let form = all_of_form value_out (λ v. ⊤) got.0 (all-permutation _ _ got.0 same (outs (old.now.trees 8))) in
-      let apart = λ (a : Output) (whole : IsWhole a). no_more (λ b. is_eq (rowid_cmp a b)) _ got.0 same (rowids_apart a whole.0 (old.now.trees 8) whole.1 (k.rows.apart whole.0)) in
-      let next = adjacent_values form.0 (subst (Adjacent (λ a b. IsWhole a → rowid_cmp a b ≡ Less)) form.1 (climbs rowid_cmp (output_cmp_total q) IsWhole got.0 got.2 apart)) in
+      let apart = λ (a : Output) (whole : IsWhole a). no_more (λ b. is_eq (rowid_cmp a b)) _ got.0 same
+      (rowids_apart a whole.0 (old.now.trees 8) whole.1 (k.rows.apart whole.0)) in
+      let next = adjacent_values form.0 (subst (Adjacent (λ a b. IsWhole a → rowid_cmp a b ≡ Less)) form.1
+      (climbs rowid_cmp (output_cmp_total q) IsWhole got.0 got.2 apart)) in
       (form.0, got.3 ∙ ap (map (λ (o : Output). o.1)) form.1 ∙ map-map (λ (o : Output). o.1) value_out form.0, next)
     where
       outs : (rs : List Row) → AllByRecursion (λ o. (v : Value) × (o ≡ value_out v) × ⊤) (map (λ r. value_out (column r 0)) rs)

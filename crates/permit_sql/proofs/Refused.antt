@@ -1,5 +1,6 @@
 -- No row of typed tables is refused but for want of memory.
-use Rattle.std.proofs.Common.{◌≡◌, ◌⊎◌, inl, inr, ℕ, ℤ, suc, ◌+◌, ◌≤◌, Bool, true, false, Some, None, List, [], ◌∷◌, ◌++◌, map, length, refl, sym, ap, subst, ◌∙◌, arith, append-nil, append_assoc, true≢false}
+use Rattle.std.proofs.Common.{◌≡◌, ◌⊎◌, inl, inr, ℕ, ℤ, suc, ◌+◌, ◌≤◌, Bool, true, false, Some, None, List, [], ◌∷◌, ◌++◌, map, length, refl, sym, ap, subst}
+use Rattle.std.proofs.Common.{◌∙◌, arith, append-nil, append_assoc, true≢false}
 use Rattle.std.specs.Prelude.{IsTrue}
 use Rattle.std.specs.List.{AllByRecursion}
 use Rattle.std.specs.Int.Signed.{clash_ℤ}
@@ -48,7 +49,8 @@ module _ {X T : Type 0} (shown : X → Row) (took : T → Row → T → Bool →
   took_on (x ∷ xs) a b fits h = took_on xs h.0 b (next a h.0 x xs fits h.1) h.2
 
   module _ (stop : (a b : T) (x : X) (xs : List X) → Fits a (x ∷ xs) → took a (shown x) b false → IsExcused b) where
-    pub stopped_in : (xs : List X) (given : List Row) (last : Row) (rest : List Row) (a mid b : T) → map shown xs ≡ given ++ last ∷ rest → Fits a xs → TookAll took given a mid → took mid last b false → IsExcused b
+    pub stopped_in : (xs : List X) (given : List Row) (last : Row) (rest : List Row) (a mid b : T) → map shown xs ≡ given ++ last ∷ rest → Fits a xs →
+        TookAll took given a mid → took mid last b false → IsExcused b
     stopped_in [] [] last rest a mid b is fits h end = absurd cc
     stopped_in [] (r ∷ given) last rest a mid b is fits h end = absurd cc
     stopped_in (x ∷ xs) [] last rest a mid b is fits h end =
@@ -64,20 +66,25 @@ module _ {X T : Type 0} (shown : X → Row) (took : T → Row → T → Bool →
 stays : (s : State) → IsTrue s.is_open → IsUnchanged s s
 stays s up = (record { was_open = up; is_open = up; now_is = refl; committed_is = refl; mode = refl }, record { changes = refl; last_rowid = refl }, refl)
 
-whole_answer : (sql : List ℕ) (s : State) (q : Query) → s.now.schema ≡ office_schema → command_of (understood office_schema sql) ≡ Select (alone q) (names_of (command_of (understood office_schema sql))) → IsTrue s.is_open → (rows : List Row) → Begins sql [] s rows
+whole_answer : (sql : List ℕ) (s : State) (q : Query) → s.now.schema ≡ office_schema →
+    command_of (understood office_schema sql) ≡ Select (alone q) (names_of (command_of (understood office_schema sql))) → IsTrue s.is_open → (rows : List Row) →
+    Begins sql [] s rows
     → (rest : List Row) × Shown sql [] s s (rows ++ rest)
 whole_answer sql s q schema means up rows h =
-    begins_shown sql [] s s rows h (stays s up) (λ c db it source. subst (λ k. EndsIn k db (timed [] c.formats it.now)) (sym (ap command_of (sym it.is ∙ ap (λ x. understood x sql) schema) ∙ means)) tt)
+    begins_shown sql [] s s rows h (stays s up) (λ c db it source. subst (λ k. EndsIn k db (timed [] c.formats it.now))
+    (sym (ap command_of (sym it.is ∙ ap (λ x. understood x sql) schema) ∙ means)) tt)
 
 append_more : (given : List Row) (last : Row) (rest : List Row) → (given ++ last ∷ []) ++ rest ≡ given ++ last ∷ rest
 append_more given last rest = append_assoc given (last ∷ []) rest
 
 -- where the whole answer is that of some values, a taker took them all or is excused
-module _ {S X T : Type 0} (g : Ghosts S) (old new : Held S) (t : Tables) (k : Keeps t (state g old).now) (sql : List ℕ) (q : Query) (means : command_of (understood office_schema sql) ≡ Select (alone q) (names_of (command_of (understood office_schema sql))))
+module _ {S X T : Type 0} (g : Ghosts S) (old new : Held S) (t : Tables) (k : Keeps t (state g old).now) (sql : List ℕ) (q : Query)
+    (means : command_of (understood office_schema sql) ≡ Select (alone q) (names_of (command_of (understood office_schema sql))))
     (shown : X → Row) (took : T → Row → T → Bool → Type 0) (Fits : T → List X → Type 0) (IsExcused : T → Type 0)
     (next : (a b : T) (x : X) (xs : List X) → Fits a (x ∷ xs) → took a (shown x) b true → Fits b xs)
     (stop : (a b : T) (x : X) (xs : List X) → Fits a (x ∷ xs) → took a (shown x) b false → IsExcused b) where
-  pub all_or_excused : (a b : T) (all : Bool) → ((was late : State) → Keeps t was.now → (rows : List Row) → Shown sql [] was late rows → (xs : List X) × (rows ≡ map shown xs) × Fits a xs)
+  pub all_or_excused : (a b : T) (all : Bool) → ((was late : State) → Keeps t was.now → (rows : List Row) → Shown sql [] was late rows → (xs : List X)
+      × (rows ≡ map shown xs) × Fits a xs)
       → TookRows took g sql [] old new a b all → (IsTrue all × Fits b []) ⊎ IsExcused b
   all_or_excused a b true answer h =
       let kept = subst (λ (db : Database). Keeps t db) (sym h.2.0.now_is) k in
@@ -102,9 +109,11 @@ took_with (inr lacks) none = absurd (true≢false (sym lacks ∙ none))
 -- ---- the six tables
 
 module _ {S : Type 0} (g : Ghosts S) (old new : Held S) (t : Tables) (typed : AreTyped t) (k : Keeps t (state g old).now) where
-  pub parties_taken : (a b : Parties) (all : Bool) → a.count ≡ 0 → TookRows party_took g EACH_PARTY.now [] old new a b all → (IsTrue all × (b.count ≡ t.desk.parties)) ⊎ IsTrue b.lacks_memory
+  pub parties_taken : (a b : Parties) (all : Bool) → a.count ≡ 0 → TookRows party_took g EACH_PARTY.now [] old new a b all →
+      (IsTrue all × (b.count ≡ t.desk.parties)) ⊎ IsTrue b.lacks_memory
   parties_taken a b all none h =
-      after (all_or_excused g old new t k EACH_PARTY.now _ each_party_is shown_party party_took Fits (λ d. IsTrue d.lacks_memory) next (λ a b p ps fits refuses. refuses p fits.0.0 refl fits.1.0) a b all answer h)
+      after (all_or_excused g old new t k EACH_PARTY.now _ each_party_is shown_party party_took Fits (λ d. IsTrue d.lacks_memory) next
+      (λ a b p ps fits refuses. refuses p fits.0.0 refl fits.1.0) a b all answer h)
     where
       Fits : Parties → List Party → Type 0
       Fits d ps = AllByRecursion IsParty ps × IsNumbered (λ p. p.id) (suc d.count) ps × (d.count + length ps ≡ t.desk.parties)
@@ -115,18 +124,28 @@ module _ {S : Type 0} (g : Ghosts S) (old new : Held S) (t : Tables) (typed : Ar
           let total : a.count + suc (length ps) ≡ t.desk.parties = fits.2 in
           (fits.0.1, subst (λ n. IsNumbered (λ (p : Party). p.id) (suc n) ps) (sym counted) fits.1.1, omega (arith, counted, total))
 
-      answer : (was late : State) → Keeps t was.now → (rows : List Row) → Shown EACH_PARTY.now [] was late rows → (ps : List Party) × (rows ≡ map shown_party ps) × Fits a ps
+      answer : (was late : State) → Keeps t was.now → (rows : List Row) → Shown EACH_PARTY.now [] was late rows → (ps : List Party)
+          × (rows ≡ map shown_party ps) × Fits a ps
       answer was late kept rows h =
-          let count = typed.party_count in
-          (t.parties, parties_shown was late t typed kept rows h, (typed.parties, subst (λ n. IsNumbered (λ (p : Party). p.id) (suc n) t.parties) (sym none) typed.party_numbers, omega (arith, none, count)))
+          let count = typed.party_count in (
+            t.parties,
+            parties_shown was late t typed kept rows h,
+            (
+              typed.parties,
+              subst (λ n. IsNumbered (λ (p : Party). p.id) (suc n) t.parties) (sym none) typed.party_numbers,
+              omega (arith, none, count),
+            ),
+          )
 
       after : (IsTrue all × Fits b []) ⊎ IsTrue b.lacks_memory → (IsTrue all × (b.count ≡ t.desk.parties)) ⊎ IsTrue b.lacks_memory
       after (inl it) = let e : b.count + 0 ≡ t.desk.parties = it.1.2 in inl (it.0, omega (arith, e))
       after (inr lacks) = inr lacks
 
-  pub parcels_taken : (a b : Parcels) (all : Bool) → a.count ≡ 0 → TookRows parcel_took g EACH_PARCEL.now [] old new a b all → (IsTrue all × (b.count ≡ t.desk.parcels)) ⊎ IsTrue b.lacks_memory
+  pub parcels_taken : (a b : Parcels) (all : Bool) → a.count ≡ 0 → TookRows parcel_took g EACH_PARCEL.now [] old new a b all →
+      (IsTrue all × (b.count ≡ t.desk.parcels)) ⊎ IsTrue b.lacks_memory
   parcels_taken a b all none h =
-      after (all_or_excused g old new t k EACH_PARCEL.now _ each_parcel_is shown_parcel parcel_took Fits (λ d. IsTrue d.lacks_memory) next (λ a b p ps fits refuses. refuses p fits.0.0 refl fits.1.0) a b all answer h)
+      after (all_or_excused g old new t k EACH_PARCEL.now _ each_parcel_is shown_parcel parcel_took Fits (λ d. IsTrue d.lacks_memory) next
+      (λ a b p ps fits refuses. refuses p fits.0.0 refl fits.1.0) a b all answer h)
     where
       Fits : Parcels → List Parcel → Type 0
       Fits d ps = AllByRecursion IsParcel ps × IsNumbered (λ p. p.id) (suc d.count) ps × (d.count + length ps ≡ t.desk.parcels)
@@ -137,10 +156,18 @@ module _ {S : Type 0} (g : Ghosts S) (old new : Held S) (t : Tables) (typed : Ar
           let total : a.count + suc (length ps) ≡ t.desk.parcels = fits.2 in
           (fits.0.1, subst (λ n. IsNumbered (λ (p : Parcel). p.id) (suc n) ps) (sym counted) fits.1.1, omega (arith, counted, total))
 
-      answer : (was late : State) → Keeps t was.now → (rows : List Row) → Shown EACH_PARCEL.now [] was late rows → (ps : List Parcel) × (rows ≡ map shown_parcel ps) × Fits a ps
+      answer : (was late : State) → Keeps t was.now → (rows : List Row) → Shown EACH_PARCEL.now [] was late rows → (ps : List Parcel)
+          × (rows ≡ map shown_parcel ps) × Fits a ps
       answer was late kept rows h =
-          let count = typed.parcel_count in
-          (t.parcels, parcels_shown was late t typed kept rows h, (typed.parcels, subst (λ n. IsNumbered (λ (p : Parcel). p.id) (suc n) t.parcels) (sym none) typed.parcel_numbers, omega (arith, none, count)))
+          let count = typed.parcel_count in (
+            t.parcels,
+            parcels_shown was late t typed kept rows h,
+            (
+              typed.parcels,
+              subst (λ n. IsNumbered (λ (p : Parcel). p.id) (suc n) t.parcels) (sym none) typed.parcel_numbers,
+              omega (arith, none, count),
+            ),
+          )
 
       after : (IsTrue all × Fits b []) ⊎ IsTrue b.lacks_memory → (IsTrue all × (b.count ≡ t.desk.parcels)) ⊎ IsTrue b.lacks_memory
       after (inl it) = let e : b.count + 0 ≡ t.desk.parcels = it.1.2 in inl (it.0, omega (arith, e))
@@ -148,7 +175,8 @@ module _ {S : Type 0} (g : Ghosts S) (old new : Held S) (t : Tables) (typed : Ar
 
   pub interests_taken : (a b : Interests) (all : Bool) → TookRows interest_took g EACH_INTEREST.now [] old new a b all → IsTrue all
   interests_taken a b all h =
-      after (all_or_excused g old new t k EACH_INTEREST.now _ each_interest_is shown_interest interest_took (λ d is. AllByRecursion IsInterest is) (λ d. ⊥) (λ a b i is fits h. fits.1) (λ a b i is fits refuses. refuses i fits.0 refl) a b all
+      after (all_or_excused g old new t k EACH_INTEREST.now _ each_interest_is shown_interest interest_took (λ d is. AllByRecursion IsInterest is) (λ d. ⊥)
+      (λ a b i is fits h. fits.1) (λ a b i is fits refuses. refuses i fits.0 refl) a b all
       (λ was late kept rows h. interests_shown was late t typed kept rows h) h)
     where
       after : (IsTrue all × AllByRecursion IsInterest []) ⊎ ⊥ → IsTrue all
@@ -158,9 +186,11 @@ module _ {S : Type 0} (g : Ghosts S) (old new : Held S) (t : Tables) (typed : Ar
   abbrev papers_of : List FileRow → List ℕ
   papers_of = map (λ f. f.state.papers)
 
-  pub files_taken : (a b : Files) (all : Bool) → a.counts.items ≡ [] → TookRows file_took g EACH_FILE.now [] old new a b all → (IsTrue all × (b.counts.items ≡ papers_of t.files)) ⊎ IsTrue b.lacks_memory
+  pub files_taken : (a b : Files) (all : Bool) → a.counts.items ≡ [] → TookRows file_took g EACH_FILE.now [] old new a b all →
+      (IsTrue all × (b.counts.items ≡ papers_of t.files)) ⊎ IsTrue b.lacks_memory
   files_taken a b all none h =
-      after (all_or_excused g old new t k EACH_FILE.now _ each_file_is shown_file file_took Fits (λ d. IsTrue d.lacks_memory) next (λ a b f fs fits refuses. refuses f fits.0.0 refl fits.1.0) a b all answer h)
+      after (all_or_excused g old new t k EACH_FILE.now _ each_file_is shown_file file_took Fits (λ d. IsTrue d.lacks_memory) next
+      (λ a b f fs fits refuses. refuses f fits.0.0 refl fits.1.0) a b all answer h)
     where
       Fits : Files → List FileRow → Type 0
       Fits d fs = AllByRecursion IsGoodFile fs × IsNumbered (λ f. f.id) (suc (length d.counts.items)) fs × (d.counts.items ++ papers_of fs ≡ papers_of t.files)
@@ -184,23 +214,30 @@ module _ {S : Type 0} (g : Ghosts S) (old new : Held S) (t : Tables) (typed : Ar
       good [] p q = tt
       good (f ∷ fs) p q = ((p.0, q.0), good fs p.1 q.1)
 
-      answer : (was late : State) → Keeps t was.now → (rows : List Row) → Shown EACH_FILE.now [] was late rows → (fs : List FileRow) × (rows ≡ map shown_file fs) × Fits a fs
+      answer : (was late : State) → Keeps t was.now → (rows : List Row) → Shown EACH_FILE.now [] was late rows → (fs : List FileRow)
+          × (rows ≡ map shown_file fs) × Fits a fs
       answer was late kept rows h = (
         t.files,
         files_shown was late t typed kept rows h,
-        (good t.files typed.files k.keyed.named, subst (λ l. IsNumbered (λ (f : FileRow). f.id) (suc (length l)) t.files) (sym none) typed.file_numbers, ap (λ l. l ++ papers_of t.files) none),
+        (
+          good t.files typed.files k.keyed.named,
+          subst (λ l. IsNumbered (λ (f : FileRow). f.id) (suc (length l)) t.files) (sym none) typed.file_numbers,
+          ap (λ l. l ++ papers_of t.files) none,
+        ),
       )
 
       after : (IsTrue all × Fits b []) ⊎ IsTrue b.lacks_memory → (IsTrue all × (b.counts.items ≡ papers_of t.files)) ⊎ IsTrue b.lacks_memory
       after (inl it) = inl (it.0, sym (append-nil b.counts.items) ∙ it.1.2)
       after (inr lacks) = inr lacks
 
-  pub papers_taken : (a b : Papers) (all : Bool) → a.file ≡ 0 → a.number ≡ 0 → a.counts.items ≡ papers_of t.files → TookRows paper_took g EACH_PAPER.now [] old new a b all → IsTrue all ⊎ IsTrue b.lacks_memory
+  pub papers_taken : (a b : Papers) (all : Bool) → a.file ≡ 0 → a.number ≡ 0 → a.counts.items ≡ papers_of t.files →
+      TookRows paper_took g EACH_PAPER.now [] old new a b all → IsTrue all ⊎ IsTrue b.lacks_memory
   papers_taken a b all no_file no_number has h =
       after (all_or_excused g old new t k EACH_PAPER.now _ each_paper_is shown_paper paper_took Fits (λ d. IsTrue d.lacks_memory) next stop a b all answer h)
     where
       Fits : Papers → List Paper → Type 0
-      Fits d ps = AllByRecursion IsPaper ps × IsRising d.file d.number ps × AllByRecursion (λ p. p.number ≤ counted_in (papers_of t.files) p.file) ps × (d.counts.items ≡ papers_of t.files)
+      Fits d ps = AllByRecursion IsPaper ps × IsRising d.file d.number ps × AllByRecursion (λ p. p.number ≤ counted_in (papers_of t.files) p.file) ps
+          × (d.counts.items ≡ papers_of t.files)
 
       next : (a b : Papers) (p : Paper) (ps : List Paper) → Fits a (p ∷ ps) → paper_took a (shown_paper p) b true → Fits b ps
       next a b p ps fits h =
@@ -214,7 +251,8 @@ module _ {S : Type 0} (g : Ghosts S) (old new : Held S) (t : Tables) (typed : Ar
       stop : (a b : Papers) (p : Paper) (ps : List Paper) → Fits a (p ∷ ps) → paper_took a (shown_paper p) b false → IsTrue b.lacks_memory
       stop a b p ps fits refuses = refuses p fits.0.0 refl fits.1.0 (subst (λ c. p.number ≤ counted_in c p.file) (sym fits.3) fits.2.0)
 
-      answer : (was late : State) → Keeps t was.now → (rows : List Row) → Shown EACH_PAPER.now [] was late rows → (ps : List Paper) × (rows ≡ map shown_paper ps) × Fits a ps
+      answer : (was late : State) → Keeps t was.now → (rows : List Row) → Shown EACH_PAPER.now [] was late rows → (ps : List Paper)
+          × (rows ≡ map shown_paper ps) × Fits a ps
       answer was late kept rows h =
           let it = papers_shown was late t typed kept rows h in
           (it.0, it.1, (it.2, subst (λ n. IsRising a.file n it.0) (sym no_number) (subst (λ f. IsRising f 0 it.0) (sym no_file) it.3), it.4, has))
@@ -230,7 +268,8 @@ module _ {S : Type 0} (g : Ghosts S) (old new : Held S) (t : Tables) (typed : Ar
       Fits : Rowids → List Value → Type 0
       Fits d vs = First (λ v. (l : ℤ) → d.last ≡ Some l → AreUp (Int l) v) vs × Adjacent AreUp vs
 
-      first_up : (v : Value) (l : ℤ) (vs : List Value) (d : Rowids) → v ≡ Int l → d.last ≡ Some l → First (AreUp v) vs → First (λ w. (m : ℤ) → d.last ≡ Some m → AreUp (Int m) w) vs
+      first_up : (v : Value) (l : ℤ) (vs : List Value) (d : Rowids) → v ≡ Int l → d.last ≡ Some l → First (AreUp v) vs →
+          First (λ w. (m : ℤ) → d.last ≡ Some m → AreUp (Int m) w) vs
       first_up v l [] d is last up = tt
       first_up v l (w ∷ vs) d is last up = λ m has. let e : Int m ≡ v = cc in subst (λ x. AreUp x w) (sym e) up
 
@@ -241,7 +280,8 @@ module _ {S : Type 0} (g : Ghosts S) (old new : Held S) (t : Tables) (typed : Ar
       stop a b v vs fits (inl strange) = strange
       stop a b v vs fits (inr h) = clash_ℤ (fits.0 h.1 h.3 h.1 h.0 refl h.2) h.4
 
-      answer : (was late : State) → Keeps t was.now → (rows : List Row) → Shown EACH_ROWID.now [] was late rows → (vs : List Value) × (rows ≡ map (λ v. v ∷ []) vs) × Fits a vs
+      answer : (was late : State) → Keeps t was.now → (rows : List Row) → Shown EACH_ROWID.now [] was late rows → (vs : List Value)
+          × (rows ≡ map (λ v. v ∷ []) vs) × Fits a vs
       answer was late kept rows h =
           let it = rowids_shown was late t typed kept rows h in
           (it.0, it.1, (start it.0, it.2))

@@ -14,7 +14,12 @@ use Rattle.permit_sql.specs.Reopening.{FindsAgain, HasSettled}
 keeps_by_trees : (a b : Database) (t : Tables) → Keeps t a → IsDatabase a → IsDatabase b → b.trees ≡ a.trees → Keeps t b
 keeps_by_trees a b t k was is same =
     let one = subst (λ (trees : Trees). Lists (trees catalog_tree) b.schema) same is.lists in
-    record { schema = lists_once (a.trees catalog_tree) b.schema a.schema one was.lists ∙ k.schema; keyed = k.keyed; rows = subst (AreInTrees t) (sym same) k.rows }
+    record {
+      schema = lists_once (a.trees catalog_tree) b.schema a.schema one was.lists
+          ∙ k.schema;
+      keyed = k.keyed;
+      rows = subst (AreInTrees t) (sym same) k.rows;
+    }
 
 -- what a store has committed is found again
 pub found_again : (t : Tables) (old new : State) → HasSettled t old → FindsAgain old new → Keeps t new.now

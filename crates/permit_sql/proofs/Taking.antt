@@ -10,7 +10,8 @@ use Rattle.permit_sql.specs.Taken.{TookAll}
 
 -- a taker that counts takes rows that are numbered
 module _ {X T : Type 0} (width : ℕ) (shown : X → Row) (number : X → ℕ) (IsGood : X → Type 0) (count : T → ℕ) (took : T → Row → T → Bool → Type 0)
-    (takes : (a b : T) (r : Row) → took a r b true → (x : X) × IsGood x × (firsts width 0 r ≡ shown x) × (number x ≡ suc (count a)) × (count b ≡ suc (count a))) where
+    (takes : (a b : T) (r : Row) → took a r b true → (x : X) × IsGood x × (firsts width 0 r ≡ shown x) × (number x ≡ suc (count a))
+    × (count b ≡ suc (count a))) where
   pub took_numbered : (rows : List Row) (a b : T) (n : ℕ) → count a ≡ n → TookAll took rows a b
       → (xs : List X) × AllByRecursion IsGood xs × IsNumbered number (suc n) xs × (count b ≡ n + length xs) × (map (firsts width 0) rows ≡ map shown xs)
   took_numbered [] a b n at h = ([], tt, tt, ap count h ∙ at ∙ (let e : n ≡ n + 0 = omega arith in e), refl)
@@ -21,12 +22,16 @@ module _ {X T : Type 0} (width : ℕ) (shown : X → Row) (number : X → ℕ) (
       (it.0 ∷ more.0, (it.1, more.1), (it.3 ∙ ap suc at, more.2), more.3 ∙ long, ap₂ ◌∷◌ it.2 more.4)
 
 -- what a query shows of each row says what the row is
-module _ {X : Type 0} (width : ℕ) (shown enc : X → Row) (seen unseen kept : Row → Row) (whole : (r : Row) → firsts width 0 (seen r) ≡ seen r) (means : (x : X) → unseen (shown x) ≡ enc x) where
-  pub in_tree : (tree rows : List Row) (xs : List X) → IsPermutation (map seen tree) rows → map (firsts width 0) rows ≡ map shown xs → AllByRecursion (λ r. unseen (seen r) ≡ kept r) tree → IsPermutation (map enc xs) (map kept tree)
+module _ {X : Type 0} (width : ℕ) (shown enc : X → Row) (seen unseen kept : Row → Row) (whole : (r : Row) → firsts width 0 (seen r) ≡ seen r)
+    (means : (x : X) → unseen (shown x) ≡ enc x) where
+  pub in_tree : (tree rows : List Row) (xs : List X) → IsPermutation (map seen tree) rows → map (firsts width 0) rows ≡ map shown xs →
+      AllByRecursion (λ r. unseen (seen r) ≡ kept r) tree → IsPermutation (map enc xs) (map kept tree)
   in_tree tree rows xs same took all =
-      let one : IsPermutation (map (firsts width 0) (map seen tree)) (map shown xs) = subst (IsPermutation (map (firsts width 0) (map seen tree))) took (IsPermutation-map (firsts width 0) _ _ same) in
+      let one : IsPermutation (map (firsts width 0) (map seen tree)) (map shown xs) =
+      subst (IsPermutation (map (firsts width 0) (map seen tree))) took (IsPermutation-map (firsts width 0) _ _ same) in
       let two = IsPermutation-map unseen _ _ one in
-      let left : map unseen (map (firsts width 0) (map seen tree)) ≡ map kept tree = ap (map unseen) (map-map (firsts width 0) seen tree ∙ map_same _ seen whole tree) ∙ go tree all in
+      let left : map unseen (map (firsts width 0) (map seen tree)) ≡ map kept tree =
+      ap (map unseen) (map-map (firsts width 0) seen tree ∙ map_same _ seen whole tree) ∙ go tree all in
       let right : map unseen (map shown xs) ≡ map enc xs = map-map unseen shown xs ∙ map_same _ enc means xs in
       IsPermutation-sym _ _ (subst (IsPermutation (map kept tree)) right (subst (λ l. IsPermutation l (map unseen (map shown xs))) left two))
     where

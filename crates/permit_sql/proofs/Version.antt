@@ -61,7 +61,8 @@ first_plain s first =
     let it = begun_by s first in
     subst (λ x. IsPlain (understood x READ_DESK.now)) (sym it.1) (begun_plain it.0 s.indexes s.views)
 
-pub desk_rows_seen : (old new : State) (rows : List Row) → slice_get old.now.schema.tables 0 ≡ Some desk_table → Shown READ_DESK.now [] old new rows → IsPermutation (map seen_desk (old.now.trees 0)) rows
+pub desk_rows_seen : (old new : State) (rows : List Row) → slice_get old.now.schema.tables 0 ≡ Some desk_table → Shown READ_DESK.now [] old new rows →
+    IsPermutation (map seen_desk (old.now.trees 0)) rows
 desk_rows_seen old new rows first h =
     let it = begun_by old.now.schema first in
     let ix = old.now.schema.indexes in
@@ -80,7 +81,8 @@ first_alone [] q d low high is = absurd (omega (arith, low))
 first_alone (r ∷ []) q d low high is = ap (λ x. x ∷ []) (sym is)
 first_alone (r ∷ s ∷ rows) q d low high is = absurd (omega (arith, high))
 
-pub other_version : (db : Database) (rows : List Row) (q d : Row) → slice_get db.schema.tables 0 ≡ Some desk_table → IsPermutation (map seen_desk (db.trees 0)) rows → 1 ≤ length rows → length rows < 2 → q ≡ get_or rows 0 d
+pub other_version : (db : Database) (rows : List Row) (q d : Row) → slice_get db.schema.tables 0 ≡ Some desk_table →
+    IsPermutation (map seen_desk (db.trees 0)) rows → 1 ≤ length rows → length rows < 2 → q ≡ get_or rows 0 d
     → IsOther (column q 1) → HasOtherVersion db
 other_version db rows q d first same low high is other =
     let alone = first_alone rows q d low high is in
@@ -91,28 +93,33 @@ other_version db rows q d first same low high is other =
 pub told_rows : (db : Database) (rows : List Row) (h : HasOtherVersion db) → IsPermutation (map seen_desk (db.trees 0)) rows → rows ≡ seen_desk h.row ∷ []
 told_rows db rows h same = one_permutation (seen_desk h.row) rows (subst (λ l. IsPermutation (map seen_desk l) rows) h.only same)
 
-pub told_other : (db : Database) (rows : List Row) (q d : Row) → HasOtherVersion db → IsPermutation (map seen_desk (db.trees 0)) rows → q ≡ get_or rows 0 d → IsOther (column q 1)
+pub told_other : (db : Database) (rows : List Row) (q d : Row) → HasOtherVersion db → IsPermutation (map seen_desk (db.trees 0)) rows → q ≡ get_or rows 0 d →
+    IsOther (column q 1)
 told_other db rows q d h same is = subst (λ r. IsOther (column r 1)) (sym (is ∙ ap (λ l. get_or l 0 d) (told_rows db rows h same))) h.other
 
 -- ---- the desk of the office's schema
 
 abbrev desk_columns : List Column
-desk_columns = int_column (codes "version") ∷ int_column (codes "last") ∷ int_column (codes "parties") ∷ int_column (codes "parcels") ∷ int_column (codes "files") ∷ []
+desk_columns = int_column (codes "version") ∷ int_column (codes "last") ∷ int_column (codes "parties") ∷ int_column (codes "parcels")
+    ∷ int_column (codes "files") ∷ []
 
-pub desk_found : (db : Database) (rows : List Row) (q e : Row) (d : Desk) → db.schema ≡ office_schema → IsDatabase db → IsPermutation (map seen_desk (db.trees 0)) rows → 1 ≤ length rows → length rows < 2 → q ≡ get_or rows 0 e
+pub desk_found : (db : Database) (rows : List Row) (q e : Row) (d : Desk) → db.schema ≡ office_schema → IsDatabase db →
+    IsPermutation (map seen_desk (db.trees 0)) rows → 1 ≤ length rows → length rows < 2 → q ≡ get_or rows 0 e
     → firsts 6 0 q ≡ shown_desk d → IsDesk d → HasDesk d (db.trees 0)
 desk_found db rows q e d schema sound same low high is shown good =
     let alone = first_alone rows q e low high is in
     let it = only_one seen_desk (db.trees 0) q (one_permutation q _ (IsPermutation-sym _ _ (subst (IsPermutation (map seen_desk (db.trees 0))) alone same))) in
     let typed : KeepsRule Datatype office_schema db.trees = subst (λ s. KeepsRule Datatype s db.trees) schema (sound.obeys.rules Datatype) in
     let there : KeepsRule NotNull office_schema db.trees = subst (λ s. KeepsRule NotNull s db.trees) schema (sound.obeys.rules NotNull) in
-    let whole = keyed_rows office_schema db.trees desk_table key_column desk_columns refl refl (refl, (refl, (refl, (refl, (refl, tt))))) (omega arith) (db.trees 0) typed.0 there.0 in
+    let whole = keyed_rows office_schema db.trees desk_table key_column desk_columns refl refl (refl, (refl, (refl, (refl, (refl, tt))))) (omega arith)
+    (db.trees 0) typed.0 there.0 in
     let row = (subst (AllByRecursion (IsKeyedRow 5)) it.1 whole).0 in
     let says : seen_desk it.0 ≡ shown_desk d = subst (λ r. firsts 6 0 r ≡ shown_desk d) (sym it.2) shown in
     let is_row : it.0 ≡ desk_row d = sym row ∙ ap with_null says in
     record { good = good; here = it.1 ∙ ap (λ r. r ∷ []) is_row }
 
-pub only_found : (db : Database) (rows : List Row) (q : Row) (d : Desk) → db.schema ≡ office_schema → IsDatabase db → IsPermutation (map seen_desk (db.trees 0)) rows → rows ≡ q ∷ [] → firsts 6 0 q ≡ shown_desk d → IsDesk d → HasDesk d (db.trees 0)
+pub only_found : (db : Database) (rows : List Row) (q : Row) (d : Desk) → db.schema ≡ office_schema → IsDatabase db →
+    IsPermutation (map seen_desk (db.trees 0)) rows → rows ≡ q ∷ [] → firsts 6 0 q ≡ shown_desk d → IsDesk d → HasDesk d (db.trees 0)
 only_found db rows q d schema sound same alone shown good =
     let one : length rows ≡ 1 = ap length alone in
     desk_found db rows q q d schema sound same (omega (arith, one)) (omega (arith, one)) (ap (λ l. get_or l 0 q) (sym alone)) shown good

@@ -16,7 +16,8 @@ use Rattle.permit_sql_statements.proofs.QueryTexts.{alone, names_of, columns_of}
 abbrev pub each_party_query : Query
 each_party_query = plain_query (inner 1 end) [] (col 1 0 ∷ columns_of 3 2) ((col 1 0, ascending Binary) ∷ [])
 
-pub each_party_is : command_of (understood office_schema EACH_PARTY.now) ≡ Select (alone each_party_query) (names_of (command_of (understood office_schema EACH_PARTY.now)))
+pub each_party_is : command_of (understood office_schema EACH_PARTY.now)
+    ≡ Select (alone each_party_query) (names_of (command_of (understood office_schema EACH_PARTY.now)))
 unfolding understood everything
 each_party_is = refl
 
@@ -31,7 +32,8 @@ each_party_unlisted = refl
 abbrev pub each_parcel_query : Query
 each_parcel_query = plain_query (inner 3 end) [] (col 1 0 ∷ columns_of 3 2) ((col 1 0, ascending Binary) ∷ [])
 
-pub each_parcel_is : command_of (understood office_schema EACH_PARCEL.now) ≡ Select (alone each_parcel_query) (names_of (command_of (understood office_schema EACH_PARCEL.now)))
+pub each_parcel_is : command_of (understood office_schema EACH_PARCEL.now)
+    ≡ Select (alone each_parcel_query) (names_of (command_of (understood office_schema EACH_PARCEL.now)))
 unfolding understood everything
 each_parcel_is = refl
 
@@ -46,7 +48,8 @@ each_parcel_unlisted = refl
 abbrev pub each_interest_query : Query
 each_interest_query = plain_query (inner 5 end) [] (columns_of 2 1) []
 
-pub each_interest_is : command_of (understood office_schema EACH_INTEREST.now) ≡ Select (alone each_interest_query) (names_of (command_of (understood office_schema EACH_INTEREST.now)))
+pub each_interest_is : command_of (understood office_schema EACH_INTEREST.now)
+    ≡ Select (alone each_interest_query) (names_of (command_of (understood office_schema EACH_INTEREST.now)))
 unfolding understood everything
 each_interest_is = refl
 
@@ -61,7 +64,8 @@ each_interest_unlisted = refl
 abbrev pub each_file_query : Query
 each_file_query = plain_query (inner 7 end) [] (col 1 0 ∷ columns_of 19 2) ((col 1 0, ascending Binary) ∷ [])
 
-pub each_file_is : command_of (understood office_schema EACH_FILE.now) ≡ Select (alone each_file_query) (names_of (command_of (understood office_schema EACH_FILE.now)))
+pub each_file_is : command_of (understood office_schema EACH_FILE.now)
+    ≡ Select (alone each_file_query) (names_of (command_of (understood office_schema EACH_FILE.now)))
 unfolding understood everything
 each_file_is = refl
 
@@ -76,7 +80,8 @@ each_file_unlisted = refl
 abbrev pub each_paper_query : Query
 each_paper_query = plain_query (inner 8 end) [] (columns_of 9 1) ((col 1 1, ascending Binary) ∷ (col 1 2, ascending Binary) ∷ [])
 
-pub each_paper_is : command_of (understood office_schema EACH_PAPER.now) ≡ Select (alone each_paper_query) (names_of (command_of (understood office_schema EACH_PAPER.now)))
+pub each_paper_is : command_of (understood office_schema EACH_PAPER.now)
+    ≡ Select (alone each_paper_query) (names_of (command_of (understood office_schema EACH_PAPER.now)))
 unfolding understood everything
 each_paper_is = refl
 
@@ -91,7 +96,8 @@ each_paper_unlisted = refl
 abbrev pub each_rowid_query : Query
 each_rowid_query = plain_query (inner 8 end) [] (col 1 0 ∷ []) ((col 1 0, ascending Binary) ∷ [])
 
-pub each_rowid_is : command_of (understood office_schema EACH_ROWID.now) ≡ Select (alone each_rowid_query) (names_of (command_of (understood office_schema EACH_ROWID.now)))
+pub each_rowid_is : command_of (understood office_schema EACH_ROWID.now)
+    ≡ Select (alone each_rowid_query) (names_of (command_of (understood office_schema EACH_ROWID.now)))
 unfolding understood everything
 each_rowid_is = refl
 

@@ -13,7 +13,8 @@ module _ (tree : ℕ) (project : List Term) (order : List (Term × Key)) where
   abbrev whole : Query
   whole = plain_query (inner tree end) [] project order
 
-  each_out : (rows : List Row) → map (λ (o : Output). o.1) (map (output whole) (flat_map (λ r. ([] ∷ r ∷ []) ∷ []) rows)) ≡ map (λ r. eval_all project ([] ∷ r ∷ [])) rows
+  each_out : (rows : List Row) → map (λ (o : Output). o.1) (map (output whole) (flat_map (λ r. ([] ∷ r ∷ []) ∷ []) rows))
+      ≡ map (λ r. eval_all project ([] ∷ r ∷ [])) rows
   each_out [] = refl
   each_out (r ∷ rows) = ap (λ l. eval_all project ([] ∷ r ∷ []) ∷ l) (each_out rows)
 
@@ -22,4 +23,5 @@ module _ (tree : ℕ) (project : List Term) (order : List (Term × Key)) where
   whole_shown db rows a =
       let got = answers (inner tree end) [] project order db [] rows a in
       let seen = IsPermutation-map (λ (o : Output). o.1) _ _ got.1 in
-      subst (λ l. IsPermutation l rows) (each_out (db tree)) (subst (IsPermutation (map (λ (o : Output). o.1) (map (output whole) (matches db [] (inner tree end) ([] ∷ []))))) (sym got.3) seen)
+      subst (λ l. IsPermutation l rows) (each_out (db tree)) (subst (IsPermutation
+      (map (λ (o : Output). o.1) (map (output whole) (matches db [] (inner tree end) ([] ∷ []))))) (sym got.3) seen)

@@ -1,5 +1,6 @@
 -- What an open finds in the trees of the tables.
-use Rattle.std.specs.Prelude.{◌≡◌, ◌⊎◌, ⊤, ℕ, ℤ, suc, ◌-◌, ◌<◌, ◌≤◌, ◌<ℤ◌, ◌≤ℤ◌, ◌≢◌, IsTrue, Option, Some, IfSome, List, [], ◌∷◌, Bool, map, filter, drop, length, slice_get, bytes_eq, unwrap_or, ◌++◌, IsPermutation}
+use Rattle.std.specs.Prelude.{◌≡◌, ◌⊎◌, ⊤, ℕ, ℤ, suc, ◌-◌, ◌<◌, ◌≤◌, ◌<ℤ◌, ◌≤ℤ◌, ◌≢◌, IsTrue, Option, Some, IfSome, List, [], ◌∷◌, Bool, map, filter, drop}
+use Rattle.std.specs.Prelude.{length, slice_get, bytes_eq, unwrap_or, ◌++◌, IsPermutation}
 use Rattle.std.specs.List.{AllByRecursion}
 use Rattle.sqlite.specs.declared.types.Value.TheVariants.{Int}
 use Rattle.sqlite_value.specs.Order.{Row, column}
@@ -19,7 +20,8 @@ use Rattle.permit_sql_rows.specs.Typed.{firsts, IsDesk, IsParty, IsParcel, IsInt
 -- a taker took the whole answer to a query of a sound database, which is as it was
 abbrev pub TookTable : {T : Type 0} → (T → Row → T → Bool → Type 0) → {S : Type 0} → Ghosts S → List ℕ → Held S → Held S → T → T → Type 0
 TookTable took {S} g sql old new a b =
-    (rows : List Row) × (was : Held S) × ((state g was).now ≡ (state g old).now) × IsDatabase (state g old).now × Shown sql [] (state g was) (state g new) rows × TookAll took rows a b
+    (rows : List Row) × (was : Held S) × ((state g was).now ≡ (state g old).now) × IsDatabase (state g old).now × Shown sql [] (state g was) (state g new) rows
+    × TookAll took rows a b
 
 -- they are numbered from this number on
 abbrev pub IsNumbered : {X : Type 0} → (X → ℕ) → ℕ → List X → Type 0
@@ -39,7 +41,8 @@ IsGoodFile f = IsFile f × IsNamed f.state
 
 -- a file, with the counts of papers so far
 abbrev pub TakesFile : List ℕ → Row → List ℕ → Type 0
-TakesFile before row after = (f : FileRow) × IsGoodFile f × (firsts 20 0 row ≡ shown_file f) × (f.id ≡ suc (length before)) × (after ≡ before ++ f.state.papers ∷ [])
+TakesFile before row after = (f : FileRow) × IsGoodFile f × (firsts 20 0 row ≡ shown_file f) × (f.id ≡ suc (length before))
+    × (after ≡ before ++ f.state.papers ∷ [])
 
 abbrev pub TakesInterest : Row → Type 0
 TakesInterest row = (i : Interest) × IsInterest i × (firsts 2 0 row ≡ shown_interest i)
@@ -54,7 +57,8 @@ counted_in counts file = unwrap_or (slice_get counts (file - 1)) 0
 
 abbrev pub TakesPaper : List ℕ → ℕ → ℕ → Row → ℕ → ℕ → Type 0
 TakesPaper counts file number row next_file next_number =
-    (p : Paper) × IsPaper p × (firsts 9 0 row ≡ shown_paper p) × (p.file ≡ next_file) × (p.number ≡ next_number) × IsLater file number next_file next_number × (next_number ≤ counted_in counts next_file)
+    (p : Paper) × IsPaper p × (firsts 9 0 row ≡ shown_paper p) × (p.file ≡ next_file) × (p.number ≡ next_number) × IsLater file number next_file next_number
+    × (next_number ≤ counted_in counts next_file)
 
 -- ---- what no refused row is: that of a typed value with the next number, but where memory was refused
 

@@ -8,7 +8,8 @@ use Rattle.sqlite_sql.specs.Query.{Query, inner, left, end}
 use Rattle.permit_base.specs.declared.words.Relation.{Relation}
 use Rattle.permit_base.specs.declared.words.Relation.TheVariants.{Applicant, Contractor, Owner, AssignedReviewer, AssignedInspector, Conflict}
 use Rattle.permit_sql_statements.specs.Selected.{text_alone, text_without}
-use Rattle.permit_sql_statements.specs.declared.question.TheConstants.{AS_APPLICANT_WITHOUT, AS_CONTRACTOR_WITHOUT, AS_OWNER_WITHOUT, AS_REVIEWER_WITHOUT, AS_INSPECTOR_WITHOUT}
+use Rattle.permit_sql_statements.specs.declared.question.TheConstants.{AS_APPLICANT_WITHOUT, AS_CONTRACTOR_WITHOUT, AS_OWNER_WITHOUT, AS_REVIEWER_WITHOUT}
+use Rattle.permit_sql_statements.specs.declared.question.TheConstants.{AS_INSPECTOR_WITHOUT}
 use Rattle.permit_sql_statements.proofs.Lookups.{plain_query, equals}
 use Rattle.permit_sql_statements.proofs.RouteTexts.{declared, shows, shows_without, its_parcel, counts_one, led_by_interest, shown_collations, Means}
 

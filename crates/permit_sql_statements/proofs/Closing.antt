@@ -1,5 +1,6 @@
 -- A notice that is closed: one row of the papers is replaced.
-use Rattle.std.proofs.Common.{◌≡◌, ℕ, ℤ, suc, ◌≤◌, ◌<◌, Bool, true, false, cond, eqb, List, [], ◌∷◌, map, filter, drop, length, Ok, refl, sym, ap, ap₂, subst, ◌∙◌, arith, is_eq, true≢false, IsPermutation, Ordering, Less, Equal, Greater}
+use Rattle.std.proofs.Common.{◌≡◌, ℕ, ℤ, suc, ◌≤◌, ◌<◌, Bool, true, false, cond, eqb, List, [], ◌∷◌, map, filter, drop, length, Ok, refl, sym, ap, ap₂, subst}
+use Rattle.std.proofs.Common.{◌∙◌, arith, is_eq, true≢false, IsPermutation, Ordering, Less, Equal, Greater}
 use Rattle.std.specs.Prelude.{◌&&◌, ◌||◌, not, if◌then◌else◌, Some}
 use Rattle.std.specs.List.{AllByRecursion, list_any, list_all}
 use Rattle.std.proofs.lemmas.Bool.Decides.{nat_tests}
@@ -91,7 +92,8 @@ fewer : {X : Type 0} (p q : X → Bool) (xs : List X) → length (filter p (filt
 fewer p q [] = omega arith
 fewer {X} p q (y ∷ ys) = go (q y) (p y) refl (fewer p q ys)
   where
-    go : (b c : Bool) → p y ≡ c → length (filter p (filter q ys)) ≤ length (filter p ys) → length (filter p (cond b (y ∷ filter q ys) (filter q ys))) ≤ length (cond c (y ∷ filter p ys) (filter p ys))
+    go : (b c : Bool) → p y ≡ c → length (filter p (filter q ys)) ≤ length (filter p ys) →
+        length (filter p (cond b (y ∷ filter q ys) (filter q ys))) ≤ length (cond c (y ∷ filter p ys) (filter p ys))
     go true true is low = rw is (omega (arith, low))
     go true false is low = rw is low
     go false true is low = omega (arith, low)
@@ -115,7 +117,8 @@ all_put : (P : Row → Type 0) (new : Row) (rows : List Row) → AllByRecursion 
 all_put P new [] all = all.0
 all_put P new (r ∷ rs) all = go (value_cmp (rowid r) (rowid new)) all (all_put P new rs)
   where
-    go : (o : Ordering) → AllByRecursion P (Rattle.std.specs.Ordering.match_ordering o (r ∷ put_row new rs) (new ∷ rs) (new ∷ r ∷ rs)) → (AllByRecursion P (put_row new rs) → P new) → P new
+    go : (o : Ordering) → AllByRecursion P (Rattle.std.specs.Ordering.match_ordering o (r ∷ put_row new rs) (new ∷ rs) (new ∷ r ∷ rs)) →
+        (AllByRecursion P (put_row new rs) → P new) → P new
     go Less all more = more all.1
     go Equal all more = all.0
     go Greater all more = all.0
@@ -137,7 +140,8 @@ equal_is Greater e = absurd (true≢false (sym e))
 
 -- a row whose rowid was free leaves each rowid to one row
 pub apart_put : (n : ℤ) (rest : Row) (rows : List Row) → IsFreshIn (Int n ∷ rest) rows → Apart rows → Apart (put_row (Int n ∷ rest) rows)
-apart_put n rest rows fresh apart id = no_more (has_rowid id) ((Int n ∷ rest) ∷ rows) (put_row (Int n ∷ rest) rows) (put_fresh (Int n ∷ rest) rows fresh) (two (has_rowid id (Int n ∷ rest)) refl)
+apart_put n rest rows fresh apart id = no_more (has_rowid id) ((Int n ∷ rest) ∷ rows) (put_row (Int n ∷ rest) rows) (put_fresh (Int n ∷ rest) rows fresh)
+    (two (has_rowid id (Int n ∷ rest)) refl)
   where
     none : (rs : List Row) → IsFreshIn (Int n ∷ rest) rs → length (filter (has_rowid n) rs) ≡ 0
     none [] free = refl
@@ -237,19 +241,24 @@ module _ (file number : ℕ) where
       go true = refl
       go false = refl
 
-  closed_rows : (papers : List Paper) (rows : List Row) → IsPermutation (map shown_paper papers) (map (drop 1) rows) → IsPermutation (map shown_paper (map (closed_by file number) papers)) (map (drop 1) (map closes rows))
+  closed_rows : (papers : List Paper) (rows : List Row) → IsPermutation (map shown_paper papers) (map (drop 1) rows) →
+      IsPermutation (map shown_paper (map (closed_by file number) papers)) (map (drop 1) (map closes rows))
   closed_rows papers rows kept =
       let left : map closes_columns (map shown_paper papers) ≡ map shown_paper (map (closed_by file number) papers) =
-      map-map closes_columns shown_paper papers ∙ map_same (λ p. closes_columns (shown_paper p)) (λ p. shown_paper (closed_by file number p)) closes_paper papers ∙ sym (map-map shown_paper (closed_by file number) papers) in
+      map-map closes_columns shown_paper papers ∙ map_same (λ p. closes_columns (shown_paper p))
+      (λ p. shown_paper (closed_by file number p)) closes_paper papers ∙ sym (map-map shown_paper (closed_by file number) papers) in
       let right : map closes_columns (map (drop 1) rows) ≡ map (drop 1) (map closes rows) =
-      map-map closes_columns (drop 1) rows ∙ map_same (λ r. closes_columns (drop 1 r)) (λ r. drop 1 (closes r)) (λ r. sym (cut_closes r)) rows ∙ sym (map-map (drop 1) closes rows) in
-      subst (λ l. IsPermutation l (map (drop 1) (map closes rows))) left (subst (IsPermutation (map closes_columns (map shown_paper papers))) right (IsPermutation-map closes_columns _ _ kept))
+      map-map closes_columns (drop 1) rows ∙ map_same (λ r. closes_columns (drop 1 r)) (λ r. drop 1 (closes r)) (λ r. sym (cut_closes r)) rows
+      ∙ sym (map-map (drop 1) closes rows) in
+      subst (λ l. IsPermutation l (map (drop 1) (map closes rows))) left
+      (subst (IsPermutation (map closes_columns (map shown_paper papers))) right (IsPermutation-map closes_columns _ _ kept))
 
   unclosed : (rows : List Row) → filter hits rows ≡ [] → map closes rows ≡ rows
   unclosed [] none = refl
   unclosed (r ∷ rs) none = go (hits r) none (unclosed rs)
     where
-      go : (b : Bool) → cond b (r ∷ filter hits rs) (filter hits rs) ≡ [] → (filter hits rs ≡ [] → map closes rs ≡ rs) → cond b (drop 1 (shows r)) r ∷ map closes rs ≡ r ∷ rs
+      go : (b : Bool) → cond b (r ∷ filter hits rs) (filter hits rs) ≡ [] → (filter hits rs ≡ [] → map closes rs ≡ rs) →
+          cond b (drop 1 (shows r)) r ∷ map closes rs ≡ r ∷ rs
       go true none more = absurd cc
       go false none more = ap (λ l. r ∷ l) (more none)
 
@@ -263,7 +272,8 @@ module _ (file number : ℕ) where
   once [] up = omega arith
   once (x ∷ xs) up = go (eqb x.number number) refl (once xs up.1)
     where
-      go : (b : Bool) → eqb x.number number ≡ b → length (filter (λ (p : Paper). eqb p.number number) xs) ≤ 1 → length (cond b (x ∷ filter (λ (p : Paper). eqb p.number number) xs) (filter (λ (p : Paper). eqb p.number number) xs)) ≤ 1
+      go : (b : Bool) → eqb x.number number ≡ b → length (filter (λ (p : Paper). eqb p.number number) xs) ≤ 1 →
+          length (cond b (x ∷ filter (λ (p : Paper). eqb p.number number) xs) (filter (λ (p : Paper). eqb p.number number) xs)) ≤ 1
       go true is low = let same : x.number ≡ number = grind (arith, nat_tests) in let none = ap length (later x.number xs up.0 same) in omega (arith, none)
       go false is low = low
 
@@ -272,18 +282,24 @@ module _ (file number : ℕ) where
   both_tests (x ∷ xs) = go (eqb x.file file) (both_tests xs)
     where
       go : (b : Bool) → filter is_it xs ≡ filter (λ (p : Paper). eqb p.number number) (filter (λ (p : Paper). eqb p.file file) xs)
-          → cond (b && eqb x.number number) (x ∷ filter is_it xs) (filter is_it xs) ≡ filter (λ (p : Paper). eqb p.number number) (cond b (x ∷ filter (λ (p : Paper). eqb p.file file) xs) (filter (λ (p : Paper). eqb p.file file) xs))
+          → cond (b && eqb x.number number) (x ∷ filter is_it xs) (filter is_it xs)
+          ≡ filter (λ (p : Paper). eqb p.number number) (cond b (x ∷ filter (λ (p : Paper). eqb p.file file) xs)
+          (filter (λ (p : Paper). eqb p.file file) xs))
       go true same = ap (λ l. cond (eqb x.number number) (x ∷ l) l) same
       go false same = same
 
   -- the columns of the rows that are hit are those of the paper that has the number, if there is one
-  hit_columns : (papers : List Paper) (rows : List Row) → IsPermutation (map shown_paper papers) (map (drop 1) rows) → length (filter is_it papers) ≤ 1 → map (drop 1) (filter hits rows) ≡ map shown_paper (filter is_it papers)
+  hit_columns : (papers : List Paper) (rows : List Row) → IsPermutation (map shown_paper papers) (map (drop 1) rows) → length (filter is_it papers) ≤ 1 →
+      map (drop 1) (filter hits rows) ≡ map shown_paper (filter is_it papers)
   hit_columns papers rows kept short =
       let test : Row → Bool = λ c. hits (Null ∷ c) in
-      let left : filter test (map shown_paper papers) ≡ map shown_paper (filter is_it papers) = filter-map test shown_paper papers ∙ ap (map shown_paper) (filter_same _ _ hits_paper papers) in
-      let right : filter test (map (drop 1) rows) ≡ map (drop 1) (filter hits rows) = filter-map test (drop 1) rows ∙ ap (map (drop 1)) (filter_same _ _ (λ r. sym (cut_hits r)) rows) in
+      let left : filter test (map shown_paper papers) ≡ map shown_paper (filter is_it papers) = filter-map test shown_paper papers
+      ∙ ap (map shown_paper) (filter_same _ _ hits_paper papers) in
+      let right : filter test (map (drop 1) rows) ≡ map (drop 1) (filter hits rows) = filter-map test (drop 1) rows
+      ∙ ap (map (drop 1)) (filter_same _ _ (λ r. sym (cut_hits r)) rows) in
       let moved = IsPermutation-filter test _ _ kept in
-      one_order _ _ (subst (λ n. n ≤ 1) (sym (long shown_paper (filter is_it papers))) short) (subst (λ l. IsPermutation l (map (drop 1) (filter hits rows))) left (subst (IsPermutation (filter test (map shown_paper papers))) right moved))
+      one_order _ _ (subst (λ n. n ≤ 1) (sym (long shown_paper (filter is_it papers))) short)
+      (subst (λ l. IsPermutation l (map (drop 1) (filter hits rows))) left (subst (IsPermutation (filter test (map shown_paper papers))) right moved))
 
 module _ (old new : State) (count : ℕ) (t : Tables) (k : Keeps t old.now) (file number : ℕ) where
   abbrev Closed : Type 0
@@ -297,11 +313,18 @@ module _ (old new : State) (count : ℕ) (t : Tables) (k : Keeps t old.now) (fil
   none_closed : (it : Set) → filter (hits file number) (old.now.trees 8) ≡ [] → it.found ≡ [] → Closed
   none_closed it is found =
       let left = it.none found in
-      let same : map (closes file number) (old.now.trees 8) ≡ new.now.trees 8 = unclosed file number (old.now.trees 8) is ∙ sym left.1 in
-      (left.0, (subst (λ rows. IsPermutation (map shown_paper (map (closed_by file number) t.papers)) (map (drop 1) rows)) same (closed_rows file number t.papers (old.now.trees 8) k.rows.papers), subst Apart (sym left.1) k.rows.apart))
+      let same : map (closes file number) (old.now.trees 8) ≡ new.now.trees 8 = unclosed file number (old.now.trees 8) is ∙ sym left.1 in (
+        left.0,
+        (
+          subst (λ rows. IsPermutation (map shown_paper (map (closed_by file number) t.papers)) (map (drop 1) rows)) same
+              (closed_rows file number t.papers (old.now.trees 8) k.rows.papers),
+          subst Apart (sym left.1) k.rows.apart,
+        ),
+      )
 
   -- were the row still there, its key would come twice
-  one_closed : (it : Set) (v : Value) (p : Paper) → filter (hits file number) (old.now.trees 8) ≡ (v ∷ shown_paper p) ∷ [] → it.found ≡ shows file number (v ∷ shown_paper p) ∷ [] → Closed
+  one_closed : (it : Set) (v : Value) (p : Paper) → filter (hits file number) (old.now.trees 8) ≡ (v ∷ shown_paper p) ∷ [] →
+      it.found ≡ shows file number (v ∷ shown_paper p) ∷ [] → Closed
   one_closed it v p is found =
       let tree = old.now.trees 8 in
       let q : Paper = record p { is_open = false } in
@@ -313,26 +336,38 @@ module _ (old new : State) (count : ℕ) (t : Tables) (k : Keeps t old.now) (fil
       let put = it.put (shows file number r) made found (cast_paper_at v q) in
       let stored : is_int w ≡ true = and_first _ put.keyed in
       let as_int : w ≡ Int (id_in w) = int_is w stored in
-      let unique = all_put (λ row. passes Unique office_schema new.now.trees paper_table row ≡ true) made left (subst (AllByRecursion (λ row. passes Unique office_schema new.now.trees paper_table row ≡ true)) put.row (put.fits.rules Unique (λ e. absurd cc)).1.1.1.1.1.0) in
+      let unique = all_put (λ row. passes Unique office_schema new.now.trees paper_table row ≡ true) made left
+      (subst (AllByRecursion (λ row. passes Unique office_schema new.now.trees paper_table row ≡ true)) put.row
+      (put.fits.rules Unique (λ e. absurd cc)).1.1.1.1.1.0) in
       let clash : Row → Bool = λ other. agree plain (1 ∷ 2 ∷ []) other (1 ∷ 2 ∷ []) made && differ (rowid other) w in
-      let alone : list_any clash (put_row made left) ≡ false = subst (λ rows. list_any clash rows ≡ false) put.row (Rattle.permit_sql_statements.proofs.Permuted.not_taken _ unique) in
+      let alone : list_any clash (put_row made left) ≡ false = subst (λ rows. list_any clash rows ≡ false) put.row
+      (Rattle.permit_sql_statements.proofs.Permuted.not_taken _ unique) in
       let gone : has_rowid id r ≡ true = found_by_rowid (has_rowid id r) (λ stays.
       let clear = any_left clash (λ x. not (has_rowid id x)) (hits file number) r tree is (ap not stays) (any_put clash made left put.fresh alone) in
-      let apart = any_left (λ x. is_eq (value_cmp (rowid x) w)) (λ x. not (has_rowid id x)) (hits file number) r tree is (ap not stays) (none_equal made left put.fresh) in
+      let apart = any_left (λ x. is_eq (value_cmp (rowid x) w)) (λ x. not (has_rowid id x)) (hits file number) r tree is (ap not stays)
+      (none_equal made left put.fresh) in
       let taken : clash r ≡ true = ap₂ ◌&&◌ (agrees v w p) (differs v w (stored_not_null v stored) (int_not_null w stored) apart) in
       sym taken ∙ clear) in
       let one = same_one (hits file number) (has_rowid id) r tree is gone (k.rows.apart id) in
       let hit = passes_first (hits file number) tree r [] is in
       let only = all_kept (λ x. has_rowid id x ≡ true) (hits file number) tree (subst (AllByRecursion (λ x. has_rowid id x ≡ true)) (sym is) (gone, tt)) in
-      let stays = all_weaker _ (λ x. has_rowid id x ≡ false → closes file number x ≡ x) (λ x known other. untouched x (hits file number x) refl known other) tree only in
+      let stays = all_weaker _ (λ x. has_rowid id x ≡ false → closes file number x ≡ x)
+      (λ x known other. untouched x (hits file number x) refl known other) tree only in
       let moved = IsPermutation-map (drop 1) _ _ (map_one (has_rowid id) (closes file number) r tree stays one) in
       let here : drop 1 (closes file number r) ≡ shown_paper q = ap (λ b. drop 1 (cond b (drop 1 (shows file number r)) r)) hit in
       let placed = IsPermutation-map (drop 1) _ _ (put_fresh made left put.fresh) in
-      let there = IsPermutation-trans _ _ _ (closed_rows file number t.papers tree k.rows.papers) (IsPermutation-trans _ _ _ (subst (λ c. IsPermutation (map (drop 1) (map (closes file number) tree)) (c ∷ map (drop 1) left)) here moved) placed) in
+      let there = IsPermutation-trans _ _ _ (closed_rows file number t.papers tree k.rows.papers)
+      (IsPermutation-trans _ _ _ (subst (λ c. IsPermutation (map (drop 1) (map (closes file number) tree)) (c ∷ map (drop 1) left)) here moved) placed) in
       let fresh = subst (λ x. IsFreshIn (x ∷ shown_paper q) left) as_int put.fresh in
       let spread : Apart left = λ i. let a = fewer (has_rowid i) (λ x. not (has_rowid id x)) tree in let b = k.rows.apart i in omega (arith, a, b) in
-      let wide : Apart (put_row made left) = subst (λ x. Apart (put_row (x ∷ shown_paper q) left)) (sym as_int) (apart_put (id_in w) (shown_paper q) left fresh spread) in
-      (put.leaves, (subst (λ rows. IsPermutation (map shown_paper (map (closed_by file number) t.papers)) (map (drop 1) rows)) (sym put.row) there, subst Apart (sym put.row) wide))
+      let wide : Apart (put_row made left) = subst (λ x. Apart (put_row (x ∷ shown_paper q) left)) (sym as_int)
+      (apart_put (id_in w) (shown_paper q) left fresh spread) in (
+        put.leaves,
+        (
+          subst (λ rows. IsPermutation (map shown_paper (map (closed_by file number) t.papers)) (map (drop 1) rows)) (sym put.row) there,
+          subst Apart (sym put.row) wide,
+        ),
+      )
     where
       found_by_rowid : (b : Bool) → (b ≡ false → true ≡ false) → b ≡ true
       found_by_rowid true h = refl
@@ -342,27 +377,39 @@ module _ (old new : State) (count : ℕ) (t : Tables) (k : Keeps t old.now) (fil
       none_equal made [] free = refl
       none_equal made (x ∷ xs) free = ap₂ ◌||◌ free.0 (none_equal made xs free.1)
 
-      untouched : (x : Row) (b : Bool) → hits file number x ≡ b → (hits file number x ≡ true → has_rowid (id_in v) x ≡ true) → has_rowid (id_in v) x ≡ false → cond b (drop 1 (shows file number x)) x ≡ x
+      untouched : (x : Row) (b : Bool) → hits file number x ≡ b → (hits file number x ≡ true → has_rowid (id_in v) x ≡ true) → has_rowid (id_in v) x ≡ false →
+          cond b (drop 1 (shows file number x)) x ≡ x
       untouched x true is known other = absurd (true≢false (sym (known is) ∙ other))
       untouched x false is known other = refl
 
-  pub notice_set : Executes CLOSE_NOTICE.now (int file ∷ int number ∷ []) old new (Ok count) → Keeps (record t { papers = map (closed_by file number) t.papers }) new.now
+  pub notice_set : Executes CLOSE_NOTICE.now (int file ∷ int number ∷ []) old new (Ok count) →
+      Keeps (record t { papers = map (closed_by file number) t.papers }) new.now
   notice_set h =
       let tree = old.now.trees 8 in
-      let it : Set = sets CLOSE_NOTICE.now 5 paper_table close_notice_query close_notice_is close_notice_plain (key file number) old new count k.schema refl (λ tally x. x) h in
-      let short : length (filter (is_it file number) t.papers) ≤ 1 = subst (λ l. length l ≤ 1) (sym (both_tests file number t.papers)) (once file number (filter (λ (p : Paper). eqb p.file file) t.papers) (k.keyed.papers file)) in
+      let it : Set = sets CLOSE_NOTICE.now 5 paper_table close_notice_query close_notice_is close_notice_plain (key file number) old new count k.schema refl
+      (λ tally x. x) h in
+      let short : length (filter (is_it file number) t.papers) ≤ 1 = subst (λ l. length l ≤ 1) (sym (both_tests file number t.papers))
+      (once file number (filter (λ (p : Paper). eqb p.file file) t.papers) (k.keyed.papers file)) in
       let columns = hit_columns file number t.papers tree k.rows.papers short in
-      let few : length (filter (hits file number) tree) ≤ 1 = let a = long (drop 1) (filter (hits file number) tree) in let b = long shown_paper (filter (is_it file number) t.papers) in let c = ap length columns in omega (arith, short, a, b, c) in
-      let found = finds_one (λ (r : Row). r) (shows file number) 8 close_notice_query.filter close_notice_query.project (overlay old.now.trees []) (key file number) tree (hits file number) (λ r. refl) (λ r. refl)
+      let few : length (filter (hits file number) tree) ≤ 1 = let a = long (drop 1) (filter (hits file number) tree) in let b =
+      long shown_paper (filter (is_it file number) t.papers) in let c = ap length columns in omega (arith, short, a, b, c) in
+      let found = finds_one (λ (r : Row). r) (shows file number) 8 close_notice_query.filter close_notice_query.project (overlay old.now.trees [])
+      (key file number) tree (hits file number) (λ r. refl) (λ r. refl)
       (IsPermutation-same _ _ (map_id tree)) few it.found (it.answer.answer Null) in
       let made = go it (filter (hits file number) tree) (filter (is_it file number) t.papers) refl found columns short in
-      record { schema = made.0.schema; keyed = keyed_closed t k.keyed file number; rows = keeps_papers old.now new.now t k.rows (map (closed_by file number) t.papers) made.0 made.1 }
+      record {
+        schema = made.0.schema;
+        keyed = keyed_closed t k.keyed file number;
+        rows = keeps_papers old.now new.now t k.rows (map (closed_by file number) t.papers) made.0 made.1;
+      }
     where
-      one : (it : Set) (r : Row) (p : Paper) → filter (hits file number) (old.now.trees 8) ≡ r ∷ [] → it.found ≡ shows file number r ∷ [] → drop 1 r ≡ shown_paper p → Closed
+      one : (it : Set) (r : Row) (p : Paper) → filter (hits file number) (old.now.trees 8) ≡ r ∷ [] → it.found ≡ shows file number r ∷ [] →
+          drop 1 r ≡ shown_paper p → Closed
       one it [] p is found e = absurd cc
       one it (v ∷ c) p is found e = one_closed it v p (is ∙ ap (λ l. (v ∷ l) ∷ []) e) (found ∙ ap (λ l. shows file number (v ∷ l) ∷ []) e)
 
-      go : (it : Set) (rows : List Row) (ps : List Paper) → filter (hits file number) (old.now.trees 8) ≡ rows → it.found ≡ map (shows file number) rows → map (drop 1) rows ≡ map shown_paper ps → length ps ≤ 1 → Closed
+      go : (it : Set) (rows : List Row) (ps : List Paper) → filter (hits file number) (old.now.trees 8) ≡ rows → it.found ≡ map (shows file number) rows →
+          map (drop 1) rows ≡ map shown_paper ps → length ps ≤ 1 → Closed
       go it [] ps is found e short = none_closed it is found
       go it (r ∷ rs) [] is found e short = absurd cc
       go it (r ∷ []) (p ∷ ps) is found e short = one it r p is found (head e)

@@ -19,7 +19,8 @@ use Rattle.permit_store.specs.declared.change.RowEffect.TheVariants as effect
 use Rattle.permit_store.specs.declared.change.NewPaper.{NewPaper}
 use Rattle.permit_sql_rows.specs.Rows.{int, shown_file, shown_paper, row_params}
 use Rattle.permit_sql_rows.specs.Kept.{IsNamed, Keeps}
-use Rattle.permit_sql_statements.specs.declared.texts.TheConstants.{ADD_PARTY, ADD_PARCEL, ADD_INTEREST, ADD_FILE, ADD_PAPER, SET_OWNER, WRITE_FILE, CLOSE_NOTICE}
+use Rattle.permit_sql_statements.specs.declared.texts.TheConstants.{ADD_PARTY, ADD_PARCEL, ADD_INTEREST, ADD_FILE, ADD_PAPER, SET_OWNER, WRITE_FILE}
+use Rattle.permit_sql_statements.specs.declared.texts.TheConstants.{CLOSE_NOTICE}
 use Rattle.permit_sql_statements.specs.Statements.{RanAll, desk_statement}
 use Rattle.permit_sql_statements.proofs.Commits.{party_made, parcel_made, owner_made, interest_made, file_made, row_made, paper_made, notice_closed}
 
@@ -50,23 +51,30 @@ fits_row t file s e day fits = go (find (λ f. eqb f.id file) t.files) refl fits
         record { row = row; found = is; parcel = eqb-true _ _ same.0; applicant = eqb-true _ _ same.1; suits = first.1 }
 
 module _ {S : Type 0} (g : Ghosts S) (old : Held S) (db : Database) (t : Tables) (k : Keeps t (state g old).now) (day : ℕ) (d : Desk) where
-  pub party_committed : (name : Bor (List ℕ)) (role : Role) (digest : Bor (List ℕ)) → d ≡ (changed t (NewParty name role digest) day).desk → Fits t (NewParty name role digest) day
-      → RanAll g ((ADD_PARTY.now, int d.parties ∷ Text name.now ∷ int (role_code role) ∷ Text digest.now ∷ []) ∷ desk_statement d ∷ []) old db → Keeps (changed t (NewParty name role digest) day) db
+  pub party_committed : (name : Bor (List ℕ)) (role : Role) (digest : Bor (List ℕ)) → d ≡ (changed t (NewParty name role digest) day).desk →
+      Fits t (NewParty name role digest) day
+      → RanAll g ((ADD_PARTY.now, int d.parties ∷ Text name.now ∷ int (role_code role) ∷ Text digest.now ∷ []) ∷ desk_statement d ∷ []) old db →
+      Keeps (changed t (NewParty name role digest) day) db
   party_committed name role digest is fits ran =
       let new : ℕ → Party = λ id. record { id = id; name = name.now; role = role; digest = digest.now } in
-      subst (λ (e : Desk). Keeps (record t { desk = e; parties = t.parties ++ new e.parties ∷ [] }) db) is (party_made g old db t k d (new d.parties) (none_is _ (and_parts _ _ fits.suits).1) ran)
+      subst (λ (e : Desk). Keeps (record t { desk = e; parties = t.parties ++ new e.parties ∷ [] }) db) is
+      (party_made g old db t k d (new d.parties) (none_is _ (and_parts _ _ fits.suits).1) ran)
 
-  pub parcel_committed : (lot address : Bor (List ℕ)) (owner : ℕ) → d ≡ (changed t (NewParcel lot address owner) day).desk → Fits t (NewParcel lot address owner) day
-      → RanAll g ((ADD_PARCEL.now, int d.parcels ∷ Text lot.now ∷ Text address.now ∷ int owner ∷ []) ∷ desk_statement d ∷ []) old db → Keeps (changed t (NewParcel lot address owner) day) db
+  pub parcel_committed : (lot address : Bor (List ℕ)) (owner : ℕ) → d ≡ (changed t (NewParcel lot address owner) day).desk →
+      Fits t (NewParcel lot address owner) day
+      → RanAll g ((ADD_PARCEL.now, int d.parcels ∷ Text lot.now ∷ Text address.now ∷ int owner ∷ []) ∷ desk_statement d ∷ []) old db →
+      Keeps (changed t (NewParcel lot address owner) day) db
   parcel_committed lot address owner is fits ran =
       let new : ℕ → Parcel = λ id. record { id = id; lot = lot.now; address = address.now; owner = owner } in
-      subst (λ (e : Desk). Keeps (record t { desk = e; parcels = t.parcels ++ new e.parcels ∷ [] }) db) is (parcel_made g old db t k d (new d.parcels) (none_is _ (and_parts _ _ (and_parts _ _ fits.suits).0).1) ran)
+      subst (λ (e : Desk). Keeps (record t { desk = e; parcels = t.parcels ++ new e.parcels ∷ [] }) db) is
+      (parcel_made g old db t k d (new d.parcels) (none_is _ (and_parts _ _ (and_parts _ _ fits.suits).0).1) ran)
 
   pub owner_committed : (parcel owner : ℕ) → d ≡ (changed t (NewOwner parcel owner) day).desk → Fits t (NewOwner parcel owner) day
       → RanAll g ((SET_OWNER.now, int parcel ∷ int owner ∷ []) ∷ desk_statement d ∷ []) old db → Keeps (changed t (NewOwner parcel owner) day) db
   owner_committed parcel owner is fits ran =
       let found = some_is _ (and_parts _ _ fits.suits).0 in
-      subst (λ (e : Desk). Keeps (record t { desk = e; parcels = map (given_to parcel owner) t.parcels }) db) is (owner_made g old db t k d parcel owner found.0 found.1 ran)
+      subst (λ (e : Desk). Keeps (record t { desk = e; parcels = map (given_to parcel owner) t.parcels }) db) is
+      (owner_made g old db t k d parcel owner found.0 found.1 ran)
 
   pub interest_committed : (parcel party : ℕ) → d ≡ (changed t (NewInterest parcel party) day).desk
       → RanAll g ((ADD_INTEREST.now, int parcel ∷ int party ∷ []) ∷ desk_statement d ∷ []) old db → Keeps (changed t (NewInterest parcel party) day) db
@@ -75,7 +83,8 @@ module _ {S : Type 0} (g : Ghosts S) (old : Held S) (db : Database) (t : Tables)
       subst (λ (e : Desk). Keeps (record t { desk = e; interests = t.interests ++ new ∷ [] }) db) is (interest_made g old db t k d new ran)
 
   pub file_committed : (s : FileState) (valuation : ℕ) (description : Bor (List ℕ)) → IsNamed s → d ≡ (changed t (NewFile s valuation description) day).desk
-      → RanAll g ((ADD_FILE.now, shown_file (record { id = d.files; state = s; valuation = valuation; description = description.now })) ∷ desk_statement d ∷ []) old db → Keeps (changed t (NewFile s valuation description) day) db
+      → RanAll g ((ADD_FILE.now, shown_file (record { id = d.files; state = s; valuation = valuation; description = description.now })) ∷ desk_statement d
+      ∷ []) old db → Keeps (changed t (NewFile s valuation description) day) db
   file_committed s valuation description named is ran =
       let new : ℕ → FileRow = λ id. record { id = id; state = s; valuation = valuation; description = description.now } in
       subst (λ (e : Desk). Keeps (record t { desk = e; files = t.files ++ new e.files ∷ [] }) db) is (file_made g old db t k d (new d.files) named ran)
@@ -85,18 +94,27 @@ module _ {S : Type 0} (g : Ghosts S) (old : Held S) (db : Database) (t : Tables)
   row_committed file s named is fits ran =
       let it = fits_row t file s effect.None day fits in
       let same = eqb-true _ _ it.suits in
-      subst (λ (e : Desk). Keeps (record t { desk = e; files = map (with_state file s) t.files }) db) is (row_made g old db t k d file s it.row it.found it.parcel it.applicant (omega (arith, same)) named ran)
+      subst (λ (e : Desk). Keeps (record t { desk = e; files = map (with_state file s) t.files }) db) is
+      (row_made g old db t k d file s it.row it.found it.parcel it.applicant (omega (arith, same)) named ran)
 
-  pub paper_committed : (file : ℕ) (s : FileState) (new : NewPaper) → IsNamed s → d ≡ record t.desk { last = day } → Fits t (NewRow file s (effect.Paper new)) day
-      → RanAll g ((WRITE_FILE.now, row_params file s) ∷ (ADD_PAPER.now, shown_paper (paper_of file s.papers d.last new)) ∷ desk_statement d ∷ []) old db → Keeps (changed t (NewRow file s (effect.Paper new)) day) db
+  pub paper_committed : (file : ℕ) (s : FileState) (new : NewPaper) → IsNamed s → d ≡ record t.desk { last = day } →
+      Fits t (NewRow file s (effect.Paper new)) day
+      → RanAll g ((WRITE_FILE.now, row_params file s) ∷ (ADD_PAPER.now, shown_paper (paper_of file s.papers d.last new)) ∷ desk_statement d ∷ []) old db →
+      Keeps (changed t (NewRow file s (effect.Paper new)) day) db
   paper_committed file s new named is fits ran =
       let it = fits_row t file s (effect.Paper new) day fits in
       let more = eqb-true _ _ (and_parts _ _ (and_parts _ _ it.suits).0).1 in
-      subst (λ (e : Desk). Keeps (record t { desk = e; files = map (with_state file s) t.files; papers = t.papers ++ paper_of file s.papers e.last new ∷ [] }) db) is
+      subst (λ (e : Desk). Keeps (record t {
+        desk = e;
+        files = map (with_state file s) t.files;
+        papers = t.papers ++ paper_of file s.papers e.last new ∷ [];
+      }) db) is
       (paper_made g old db t k d file s it.row (paper_of file s.papers d.last new) it.found it.parcel it.applicant more named refl refl ran)
 
-  pub notice_committed : (file number : ℕ) (s : FileState) → IsNamed s → d ≡ record t.desk { last = day } → Fits t (NewRow file s (effect.NoticeClosed number)) day
-      → RanAll g ((WRITE_FILE.now, row_params file s) ∷ (CLOSE_NOTICE.now, int file ∷ int number ∷ []) ∷ desk_statement d ∷ []) old db → Keeps (changed t (NewRow file s (effect.NoticeClosed number)) day) db
+  pub notice_committed : (file number : ℕ) (s : FileState) → IsNamed s → d ≡ record t.desk { last = day } →
+      Fits t (NewRow file s (effect.NoticeClosed number)) day
+      → RanAll g ((WRITE_FILE.now, row_params file s) ∷ (CLOSE_NOTICE.now, int file ∷ int number ∷ []) ∷ desk_statement d ∷ []) old db →
+      Keeps (changed t (NewRow file s (effect.NoticeClosed number)) day) db
   notice_committed file number s named is fits ran =
       let it = fits_row t file s (effect.NoticeClosed number) day fits in
       let same = eqb-true _ _ it.suits in

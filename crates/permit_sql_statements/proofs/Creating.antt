@@ -1,5 +1,6 @@
 -- What the statements of a creation make of an empty database.
-use Rattle.std.proofs.Common.{◌≡◌, ℕ, arith, IsPermutation, true, false, List, [], ◌∷◌, ◌++◌, map, drop, take, slice_get, Some, None, Ok, Result, refl, sym, ap, subst, ◌∙◌}
+use Rattle.std.proofs.Common.{◌≡◌, ℕ, arith, IsPermutation, true, false, List, [], ◌∷◌, ◌++◌, map, drop, take, slice_get, Some, None, Ok, Result, refl, sym, ap}
+use Rattle.std.proofs.Common.{subst, ◌∙◌}
 use Rattle.sqlite_tied.specs.Compute.{everything}
 use Rattle.sqlite.specs.Listing.{understood}
 use Rattle.sqlite_resolve.specs.Compile.{table_defined_by, index_defined_by}
@@ -19,12 +20,16 @@ use Rattle.sqlite.specs.Held.{Held, state}
 use Rattle.sqlite.proofs.Callers.{runs_as, command_of, statement_of, IsPlain}
 use Rattle.permit_model.specs.Caller.{Party}
 use Rattle.permit_model.specs.Tables.{Desk, Tables}
-use Rattle.permit_sql_rows.specs.Schema.{desk_table, party_table, parcel_table, interest_table, file_table, paper_table, all_tables, key_indexes, search_indexes, cell_index, applicant_index, contractor_index, reviewer_index, inspector_index, parcel_index, owner_index, interested_index, office_schema, empty_schema, table_schema}
+use Rattle.permit_sql_rows.specs.Schema.{desk_table, party_table, parcel_table, interest_table, file_table, paper_table, all_tables, key_indexes}
+use Rattle.permit_sql_rows.specs.Schema.{search_indexes, cell_index, applicant_index, contractor_index, reviewer_index, inspector_index, parcel_index}
+use Rattle.permit_sql_rows.specs.Schema.{owner_index, interested_index, office_schema, empty_schema, table_schema}
 use Rattle.permit_sql_rows.specs.Rows.{int, desk_row, party_row, shown_party}
 use Rattle.permit_sql_rows.specs.Kept.{AreKeyed, AreInTrees, Keeps}
 use Rattle.permit_sql_statements.specs.Statements.{RanAll}
 use Rattle.permit_sql_statements.specs.Founding.{founding_statements}
-use Rattle.permit_sql_statements.specs.declared.texts.TheConstants.{CREATE_DESK, CREATE_PARTY, CREATE_PARCEL, CREATE_INTEREST, CREATE_FILE, CREATE_PAPER, INDEX_CELL, INDEX_APPLICANT, INDEX_CONTRACTOR, INDEX_REVIEWER, INDEX_INSPECTOR, INDEX_PARCEL, INDEX_OWNER, INDEX_INTERESTED}
+use Rattle.permit_sql_statements.specs.declared.texts.TheConstants.{CREATE_DESK, CREATE_PARTY, CREATE_PARCEL, CREATE_INTEREST, CREATE_FILE, CREATE_PAPER}
+use Rattle.permit_sql_statements.specs.declared.texts.TheConstants.{INDEX_CELL, INDEX_APPLICANT, INDEX_CONTRACTOR, INDEX_REVIEWER, INDEX_INSPECTOR}
+use Rattle.permit_sql_statements.specs.declared.texts.TheConstants.{INDEX_PARCEL, INDEX_OWNER, INDEX_INTERESTED}
 use Rattle.permit_sql_statements.proofs.Permuted.{put_more}
 use Rattle.permit_sql_statements.proofs.Writes.{founds_desk, adds_party}
 use Rattle.permit_sql_statements.proofs.Keeping.{Apart, keeps_parties, keyed_party}
@@ -43,13 +48,15 @@ record Made (s : Schema) (table : Table) (old new : Database) : Type 0 where
   empty : new.trees (next_tree s) ≡ []
   others : KeepsRows s.tables old.trees new.trees
 
-makes : (s : Schema) (text : List ℕ) (table : Table) → Makes s text table → (old new : State) (count : ℕ) → old.now.schema ≡ s → Executes text [] old new (Ok count) → Made s table old.now new.now
+makes : (s : Schema) (text : List ℕ) (table : Table) → Makes s text table → (old new : State) (count : ℕ) → old.now.schema ≡ s →
+    Executes text [] old new (Ok count) → Made s table old.now new.now
 makes s text table m old new count has h =
     let w = subst (λ t. Writes old new None CreateTable t [] count) m.statement (runs_as text [] old new s has CreateTable m.command m.plain count h) in
     let all = went w.changed in
     let first = went all.1 in
     let made = first.1 in
-    let both : ◌≡◌ {A = Result Table Rattle.sqlite_resolve.specs.declared.error.CompileError.CompileError} (Ok made.table) (Ok table) = sym made.defined ∙ m.defines in
+    let both : ◌≡◌ {A = Result Table Rattle.sqlite_resolve.specs.declared.error.CompileError.CompileError} (Ok made.table) (Ok table) = sym made.defined
+    ∙ m.defines in
     let same : made.table ≡ table = same_value both in
     let schema : first.0.schema ≡ created s table = made.is ∙ ap (λ x. created x made.table) has ∙ ap (created s) same in
     let plain : lacks_sequence first.0.schema ≡ false = ap lacks_sequence schema ∙ m.whole in
@@ -57,7 +64,8 @@ makes s text table m old new count has h =
     record {
       schema = ap (λ (d : Database). d.schema) now ∙ schema;
       empty = ap (λ (d : Database). d.trees (next_tree s)) now ∙ subst (λ x. first.0.trees (next_tree x) ≡ []) has made.empty;
-      others = subst (λ (d : Database). KeepsRows s.tables old.now.trees d.trees) (sym now) (subst (λ x. KeepsRows x.tables old.now.trees first.0.trees) has made.others);
+      others = subst (λ (d : Database). KeepsRows s.tables old.now.trees d.trees) (sym now)
+          (subst (λ x. KeepsRows x.tables old.now.trees first.0.trees) has made.others);
     }
 
 abbrev pub made_1 : Schema
@@ -122,7 +130,8 @@ pub record IsBlank (s : Schema) (db : Database) : Type 0 where
   pub schema : db.schema ≡ s
   pub blank : AreBlank s.tables db.trees
 
-more : (s : Schema) (text : List ℕ) (table : Table) → Makes s text table → (old new : State) (count : ℕ) → IsBlank s old.now → Executes text [] old new (Ok count) → IsBlank (created s table) new.now
+more : (s : Schema) (text : List ℕ) (table : Table) → Makes s text table → (old new : State) (count : ℕ) → IsBlank s old.now →
+    Executes text [] old new (Ok count) → IsBlank (created s table) new.now
 more s text table m old new count was h =
     let it = makes s text table m old new count was.schema h in
     record { schema = it.schema; blank = blank_more s.tables (record table { tree = next_tree s }) old.now.trees new.now.trees was.blank it.others it.empty }
@@ -141,11 +150,15 @@ record Indexes (s : Schema) (text : List ℕ) (at : ℕ) (table : Table) (index 
 indexed_more : (s : Schema) (text : List ℕ) (at : ℕ) (table : Table) (index : Index) (made : Schema) → Indexes s text at table index made
     → (old new : State) (count : ℕ) → IsBlank s old.now → Executes text [] old new (Ok count) → IsBlank made new.now
 indexed_more s text at table index made m old new count was h =
-    let w = subst (λ t. Writes old new None (CreateIndex at) t [] count) m.statement (runs_as text [] old new s was.schema (CreateIndex at) m.command m.plain count h) in
-    let does = subst (λ x. Does old.step_limit (mode_of old) [] (record old.now { schema = x }) text None (CreateIndex at) (Ok (w.tally, new.now))) was.schema w.changed in
-    let all = went (subst (λ o. AtPlace (λ t. Defines (mode_of old) (MakesIndex text (record old.now { schema = s }) t)) o (Ok (w.tally, new.now))) m.there does) in
+    let w = subst (λ t. Writes old new None (CreateIndex at) t [] count) m.statement
+    (runs_as text [] old new s was.schema (CreateIndex at) m.command m.plain count h) in
+    let does = subst (λ x. Does old.step_limit (mode_of old) [] (record old.now { schema = x }) text None (CreateIndex at)
+    (Ok (w.tally, new.now))) was.schema w.changed in
+    let all = went (subst (λ o. AtPlace (λ t. Defines (mode_of old) (MakesIndex text (record old.now { schema = s }) t)) o
+    (Ok (w.tally, new.now))) m.there does) in
     let one = all.1 in
-    let both : ◌≡◌ {A = Result Index Rattle.sqlite_resolve.specs.declared.error.CompileError.CompileError} (Ok one.index) (Ok index) = sym one.defined ∙ m.defines in
+    let both : ◌≡◌ {A = Result Index Rattle.sqlite_resolve.specs.declared.error.CompileError.CompileError} (Ok one.index) (Ok index) = sym one.defined
+    ∙ m.defines in
     let schema : all.0.schema ≡ indexed s table index = one.is ∙ ap (indexed s table) (same_value both) in
     let now : new.now ≡ all.0 = ap (λ (p : Tally × Database). p.1) (same_value all.2) in
     let blank : IsBlank (indexed s table index) new.now = record {
@@ -196,9 +209,19 @@ abbrev pub no_rows : Desk → Tables
 no_rows d = record { desk = d; parties = []; parcels = []; interests = []; files = []; papers = [] }
 
 none_keyed : (d : Desk) → AreKeyed (no_rows d)
-none_keyed d = record { parties = λ id. omega arith; digests = λ d. omega arith; parcels = λ id. omega arith; lots = λ l. omega arith; files = λ id. omega arith; named = tt; papers = λ f. tt; counted = λ f. tt }
+none_keyed d = record {
+  parties = λ id. omega arith;
+  digests = λ d. omega arith;
+  parcels = λ id. omega arith;
+  lots = λ l. omega arith;
+  files = λ id. omega arith;
+  named = tt;
+  papers = λ f. tt;
+  counted = λ f. tt;
+}
 
-desk_founded : (old new : State) (last count : ℕ) → IsBlank office_schema old.now → Executes Rattle.permit_sql_statements.specs.declared.texts.TheConstants.FOUND_DESK.now (int last ∷ []) old new (Ok count)
+desk_founded : (old new : State) (last count : ℕ) → IsBlank office_schema old.now →
+    Executes Rattle.permit_sql_statements.specs.declared.texts.TheConstants.FOUND_DESK.now (int last ∷ []) old new (Ok count)
     → (new.now.schema ≡ office_schema) × AreInTrees (no_rows (record { last = last; parties = 1; parcels = 0; files = 0 })) new.now.trees
 desk_founded old new last count was h =
     let it = founds_desk old new count was.schema last h in
@@ -222,7 +245,8 @@ desk_founded old new last count was h =
     )
 
 pub founding_made : {S : Type 0} (g : Ghosts S) (old : Held S) (db : Database) (last : ℕ) (p : Party) → (state g old).now.schema ≡ empty_schema
-    → RanAll g (founding_statements (int last ∷ []) (shown_party p)) old db → Keeps (record (no_rows (record { last = last; parties = 1; parcels = 0; files = 0 })) { parties = p ∷ [] }) db
+    → RanAll g (founding_statements (int last ∷ []) (shown_party p)) old db →
+    Keeps (record (no_rows (record { last = last; parties = 1; parcels = 0; files = 0 })) { parties = p ∷ [] }) db
 founding_made g old db last p none ran =
     let s0 = state g (record old { in_transaction = true }) in
     let r1 = ran.ran in
@@ -249,18 +273,27 @@ founding_made g old db last p none ran =
     let b5 = more made_4 CREATE_FILE.now _ makes_file (state g r4.0) (state g r5.0) r5.1 b4 r5.2 in
     let b6 = more made_5 CREATE_PAPER.now _ makes_paper (state g r5.0) (state g r6.0) r6.1 b5 r6.2 in
     let c0 : IsBlank table_schema (state g r6.0).now = subst (λ s. IsBlank s (state g r6.0).now) six_is b6 in
-    let c1 = indexed_more table_schema INDEX_CELL.now 4 file_table (record cell_index { tree = 0 }) (with_first 1) indexes_cell (state g r6.0) (state g r7.0) r7.1 c0 r7.2 in
-    let c2 = indexed_more (with_first 1) INDEX_APPLICANT.now 4 file_table (record applicant_index { tree = 0 }) (with_first 2) indexes_applicant (state g r7.0) (state g r8.0) r8.1 c1 r8.2 in
-    let c3 = indexed_more (with_first 2) INDEX_CONTRACTOR.now 4 file_table (record contractor_index { tree = 0 }) (with_first 3) indexes_contractor (state g r8.0) (state g r9.0) r9.1 c2 r9.2 in
-    let c4 = indexed_more (with_first 3) INDEX_REVIEWER.now 4 file_table (record reviewer_index { tree = 0 }) (with_first 4) indexes_reviewer (state g r9.0) (state g r10.0) r10.1 c3 r10.2 in
-    let c5 = indexed_more (with_first 4) INDEX_INSPECTOR.now 4 file_table (record inspector_index { tree = 0 }) (with_first 5) indexes_inspector (state g r10.0) (state g r11.0) r11.1 c4 r11.2 in
-    let c6 = indexed_more (with_first 5) INDEX_PARCEL.now 4 file_table (record parcel_index { tree = 0 }) (with_first 6) indexes_parcel (state g r11.0) (state g r12.0) r12.1 c5 r12.2 in
-    let c7 = indexed_more (with_first 6) INDEX_OWNER.now 2 parcel_table (record owner_index { tree = 0 }) (with_first 7) indexes_owner (state g r12.0) (state g r13.0) r13.1 c6 r13.2 in
-    let c8 = indexed_more (with_first 7) INDEX_INTERESTED.now 3 interest_table (record interested_index { tree = 0 }) office_schema indexes_interested (state g r13.0) (state g r14.0) r14.1 c7 r14.2 in
+    let c1 = indexed_more table_schema INDEX_CELL.now 4 file_table (record cell_index { tree = 0 }) (with_first 1) indexes_cell (state g r6.0)
+    (state g r7.0) r7.1 c0 r7.2 in
+    let c2 = indexed_more (with_first 1) INDEX_APPLICANT.now 4 file_table (record applicant_index { tree = 0 }) (with_first 2) indexes_applicant (state g r7.0)
+    (state g r8.0) r8.1 c1 r8.2 in
+    let c3 = indexed_more (with_first 2) INDEX_CONTRACTOR.now 4 file_table (record contractor_index { tree = 0 }) (with_first 3) indexes_contractor
+    (state g r8.0) (state g r9.0) r9.1 c2 r9.2 in
+    let c4 = indexed_more (with_first 3) INDEX_REVIEWER.now 4 file_table (record reviewer_index { tree = 0 }) (with_first 4) indexes_reviewer (state g r9.0)
+    (state g r10.0) r10.1 c3 r10.2 in
+    let c5 = indexed_more (with_first 4) INDEX_INSPECTOR.now 4 file_table (record inspector_index { tree = 0 }) (with_first 5) indexes_inspector (state g r10.0)
+    (state g r11.0) r11.1 c4 r11.2 in
+    let c6 = indexed_more (with_first 5) INDEX_PARCEL.now 4 file_table (record parcel_index { tree = 0 }) (with_first 6) indexes_parcel (state g r11.0)
+    (state g r12.0) r12.1 c5 r12.2 in
+    let c7 = indexed_more (with_first 6) INDEX_OWNER.now 2 parcel_table (record owner_index { tree = 0 }) (with_first 7) indexes_owner (state g r12.0)
+    (state g r13.0) r13.1 c6 r13.2 in
+    let c8 = indexed_more (with_first 7) INDEX_INTERESTED.now 3 interest_table (record interested_index { tree = 0 }) office_schema indexes_interested
+    (state g r13.0) (state g r14.0) r14.1 c7 r14.2 in
     let desk = desk_founded (state g r14.0) (state g r15.0) last r15.1 c8 r15.2 in
     let t0 = no_rows (record { last = last; parties = 1; parcels = 0; files = 0 }) in
     let party = adds_party (state g r15.0) (state g r16.0) r16.1 desk.0 p r16.2 in
-    let there = subst (IsPermutation (map party_row (p ∷ []))) (sym party.row) (put_more (λ (q : Party). q.id) party_row (λ q. refl) p [] ((state g r15.0).now.trees 1) party.fresh desk.1.parties) in
+    let there = subst (IsPermutation (map party_row (p ∷ []))) (sym party.row)
+    (put_more (λ (q : Party). q.id) party_row (λ q. refl) p [] ((state g r15.0).now.trees 1) party.fresh desk.1.parties) in
     let k = keeps_parties (state g r15.0).now (state g r16.0).now t0 desk.1 (p ∷ []) party.leaves there in
     let same : db ≡ (state g r16.0).now = ran.is ∙ ap (λ (h : Held _). (state g h).now) r16.3 in
     record {

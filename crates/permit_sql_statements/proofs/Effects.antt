@@ -88,7 +88,8 @@ pub record Puts (old new : Database) (table : Table) (id : ℤ) (made : Row) : T
 module _ (text : List ℕ) (at : ℕ) (table : Table) (uncounted : table.is_counted ≡ false) (terms : List Term) (width : ℕ)
     (is : command_of (understood office_schema text) ≡ Insert at (Values terms width)) (plain : IsPlain (understood office_schema text))
     (params : Row) (old new : State) (count : ℕ) (schema : old.now.schema ≡ office_schema) (made : Row) where
-  pub adds : ((tally : Tally) → Does old.step_limit (mode_of old) params (on_office old.now.trees) (statement_of text (understood office_schema text)) None (Insert at (Values terms width)) (Ok (tally, new.now))
+  pub adds : ((tally : Tally) → Does old.step_limit (mode_of old) params (on_office old.now.trees) (statement_of text (understood office_schema text)) None
+      (Insert at (Values terms width)) (Ok (tally, new.now))
       → OnRows (task_on old.step_limit table params) (mode_of old) None (Insert at (Values terms width)) old.now.trees (Ok (tally, new.now)))
       → (edit_of old.now.trees table [] Chosen 0 (value_rows (stamped table params) width (length terms / width) terms)).news ≡ made ∷ []
       → Executes text params old new (Ok count) → Adds old.now new.now table made
@@ -97,7 +98,8 @@ module _ (text : List ℕ) (at : ℕ) (table : Table) (uncounted : table.is_coun
       let command = Insert at (Values terms width) in
       let w = runs_as text params old new office_schema schema command is plain count h in
       let sql = statement_of text (understood office_schema text) in
-      let does = subst (λ s. Does old.step_limit (mode_of old) params (record old.now { schema = s }) sql None command (Ok (w.tally, new.now))) schema w.changed in
+      let does = subst (λ s. Does old.step_limit (mode_of old) params (record old.now { schema = s }) sql None command
+      (Ok (w.tally, new.now))) schema w.changed in
       let it = inserted old.step_limit (mode_of old) table uncounted params db w.tally new.now at (Values terms width) (on w.tally does) in
       let one : (edit_of db table [] Chosen 0 it.0).news ≡ made ∷ [] = ap (λ all. (edit_of db table [] Chosen 0 all).news) it.1.1 ∙ news in
       let row : new.now.trees table.tree ≡ put_row made (db table.tree) = it.2.rows ∙ ap (put_all (db table.tree)) one in
@@ -108,7 +110,8 @@ module _ (text : List ℕ) (at : ℕ) (table : Table) (query : Query)
     (is : command_of (understood office_schema text) ≡ Update at (alone query)) (plain : IsPlain (understood office_schema text))
     (params : Row) (old new : State) (count : ℕ) (schema : old.now.schema ≡ office_schema) (uncounted : table.is_counted ≡ false) where
   abbrev On : Type 0
-  On = (tally : Tally) → Does old.step_limit (mode_of old) params (on_office old.now.trees) (statement_of text (understood office_schema text)) None (Update at (alone query)) (Ok (tally, new.now))
+  On = (tally : Tally) → Does old.step_limit (mode_of old) params (on_office old.now.trees) (statement_of text (understood office_schema text)) None
+      (Update at (alone query)) (Ok (tally, new.now))
       → OnRows (task_on old.step_limit table params) (mode_of old) None (Update at (alone query)) old.now.trees (Ok (tally, new.now))
 
   -- the rows that the text found, and what follows where there are none, or one
@@ -117,7 +120,8 @@ module _ (text : List ℕ) (at : ℕ) (table : Table) (query : Query)
     pub answer : Answers (on_office old.now.trees) (alone query) params found
     pub none : found ≡ [] → Leaves old.now new.now table × (new.now.trees table.tree ≡ old.now.trees table.tree)
     pub put : (r made : Row) → found ≡ r ∷ [] → cast_row table (drop 1 r) ≡ made → Puts old.now new.now table (id_in (rowid r)) made
-    pub one : (id : ℤ) (made : Row) → cast_row table made ≡ made → found ≡ (Int id ∷ made) ∷ [] → Leaves old.now new.now table × (new.now.trees table.tree ≡ put_row made (without_rowid id (old.now.trees table.tree)))
+    pub one : (id : ℤ) (made : Row) → cast_row table made ≡ made → found ≡ (Int id ∷ made) ∷ [] → Leaves old.now new.now table
+        × (new.now.trees table.tree ≡ put_row made (without_rowid id (old.now.trees table.tree)))
 
   pub sets : On → Executes text params old new (Ok count) → Sets
   sets on h =
@@ -125,14 +129,16 @@ module _ (text : List ℕ) (at : ℕ) (table : Table) (query : Query)
       let command = Update at (alone query) in
       let w = runs_as text params old new office_schema schema command is plain count h in
       let sql = statement_of text (understood office_schema text) in
-      let does = subst (λ s. Does old.step_limit (mode_of old) params (record old.now { schema = s }) sql None command (Ok (w.tally, new.now))) schema w.changed in
+      let does = subst (λ s. Does old.step_limit (mode_of old) params (record old.now { schema = s }) sql None command
+      (Ok (w.tally, new.now))) schema w.changed in
       let it = updated old.step_limit (mode_of old) table uncounted params db w.tally new.now at (alone query) (on w.tally does) in
       record {
         found = it.0;
         answer = it.1;
         none = λ e. let step = it.3.0 e in (record { schema = it.2; others = step.tables }, step.rows);
         put = λ r made e stays.
-            let first : (edit_of db table (ids_of it.0) Given 1 it.0).news ≡ made ∷ [] = ap (λ rows. (edit_of db table (ids_of rows) Given 1 rows).news) e ∙ ap (λ x. x ∷ []) stays in
+            let first : (edit_of db table (ids_of it.0) Given 1 it.0).news ≡ made ∷ [] = ap (λ rows. (edit_of db table (ids_of rows) Given 1 rows).news) e
+            ∙ ap (λ x. x ∷ []) stays in
             let step = subst (λ rows. Applies office_schema Enforced db (edit_of db table (ids_of rows) Given 1 rows) new.now.trees) e (it.3.1 made first) in
             let left = without_rowid (id_in (rowid r)) (db table.tree) in
             let news : (edit_of db table (ids_of (r ∷ [])) Given 1 (r ∷ [])).news ≡ made ∷ [] = ap (λ x. x ∷ []) stays in
@@ -144,7 +150,11 @@ module _ (text : List ℕ) (at : ℕ) (table : Table) (query : Query)
               fits = step.fits;
             };
         one = λ id made stays e.
-            let news : (edit_of db table (ids_of it.0) Given 1 it.0).news ≡ made ∷ [] = ap (λ rows. (edit_of db table (ids_of rows) Given 1 rows).news) e ∙ ap (λ r. r ∷ []) stays in
-            let step = it.3.1 made news in
-            (record { schema = it.2; others = step.tables }, step.rows ∙ ap (λ rows. edited db (edit_of db table (ids_of rows) Given 1 rows)) e ∙ ap (λ r. put_row r (without_rowid id (db table.tree))) stays);
+            let news : (edit_of db table (ids_of it.0) Given 1 it.0).news ≡ made ∷ [] = ap (λ rows. (edit_of db table (ids_of rows) Given 1 rows).news) e
+            ∙ ap (λ r. r ∷ []) stays in
+            let step = it.3.1 made news in (
+              record { schema = it.2; others = step.tables },
+              step.rows ∙ ap (λ rows. edited db (edit_of db table (ids_of rows) Given 1 rows)) e
+                  ∙ ap (λ r. put_row r (without_rowid id (db table.tree))) stays,
+            );
       }

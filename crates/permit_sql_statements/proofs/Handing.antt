@@ -1,5 +1,6 @@
 -- The rows of an answer that were handed out, as the rows that a selection finds.
-use Rattle.std.proofs.Common.{◌≡◌, inl, inr, ℕ, ◌<◌, Bool, true, false, eqb, List, [], ◌∷◌, ◌++◌, map, Result, Ok, Err, refl, sym, ap, ap₂, subst, ◌∙◌, append-nil}
+use Rattle.std.proofs.Common.{◌≡◌, inl, inr, ℕ, ◌<◌, Bool, true, false, eqb, List, [], ◌∷◌, ◌++◌, map, Result, Ok, Err, refl, sym, ap, ap₂, subst, ◌∙◌}
+use Rattle.std.proofs.Common.{append-nil}
 use Rattle.std.specs.Prelude.{IsTrue, IsErr}
 use Rattle.std.specs.List.{list_any}
 use Rattle.std.proofs.lemmas.List.Sorted.{IsPermutation-refl}
@@ -26,7 +27,8 @@ use Rattle.permit_sql_statements.proofs.RouteTexts.{Means, every_without, query_
 use Rattle.permit_sql_statements.proofs.RouteAnswers.{route_shown, every_without_shown}
 
 -- where rows begin those that show what is found, what they were read as begins that
-read_back : (rows more : List Row) (given all : List Found) → AreReadAs rows given → AreNamed all → rows ++ more ≡ map shown_found all → (rest : List Found) × (all ≡ given ++ rest) × (more ≡ map shown_found rest)
+read_back : (rows more : List Row) (given all : List Found) → AreReadAs rows given → AreNamed all → rows ++ more ≡ map shown_found all → (rest : List Found)
+    × (all ≡ given ++ rest) × (more ≡ map shown_found rest)
 read_back [] more [] all are named is = (all, refl, is)
 read_back [] more (g ∷ given) all are named is = absurd are
 read_back (r ∷ rows) more [] all are named is = absurd are
@@ -56,22 +58,29 @@ plain_in t db route text is k = subst (λ s. IsPlain (understood s text)) (sym k
 module _ (t : Tables) (text : List ℕ) (params : Row) (q : Query) (means : Means text q) (Are : List Found → Type 0) (whole : List Found) (are : Are whole)
     (shown : (old new : State) → Keeps t old.now → (rows : List Row) → Shown text params old new rows → ShowWhere rows Are) where
   -- such a text does not recur
-  ends : (old : State) (k : Keeps t old.now) (c : Compiled) (db : Database) (it : IsStatement old text params c) → IsSourceOf (reads_listing old.now.schema text) old.now db → EndsIn c.command db (timed params c.formats it.now)
+  ends : (old : State) (k : Keeps t old.now) (c : Compiled) (db : Database) (it : IsStatement old text params c) →
+      IsSourceOf (reads_listing old.now.schema text) old.now db → EndsIn c.command db (timed params c.formats it.now)
   ends old k c db it source =
       let known = ap (λ s. understood s text) (sym k.schema) ∙ it.is in
       let is = sym (ap command_of known) ∙ means.0 in
       subst (λ command. EndsIn command db (timed params c.formats it.now)) (sym is) tt
 
   -- where the rows begin an answer, what was handed out begins rows of which it holds
-  begun : (old : State) (rows : List Row) (given : List Found) → Keeps t old.now → IsTrue old.is_open → Begins text params old rows → AreReadAs rows given → (rest : List Found) × Are (given ++ rest)
+  begun : (old : State) (rows : List Row) (given : List Found) → Keeps t old.now → IsTrue old.is_open → Begins text params old rows → AreReadAs rows given →
+      (rest : List Found) × Are (given ++ rest)
   begun old rows given k opened begins read =
-      let same : IsUnchanged old old = (record { was_open = opened; is_open = opened; now_is = refl; committed_is = refl; mode = refl }, record { changes = refl; last_rowid = refl }, refl) in
+      let same : IsUnchanged old old = (
+        record { was_open = opened; is_open = opened; now_is = refl; committed_is = refl; mode = refl },
+        record { changes = refl; last_rowid = refl },
+        refl,
+      ) in
       let all = begins_shown text params old old rows begins same (ends old k) in
       let it = shown old old k (rows ++ all.0) all.1 in
       let left = read_back rows all.0 given it.given read it.named it.shown in
       (left.0, subst Are left.1 it.are)
 
-  pub handed_where : {E : Type 0} (result : Result Bool E) (old new : State) (given : List Found) → Shows t old → Gave result text params old new given → (rest : List Found) × IsLeft result rest × Are (given ++ rest)
+  pub handed_where : {E : Type 0} (result : Result Bool E) (old new : State) (given : List Found) → Shows t old → Gave result text params old new given →
+      (rest : List Found) × IsLeft result rest × Are (given ++ rest)
   handed_where (Ok true) old new given shows gave =
       let k = shows (shown_open text params old new gave.rows gave.are) in
       let it = shown old new k gave.rows gave.are in
@@ -86,17 +95,21 @@ module _ (t : Tables) (text : List ℕ) (params : Row) (q : Query) (means : Mean
   ]
 
 -- of what a selection finds
-pub handed_shown : (t : Tables) (caller : ℕ) → 0 < caller → (route : Route) (day : ℕ) {E : Type 0} (result : Result Bool E) (old new : State) (given : List Found) → Shows t old
+pub handed_shown : (t : Tables) (caller : ℕ) → 0 < caller → (route : Route) (day : ℕ) {E : Type 0} (result : Result Bool E) (old new : State)
+    (given : List Found) → Shows t old
     → Gave result (text_for route) (params_for route caller day) old new given → AreHanded t result given (found_by route caller day t)
 handed_shown t caller there route day =
-    handed_where t (text_for route) (params_for route caller day) (query_for route) (means_for route) (λ given. AreFound t given (found_by route caller day t)) (found_by route caller day t)
+    handed_where t (text_for route) (params_for route caller day) (query_for route) (means_for route) (λ given. AreFound t given (found_by route caller day t))
+    (found_by route caller day t)
     (record { same = IsPermutation-refl _; order = λ _. refl }) (route_shown t caller there route day)
 
 -- of every file, to a caller who has declared no interest
-pub handed_without : (t : Tables) (caller : ℕ) → 0 < caller → list_any (λ i. eqb i.party caller) t.interests ≡ false → (day : ℕ) {E : Type 0} (result : Result Bool E) (old new : State) (given : List Found) → Shows t old
+pub handed_without : (t : Tables) (caller : ℕ) → 0 < caller → list_any (λ i. eqb i.party caller) t.interests ≡ false →
+    (day : ℕ) {E : Type 0} (result : Result Bool E) (old new : State) (given : List Found) → Shows t old
     → Gave result EVERY_WITHOUT.now (int caller ∷ int 0 ∷ []) old new given → AreHanded t result given (found_by Every caller day t)
 handed_without t caller there none day =
-    handed_where t EVERY_WITHOUT.now (int caller ∷ int 0 ∷ []) every_without means_every_without (λ given. AreFound t given (found_by Every caller day t)) (found_by Every caller day t)
+    handed_where t EVERY_WITHOUT.now (int caller ∷ int 0 ∷ []) every_without means_every_without (λ given. AreFound t given (found_by Every caller day t))
+    (found_by Every caller day t)
     (record { same = IsPermutation-refl _; order = λ _. refl }) (every_without_shown t caller there none day)
 
 pub plain_without : (t : Tables) (db : Database) → Keeps t db → IsPlain (understood db.schema EVERY_WITHOUT.now)

@@ -1,5 +1,6 @@
 -- What is kept of the tables as one table turns into another.
-use Rattle.std.proofs.Common.{◌≡◌, ℕ, suc, ℤ, ◌<◌, ◌≤◌, Bool, true, false, cond, eqb, List, [], ◌∷◌, ◌++◌, map, filter, find, drop, length, Some, option_map, unwrap_or, true≢false, refl, sym, ap, subst, ◌∙◌, arith, IsPermutation}
+use Rattle.std.proofs.Common.{◌≡◌, ℕ, suc, ℤ, ◌<◌, ◌≤◌, Bool, true, false, cond, eqb, List, [], ◌∷◌, ◌++◌, map, filter, find, drop, length, Some, option_map}
+use Rattle.std.proofs.Common.{unwrap_or, true≢false, refl, sym, ap, subst, ◌∙◌, arith, IsPermutation}
 use Rattle.std.specs.Prelude.{◌≢◌, ◌&&◌, bytes_eq}
 use Rattle.std.specs.List.{AllByRecursion}
 use Rattle.std.proofs.lemmas.Bool.Decides.{nat_tests}
@@ -45,7 +46,8 @@ module _ (old new : Database) (t : Tables) (k : AreInTrees t old.trees) where
     parcels_stay other = subst (IsPermutation (map parcel_row t.parcels)) (sym (leaves.others.1.1.0 (apart 3 table.tree other))) k.parcels
 
     interests_stay : Other 5 → IsPermutation (map shown_interest t.interests) (map (drop 1) (new.trees 5))
-    interests_stay other = subst (λ r. IsPermutation (map shown_interest t.interests) (map (drop 1) r)) (sym (leaves.others.1.1.1.0 (apart 5 table.tree other))) k.interests
+    interests_stay other = subst (λ r. IsPermutation (map shown_interest t.interests) (map (drop 1) r))
+        (sym (leaves.others.1.1.1.0 (apart 5 table.tree other))) k.interests
 
     files_stay : Other 7 → IsPermutation (map file_row t.files) (new.trees 7)
     files_stay other = subst (IsPermutation (map file_row t.files)) (sym (leaves.others.1.1.1.1.0 (apart 7 table.tree other))) k.files
@@ -66,7 +68,8 @@ module _ (old new : Database) (t : Tables) (k : AreInTrees t old.trees) where
     apart = (papers_stay desk_table leaves refl).1;
   }
 
-  pub keeps_parties : (xs : List Party) → Leaves old new party_table → IsPermutation (map party_row xs) (new.trees 1) → AreInTrees (record t { parties = xs }) new.trees
+  pub keeps_parties : (xs : List Party) → Leaves old new party_table → IsPermutation (map party_row xs) (new.trees 1) →
+      AreInTrees (record t { parties = xs }) new.trees
   keeps_parties xs leaves now = record {
     desk = desk_stays party_table leaves refl;
     parties = now;
@@ -77,7 +80,8 @@ module _ (old new : Database) (t : Tables) (k : AreInTrees t old.trees) where
     apart = (papers_stay party_table leaves refl).1;
   }
 
-  pub keeps_parcels : (xs : List Parcel) → Leaves old new parcel_table → IsPermutation (map parcel_row xs) (new.trees 3) → AreInTrees (record t { parcels = xs }) new.trees
+  pub keeps_parcels : (xs : List Parcel) → Leaves old new parcel_table → IsPermutation (map parcel_row xs) (new.trees 3) →
+      AreInTrees (record t { parcels = xs }) new.trees
   keeps_parcels xs leaves now = record {
     desk = desk_stays parcel_table leaves refl;
     parties = parties_stay parcel_table leaves refl;
@@ -88,7 +92,8 @@ module _ (old new : Database) (t : Tables) (k : AreInTrees t old.trees) where
     apart = (papers_stay parcel_table leaves refl).1;
   }
 
-  pub keeps_interests : (xs : List Interest) → Leaves old new interest_table → IsPermutation (map shown_interest xs) (map (drop 1) (new.trees 5)) → AreInTrees (record t { interests = xs }) new.trees
+  pub keeps_interests : (xs : List Interest) → Leaves old new interest_table → IsPermutation (map shown_interest xs) (map (drop 1) (new.trees 5)) →
+      AreInTrees (record t { interests = xs }) new.trees
   keeps_interests xs leaves now = record {
     desk = desk_stays interest_table leaves refl;
     parties = parties_stay interest_table leaves refl;
@@ -99,7 +104,8 @@ module _ (old new : Database) (t : Tables) (k : AreInTrees t old.trees) where
     apart = (papers_stay interest_table leaves refl).1;
   }
 
-  pub keeps_files : (xs : List FileRow) → Leaves old new file_table → IsPermutation (map file_row xs) (new.trees 7) → AreInTrees (record t { files = xs }) new.trees
+  pub keeps_files : (xs : List FileRow) → Leaves old new file_table → IsPermutation (map file_row xs) (new.trees 7) →
+      AreInTrees (record t { files = xs }) new.trees
   keeps_files xs leaves now = record {
     desk = desk_stays file_table leaves refl;
     parties = parties_stay file_table leaves refl;
@@ -110,7 +116,8 @@ module _ (old new : Database) (t : Tables) (k : AreInTrees t old.trees) where
     apart = (papers_stay file_table leaves refl).1;
   }
 
-  pub keeps_papers : (xs : List Paper) → Leaves old new paper_table → IsPermutation (map shown_paper xs) (map (drop 1) (new.trees 8)) × Apart (new.trees 8) → AreInTrees (record t { papers = xs }) new.trees
+  pub keeps_papers : (xs : List Paper) → Leaves old new paper_table → IsPermutation (map shown_paper xs) (map (drop 1) (new.trees 8)) × Apart (new.trees 8) →
+      AreInTrees (record t { papers = xs }) new.trees
   keeps_papers xs leaves now = record {
     desk = desk_stays paper_table leaves refl;
     parties = parties_stay paper_table leaves refl;
@@ -131,7 +138,8 @@ same_bytes a b e = (bytes_eq-Decides a b).0 e
 
 -- a change of values leaves how many pass a test that reads what stays
 pub as_many : {X : Type 0} (p : X → Bool) (f : X → X) → ((x : X) → p (f x) ≡ p x) → (xs : List X) → length (filter p xs) ≤ 1 → length (filter p (map f xs)) ≤ 1
-as_many p f same xs short = subst (λ n. n ≤ 1) (sym (ap length (filter-map p f xs) ∙ long f (filter (λ x. p (f x)) xs) ∙ ap length (filter_same _ _ same xs))) short
+as_many p f same xs short = subst (λ n. n ≤ 1) (sym (ap length (filter-map p f xs) ∙ long f (filter (λ x. p (f x)) xs)
+    ∙ ap length (filter_same _ _ same xs))) short
   where
     long : {A B : Type 0} (g : A → B) (ys : List A) → length (map g ys) ≡ length ys
     long g [] = refl
@@ -139,15 +147,9 @@ as_many p f same xs short = subst (λ n. n ≤ 1) (sym (ap length (filter-map p 
 
 module _ (t : Tables) (k : AreKeyed t) where
   pub keyed_desk : (d : Desk) → AreKeyed (record t { desk = d })
-  keyed_desk d = record { parties = k.parties; digests = k.digests; parcels = k.parcels; lots = k.lots; files = k.files; named = k.named; papers = k.papers; counted = k.counted }
-
-  pub keyed_interests : (is : List Interest) → AreKeyed (record t { interests = is })
-  keyed_interests is = record { parties = k.parties; digests = k.digests; parcels = k.parcels; lots = k.lots; files = k.files; named = k.named; papers = k.papers; counted = k.counted }
-
-  pub keyed_party : (p : Party) → filter (λ q. eqb q.id p.id) t.parties ≡ [] → filter (λ q. bytes_eq q.digest p.digest) t.parties ≡ [] → AreKeyed (record t { parties = t.parties ++ p ∷ [] })
-  keyed_party p free new = record {
-    parties = λ id. once_more (λ q. eqb q.id id) t.parties p (k.parties id) (λ e. subst (λ n. filter (λ q. eqb q.id n) t.parties ≡ []) (same_number p.id id e) free);
-    digests = λ d. once_more (λ q. bytes_eq q.digest d) t.parties p (k.digests d) (λ e. subst (λ b. filter (λ q. bytes_eq q.digest b) t.parties ≡ []) (same_bytes p.digest d e) new);
+  keyed_desk d = record {
+    parties = k.parties;
+    digests = k.digests;
     parcels = k.parcels;
     lots = k.lots;
     files = k.files;
@@ -156,10 +158,40 @@ module _ (t : Tables) (k : AreKeyed t) where
     counted = k.counted;
   }
 
-  pub keyed_parcel : (p : Parcel) → filter (λ q. eqb q.id p.id) t.parcels ≡ [] → filter (λ q. bytes_eq q.lot p.lot) t.parcels ≡ [] → AreKeyed (record t { parcels = t.parcels ++ p ∷ [] })
+  pub keyed_interests : (is : List Interest) → AreKeyed (record t { interests = is })
+  keyed_interests is = record {
+    parties = k.parties;
+    digests = k.digests;
+    parcels = k.parcels;
+    lots = k.lots;
+    files = k.files;
+    named = k.named;
+    papers = k.papers;
+    counted = k.counted;
+  }
+
+  pub keyed_party : (p : Party) → filter (λ q. eqb q.id p.id) t.parties ≡ [] → filter (λ q. bytes_eq q.digest p.digest) t.parties ≡ [] →
+      AreKeyed (record t { parties = t.parties ++ p ∷ [] })
+  keyed_party p free new = record {
+    parties = λ id. once_more (λ q. eqb q.id id) t.parties p (k.parties id)
+        (λ e. subst (λ n. filter (λ q. eqb q.id n) t.parties ≡ []) (same_number p.id id e) free);
+    digests = λ d. once_more (λ q. bytes_eq q.digest d) t.parties p (k.digests d)
+        (λ e. subst (λ b. filter (λ q. bytes_eq q.digest b) t.parties ≡ []) (same_bytes p.digest d e) new);
+    parcels = k.parcels;
+    lots = k.lots;
+    files = k.files;
+    named = k.named;
+    papers = k.papers;
+    counted = k.counted;
+  }
+
+  pub keyed_parcel : (p : Parcel) → filter (λ q. eqb q.id p.id) t.parcels ≡ [] → filter (λ q. bytes_eq q.lot p.lot) t.parcels ≡ [] →
+      AreKeyed (record t { parcels = t.parcels ++ p ∷ [] })
   keyed_parcel p free new = record {
-    parcels = λ id. once_more (λ q. eqb q.id id) t.parcels p (k.parcels id) (λ e. subst (λ n. filter (λ q. eqb q.id n) t.parcels ≡ []) (same_number p.id id e) free);
-    lots = λ d. once_more (λ q. bytes_eq q.lot d) t.parcels p (k.lots d) (λ e. subst (λ b. filter (λ q. bytes_eq q.lot b) t.parcels ≡ []) (same_bytes p.lot d e) new);
+    parcels = λ id. once_more (λ q. eqb q.id id) t.parcels p (k.parcels id)
+        (λ e. subst (λ n. filter (λ q. eqb q.id n) t.parcels ≡ []) (same_number p.id id e) free);
+    lots = λ d. once_more (λ q. bytes_eq q.lot d) t.parcels p (k.lots d)
+        (λ e. subst (λ b. filter (λ q. bytes_eq q.lot b) t.parcels ≡ []) (same_bytes p.lot d e) new);
     parties = k.parties;
     digests = k.digests;
     files = k.files;
@@ -205,7 +237,8 @@ counted_more file f [] = omega arith
 counted_more file f (x ∷ fs) = go (eqb x.id file) (counted_more file f fs)
   where
     go : (b : Bool) → papers_counted file fs ≤ papers_counted file (fs ++ f ∷ [])
-        → unwrap_or (option_map (λ (r : FileRow). r.state.papers) (cond b (Some x) (find (λ r. eqb r.id file) fs))) 0 ≤ unwrap_or (option_map (λ (r : FileRow). r.state.papers) (cond b (Some x) (find (λ r. eqb r.id file) (fs ++ f ∷ [])))) 0
+        → unwrap_or (option_map (λ (r : FileRow). r.state.papers) (cond b (Some x) (find (λ r. eqb r.id file) fs))) 0 ≤ unwrap_or
+        (option_map (λ (r : FileRow). r.state.papers) (cond b (Some x) (find (λ r. eqb r.id file) (fs ++ f ∷ [])))) 0
     go true more = omega arith
     go false more = more
 
@@ -216,10 +249,12 @@ still_id id s x = go (eqb x.id id)
     go true = refl
     go false = refl
 
-counted_set : (file id : ℕ) (s : State) (fs : List FileRow) → AllByRecursion (λ (x : FileRow). eqb x.id id ≡ true → x.state.papers ≤ s.papers) fs → papers_counted file fs ≤ papers_counted file (map (with_state id s) fs)
+counted_set : (file id : ℕ) (s : State) (fs : List FileRow) → AllByRecursion (λ (x : FileRow). eqb x.id id ≡ true → x.state.papers ≤ s.papers) fs →
+    papers_counted file fs ≤ papers_counted file (map (with_state id s) fs)
 counted_set file id s [] low = omega arith
 counted_set file id s (x ∷ fs) low =
-    subst (λ n. unwrap_or (option_map (λ (r : FileRow). r.state.papers) (cond (eqb x.id file) (Some x) (find (λ r. eqb r.id file) fs))) 0 ≤ unwrap_or (option_map (λ (r : FileRow). r.state.papers) (cond (eqb n file) (Some (with_state id s x)) (find (λ r. eqb r.id file) (map (with_state id s) fs)))) 0)
+    subst (λ n. unwrap_or (option_map (λ (r : FileRow). r.state.papers) (cond (eqb x.id file) (Some x) (find (λ r. eqb r.id file) fs))) 0 ≤ unwrap_or
+    (option_map (λ (r : FileRow). r.state.papers) (cond (eqb n file) (Some (with_state id s x)) (find (λ r. eqb r.id file) (map (with_state id s) fs)))) 0)
     (sym (still_id id s x)) (go (eqb x.id file) (counted_set file id s fs low.1))
   where
     here : (b : Bool) → eqb x.id id ≡ b → x.state.papers ≤ (cond b (record x { state = s }) x).state.papers
@@ -227,17 +262,23 @@ counted_set file id s (x ∷ fs) low =
     here false e = omega arith
 
     go : (b : Bool) → papers_counted file fs ≤ papers_counted file (map (with_state id s) fs)
-        → unwrap_or (option_map (λ (r : FileRow). r.state.papers) (cond b (Some x) (find (λ r. eqb r.id file) fs))) 0 ≤ unwrap_or (option_map (λ (r : FileRow). r.state.papers) (cond b (Some (with_state id s x)) (find (λ r. eqb r.id file) (map (with_state id s) fs)))) 0
+        → unwrap_or (option_map (λ (r : FileRow). r.state.papers) (cond b (Some x) (find (λ r. eqb r.id file) fs))) 0 ≤ unwrap_or
+        (option_map (λ (r : FileRow). r.state.papers) (cond b (Some (with_state id s x)) (find (λ r. eqb r.id file) (map (with_state id s) fs)))) 0
     go true more = here (eqb x.id id) refl
     go false more = more
 
 -- the count in the row that is set
-pub counted_here : (id : ℕ) (s : State) (f : FileRow) (fs : List FileRow) → find (λ r. eqb r.id id) fs ≡ Some f → papers_counted id (map (with_state id s) fs) ≡ s.papers
+pub counted_here : (id : ℕ) (s : State) (f : FileRow) (fs : List FileRow) → find (λ r. eqb r.id id) fs ≡ Some f →
+    papers_counted id (map (with_state id s) fs) ≡ s.papers
 counted_here id s f [] e = absurd cc
-counted_here id s f (x ∷ fs) e = ap (λ n. unwrap_or (option_map (λ (r : FileRow). r.state.papers) (cond (eqb n id) (Some (with_state id s x)) (find (λ r. eqb r.id id) (map (with_state id s) fs)))) 0) (still_id id s x) ∙ go (eqb x.id id) e (counted_here id s f fs)
+counted_here id s f (x ∷ fs) e = ap (λ n. unwrap_or (option_map (λ (r : FileRow). r.state.papers)
+    (cond (eqb n id) (Some (with_state id s x)) (find (λ r. eqb r.id id) (map (with_state id s) fs)))) 0) (still_id id s x)
+    ∙ go (eqb x.id id) e (counted_here id s f fs)
   where
-    go : (b : Bool) → cond b (Some x) (find (λ r. eqb r.id id) fs) ≡ Some f → (find (λ r. eqb r.id id) fs ≡ Some f → papers_counted id (map (with_state id s) fs) ≡ s.papers)
-        → unwrap_or (option_map (λ (r : FileRow). r.state.papers) (cond b (Some (cond b (record x { state = s }) x)) (find (λ r. eqb r.id id) (map (with_state id s) fs)))) 0 ≡ s.papers
+    go : (b : Bool) → cond b (Some x) (find (λ r. eqb r.id id) fs) ≡ Some f →
+        (find (λ r. eqb r.id id) fs ≡ Some f → papers_counted id (map (with_state id s) fs) ≡ s.papers)
+        → unwrap_or (option_map (λ (r : FileRow). r.state.papers) (cond b (Some (cond b (record x { state = s }) x))
+        (find (λ r. eqb r.id id) (map (with_state id s) fs)))) 0 ≡ s.papers
     go true e more = refl
     go false e more = more e
 
@@ -245,7 +286,8 @@ all_last : {X : Type 0} (P : X → Type 0) (xs : List X) (x : X) → AllByRecurs
 all_last P [] x all is = (is, tt)
 all_last P (y ∷ xs) x all is = (all.0, all_last P xs x all.1 is)
 
-named_set : (id : ℕ) (s : State) (fs : List FileRow) → IsNamed s → AllByRecursion (λ (f : FileRow). IsNamed f.state) fs → AllByRecursion (λ (f : FileRow). IsNamed f.state) (map (with_state id s) fs)
+named_set : (id : ℕ) (s : State) (fs : List FileRow) → IsNamed s → AllByRecursion (λ (f : FileRow). IsNamed f.state) fs →
+    AllByRecursion (λ (f : FileRow). IsNamed f.state) (map (with_state id s) fs)
 named_set id s [] is all = tt
 named_set id s (x ∷ fs) is all = (go (eqb x.id id), named_set id s fs is all.1)
   where
@@ -266,7 +308,8 @@ module _ (t : Tables) (k : AreKeyed t) where
     counted = λ file. raised (papers_counted file t.files) (papers_counted file (t.files ++ f ∷ [])) _ (counted_more file f t.files) (k.counted file);
   }
 
-  pub keyed_row : (id : ℕ) (s : State) (f : FileRow) → filter (λ q. eqb q.id id) t.files ≡ f ∷ [] → f.state.papers ≤ s.papers → IsNamed s → AreKeyed (record t { files = map (with_state id s) t.files })
+  pub keyed_row : (id : ℕ) (s : State) (f : FileRow) → filter (λ q. eqb q.id id) t.files ≡ f ∷ [] → f.state.papers ≤ s.papers → IsNamed s →
+      AreKeyed (record t { files = map (with_state id s) t.files })
   keyed_row id s f one low is = record {
     parties = k.parties;
     digests = k.digests;
@@ -276,7 +319,8 @@ module _ (t : Tables) (k : AreKeyed t) where
     named = named_set id s t.files is k.named;
     papers = k.papers;
     counted = λ file. raised (papers_counted file t.files) (papers_counted file (map (with_state id s) t.files)) _
-        (counted_set file id s t.files (all_kept (λ (x : FileRow). x.state.papers ≤ s.papers) (λ q. eqb q.id id) t.files (subst (AllByRecursion (λ (x : FileRow). x.state.papers ≤ s.papers)) (sym one) (low, tt)))) (k.counted file);
+        (counted_set file id s t.files (all_kept (λ (x : FileRow). x.state.papers ≤ s.papers) (λ q. eqb q.id id) t.files
+        (subst (AllByRecursion (λ (x : FileRow). x.state.papers ≤ s.papers)) (sym one) (low, tt)))) (k.counted file);
   }
 
 -- ---- papers
@@ -285,11 +329,13 @@ filter_last : {X : Type 0} (p : X → Bool) (xs : List X) (x : X) → filter p (
 filter_last p [] x = refl
 filter_last p (y ∷ xs) x = go (p y) (filter_last p xs x)
   where
-    go : (b : Bool) → filter p (xs ++ x ∷ []) ≡ filter p xs ++ cond (p x) (x ∷ []) [] → cond b (y ∷ filter p (xs ++ x ∷ [])) (filter p (xs ++ x ∷ [])) ≡ cond b (y ∷ filter p xs) (filter p xs) ++ cond (p x) (x ∷ []) []
+    go : (b : Bool) → filter p (xs ++ x ∷ []) ≡ filter p xs ++ cond (p x) (x ∷ []) [] →
+        cond b (y ∷ filter p (xs ++ x ∷ [])) (filter p (xs ++ x ∷ [])) ≡ cond b (y ∷ filter p xs) (filter p xs) ++ cond (p x) (x ∷ []) []
     go true e = ap (λ l. y ∷ l) e
     go false e = e
 
-ascends_last : (xs : List Paper) (x : Paper) → IsAscending (λ (a b : Paper). a.number < b.number) xs → AllByRecursion (λ (y : Paper). y.number < x.number) xs → IsAscending (λ (a b : Paper). a.number < b.number) (xs ++ x ∷ [])
+ascends_last : (xs : List Paper) (x : Paper) → IsAscending (λ (a b : Paper). a.number < b.number) xs → AllByRecursion (λ (y : Paper). y.number < x.number) xs →
+    IsAscending (λ (a b : Paper). a.number < b.number) (xs ++ x ∷ [])
 ascends_last [] x up low = (tt, tt)
 ascends_last (y ∷ xs) x up low = (all_last (λ (b : Paper). y.number < b.number) xs x up.0 low.0, ascends_last xs x up.1 low.1)
 
@@ -303,7 +349,8 @@ append_nil (x ∷ xs) = ap (λ l. x ∷ l) (append_nil xs)
 
 module _ (t : Tables) (k : AreKeyed t) where
   -- a paper of the file, with the number after all of its papers
-  pub keyed_paper : (p : Paper) → AllByRecursion (λ (x : Paper). x.number < p.number) (filter (λ (x : Paper). eqb x.file p.file) t.papers) → p.number ≤ papers_counted p.file t.files → AreKeyed (record t { papers = t.papers ++ p ∷ [] })
+  pub keyed_paper : (p : Paper) → AllByRecursion (λ (x : Paper). x.number < p.number) (filter (λ (x : Paper). eqb x.file p.file) t.papers) →
+      p.number ≤ papers_counted p.file t.files → AreKeyed (record t { papers = t.papers ++ p ∷ [] })
   keyed_paper p above low = record {
     parties = k.parties;
     digests = k.digests;
@@ -311,15 +358,20 @@ module _ (t : Tables) (k : AreKeyed t) where
     lots = k.lots;
     files = k.files;
     named = k.named;
-    papers = λ file. subst (IsAscending (λ (a b : Paper). a.number < b.number)) (sym (filter_last (λ (x : Paper). eqb x.file file) t.papers p)) (rises file (eqb p.file file) refl);
-    counted = λ file. subst (AllByRecursion (λ (x : Paper). x.number ≤ papers_counted file t.files)) (sym (filter_last (λ (x : Paper). eqb x.file file) t.papers p)) (counts file (eqb p.file file) refl);
+    papers = λ file. subst (IsAscending (λ (a b : Paper). a.number < b.number)) (sym (filter_last (λ (x : Paper). eqb x.file file) t.papers p))
+        (rises file (eqb p.file file) refl);
+    counted = λ file. subst (AllByRecursion (λ (x : Paper). x.number ≤ papers_counted file t.files))
+        (sym (filter_last (λ (x : Paper). eqb x.file file) t.papers p)) (counts file (eqb p.file file) refl);
   }
     where
-      rises : (file : ℕ) (b : Bool) → eqb p.file file ≡ b → IsAscending (λ (x y : Paper). x.number < y.number) (filter (λ (x : Paper). eqb x.file file) t.papers ++ cond b (p ∷ []) [])
-      rises file true e = ascends_last _ p (k.papers file) (subst (λ n. AllByRecursion (λ (x : Paper). x.number < p.number) (filter (λ (x : Paper). eqb x.file n) t.papers)) (same_number p.file file e) above)
+      rises : (file : ℕ) (b : Bool) → eqb p.file file ≡ b → IsAscending (λ (x y : Paper). x.number < y.number)
+          (filter (λ (x : Paper). eqb x.file file) t.papers ++ cond b (p ∷ []) [])
+      rises file true e = ascends_last _ p (k.papers file) (subst (λ n. AllByRecursion (λ (x : Paper). x.number < p.number)
+          (filter (λ (x : Paper). eqb x.file n) t.papers)) (same_number p.file file e) above)
       rises file false e = subst (IsAscending (λ (x y : Paper). x.number < y.number)) (sym (append_nil _)) (k.papers file)
 
-      counts : (file : ℕ) (b : Bool) → eqb p.file file ≡ b → AllByRecursion (λ (x : Paper). x.number ≤ papers_counted file t.files) (filter (λ (x : Paper). eqb x.file file) t.papers ++ cond b (p ∷ []) [])
+      counts : (file : ℕ) (b : Bool) → eqb p.file file ≡ b → AllByRecursion (λ (x : Paper). x.number ≤ papers_counted file t.files)
+          (filter (λ (x : Paper). eqb x.file file) t.papers ++ cond b (p ∷ []) [])
       counts file true e = all_last _ _ p (k.counted file) (subst (λ n. p.number ≤ papers_counted n t.files) (same_number p.file file e) low)
       counts file false e = subst (AllByRecursion (λ (x : Paper). x.number ≤ papers_counted file t.files)) (sym (append_nil _)) (k.counted file)
 
@@ -337,7 +389,8 @@ module _ (t : Tables) (k : AreKeyed t) where
       go true = refl
       go false = refl
 
-  closed_all : (n file number : ℕ) (xs : List Paper) → AllByRecursion (λ (x : Paper). x.number ≤ n) xs → AllByRecursion (λ (x : Paper). x.number ≤ n) (map (closed_by file number) xs)
+  closed_all : (n file number : ℕ) (xs : List Paper) → AllByRecursion (λ (x : Paper). x.number ≤ n) xs →
+      AllByRecursion (λ (x : Paper). x.number ≤ n) (map (closed_by file number) xs)
   closed_all n file number [] all = tt
   closed_all n file number (x ∷ xs) all = (subst (λ m. m ≤ n) (sym (closed_number file number x)) all.0, closed_all n file number xs all.1)
 
@@ -350,9 +403,13 @@ module _ (t : Tables) (k : AreKeyed t) where
     files = k.files;
     named = k.named;
     papers = λ f. subst (IsAscending (λ (a b : Paper). a.number < b.number)) (sym (kept f))
-        (ascending-map (λ (a b : Paper). a.number < b.number) (closed_by file number) _ (ascending_weaker _ _ (λ a b low. subst (λ n. n < (closed_by file number b).number) (sym (closed_number file number a)) (subst (λ n. a.number < n) (sym (closed_number file number b)) low)) _ (k.papers f)));
+        (ascending-map (λ (a b : Paper). a.number < b.number) (closed_by file number) _
+        (ascending_weaker _ _ (λ a b low. subst (λ n. n < (closed_by file number b).number) (sym (closed_number file number a))
+        (subst (λ n. a.number < n) (sym (closed_number file number b)) low)) _ (k.papers f)));
     counted = λ f. subst (AllByRecursion (λ (x : Paper). x.number ≤ papers_counted f t.files)) (sym (kept f)) (closed_all _ file number _ (k.counted f));
   }
     where
-      kept : (f : ℕ) → filter (λ (x : Paper). eqb x.file f) (map (closed_by file number) t.papers) ≡ map (closed_by file number) (filter (λ (x : Paper). eqb x.file f) t.papers)
-      kept f = filter-map (λ (x : Paper). eqb x.file f) (closed_by file number) t.papers ∙ ap (map (closed_by file number)) (filter_same _ _ (λ x. ap (λ n. eqb n f) (closed_file file number x)) t.papers)
+      kept : (f : ℕ) → filter (λ (x : Paper). eqb x.file f) (map (closed_by file number) t.papers)
+          ≡ map (closed_by file number) (filter (λ (x : Paper). eqb x.file f) t.papers)
+      kept f = filter-map (λ (x : Paper). eqb x.file f) (closed_by file number) t.papers
+          ∙ ap (map (closed_by file number)) (filter_same _ _ (λ x. ap (λ n. eqb n f) (closed_file file number x)) t.papers)

@@ -1,5 +1,6 @@
 -- What a query over one table shows, with no group, no DISTINCT and no LIMIT.
-use Rattle.std.proofs.Common.{◌≡◌, ℕ, suc, pos, negsuc, ◌≤◌, Bool, true, false, cond, eqb, List, [], ◌∷◌, ◌++◌, map, filter, length, Some, None, refl, sym, ap, ap₂, subst, ◌∙◌, arith, IsPermutation, IsSorted, is_eq}
+use Rattle.std.proofs.Common.{◌≡◌, ℕ, suc, pos, negsuc, ◌≤◌, Bool, true, false, cond, eqb, List, [], ◌∷◌, ◌++◌, map, filter, length, Some, None, refl, sym, ap}
+use Rattle.std.proofs.Common.{ap₂, subst, ◌∙◌, arith, IsPermutation, IsSorted, is_eq}
 use Rattle.std.specs.Prelude.{◌&&◌, bytes_eq}
 use Rattle.std.specs.List.{flat_map, list_all, list_any, AllByRecursion}
 use Rattle.std.proofs.lemmas.Bool.Decides.{nat_tests}
@@ -69,14 +70,16 @@ put_out q params r = cond (list_all (holds (params ∷ r ∷ [])) q.filter) (out
 -- the same of each row of the tree
 pub spread : (q : Query) (params : Row) (rows : List Row)
     → map (output q) (flat_map (λ r. cond (list_all (holds (params ∷ r ∷ [])) q.filter) ((params ∷ r ∷ []) ∷ []) []) rows) ≡ flat_map (put_out q params) rows
-spread q params rows = map-flat_map (output q) (λ r. cond (list_all (holds (params ∷ r ∷ [])) q.filter) ((params ∷ r ∷ []) ∷ []) []) rows ∙ flat_map_same_on _ _ (λ r. go r (list_all (holds (params ∷ r ∷ [])) q.filter)) rows
+spread q params rows = map-flat_map (output q) (λ r. cond (list_all (holds (params ∷ r ∷ [])) q.filter) ((params ∷ r ∷ []) ∷ []) []) rows
+    ∙ flat_map_same_on _ _ (λ r. go r (list_all (holds (params ∷ r ∷ [])) q.filter)) rows
   where
     go : (r : Row) (b : Bool) → map (output q) (cond b ((params ∷ r ∷ []) ∷ []) []) ≡ cond b (output q (params ∷ r ∷ []) ∷ []) []
     go r true = refl
     go r false = refl
 
 -- what is put out of the values that pass a test
-pub put_all_out : {X : Type 0} (g : Row → List Output) (enc : X → Row) (test : X → Bool) (out : X → Output) → ((x : X) → g (enc x) ≡ cond (test x) (out x ∷ []) []) → (xs : List X) → flat_map g (map enc xs) ≡ map out (filter test xs)
+pub put_all_out : {X : Type 0} (g : Row → List Output) (enc : X → Row) (test : X → Bool) (out : X → Output) →
+    ((x : X) → g (enc x) ≡ cond (test x) (out x ∷ []) []) → (xs : List X) → flat_map g (map enc xs) ≡ map out (filter test xs)
 put_all_out g enc test out is [] = refl
 put_all_out g enc test out is (x ∷ xs) = ap₂ ◌++◌ (is x) (put_all_out g enc test out is xs) ∙ go (test x)
   where
@@ -85,7 +88,8 @@ put_all_out g enc test out is (x ∷ xs) = ap₂ ◌++◌ (is x) (put_all_out g 
     go false = refl
 
 -- the test that a row's part meets says what is put out of it
-pub put_out_is : (q : Query) (params r : Row) (b : Bool) (o : Output) → list_all (holds (params ∷ r ∷ [])) q.filter ≡ b → output q (params ∷ r ∷ []) ≡ o → put_out q params r ≡ cond b (o ∷ []) []
+pub put_out_is : (q : Query) (params r : Row) (b : Bool) (o : Output) → list_all (holds (params ∷ r ∷ [])) q.filter ≡ b → output q (params ∷ r ∷ []) ≡ o →
+    put_out q params r ≡ cond b (o ∷ []) []
 put_out_is q params r b o e p = ap (λ t. cond t (output q (params ∷ r ∷ []) ∷ []) []) e ∙ ap (λ x. cond b (x ∷ []) []) p
 
 -- a look-up by one test, by two tests
@@ -99,20 +103,24 @@ module _ {X : Type 0} (enc : X → Row) (shown : X → Row) (tree : ℕ) (filter
   by_test = plain_query (inner tree end) filter project []
 
   -- whole rows: the answer is what is shown of those that pass the test, in any order
-  pub finds : IsPermutation (map enc xs) (db tree) → (rows : List Row) → IsAnswer by_test db params rows → IsPermutation (map shown (Rattle.std.specs.Prelude.filter test xs)) rows
+  pub finds : IsPermutation (map enc xs) (db tree) → (rows : List Row) → IsAnswer by_test db params rows →
+      IsPermutation (map shown (Rattle.std.specs.Prelude.filter test xs)) rows
   finds kept rows a =
       let got = answers (inner tree end) filter project [] db params rows a in
       let out : X → Output = λ x. output by_test (params ∷ enc x ∷ []) in
-      let there = subst (λ l. IsPermutation l (flat_map (put_out by_test params) (db tree))) (put_all_out (put_out by_test params) enc test out (λ x. put_out_is by_test params (enc x) (test x) (out x) (tests x) refl) xs)
+      let there = subst (λ l. IsPermutation l (flat_map (put_out by_test params) (db tree)))
+      (put_all_out (put_out by_test params) enc test out (λ x. put_out_is by_test params (enc x) (test x) (out x) (tests x) refl) xs)
       (IsPermutation-flat_map (put_out by_test params) _ _ kept) in
       let same = IsPermutation-trans _ _ _ there (subst (λ l. IsPermutation l got.0) (spread by_test params (db tree)) got.1) in
       let seen = IsPermutation-map (λ (o : Output). o.1) _ _ same in
       let plain : map (λ (o : Output). o.1) (map out (Rattle.std.specs.Prelude.filter test xs)) ≡ map shown (Rattle.std.specs.Prelude.filter test xs) =
       map-map (λ (o : Output). o.1) out _ ∙ Rattle.sqlite_keyed.proofs.ListLemmas.map_same (λ x. (out x).1) shown shows _ in
-      subst (IsPermutation (map shown (Rattle.std.specs.Prelude.filter test xs))) (sym got.3) (subst (λ l. IsPermutation l (map (λ (o : Output). o.1) got.0)) plain seen)
+      subst (IsPermutation (map shown (Rattle.std.specs.Prelude.filter test xs))) (sym got.3)
+      (subst (λ l. IsPermutation l (map (λ (o : Output). o.1) got.0)) plain seen)
 
   -- where at most one passes, there is no order to speak of
-  pub finds_one : IsPermutation (map enc xs) (db tree) → length (Rattle.std.specs.Prelude.filter test xs) ≤ 1 → (rows : List Row) → IsAnswer by_test db params rows → rows ≡ map shown (Rattle.std.specs.Prelude.filter test xs)
+  pub finds_one : IsPermutation (map enc xs) (db tree) → length (Rattle.std.specs.Prelude.filter test xs) ≤ 1 → (rows : List Row) →
+      IsAnswer by_test db params rows → rows ≡ map shown (Rattle.std.specs.Prelude.filter test xs)
   finds_one kept short rows a = one_order _ rows (omega (arith, short, long shown (Rattle.std.specs.Prelude.filter test xs))) (finds kept rows a)
     where
       long : {A B : Type 0} (f : A → B) (ys : List A) → length (map f ys) ≡ length ys

@@ -1,9 +1,11 @@
 -- Rows in any order: a new row among them, and one that is replaced.
-use Rattle.std.proofs.Common.{◌≡◌, ℕ, ℤ, pos, ◌+◌, ◌≤◌, length, map, eqb, slice_get, Some, None, arith, ◌&&◌, ◌||◌, cond, Bool, true, false, not, List, [], ◌∷◌, ◌++◌, filter, find, refl, sym, ap, ap₂, subst, ◌∙◌, Ordering, Less, Equal, Greater, is_eq, IsPermutation, true≢false, append-nil}
+use Rattle.std.proofs.Common.{◌≡◌, ℕ, ℤ, pos, ◌+◌, ◌≤◌, length, map, eqb, slice_get, Some, None, arith, ◌&&◌, ◌||◌, cond, Bool, true, false, not, List, [], ◌∷◌}
+use Rattle.std.proofs.Common.{◌++◌, filter, find, refl, sym, ap, ap₂, subst, ◌∙◌, Ordering, Less, Equal, Greater, is_eq, IsPermutation, true≢false, append-nil}
 use Rattle.std.specs.List.{AllByRecursion, list_any}
 use Rattle.std.specs.Ordering.{match_ordering}
 use Rattle.std.proofs.lemmas.Bool.Decides.{nat_tests}
-use Rattle.std.proofs.lemmas.List.Sorted.{IsPermutation-refl, IsPermutation-cons, IsPermutation-trans, IsPermutation-sym, IsPermutation-middle, length_permutation, IsPermutation-map}
+use Rattle.std.proofs.lemmas.List.Sorted.{IsPermutation-refl, IsPermutation-cons, IsPermutation-trans, IsPermutation-sym, IsPermutation-middle}
+use Rattle.std.proofs.lemmas.List.Sorted.{length_permutation, IsPermutation-map}
 use Rattle.sqlite_keyed.proofs.ListLemmas.{IsPermutation-filter, filter-map, IsPermutation-same, slice_get-filter}
 use Rattle.sqlite.proofs.Callers.{one_permutation}
 use Rattle.sqlite_value.specs.Order.{Row, value_cmp}
@@ -24,7 +26,8 @@ pub put_fresh : (new : Row) (rows : List Row) → IsFreshIn new rows → IsPermu
 put_fresh new [] fresh = IsPermutation-refl _
 put_fresh new (r ∷ rs) fresh = go (value_cmp (rowid r) (rowid new)) fresh.0 (put_fresh new rs fresh.1)
   where
-    go : (o : Ordering) → is_eq o ≡ false → IsPermutation (new ∷ rs) (put_row new rs) → IsPermutation (new ∷ r ∷ rs) (match_ordering o (r ∷ put_row new rs) (new ∷ rs) (new ∷ r ∷ rs))
+    go : (o : Ordering) → is_eq o ≡ false → IsPermutation (new ∷ rs) (put_row new rs) →
+        IsPermutation (new ∷ r ∷ rs) (match_ordering o (r ∷ put_row new rs) (new ∷ rs) (new ∷ r ∷ rs))
     go Less apart more = IsPermutation-trans _ _ _ (IsPermutation-middle (new ∷ []) r rs) (IsPermutation-cons r _ _ more)
     go Equal apart more = absurd (true≢false apart)
     go Greater apart more = IsPermutation-refl _
@@ -44,7 +47,8 @@ not_taken true h = absurd (true≢false (sym h))
 not_taken false h = refl
 
 -- a row whose rowid is free is the only one with it
-pub fresh_alone : (id : ℤ) (new : Row) (rows : List Row) → IsFreshIn new rows → ((i : ℤ) → length (filter (has_rowid i) rows) ≤ 1) → rowid new ≡ Int id → length (filter (has_rowid id) (new ∷ rows)) ≤ 1
+pub fresh_alone : (id : ℤ) (new : Row) (rows : List Row) → IsFreshIn new rows → ((i : ℤ) → length (filter (has_rowid i) rows) ≤ 1) → rowid new ≡ Int id →
+    length (filter (has_rowid id) (new ∷ rows)) ≤ 1
 fresh_alone id new rows fresh apart is = go (has_rowid id new) (none rows fresh)
   where
     none : (rs : List Row) → IsFreshIn new rs → length (filter (has_rowid id) rs) ≡ 0
@@ -95,12 +99,14 @@ module _ {X : Type 0} (test : X → Bool) (f : X → X) where
   map_none [] stays none = refl
   map_none (x ∷ xs) stays none = go (test x) refl none (map_none xs stays.1)
     where
-      go : (b : Bool) → test x ≡ b → cond b (x ∷ filter test xs) (filter test xs) ≡ [] → (filter test xs ≡ [] → map f xs ≡ rest xs) → f x ∷ map f xs ≡ cond (not b) (x ∷ rest xs) (rest xs)
+      go : (b : Bool) → test x ≡ b → cond b (x ∷ filter test xs) (filter test xs) ≡ [] → (filter test xs ≡ [] → map f xs ≡ rest xs) →
+          f x ∷ map f xs ≡ cond (not b) (x ∷ rest xs) (rest xs)
       go true is none more = absurd cc
       go false is none more = ap₂ ◌∷◌ (stays.0 is) (more none)
 
   -- where one value passes the test, it is changed, and no other
-  pub map_one : (old : X) (xs : List X) → AllByRecursion (λ x. test x ≡ false → f x ≡ x) xs → filter test xs ≡ old ∷ [] → IsPermutation (map f xs) (f old ∷ rest xs)
+  pub map_one : (old : X) (xs : List X) → AllByRecursion (λ x. test x ≡ false → f x ≡ x) xs → filter test xs ≡ old ∷ [] →
+      IsPermutation (map f xs) (f old ∷ rest xs)
   map_one old [] stays one = absurd cc
   map_one old (x ∷ xs) stays one = go (test x) refl one (map_one old xs stays.1)
     where
@@ -110,17 +116,20 @@ module _ {X : Type 0} (test : X → Bool) (f : X → X) where
       tail : {A : Type 0} {a b : A} {p q : List A} → a ∷ p ≡ b ∷ q → p ≡ q
       tail e = cc
 
-      go : (b : Bool) → test x ≡ b → cond b (x ∷ filter test xs) (filter test xs) ≡ old ∷ [] → (filter test xs ≡ old ∷ [] → IsPermutation (map f xs) (f old ∷ rest xs))
+      go : (b : Bool) → test x ≡ b → cond b (x ∷ filter test xs) (filter test xs) ≡ old ∷ [] →
+          (filter test xs ≡ old ∷ [] → IsPermutation (map f xs) (f old ∷ rest xs))
           → IsPermutation (f x ∷ map f xs) (f old ∷ cond (not b) (x ∷ rest xs) (rest xs))
       go true is one more = IsPermutation-same _ _ (ap₂ ◌∷◌ (ap f (head one)) (map_none xs stays.1 (tail one)))
       go false is one more = IsPermutation-trans _ _ _ (IsPermutation-cons (f x) _ _ (more one))
           (subst (λ y. IsPermutation (f x ∷ f old ∷ rest xs) (f old ∷ y ∷ rest xs)) (stays.0 is) (IsPermutation-middle (f x ∷ []) (f old) (rest xs)))
 
 -- An UPDATE of the one row with a rowid.
-pub updates : (id : ℤ) (f : Row → Row) (old new : Row) (rows : List Row) → AllByRecursion (λ r. has_rowid id r ≡ false → f r ≡ r) rows → filter (has_rowid id) rows ≡ old ∷ [] → f old ≡ new → rowid new ≡ Int id
+pub updates : (id : ℤ) (f : Row → Row) (old new : Row) (rows : List Row) → AllByRecursion (λ r. has_rowid id r ≡ false → f r ≡ r) rows →
+    filter (has_rowid id) rows ≡ old ∷ [] → f old ≡ new → rowid new ≡ Int id
     → IsPermutation (map f rows) (put_row new (without_rowid id rows))
 updates id f old new rows stays one is keyed =
-    IsPermutation-trans _ _ _ (subst (λ r. IsPermutation (map f rows) (r ∷ without_rowid id rows)) is (map_one (has_rowid id) f old rows stays one)) (put_fresh new (without_rowid id rows) (fresh_left id new rows keyed))
+    IsPermutation-trans _ _ _ (subst (λ r. IsPermutation (map f rows) (r ∷ without_rowid id rows)) is (map_one (has_rowid id) f old rows stays one))
+    (put_fresh new (without_rowid id rows) (fresh_left id new rows keyed))
 
 -- ---- a test that one value passes at most
 
@@ -140,7 +149,8 @@ pub not_found : {X : Type 0} (test : X → Bool) (xs : List X) → find test xs 
 not_found test xs is = none_found (filter test xs) (slice_get-filter test xs ∙ is)
 
 -- a last value more
-pub once_more : {X : Type 0} (test : X → Bool) (xs : List X) (x : X) → length (filter test xs) ≤ 1 → (test x ≡ true → filter test xs ≡ []) → length (filter test (xs ++ x ∷ [])) ≤ 1
+pub once_more : {X : Type 0} (test : X → Bool) (xs : List X) (x : X) → length (filter test xs) ≤ 1 → (test x ≡ true → filter test xs ≡ []) →
+    length (filter test (xs ++ x ∷ [])) ≤ 1
 once_more {X} test xs x short free = subst (λ n. n ≤ 1) (sym (counted xs)) (go (test x) refl)
   where
     counted : (ys : List X) → length (filter test (ys ++ x ∷ [])) ≡ length (filter test ys) + cond (test x) 1 0
@@ -152,7 +162,8 @@ once_more {X} test xs x short free = subst (λ n. n ≤ 1) (sym (counted xs)) (g
     counted (y ∷ ys) = go (test y) (counted ys)
       where
         go : (b : Bool) → length (filter test (ys ++ x ∷ [])) ≡ length (filter test ys) + cond (test x) 1 0
-            → length (cond b (y ∷ filter test (ys ++ x ∷ [])) (filter test (ys ++ x ∷ []))) ≡ length (cond b (y ∷ filter test ys) (filter test ys)) + cond (test x) 1 0
+            → length (cond b (y ∷ filter test (ys ++ x ∷ [])) (filter test (ys ++ x ∷ [])))
+            ≡ length (cond b (y ∷ filter test ys) (filter test ys)) + cond (test x) 1 0
         go true e = omega (arith, e)
         go false e = e
 
@@ -176,7 +187,8 @@ module _ {X : Type 0} (key : X → ℕ) (enc : X → Row) (keyed : (x : X) → r
       let none = fresh_none (enc x) (key x) tree (keyed x) free in
       let moved = IsPermutation-filter (has_rowid (pos (key x))) _ _ kept in
       let empty = nil_permutation _ (subst (λ l. IsPermutation l (filter (has_rowid (pos (key x))) (map enc xs))) none (IsPermutation-sym _ _ moved)) in
-      unmapped (filter (λ y. eqb (key y) (key x)) xs) (sym (filter-map (has_rowid (pos (key x))) enc xs ∙ ap (map enc) (Rattle.sqlite_keyed.proofs.ListLemmas.filter_same _ _ (has_key (key x)) xs)) ∙ empty)
+      unmapped (filter (λ y. eqb (key y) (key x)) xs) (sym (filter-map (has_rowid (pos (key x))) enc xs
+      ∙ ap (map enc) (Rattle.sqlite_keyed.proofs.ListLemmas.filter_same _ _ (has_key (key x)) xs)) ∙ empty)
     where
       unmapped : (ys : List X) → map enc ys ≡ [] → ys ≡ []
       unmapped [] e = refl
@@ -187,18 +199,21 @@ module _ {X : Type 0} (key : X → ℕ) (enc : X → Row) (keyed : (x : X) → r
   map-append (x ∷ xs) ys = ap (λ l. enc x ∷ l) (map-append xs ys)
 
   -- a last value more, whose row is put among the others
-  pub put_more : (x : X) (xs : List X) (tree : List Row) → IsFreshIn (enc x) tree → IsPermutation (map enc xs) tree → IsPermutation (map enc (xs ++ x ∷ [])) (put_row (enc x) tree)
+  pub put_more : (x : X) (xs : List X) (tree : List Row) → IsFreshIn (enc x) tree → IsPermutation (map enc xs) tree →
+      IsPermutation (map enc (xs ++ x ∷ [])) (put_row (enc x) tree)
   put_more x xs tree free kept =
       subst (λ l. IsPermutation l (put_row (enc x) tree)) (sym (map-append xs (x ∷ [])))
       (IsPermutation-trans _ _ _ (append_any (map enc xs) (enc x) tree kept) (put_fresh (enc x) tree free))
 
   -- the value with the number is changed, and its row is put in place of the old one
-  pub put_changed : (id : ℕ) (f : X → X) (x : X) (xs : List X) (tree : List Row) → ((y : X) → eqb (key y) id ≡ false → f y ≡ y) → key (f x) ≡ id → filter (λ y. eqb (key y) id) xs ≡ x ∷ [] → IsPermutation (map enc xs) tree
+  pub put_changed : (id : ℕ) (f : X → X) (x : X) (xs : List X) (tree : List Row) → ((y : X) → eqb (key y) id ≡ false → f y ≡ y) → key (f x) ≡ id →
+      filter (λ y. eqb (key y) id) xs ≡ x ∷ [] → IsPermutation (map enc xs) tree
       → IsPermutation (map enc (map f xs)) (put_row (enc (f x)) (without_rowid (pos id) tree))
   put_changed id f x xs tree stays same one kept =
       let gone = IsPermutation-filter (λ r. not (has_rowid (pos id) r)) _ _ kept in
       let left : filter (λ r. not (has_rowid (pos id) r)) (map enc xs) ≡ map enc (filter (λ y. not (eqb (key y) id)) xs) =
-      filter-map (λ r. not (has_rowid (pos id) r)) enc xs ∙ ap (map enc) (Rattle.sqlite_keyed.proofs.ListLemmas.filter_same _ _ (λ y. ap not (has_key id y)) xs) in
+      filter-map (λ r. not (has_rowid (pos id) r)) enc xs ∙ ap (map enc)
+      (Rattle.sqlite_keyed.proofs.ListLemmas.filter_same _ _ (λ y. ap not (has_key id y)) xs) in
       let changed = IsPermutation-map enc _ _ (map_one (λ y. eqb (key y) id) f x xs (all xs) one) in
       IsPermutation-trans _ _ _ changed
       (IsPermutation-trans _ _ _ (IsPermutation-cons (enc (f x)) _ _ (subst (λ l. IsPermutation l (without_rowid (pos id) tree)) left gone))

@@ -12,7 +12,8 @@ use Rattle.sqlite_schema.specs.declared.command.Command.{Command}
 use Rattle.sqlite_schema.specs.declared.command.Command.TheVariants.{Select}
 use Rattle.sqlite.proofs.Callers.{command_of, IsPlain}
 use Rattle.permit_sql_rows.specs.Schema.{office_schema}
-use Rattle.permit_sql_statements.specs.declared.texts.TheConstants.{READ_DESK, READ_PARTY, FIND_PARTY, READ_PARCEL, FIND_PARCEL, FIND_INTEREST, FIND_INTERESTED, READ_FILE, READ_PAPERS, FIND_NOTICE}
+use Rattle.permit_sql_statements.specs.declared.texts.TheConstants.{READ_DESK, READ_PARTY, FIND_PARTY, READ_PARCEL, FIND_PARCEL, FIND_INTEREST, FIND_INTERESTED}
+use Rattle.permit_sql_statements.specs.declared.texts.TheConstants.{READ_FILE, READ_PAPERS, FIND_NOTICE}
 use Rattle.permit_sql_statements.proofs.Lookups.{plain_query, equals}
 
 abbrev pub alone : Query → Program
@@ -29,7 +30,8 @@ names_of _ = []
 abbrev pub read_desk_query : Query
 read_desk_query = plain_query (inner 0 end) ([]) (col 1 0 ∷ columns_of 5 2) ([])
 
-pub read_desk_is : command_of (understood office_schema READ_DESK.now) ≡ Select (alone read_desk_query) (names_of (command_of (understood office_schema READ_DESK.now)))
+pub read_desk_is : command_of (understood office_schema READ_DESK.now)
+    ≡ Select (alone read_desk_query) (names_of (command_of (understood office_schema READ_DESK.now)))
 unfolding understood everything
 read_desk_is = refl
 
@@ -44,7 +46,8 @@ read_desk_unlisted = refl
 abbrev pub read_party_query : Query
 read_party_query = plain_query (inner 1 end) (equals (col 1 0) (col 0 0) ∷ []) (col 1 0 ∷ columns_of 3 2) ([])
 
-pub read_party_is : command_of (understood office_schema READ_PARTY.now) ≡ Select (alone read_party_query) (names_of (command_of (understood office_schema READ_PARTY.now)))
+pub read_party_is : command_of (understood office_schema READ_PARTY.now)
+    ≡ Select (alone read_party_query) (names_of (command_of (understood office_schema READ_PARTY.now)))
 unfolding understood everything
 read_party_is = refl
 
@@ -59,7 +62,8 @@ read_party_unlisted = refl
 abbrev pub find_party_query : Query
 find_party_query = plain_query (inner 1 end) (equals (col 1 4) (col 0 0) ∷ []) (col 1 0 ∷ columns_of 3 2) ([])
 
-pub find_party_is : command_of (understood office_schema FIND_PARTY.now) ≡ Select (alone find_party_query) (names_of (command_of (understood office_schema FIND_PARTY.now)))
+pub find_party_is : command_of (understood office_schema FIND_PARTY.now)
+    ≡ Select (alone find_party_query) (names_of (command_of (understood office_schema FIND_PARTY.now)))
 unfolding understood everything
 find_party_is = refl
 
@@ -74,7 +78,8 @@ find_party_unlisted = refl
 abbrev pub read_parcel_query : Query
 read_parcel_query = plain_query (inner 3 end) (equals (col 1 0) (col 0 0) ∷ []) (col 1 0 ∷ columns_of 3 2) ([])
 
-pub read_parcel_is : command_of (understood office_schema READ_PARCEL.now) ≡ Select (alone read_parcel_query) (names_of (command_of (understood office_schema READ_PARCEL.now)))
+pub read_parcel_is : command_of (understood office_schema READ_PARCEL.now)
+    ≡ Select (alone read_parcel_query) (names_of (command_of (understood office_schema READ_PARCEL.now)))
 unfolding understood everything
 read_parcel_is = refl
 
@@ -89,7 +94,8 @@ read_parcel_unlisted = refl
 abbrev pub find_parcel_query : Query
 find_parcel_query = plain_query (inner 3 end) (equals (col 1 2) (col 0 0) ∷ []) (col 1 0 ∷ columns_of 3 2) ([])
 
-pub find_parcel_is : command_of (understood office_schema FIND_PARCEL.now) ≡ Select (alone find_parcel_query) (names_of (command_of (understood office_schema FIND_PARCEL.now)))
+pub find_parcel_is : command_of (understood office_schema FIND_PARCEL.now)
+    ≡ Select (alone find_parcel_query) (names_of (command_of (understood office_schema FIND_PARCEL.now)))
 unfolding understood everything
 find_parcel_is = refl
 
@@ -104,7 +110,8 @@ find_parcel_unlisted = refl
 abbrev pub find_interest_query : Query
 find_interest_query = plain_query (inner 5 end) (equals (col 1 1) (col 0 0) ∷ equals (col 1 2) (col 0 1) ∷ []) (lit (Int (pos 1)) ∷ []) ([])
 
-pub find_interest_is : command_of (understood office_schema FIND_INTEREST.now) ≡ Select (alone find_interest_query) (names_of (command_of (understood office_schema FIND_INTEREST.now)))
+pub find_interest_is : command_of (understood office_schema FIND_INTEREST.now)
+    ≡ Select (alone find_interest_query) (names_of (command_of (understood office_schema FIND_INTEREST.now)))
 unfolding understood everything
 find_interest_is = refl
 
@@ -119,7 +126,8 @@ find_interest_unlisted = refl
 abbrev pub find_interested_query : Query
 find_interested_query = plain_query (counted 1 (inner 5 end) (equals (col 1 2) (col 0 0) ∷ []) end) [] (col 1 0 ∷ []) []
 
-pub find_interested_is : command_of (understood office_schema FIND_INTERESTED.now) ≡ Select (alone find_interested_query) (names_of (command_of (understood office_schema FIND_INTERESTED.now)))
+pub find_interested_is : command_of (understood office_schema FIND_INTERESTED.now)
+    ≡ Select (alone find_interested_query) (names_of (command_of (understood office_schema FIND_INTERESTED.now)))
 unfolding understood everything
 find_interested_is = refl
 
@@ -134,7 +142,8 @@ find_interested_unlisted = refl
 abbrev pub read_file_query : Query
 read_file_query = plain_query (inner 7 end) (equals (col 1 0) (col 0 0) ∷ []) (col 1 0 ∷ columns_of 19 2) ([])
 
-pub read_file_is : command_of (understood office_schema READ_FILE.now) ≡ Select (alone read_file_query) (names_of (command_of (understood office_schema READ_FILE.now)))
+pub read_file_is : command_of (understood office_schema READ_FILE.now)
+    ≡ Select (alone read_file_query) (names_of (command_of (understood office_schema READ_FILE.now)))
 unfolding understood everything
 read_file_is = refl
 
@@ -149,7 +158,8 @@ read_file_unlisted = refl
 abbrev pub read_papers_query : Query
 read_papers_query = plain_query (inner 8 end) (equals (col 1 1) (col 0 0) ∷ []) (columns_of 9 1) ((col 1 2, ascending Binary) ∷ [])
 
-pub read_papers_is : command_of (understood office_schema READ_PAPERS.now) ≡ Select (alone read_papers_query) (names_of (command_of (understood office_schema READ_PAPERS.now)))
+pub read_papers_is : command_of (understood office_schema READ_PAPERS.now)
+    ≡ Select (alone read_papers_query) (names_of (command_of (understood office_schema READ_PAPERS.now)))
 unfolding understood everything
 read_papers_is = refl
 
@@ -162,9 +172,11 @@ unfolding understood everything
 read_papers_unlisted = refl
 
 abbrev pub find_notice_query : Query
-find_notice_query = plain_query (inner 8 end) (equals (col 1 1) (col 0 0) ∷ equals (col 1 9) (lit (Int (pos 1))) ∷ equals (col 1 2) (col 0 1) ∷ []) (lit (Int (pos 1)) ∷ []) ([])
+find_notice_query = plain_query (inner 8 end) (equals (col 1 1) (col 0 0) ∷ equals (col 1 9) (lit (Int (pos 1))) ∷ equals (col 1 2) (col 0 1) ∷ [])
+    (lit (Int (pos 1)) ∷ []) ([])
 
-pub find_notice_is : command_of (understood office_schema FIND_NOTICE.now) ≡ Select (alone find_notice_query) (names_of (command_of (understood office_schema FIND_NOTICE.now)))
+pub find_notice_is : command_of (understood office_schema FIND_NOTICE.now)
+    ≡ Select (alone find_notice_query) (names_of (command_of (understood office_schema FIND_NOTICE.now)))
 unfolding understood everything
 find_notice_is = refl
 

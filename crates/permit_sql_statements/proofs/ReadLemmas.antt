@@ -1,5 +1,6 @@
 -- What the texts that read show of the tables.
-use Rattle.std.proofs.Common.{◌≡◌, get_or, take, ℕ, zero, suc, ◌+◌, ◌<◌, Bool, true, false, cond, eqb, not, List, [], ◌∷◌, ◌++◌, map, filter, find, drop, length, slice_get, Some, option_map, refl, sym, ap, ap₂, subst, ◌∙◌, arith, IsPermutation, Less}
+use Rattle.std.proofs.Common.{◌≡◌, get_or, take, ℕ, zero, suc, ◌+◌, ◌<◌, Bool, true, false, cond, eqb, not, List, [], ◌∷◌, ◌++◌, map, filter, find, drop}
+use Rattle.std.proofs.Common.{length, slice_get, Some, option_map, refl, sym, ap, ap₂, subst, ◌∙◌, arith, IsPermutation, Less}
 use Rattle.std.specs.Prelude.{◌&&◌, bytes_eq, IfSome}
 use Rattle.std.specs.List.{flat_map, list_all, list_any, AllByRecursion}
 use Rattle.std.proofs.lemmas.Bool.Decides.{nat_tests}
@@ -15,65 +16,84 @@ use Rattle.sqlite_sql.specs.Term.{Term, col, holds}
 use Rattle.sqlite_sql.specs.Query.{Output, output, output_cmp, inner, end, IsAnswer}
 use Rattle.sqlite_sql.specs.Program.{overlay}
 use Rattle.sqlite_sql.proofs.QueryLemmas.{output_cmp_total}
-use Rattle.sqlite_keyed.proofs.ListLemmas.{IsPermutation-flat_map, flat_map-map, flat_map_same_on, map-map, none_counted, ascending-map, ascending_weaker, slice_get-filter, IsPermutation-same}
+use Rattle.sqlite_keyed.proofs.ListLemmas.{IsPermutation-flat_map, flat_map-map, flat_map_same_on, map-map, none_counted, ascending-map, ascending_weaker}
+use Rattle.sqlite_keyed.proofs.ListLemmas.{slice_get-filter, IsPermutation-same}
 use Rattle.sqlite_keyed.proofs.SortLemmas.{sorted_unique}
 use Rattle.sqlite.specs.State.{State, Shown}
 use Rattle.sqlite.proofs.Callers.{reads_as}
 use Rattle.permit_model.specs.Tables.{Tables, Paper}
 use Rattle.permit_sql_rows.specs.Schema.{office_schema}
-use Rattle.permit_sql_rows.specs.Rows.{int, flag, desk_row, party_row, parcel_row, file_row, shown_desk, shown_party, shown_parcel, shown_file, shown_interest, shown_paper}
+use Rattle.permit_sql_rows.specs.Rows.{int, flag, desk_row, party_row, parcel_row, file_row, shown_desk, shown_party, shown_parcel, shown_file, shown_interest}
+use Rattle.permit_sql_rows.specs.Rows.{shown_paper}
 use Rattle.permit_sql_rows.specs.Kept.{Keeps}
-use Rattle.permit_sql_statements.specs.declared.texts.TheConstants.{READ_DESK, READ_PARTY, FIND_PARTY, READ_PARCEL, FIND_PARCEL, FIND_INTEREST, FIND_INTERESTED, READ_FILE, READ_PAPERS, FIND_NOTICE}
+use Rattle.permit_sql_statements.specs.declared.texts.TheConstants.{READ_DESK, READ_PARTY, FIND_PARTY, READ_PARCEL, FIND_PARCEL, FIND_INTEREST, FIND_INTERESTED}
+use Rattle.permit_sql_statements.specs.declared.texts.TheConstants.{READ_FILE, READ_PAPERS, FIND_NOTICE}
 use Rattle.permit_sql_statements.proofs.Lookups.{plain_query, answers, put_out, spread, put_all_out, put_out_is, one_test, eq_is, text_is, finds_one}
 use Rattle.permit_sql_statements.proofs.Permuted.{one_order}
 use Rattle.permit_sql_statements.proofs.Selecting.{counted_by}
-use Rattle.permit_sql_statements.proofs.QueryTexts.{read_desk_query, read_desk_is, read_desk_plain, read_desk_unlisted, read_party_query, read_party_is, read_party_plain, read_party_unlisted, find_party_query, find_party_is, find_party_plain, find_party_unlisted, read_parcel_query, read_parcel_is, read_parcel_plain, read_parcel_unlisted, find_parcel_query, find_parcel_is, find_parcel_plain, find_parcel_unlisted, find_interest_query, find_interest_is, find_interest_plain, find_interest_unlisted, find_interested_query, find_interested_is, find_interested_plain, find_interested_unlisted, read_file_query, read_file_is, read_file_plain, read_file_unlisted, read_papers_query, read_papers_is, read_papers_plain, read_papers_unlisted, find_notice_query, find_notice_is, find_notice_plain, find_notice_unlisted}
+use Rattle.permit_sql_statements.proofs.QueryTexts.{read_desk_query, read_desk_is, read_desk_plain, read_desk_unlisted, read_party_query, read_party_is}
+use Rattle.permit_sql_statements.proofs.QueryTexts.{read_party_plain, read_party_unlisted, find_party_query, find_party_is, find_party_plain}
+use Rattle.permit_sql_statements.proofs.QueryTexts.{find_party_unlisted, read_parcel_query, read_parcel_is, read_parcel_plain, read_parcel_unlisted}
+use Rattle.permit_sql_statements.proofs.QueryTexts.{find_parcel_query, find_parcel_is, find_parcel_plain, find_parcel_unlisted, find_interest_query}
+use Rattle.permit_sql_statements.proofs.QueryTexts.{find_interest_is, find_interest_plain, find_interest_unlisted, find_interested_query, find_interested_is}
+use Rattle.permit_sql_statements.proofs.QueryTexts.{find_interested_plain, find_interested_unlisted, read_file_query, read_file_is, read_file_plain}
+use Rattle.permit_sql_statements.proofs.QueryTexts.{read_file_unlisted, read_papers_query, read_papers_is, read_papers_plain, read_papers_unlisted}
+use Rattle.permit_sql_statements.proofs.QueryTexts.{find_notice_query, find_notice_is, find_notice_plain, find_notice_unlisted}
 
 module _ (old new : State) (t : Tables) (rows : List Row) (k : Keeps t old.now) where
   pub desk_shown : Shown READ_DESK.now [] old new rows → rows ≡ shown_desk t.desk ∷ []
   desk_shown h =
       let read = reads_as READ_DESK.now [] old new office_schema k.schema _ read_desk_is read_desk_plain read_desk_unlisted rows h in
-      finds_one desk_row shown_desk 0 read_desk_query.filter read_desk_query.project (overlay old.now.trees []) [] (t.desk ∷ []) (λ d. true) (λ d. refl) (λ d. refl)
+      finds_one desk_row shown_desk 0 read_desk_query.filter read_desk_query.project (overlay old.now.trees []) [] (t.desk ∷ []) (λ d. true) (λ d. refl)
+      (λ d. refl)
       (IsPermutation-same _ _ (sym k.rows.desk)) (omega arith) rows (read.answer Null)
 
   pub party_shown : (id : ℕ) → Shown READ_PARTY.now (int id ∷ []) old new rows → rows ≡ map shown_party (filter (λ p. eqb p.id id) t.parties)
   party_shown id h =
       let read = reads_as READ_PARTY.now (int id ∷ []) old new office_schema k.schema _ read_party_is read_party_plain read_party_unlisted rows h in
-      finds_one party_row shown_party 1 read_party_query.filter read_party_query.project (overlay old.now.trees []) (int id ∷ []) t.parties (λ p. eqb p.id id) (λ p. one_test _ ∙ eq_is p.id id) (λ p. refl)
+      finds_one party_row shown_party 1 read_party_query.filter read_party_query.project (overlay old.now.trees []) (int id ∷ []) t.parties (λ p. eqb p.id id)
+      (λ p. one_test _ ∙ eq_is p.id id) (λ p. refl)
       k.rows.parties (k.keyed.parties id) rows (read.answer Null)
 
-  pub digest_shown : (digest : List ℕ) → Shown FIND_PARTY.now (Text digest ∷ []) old new rows → rows ≡ map shown_party (filter (λ p. bytes_eq p.digest digest) t.parties)
+  pub digest_shown : (digest : List ℕ) → Shown FIND_PARTY.now (Text digest ∷ []) old new rows →
+      rows ≡ map shown_party (filter (λ p. bytes_eq p.digest digest) t.parties)
   digest_shown digest h =
       let read = reads_as FIND_PARTY.now (Text digest ∷ []) old new office_schema k.schema _ find_party_is find_party_plain find_party_unlisted rows h in
-      finds_one party_row shown_party 1 find_party_query.filter find_party_query.project (overlay old.now.trees []) (Text digest ∷ []) t.parties (λ p. bytes_eq p.digest digest) (λ p. one_test _ ∙ text_is p.digest digest) (λ p. refl)
+      finds_one party_row shown_party 1 find_party_query.filter find_party_query.project (overlay old.now.trees []) (Text digest ∷ []) t.parties
+      (λ p. bytes_eq p.digest digest) (λ p. one_test _ ∙ text_is p.digest digest) (λ p. refl)
       k.rows.parties (k.keyed.digests digest) rows (read.answer Null)
 
   pub parcel_shown : (id : ℕ) → Shown READ_PARCEL.now (int id ∷ []) old new rows → rows ≡ map shown_parcel (filter (λ p. eqb p.id id) t.parcels)
   parcel_shown id h =
       let read = reads_as READ_PARCEL.now (int id ∷ []) old new office_schema k.schema _ read_parcel_is read_parcel_plain read_parcel_unlisted rows h in
-      finds_one parcel_row shown_parcel 3 read_parcel_query.filter read_parcel_query.project (overlay old.now.trees []) (int id ∷ []) t.parcels (λ p. eqb p.id id) (λ p. one_test _ ∙ eq_is p.id id) (λ p. refl)
+      finds_one parcel_row shown_parcel 3 read_parcel_query.filter read_parcel_query.project (overlay old.now.trees []) (int id ∷ []) t.parcels
+      (λ p. eqb p.id id) (λ p. one_test _ ∙ eq_is p.id id) (λ p. refl)
       k.rows.parcels (k.keyed.parcels id) rows (read.answer Null)
 
   pub lot_shown : (lot : List ℕ) → Shown FIND_PARCEL.now (Text lot ∷ []) old new rows → rows ≡ map shown_parcel (filter (λ p. bytes_eq p.lot lot) t.parcels)
   lot_shown lot h =
       let read = reads_as FIND_PARCEL.now (Text lot ∷ []) old new office_schema k.schema _ find_parcel_is find_parcel_plain find_parcel_unlisted rows h in
-      finds_one parcel_row shown_parcel 3 find_parcel_query.filter find_parcel_query.project (overlay old.now.trees []) (Text lot ∷ []) t.parcels (λ p. bytes_eq p.lot lot) (λ p. one_test _ ∙ text_is p.lot lot) (λ p. refl)
+      finds_one parcel_row shown_parcel 3 find_parcel_query.filter find_parcel_query.project (overlay old.now.trees []) (Text lot ∷ []) t.parcels
+      (λ p. bytes_eq p.lot lot) (λ p. one_test _ ∙ text_is p.lot lot) (λ p. refl)
       k.rows.parcels (k.keyed.lots lot) rows (read.answer Null)
 
   pub file_shown : (id : ℕ) → Shown READ_FILE.now (int id ∷ []) old new rows → rows ≡ map shown_file (filter (λ f. eqb f.id id) t.files)
   file_shown id h =
       let read = reads_as READ_FILE.now (int id ∷ []) old new office_schema k.schema _ read_file_is read_file_plain read_file_unlisted rows h in
-      finds_one file_row shown_file 7 read_file_query.filter read_file_query.project (overlay old.now.trees []) (int id ∷ []) t.files (λ f. eqb f.id id) (λ f. one_test _ ∙ eq_is f.id id) (λ f. refl)
+      finds_one file_row shown_file 7 read_file_query.filter read_file_query.project (overlay old.now.trees []) (int id ∷ []) t.files (λ f. eqb f.id id)
+      (λ f. one_test _ ∙ eq_is f.id id) (λ f. refl)
       k.rows.files (k.keyed.files id) rows (read.answer Null)
 
-  pub interested_shown : (party : ℕ) → Shown FIND_INTERESTED.now (int party ∷ []) old new rows → rows ≡ (flag (list_any (λ i. eqb i.party party) t.interests) ∷ []) ∷ []
+  pub interested_shown : (party : ℕ) → Shown FIND_INTERESTED.now (int party ∷ []) old new rows →
+      rows ≡ (flag (list_any (λ i. eqb i.party party) t.interests) ∷ []) ∷ []
   interested_shown party h =
       let params = int party ∷ [] in
       let db = overlay old.now.trees [] in
       let read = reads_as FIND_INTERESTED.now params old new office_schema k.schema _ find_interested_is find_interested_plain find_interested_unlisted rows h in
       let got = answers find_interested_query.from [] (col 1 0 ∷ []) [] db params rows (read.answer Null) in
       got.3 ∙ ap (map (λ (o : Output). o.1)) (one_order _ got.0 (omega arith) got.1)
-      ∙ ap (λ v. (v ∷ []) ∷ []) (counted_by passes (λ i. eqb i.party party) cut (λ i. one_test _ ∙ eq_is i.party party) (λ r. params ∷ r ∷ []) t.interests (db 5) k.rows.interests)
+      ∙ ap (λ v. (v ∷ []) ∷ []) (counted_by passes (λ i. eqb i.party party) cut (λ i. one_test _ ∙ eq_is i.party party) (λ r. params ∷ r ∷ []) t.interests
+      (db 5) k.rows.interests)
     where
       passes : Row → Bool
       passes r = is_true (binary (Compare Eq Binary) (column r 2) (int party)) && true
@@ -86,7 +106,8 @@ module _ (old new : State) (t : Tables) (rows : List Row) (k : Keeps t old.now) 
 
   -- whether a row is shown: one that passes the test, of a table whose rowid is of no account
   row_shown : {X : Type 0} (tree : ℕ) (enc : X → Row) (test : X → Bool) (filter_by project : List Term) (params : Row) (xs : List X)
-      → ((r : Row) → put_out (plain_query (inner tree end) filter_by project []) params r ≡ put_out (plain_query (inner tree end) filter_by project []) params (Null ∷ drop 1 r))
+      → ((r : Row) → put_out (plain_query (inner tree end) filter_by project []) params r
+      ≡ put_out (plain_query (inner tree end) filter_by project []) params (Null ∷ drop 1 r))
       → ((x : X) → list_all (holds (params ∷ (Null ∷ enc x) ∷ [])) filter_by ≡ test x)
       → IsPermutation (map enc xs) (map (drop 1) (overlay old.now.trees [] tree))
       → IsAnswer (plain_query (inner tree end) filter_by project []) (overlay old.now.trees []) params rows
@@ -103,7 +124,8 @@ module _ (old new : State) (t : Tables) (rows : List Row) (k : Keeps t old.now) 
       (λ x. put_out_is q params (Null ∷ enc x) (test x) (out x) (tests x) refl) xs)
       (IsPermutation-flat_map part _ _ kept) in
       let same = IsPermutation-trans _ _ _ there (subst (λ l. IsPermutation l got.0) (spread q params (db tree) ∙ over) got.1) in
-      let counted : length rows ≡ length (filter test xs) = ap length got.3 ∙ long_map (λ (o : Output). o.1) got.0 ∙ length_permutation _ _ same ∙ long_map out _ in
+      let counted : length rows ≡ length (filter test xs) = ap length got.3 ∙ long_map (λ (o : Output). o.1) got.0 ∙ length_permutation _ _ same
+      ∙ long_map out _ in
       ap (λ n. not (eqb n 0)) counted ∙ ap not (none_counted test xs) ∙ twice _
     where
       long_map : {A B : Type 0} (f : A → B) (xs : List A) → length (map f xs) ≡ length xs
@@ -114,25 +136,31 @@ module _ (old new : State) (t : Tables) (rows : List Row) (k : Keeps t old.now) 
       twice true = refl
       twice false = refl
 
-  pub interest_shown : (parcel party : ℕ) → Shown FIND_INTEREST.now (int parcel ∷ int party ∷ []) old new rows → not (eqb (length rows) 0) ≡ list_any (λ i. eqb i.parcel parcel && eqb i.party party) t.interests
+  pub interest_shown : (parcel party : ℕ) → Shown FIND_INTEREST.now (int parcel ∷ int party ∷ []) old new rows →
+      not (eqb (length rows) 0) ≡ list_any (λ i. eqb i.parcel parcel && eqb i.party party) t.interests
   interest_shown parcel party h =
       let params = int parcel ∷ int party ∷ [] in
       let read = reads_as FIND_INTEREST.now params old new office_schema k.schema _ find_interest_is find_interest_plain find_interest_unlisted rows h in
-      row_shown 5 shown_interest (λ i. eqb i.parcel parcel && eqb i.party party) find_interest_query.filter find_interest_query.project params t.interests (cut parcel party)
+      row_shown 5 shown_interest (λ i. eqb i.parcel parcel && eqb i.party party) find_interest_query.filter find_interest_query.project params t.interests
+      (cut parcel party)
       (λ i. ap₂ ◌&&◌ (eq_is i.parcel parcel) (one_test _ ∙ eq_is i.party party)) k.rows.interests (read.answer Null)
     where
-      cut : (parcel party : ℕ) (r : Row) → put_out find_interest_query (int parcel ∷ int party ∷ []) r ≡ put_out find_interest_query (int parcel ∷ int party ∷ []) (Null ∷ drop 1 r)
+      cut : (parcel party : ℕ) (r : Row) → put_out find_interest_query (int parcel ∷ int party ∷ []) r
+          ≡ put_out find_interest_query (int parcel ∷ int party ∷ []) (Null ∷ drop 1 r)
       cut parcel party [] = refl
       cut parcel party (x ∷ r) = refl
 
-  pub notice_shown : (file number : ℕ) → Shown FIND_NOTICE.now (int file ∷ int number ∷ []) old new rows → not (eqb (length rows) 0) ≡ list_any (λ p. eqb p.file file && (p.is_open && eqb p.number number)) t.papers
+  pub notice_shown : (file number : ℕ) → Shown FIND_NOTICE.now (int file ∷ int number ∷ []) old new rows →
+      not (eqb (length rows) 0) ≡ list_any (λ p. eqb p.file file && (p.is_open && eqb p.number number)) t.papers
   notice_shown file number h =
       let params = int file ∷ int number ∷ [] in
       let read = reads_as FIND_NOTICE.now params old new office_schema k.schema _ find_notice_is find_notice_plain find_notice_unlisted rows h in
-      row_shown 8 shown_paper (λ p. eqb p.file file && (p.is_open && eqb p.number number)) find_notice_query.filter find_notice_query.project params t.papers (cut file number)
+      row_shown 8 shown_paper (λ p. eqb p.file file && (p.is_open && eqb p.number number)) find_notice_query.filter find_notice_query.project params t.papers
+      (cut file number)
       (λ p. ap₂ ◌&&◌ (eq_is p.file file) (ap₂ ◌&&◌ (flag_equals p.is_open) (one_test _ ∙ eq_is p.number number))) k.rows.papers (read.answer Null)
     where
-      cut : (file number : ℕ) (r : Row) → put_out find_notice_query (int file ∷ int number ∷ []) r ≡ put_out find_notice_query (int file ∷ int number ∷ []) (Null ∷ drop 1 r)
+      cut : (file number : ℕ) (r : Row) → put_out find_notice_query (int file ∷ int number ∷ []) r
+          ≡ put_out find_notice_query (int file ∷ int number ∷ []) (Null ∷ drop 1 r)
       cut file number [] = refl
       cut file number (x ∷ r) = refl
 
@@ -148,13 +176,15 @@ module _ (old new : State) (t : Tables) (rows : List Row) (k : Keeps t old.now) 
       let got = answers read_papers_query.from read_papers_query.filter read_papers_query.project read_papers_query.order db params rows (read.answer Null) in
       let test : Paper → Bool = λ p. eqb p.file file in
       let part : Row → List Output = λ c. put_out read_papers_query params (Null ∷ c) in
-      let over : flat_map (put_out read_papers_query params) (db 8) ≡ flat_map part (map (drop 1) (db 8)) = flat_map_same_on _ _ (cut file) (db 8) ∙ sym (flat_map-map part (drop 1) (db 8)) in
+      let over : flat_map (put_out read_papers_query params) (db 8) ≡ flat_map part (map (drop 1) (db 8)) = flat_map_same_on _ _ (cut file) (db 8)
+      ∙ sym (flat_map-map part (drop 1) (db 8)) in
       let there = subst (λ l. IsPermutation l (flat_map part (map (drop 1) (db 8)))) (put_all_out part shown_paper test out
       (λ p. put_out_is read_papers_query params (Null ∷ shown_paper p) (test p) (out p) (one_test _ ∙ eq_is p.file file) refl) t.papers)
       (IsPermutation-flat_map part _ _ k.rows.papers) in
       let same = IsPermutation-trans _ _ _ there (subst (λ l. IsPermutation l got.0) (spread read_papers_query params (db 8) ∙ over) got.1) in
       let up = ascending-map (λ a b. output_cmp read_papers_query a b ≡ Less) out _ (ascending_weaker _ _ (λ a b low. rise a b low) _ (k.keyed.papers file)) in
-      got.3 ∙ ap (map (λ (o : Output). o.1)) (sorted_unique (output_cmp read_papers_query) (output_cmp_total read_papers_query) (map out (filter test t.papers)) got.0 up same got.2)
+      got.3 ∙ ap (map (λ (o : Output). o.1)) (sorted_unique (output_cmp read_papers_query) (output_cmp_total read_papers_query)
+      (map out (filter test t.papers)) got.0 up same got.2)
       ∙ map-map (λ (o : Output). o.1) out _
     where
       out : Paper → Output
@@ -188,7 +218,8 @@ all_found test P (x ∷ xs) all = go (test x) (all_found test P xs all.1)
 
 -- ---- the papers that were read so far
 
-pub one_more : (papers : List Paper) (rows : List Row) (at : ℕ) (row : Row) (paper : Paper) → rows ≡ map shown_paper papers → at < length rows → row ≡ get_or rows at row → ((is : Paper) → row ≡ shown_paper is → paper ≡ is) → take at papers ++ paper ∷ [] ≡ take (at + 1) papers
+pub one_more : (papers : List Paper) (rows : List Row) (at : ℕ) (row : Row) (paper : Paper) → rows ≡ map shown_paper papers → at < length rows →
+    row ≡ get_or rows at row → ((is : Paper) → row ≡ shown_paper is → paper ≡ is) → take at papers ++ paper ∷ [] ≡ take (at + 1) papers
 one_more papers rows at row paper are low here is = go at papers (subst (λ l. at < length l) are low) (subst (λ l. row ≡ get_or l at row) are here)
   where
     go : (n : ℕ) (ps : List Paper) → n < length (map shown_paper ps) → row ≡ get_or (map shown_paper ps) n row → take n ps ++ paper ∷ [] ≡ take (n + 1) ps

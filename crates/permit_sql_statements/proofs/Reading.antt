@@ -15,7 +15,8 @@ use Rattle.permit_sql_rows.specs.Kept.{IsNamed}
 use Rattle.permit_sql_rows.specs.Rows.{shown_found}
 use Rattle.permit_sql_statements.specs.Gave.{AreReadAs}
 
-pub read_more : (rows : List Row) (given : List Found) (row : Row) (found : Found) → AreReadAs rows given → ((is : Found) → IsNamed is.row.state → row ≡ shown_found is → found ≡ is) → AreReadAs (rows ++ row ∷ []) (given ++ found ∷ [])
+pub read_more : (rows : List Row) (given : List Found) (row : Row) (found : Found) → AreReadAs rows given →
+    ((is : Found) → IsNamed is.row.state → row ≡ shown_found is → found ≡ is) → AreReadAs (rows ++ row ∷ []) (given ++ found ∷ [])
 read_more [] [] row found are is = (is, tt)
 read_more [] (g ∷ given) row found are is = absurd are
 read_more (r ∷ rows) [] row found are is = absurd are
@@ -23,7 +24,8 @@ read_more (r ∷ rows) (g ∷ given) row found are is = (are.0, read_more rows g
 
 -- ---- an answer to the state in which it was asked for
 
-pub begins_since : (sql : List ℕ) (params : Row) (old was : State) (rows : List Row) → was.now ≡ old.now → Begins sql params was rows → Begins sql params old rows
+pub begins_since : (sql : List ℕ) (params : Row) (old was : State) (rows : List Row) → was.now ≡ old.now → Begins sql params was rows →
+    Begins sql params old rows
 unfolding Begins
 begins_since sql params old was rows same h = (
   h.0,
@@ -34,7 +36,8 @@ begins_since sql params old was rows same h = (
   h.5,
 )
 
-pub shown_since : (sql : List ℕ) (params : Row) (old was new : State) (rows : List Row) → IsPlain (understood old.now.schema sql) → IsUnchanged old was → Shown sql params was new rows → Shown sql params old new rows
+pub shown_since : (sql : List ℕ) (params : Row) (old was new : State) (rows : List Row) → IsPlain (understood old.now.schema sql) → IsUnchanged old was →
+    Shown sql params was new rows → Shown sql params old new rows
 unfolding Shown
 shown_since sql params old was new rows plain same h =
     let known = subst (λ (d : Database). understood d.schema sql ≡ Ok h.0) same.0.now_is h.1.is in
@@ -43,19 +46,26 @@ shown_since sql params old was new rows plain same h =
     let it = subst (ShowsRows was new sql h.0 full rows) none h.2 in (
       h.0,
       record { is = known; whole = h.1.whole; given = h.1.given; now = h.1.now },
-      subst (ShowsRows old new sql h.0 full rows) (sym none) (it.0, subst (λ (d : Database). IsSourceOf (reads_listing d.schema sql) d it.0) same.0.now_is it.1, it.2, unchanged_then old was new same it.3),
+      subst (ShowsRows old new sql h.0 full rows) (sym none) (
+        it.0,
+        subst (λ (d : Database). IsSourceOf (reads_listing d.schema sql) d it.0) same.0.now_is it.1,
+        it.2,
+        unchanged_then old was new same it.3,
+      ),
     )
 
 -- ---- the rows that were handed out so far
 
-pub took_more : {T : Type 0} (took : T → Found → T → Bool → Type 0) (given : List Found) (g : Found) (a b d : T) → TookAll took given a b → took b g d true → TookAll took (given ++ g ∷ []) a d
+pub took_more : {T : Type 0} (took : T → Found → T → Bool → Type 0) (given : List Found) (g : Found) (a b d : T) → TookAll took given a b → took b g d true →
+    TookAll took (given ++ g ∷ []) a d
 took_more took [] g a b d is h = (d, subst (λ x. took x g d true) is h, refl)
 took_more took (f ∷ fs) g a b d all h = (all.0, all.1, took_more took fs g all.0 b d all.2 h)
 
 pub none_counted : (h : ℕ) → h < 2 ^ 64 → h ≡ more_handed 0 h
 none_counted h low = let zero_more : h + 0 ≡ h = omega arith in sym (ap (λ n. n % 2 ^ 64) zero_more ∙ mod-eq_of_lt low)
 
-pub one_counted : (given : List Found) (g : Found) (h now : ℕ) → now ≡ more_handed (length given) h → (now + 1) % 2 ^ 64 ≡ more_handed (length (given ++ g ∷ [])) h
+pub one_counted : (given : List Found) (g : Found) (h now : ℕ) → now ≡ more_handed (length given) h →
+    (now + 1) % 2 ^ 64 ≡ more_handed (length (given ++ g ∷ [])) h
 one_counted given g h now is =
     let long : length (given ++ g ∷ []) ≡ length given + 1 = length_push given g in
     let more : h + length given + 1 ≡ h + (length given + 1) = omega arith in

@@ -20,7 +20,8 @@ use Rattle.permit_sql_rows.specs.Schema.{office_schema}
 use Rattle.permit_sql_rows.specs.Kept.{Keeps, IsNamed}
 use Rattle.permit_sql_rows.specs.Rows.{shown_found, int}
 use Rattle.permit_sql_statements.specs.declared.question.TheConstants.{EVERY_WITHOUT}
-use Rattle.permit_sql_statements.specs.Selected.{text_for, params_for, params_by, all_params, count_for, count_by, leader, follower, cell_params, AreNamed, ShowFound}
+use Rattle.permit_sql_statements.specs.Selected.{text_for, params_for, params_by, all_params, count_for, count_by, leader, follower, cell_params, AreNamed}
+use Rattle.permit_sql_statements.specs.Selected.{ShowFound}
 use Rattle.permit_sql_statements.proofs.RouteTexts.{means_for, means_every_without}
 use Rattle.permit_sql_statements.proofs.RouteShows.{answer_shown, every_answer_without}
 
@@ -51,20 +52,23 @@ taken_for (Cell Whole s b t) caller day = refl
 taken_for (Cell (One r) s b t) caller day = taken_by r (cell_params caller day s b t) 0 refl
 taken_for (Cell (Two a c) s b t) caller day = taken_by (leader a c) (cell_params caller day s b t) (suc (relation_code (follower a c))) refl
 
-pub asked : (route : Route) (caller day n : ℕ) (vs : List ValueRef) → n ≡ count_for route → bound vs ≡ all_params route caller day → bound (take n vs) ≡ params_for route caller day
+pub asked : (route : Route) (caller day n : ℕ) (vs : List ValueRef) → n ≡ count_for route → bound vs ≡ all_params route caller day →
+    bound (take n vs) ≡ params_for route caller day
 asked route caller day n vs count is = bound_take n vs ∙ ap₂ take count is ∙ taken_for route caller day
 
 -- ---- the rows
 
 module _ (t : Tables) (caller : ℕ) (there : 0 < caller) (route : Route) (day : ℕ) where
-  pub route_shown : (old new : State) (k : Keeps t old.now) (rows : List Row) → Shown (text_for route) (params_for route caller day) old new rows → ShowFound t rows (found_by route caller day t)
+  pub route_shown : (old new : State) (k : Keeps t old.now) (rows : List Row) → Shown (text_for route) (params_for route caller day) old new rows →
+      ShowFound t rows (found_by route caller day t)
   route_shown old new k rows h =
       let m = means_for route in
       let read = reads_as (text_for route) (params_for route caller day) old new office_schema k.schema _ m.0 m.1 m.2 rows h in
       answer_shown caller there t (overlay old.now.trees []) k.keyed k.rows.parcels k.rows.interests k.rows.files route day rows (read.answer Null)
 
 -- every file, to a caller who has declared no interest
-pub every_without_shown : (t : Tables) (caller : ℕ) → 0 < caller → list_any (λ i. eqb i.party caller) t.interests ≡ false → (day : ℕ) (old new : State) (k : Keeps t old.now) (rows : List Row)
+pub every_without_shown : (t : Tables) (caller : ℕ) → 0 < caller → list_any (λ i. eqb i.party caller) t.interests ≡ false →
+    (day : ℕ) (old new : State) (k : Keeps t old.now) (rows : List Row)
     → Shown EVERY_WITHOUT.now (int caller ∷ int 0 ∷ []) old new rows → ShowFound t rows (found_by Every caller day t)
 every_without_shown t caller there none day old new k rows h =
     let m = means_every_without in
@@ -73,11 +77,13 @@ every_without_shown t caller there none day old new k rows h =
 
 -- ---- the rows that were read so far
 
-pub one_more : (given : List Found) (rows : List Row) (at : ℕ) (row : Row) (found : Found) → AreNamed given → rows ≡ map shown_found given → at < length rows → row ≡ get_or rows at row
+pub one_more : (given : List Found) (rows : List Row) (at : ℕ) (row : Row) (found : Found) → AreNamed given → rows ≡ map shown_found given → at < length rows →
+    row ≡ get_or rows at row
     → ((is : Found) → IsNamed is.row.state → row ≡ shown_found is → found ≡ is) → take at given ++ found ∷ [] ≡ take (at + 1) given
 one_more given rows at row found named are low here is = go at given named (subst (λ l. at < length l) are low) (subst (λ l. row ≡ get_or l at row) are here)
   where
-    go : (n : ℕ) (gs : List Found) → AreNamed gs → n < length (map shown_found gs) → row ≡ get_or (map shown_found gs) n row → take n gs ++ found ∷ [] ≡ take (n + 1) gs
+    go : (n : ℕ) (gs : List Found) → AreNamed gs → n < length (map shown_found gs) → row ≡ get_or (map shown_found gs) n row →
+        take n gs ++ found ∷ [] ≡ take (n + 1) gs
     go n [] named low e = absurd (omega (arith, low))
     go zero (g ∷ gs) named low e = ap (λ x. x ∷ []) (is g named.0 e)
     go (suc n) (g ∷ gs) named low e =

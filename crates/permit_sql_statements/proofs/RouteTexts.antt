@@ -37,11 +37,13 @@ code_is n = equals (col 0 5) (lit (Int (pos n)))
 abbrev pub second : ℕ → ℕ → ℕ → Term
 second file parcel count =
     op2 Or (op2 Or (op2 Or (op2 Or (op2 Or (op2 Or (code_is 0)
-    (op2 And (code_is 1) (equals (col file 3) (col 0 0)))) (op2 And (code_is 2) (equals (col file 4) (col 0 0)))) (op2 And (code_is 3) (equals (col parcel 4) (col 0 0))))
+    (op2 And (code_is 1) (equals (col file 3) (col 0 0)))) (op2 And (code_is 2) (equals (col file 4) (col 0 0))))
+    (op2 And (code_is 3) (equals (col parcel 4) (col 0 0))))
     (op2 And (code_is 4) (equals (col file 5) (col 0 0)))) (op2 And (code_is 5) (equals (col file 6) (col 0 0)))) (op2 And (code_is 6) (col count 0))
 
 abbrev pub within : ℕ → List Term
-within file = equals (col file 11) (col 0 1) ∷ equals (col file 17) (col 0 2) ∷ op2 (Compare Ge Binary) (col file 12) (col 0 3) ∷ op2 (Compare Lt Binary) (col file 12) (col 0 4) ∷ []
+within file = equals (col file 11) (col 0 1) ∷ equals (col file 17) (col 0 2) ∷ op2 (Compare Ge Binary) (col file 12) (col 0 3)
+    ∷ op2 (Compare Lt Binary) (col file 12) (col 0 4) ∷ []
 
 -- a value after a plus
 abbrev pub after_plus : Term → Term
@@ -55,7 +57,8 @@ within_plus file =
 -- what is shown, by the same slots
 abbrev pub shows_with : ℕ → ℕ → Term → List Term
 shows_with file parcel interest =
-    col file 0 ∷ col file 2 ∷ col file 3 ∷ col file 4 ∷ col file 5 ∷ col file 6 ∷ col file 7 ∷ col file 8 ∷ col file 9 ∷ col file 10 ∷ col file 11 ∷ col file 12 ∷ col file 13 ∷ col file 14 ∷ col file 15 ∷ col file 16
+    col file 0 ∷ col file 2 ∷ col file 3 ∷ col file 4 ∷ col file 5 ∷ col file 6 ∷ col file 7 ∷ col file 8 ∷ col file 9 ∷ col file 10 ∷ col file 11 ∷ col file 12
+    ∷ col file 13 ∷ col file 14 ∷ col file 15 ∷ col file 16
     ∷ col file 17 ∷ col file 18 ∷ col file 19 ∷ col file 20 ∷ col parcel 4 ∷ interest ∷ []
 
 abbrev pub shows : ℕ → ℕ → ℕ → List Term
@@ -95,17 +98,22 @@ whole_query = plain_query (inner 7 (left 3 its_parcel (counts_one 1 3))) (within
 
 -- by a column of the file
 abbrev pub direct_query : ℕ → Query
-direct_query place = plain_query (inner 7 (left 3 its_parcel (counts_two 1 3 4))) (equals (col 1 place) (col 0 0) ∷ (within_plus 1 ++ second 1 2 4 ∷ [])) (shows 1 2 3) (in_order 1)
+direct_query place = plain_query (inner 7 (left 3 its_parcel (counts_two 1 3 4))) (equals (col 1 place) (col 0 0) ∷ (within_plus 1 ++ second 1 2 4 ∷ []))
+    (shows 1 2 3) (in_order 1)
 
 abbrev pub owner_query : Query
-owner_query = plain_query (inner 3 (inner 7 (counts_two 2 3 4))) (equals (col 2 2) (col 1 0) ∷ equals (col 1 4) (col 0 0) ∷ (within_plus 2 ++ second 2 1 4 ∷ [])) (shows 2 1 3) (in_order 2)
+owner_query = plain_query (inner 3 (inner 7 (counts_two 2 3 4))) (equals (col 2 2) (col 1 0) ∷ equals (col 1 4) (col 0 0)
+    ∷ (within_plus 2 ++ second 2 1 4 ∷ [])) (shows 2 1 3) (in_order 2)
 
 -- by the interests of the caller, each of which leads to the files of its parcel
 abbrev pub led_by_interest : Join
 led_by_interest = inner 5 (inner 7 (left 3 (equals (col 3 0) (col 2 2) ∷ []) (counts_one 2 4)))
 
 abbrev pub conflict_query : Query
-conflict_query = record (plain_query led_by_interest (declared 2 1 ++ within_plus 2) (shows 2 3 4) (in_order 2)) { distinct = true; collations = shown_collations }
+conflict_query = record (plain_query led_by_interest (declared 2 1 ++ within_plus 2) (shows 2 3 4) (in_order 2)) {
+  distinct = true;
+  collations = shown_collations;
+}
 
 -- by each relation, and for each selection
 abbrev pub query_by : Relation → Query
@@ -125,7 +133,8 @@ query_for (Cell (Two a c) s b t) = query_by (leader a c)
 -- ---- the text of each selection
 
 abbrev pub Means : List ℕ → Query → Type 0
-Means text q = (command_of (understood office_schema text) ≡ Select (alone q) (names_of (command_of (understood office_schema text)))) × IsPlain (understood office_schema text) × (reads_listing office_schema text ≡ false)
+Means text q = (command_of (understood office_schema text) ≡ Select (alone q) (names_of (command_of (understood office_schema text))))
+    × IsPlain (understood office_schema text) × (reads_listing office_schema text ≡ false)
 
 means_by : (r : Relation) → Means (text_by r) (query_by r)
 unfolding understood everything

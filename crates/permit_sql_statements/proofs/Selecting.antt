@@ -1,10 +1,13 @@
 -- What the texts of the selections show of the tables.
-use Rattle.std.proofs.Common.{◌≡◌, ◌⊎◌, inl, inr, refl, sym, ap, ap₂, subst, ◌∙◌, ℕ, zero, suc, ◌<◌, ◌≤◌, Bool, true, false, cond, not, eqb, min, length, List, [], ◌∷◌, ◌++◌, map, filter, find, drop, slice_get, arith, append_assoc, true≢false, IsPermutation, IsSorted, Less}
+use Rattle.std.proofs.Common.{◌≡◌, ◌⊎◌, inl, inr, refl, sym, ap, ap₂, subst, ◌∙◌, ℕ, zero, suc, ◌<◌, ◌≤◌, Bool, true, false, cond, not, eqb, min, length, List}
+use Rattle.std.proofs.Common.{[], ◌∷◌, ◌++◌, map, filter, find, drop, slice_get, arith, append_assoc, true≢false, IsPermutation, IsSorted, Less}
 use Rattle.std.specs.Prelude.{◌&&◌, ◌||◌}
 use Rattle.std.specs.List.{flat_map, list_any, AllByRecursion}
 use Rattle.std.proofs.lemmas.Bool.{cases_lt}
 use Rattle.std.proofs.lemmas.Bool.Decides.{nat_tests}
-use Rattle.std.proofs.lemmas.List.Sorted.{IsPermutation-map, IsPermutation-trans, IsPermutation-sym, IsPermutation-refl, IsPermutation-append, IsPermutation-append_comm, IsPermutation-cons, IsPermutation-middle, length_permutation, All-permutation, list_any-IsPermutation}
+use Rattle.std.proofs.lemmas.List.Sorted.{IsPermutation-map, IsPermutation-trans, IsPermutation-sym, IsPermutation-refl, IsPermutation-append}
+use Rattle.std.proofs.lemmas.List.Sorted.{IsPermutation-append_comm, IsPermutation-cons, IsPermutation-middle, length_permutation, All-permutation}
+use Rattle.std.proofs.lemmas.List.Sorted.{list_any-IsPermutation}
 use Rattle.std.proofs.lemmas.List.Elements.{recursion_from_All, All-from_recursion}
 use Rattle.sqlite.specs.declared.types.Value.TheVariants.{Null}
 use Rattle.sqlite_value.specs.Order.{Row, column, value_cmp}
@@ -16,7 +19,8 @@ use Rattle.sqlite_sql.specs.Ops.{binary, is_true}
 use Rattle.sqlite_sql.specs.Query.{Output, output_cmp, or_nulls}
 use Rattle.sqlite_sql.proofs.QueryLemmas.{output_cmp_total}
 use Rattle.sqlite_trees.specs.Tree.{IsAscending}
-use Rattle.sqlite_keyed.proofs.ListLemmas.{IsPermutation-filter, map-map, filter-map, filter_same, none_counted, along_permutation, slice_get-filter, all-filter, all_map, ascending-map, ascending_weaker, ascending-filter}
+use Rattle.sqlite_keyed.proofs.ListLemmas.{IsPermutation-filter, map-map, filter-map, filter_same, none_counted, along_permutation, slice_get-filter}
+use Rattle.sqlite_keyed.proofs.ListLemmas.{all-filter, all_map, ascending-map, ascending_weaker, ascending-filter}
 use Rattle.sqlite_keyed.proofs.SortLemmas.{sorted_unique}
 use Rattle.permit_model.specs.Parcels.{Parcel, Interest}
 use Rattle.permit_model.specs.Tables.{Tables, FileRow}
@@ -38,16 +42,19 @@ long_map f (x ∷ xs) = ap suc (long_map f xs)
 
 -- the test of a row of the interests
 abbrev pub declares : ℕ → ℕ → Row → Bool
-declares parcel caller r = is_true (binary (Compare Eq Binary) (column r 1) (int parcel)) && (is_true (binary (Compare Eq Binary) (column r 2) (int caller)) && true)
+declares parcel caller r = is_true (binary (Compare Eq Binary) (column r 1) (int parcel))
+    && (is_true (binary (Compare Eq Binary) (column r 2) (int caller)) && true)
 
 -- by a test of the rows that is one of the interests
-module _ (passes : Row → Bool) (test : Interest → Bool) (cut : (r : Row) → passes r ≡ passes (Null ∷ drop 1 r)) (is : (i : Interest) → passes (Null ∷ shown_interest i) ≡ test i) where
+module _ (passes : Row → Bool) (test : Interest → Bool) (cut : (r : Row) → passes r ≡ passes (Null ∷ drop 1 r))
+    (is : (i : Interest) → passes (Null ∷ shown_interest i) ≡ test i) where
   long_matches : {A : Type 0} (env : Row → A) (rows : List Row) → length (flat_map (λ r. cond (passes r) (env r ∷ []) []) rows) ≡ length (filter passes rows)
   long_matches env [] = refl
   long_matches env (r ∷ rows) = go (passes r) (long_matches env rows)
     where
       go : (b : Bool) → length (flat_map (λ r. cond (passes r) (env r ∷ []) []) rows) ≡ length (filter passes rows)
-          → length (cond b (env r ∷ []) [] ++ flat_map (λ r. cond (passes r) (env r ∷ []) []) rows) ≡ length (cond b (r ∷ filter passes rows) (filter passes rows))
+          → length (cond b (env r ∷ []) [] ++ flat_map (λ r. cond (passes r) (env r ∷ []) []) rows)
+          ≡ length (cond b (r ∷ filter passes rows) (filter passes rows))
       go true e = ap suc e
       go false e = e
 
@@ -66,8 +73,10 @@ module _ (passes : Row → Bool) (test : Interest → Bool) (cut : (r : Row) →
       ap length (filter-map part (drop 1) rows ∙ ap (map (drop 1)) (filter_same _ _ (λ r. sym (cut r)) rows)) ∙ long_map (drop 1) _ in
       let right : length (filter part (map shown_interest interests)) ≡ length (filter test interests) =
       ap length (filter-map part shown_interest interests ∙ ap (map shown_interest) (filter_same _ _ is interests)) ∙ long_map shown_interest _ in
-      let moved : length (filter part (map (drop 1) rows)) ≡ length (filter part (map shown_interest interests)) = length_permutation _ _ (IsPermutation-filter part _ _ same) in
-      let many : length (flat_map (λ r. cond (passes r) (env r ∷ []) []) rows) ≡ length (filter test interests) = long_matches env rows ∙ sym left ∙ moved ∙ right in
+      let moved : length (filter part (map (drop 1) rows)) ≡ length (filter part (map shown_interest interests)) =
+      length_permutation _ _ (IsPermutation-filter part _ _ same) in
+      let many : length (flat_map (λ r. cond (passes r) (env r ∷ []) []) rows) ≡ length (filter test interests) = long_matches env rows ∙ sym left ∙ moved
+      ∙ right in
       ap (λ n. int (min 1 n)) many ∙ at_most_one (length (filter test interests)) (list_any test interests) (none_counted test interests)
 
 module _ (parcel caller : ℕ) where
@@ -79,15 +88,18 @@ module _ (parcel caller : ℕ) where
   declared_is i = ap₂ ◌&&◌ (eq_is i.parcel parcel) (one_test _ ∙ eq_is i.party caller)
 
   pub counted_is : {A : Type 0} (env : Row → A) (interests : List Interest) (rows : List Row) → IsPermutation (map shown_interest interests) (map (drop 1) rows)
-      → int (min 1 (length (flat_map (λ r. cond (declares parcel caller r) (env r ∷ []) []) rows))) ≡ flag (list_any (λ i. eqb i.parcel parcel && eqb i.party caller) interests)
+      → int (min 1 (length (flat_map (λ r. cond (declares parcel caller r) (env r ∷ []) []) rows)))
+      ≡ flag (list_any (λ i. eqb i.parcel parcel && eqb i.party caller) interests)
   counted_is = counted_by (declares parcel caller) (λ i. eqb i.parcel parcel && eqb i.party caller) cut declared_is
 
   -- of a caller who has declared none
-  pub undeclared : (interests : List Interest) → list_any (λ i. eqb i.party caller) interests ≡ false → list_any (λ i. eqb i.parcel parcel && eqb i.party caller) interests ≡ false
+  pub undeclared : (interests : List Interest) → list_any (λ i. eqb i.party caller) interests ≡ false →
+      list_any (λ i. eqb i.parcel parcel && eqb i.party caller) interests ≡ false
   undeclared [] none = refl
   undeclared (i ∷ interests) none = go (eqb i.parcel parcel) (eqb i.party caller) none (undeclared interests)
     where
-      go : (a b : Bool) → (b || list_any (λ i. eqb i.party caller) interests) ≡ false → (list_any (λ i. eqb i.party caller) interests ≡ false → list_any (λ i. eqb i.parcel parcel && eqb i.party caller) interests ≡ false)
+      go : (a b : Bool) → (b || list_any (λ i. eqb i.party caller) interests) ≡ false →
+          (list_any (λ i. eqb i.party caller) interests ≡ false → list_any (λ i. eqb i.parcel parcel && eqb i.party caller) interests ≡ false)
           → ((a && b) || list_any (λ i. eqb i.parcel parcel && eqb i.party caller) interests) ≡ false
       go a true h more = absurd (true≢false h)
       go true false h more = more h
@@ -98,23 +110,27 @@ module _ (parcel caller : ℕ) where
   any_of f p q same (x ∷ xs) = ap₂ ◌||◌ (same x) (any_of f p q same xs)
 
   -- a row of the tree declares it where an interest does
-  pub any_declares : (interests : List Interest) (rows : List Row) → IsPermutation (map shown_interest interests) (map (drop 1) rows) → list_any (declares parcel caller) rows ≡ list_any (λ i. eqb i.parcel parcel && eqb i.party caller) interests
+  pub any_declares : (interests : List Interest) (rows : List Row) → IsPermutation (map shown_interest interests) (map (drop 1) rows) →
+      list_any (declares parcel caller) rows ≡ list_any (λ i. eqb i.parcel parcel && eqb i.party caller) interests
   any_declares interests rows same =
       let part : Row → Bool = λ s. declares parcel caller (Null ∷ s) in
-      any_of (drop 1) part (declares parcel caller) cut rows ∙ sym (list_any-IsPermutation part _ _ same) ∙ sym (any_of shown_interest part (λ i. eqb i.parcel parcel && eqb i.party caller) (λ i. sym (declared_is i)) interests)
+      any_of (drop 1) part (declares parcel caller) cut rows ∙ sym (list_any-IsPermutation part _ _ same)
+      ∙ sym (any_of shown_interest part (λ i. eqb i.parcel parcel && eqb i.party caller) (λ i. sym (declared_is i)) interests)
 
 -- ---- the parcel of a file
 
 abbrev pub is_parcel : ℕ → Row → Bool
 is_parcel parcel r = is_true (binary (Compare Eq Binary) (column r 0) (int parcel)) && true
 
-module _ (parcel : ℕ) (parcels : List Parcel) (rows : List Row) (same : IsPermutation (map parcel_row parcels) rows) (once : length (filter (λ p. eqb p.id parcel) parcels) ≤ 1) where
+module _ (parcel : ℕ) (parcels : List Parcel) (rows : List Row) (same : IsPermutation (map parcel_row parcels) rows)
+    (once : length (filter (λ p. eqb p.id parcel) parcels) ≤ 1) where
   -- the rows of the parcel's number
   its_rows : filter (is_parcel parcel) rows ≡ map parcel_row (filter (λ p. eqb p.id parcel) parcels)
   its_rows =
       let named : filter (is_parcel parcel) (map parcel_row parcels) ≡ map parcel_row (filter (λ p. eqb p.id parcel) parcels) =
       filter-map (is_parcel parcel) parcel_row parcels ∙ ap (map parcel_row) (filter_same _ _ (λ p. one_test _ ∙ eq_is p.id parcel) parcels) in
-      one_order _ _ (omega (arith, once, long_map parcel_row (filter (λ p. eqb p.id parcel) parcels))) (subst (λ l. IsPermutation l (filter (is_parcel parcel) rows)) named (IsPermutation-filter (is_parcel parcel) _ _ same))
+      one_order _ _ (omega (arith, once, long_map parcel_row (filter (λ p. eqb p.id parcel) parcels)))
+      (subst (λ l. IsPermutation l (filter (is_parcel parcel) rows)) named (IsPermutation-filter (is_parcel parcel) _ _ same))
 
   one_row : (l : List Parcel) → length l ≤ 1 → or_nulls (map parcel_row l) ≡ beside_row (slice_get l 0) ∷ []
   one_row [] short = refl
@@ -128,14 +144,17 @@ module _ (parcel : ℕ) (parcels : List Parcel) (rows : List Row) (same : IsPerm
 -- ---- what is made of each of two lists
 
 before_both : {X : Type 0} (q r s : List X) → IsPermutation (q ++ (r ++ s)) (r ++ (q ++ s))
-before_both q r s = rw (sym (append_assoc q r s), sym (append_assoc r q s)) (IsPermutation-append _ _ _ _ (IsPermutation-append_comm q r) (IsPermutation-refl s))
+before_both q r s = rw (sym (append_assoc q r s), sym (append_assoc r q s))
+    (IsPermutation-append _ _ _ _ (IsPermutation-append_comm q r) (IsPermutation-refl s))
 
 woven : {X : Type 0} (p q r s all : List X) → IsPermutation (q ++ s) all → IsPermutation ((p ++ q) ++ (r ++ s)) ((p ++ r) ++ all)
 woven p q r s all same =
     rw (append_assoc p q (r ++ s), append_assoc p r all)
-    (IsPermutation-append _ _ _ _ (IsPermutation-refl p) (IsPermutation-trans _ _ _ (before_both q r s) (IsPermutation-append _ _ _ _ (IsPermutation-refl r) same)))
+    (IsPermutation-append _ _ _ _ (IsPermutation-refl p) (IsPermutation-trans _ _ _ (before_both q r s)
+    (IsPermutation-append _ _ _ _ (IsPermutation-refl r) same)))
 
-pub turned : {A B C : Type 0} (h : A → B → List C) (xs : List A) (ys : List B) → IsPermutation (flat_map (λ y. flat_map (λ x. h x y) xs) ys) (flat_map (λ x. flat_map (h x) ys) xs)
+pub turned : {A B C : Type 0} (h : A → B → List C) (xs : List A) (ys : List B) →
+    IsPermutation (flat_map (λ y. flat_map (λ x. h x y) xs) ys) (flat_map (λ x. flat_map (h x) ys) xs)
 turned h xs [] = none xs
   where
     none : (rest : List _) → IsPermutation [] (flat_map (λ x. flat_map (h x) []) rest)
@@ -143,12 +162,14 @@ turned h xs [] = none xs
     none (a ∷ rest) = none rest
 turned h xs (y ∷ ys) = IsPermutation-trans _ _ _ (IsPermutation-append _ _ _ _ (IsPermutation-refl (flat_map (λ x. h x y) xs)) (turned h xs ys)) (split xs)
   where
-    split : (rest : List _) → IsPermutation (flat_map (λ x. h x y) rest ++ flat_map (λ x. flat_map (h x) ys) rest) (flat_map (λ x. flat_map (h x) (y ∷ ys)) rest)
+    split : (rest : List _) → IsPermutation (flat_map (λ x. h x y) rest ++ flat_map (λ x. flat_map (h x) ys) rest)
+        (flat_map (λ x. flat_map (h x) (y ∷ ys)) rest)
     split [] = IsPermutation-refl _
     split (a ∷ rest) = woven (h a y) (flat_map (λ x. h x y) rest) (flat_map (h a) ys) (flat_map (λ x. flat_map (h x) ys) rest) _ (split rest)
 
 -- what is made of the one value of a number
-pub of_one : {A B : Type 0} (e : A → List B) (test : A → Bool) (xs : List A) → length (filter test xs) ≤ 1 → flat_map (λ x. cond (test x) (e x) []) xs ≡ flat_map e (filter test xs)
+pub of_one : {A B : Type 0} (e : A → List B) (test : A → Bool) (xs : List A) → length (filter test xs) ≤ 1 →
+    flat_map (λ x. cond (test x) (e x) []) xs ≡ flat_map e (filter test xs)
 of_one e test [] short = refl
 of_one e test (x ∷ xs) short = go (test x) (of_one e test xs (fewer (test x) short))
   where
@@ -156,7 +177,8 @@ of_one e test (x ∷ xs) short = go (test x) (of_one e test xs (fewer (test x) s
     fewer true h = omega (arith, h)
     fewer false h = h
 
-    go : (b : Bool) → flat_map (λ x. cond (test x) (e x) []) xs ≡ flat_map e (filter test xs) → cond b (e x) [] ++ flat_map (λ x. cond (test x) (e x) []) xs ≡ flat_map e (cond b (x ∷ filter test xs) (filter test xs))
+    go : (b : Bool) → flat_map (λ x. cond (test x) (e x) []) xs ≡ flat_map e (filter test xs) →
+        cond b (e x) [] ++ flat_map (λ x. cond (test x) (e x) []) xs ≡ flat_map e (cond b (x ∷ filter test xs) (filter test xs))
     go true more = ap (λ l. e x ++ l) more
     go false more = more
 
@@ -229,18 +251,22 @@ module _ (t : Tables) (caller : ℕ) where
   plain fs = map-map (λ (o : Output). o.1) out fs ∙ sym (map-map shown_found (found_row t caller) fs)
 
   -- rows in some order that show the files that pass a test
-  module _ (puts : FileRow → Output) (plainly : (fs : List FileRow) → map (λ (o : Output). o.1) (map puts fs) ≡ map shown_found (map (found_row t caller) fs)) (test : FileRow → Bool) (named : AllByRecursion (λ f. IsNamed f.state) t.files) where
+  module _ (puts : FileRow → Output) (plainly : (fs : List FileRow) → map (λ (o : Output). o.1) (map puts fs) ≡ map shown_found (map (found_row t caller) fs))
+      (test : FileRow → Bool) (named : AllByRecursion (λ f. IsNamed f.state) t.files) where
     kept : AllByRecursion (λ f. IsNamed f.state) (filter test t.files)
     kept = all-filter (λ f. IsNamed f.state) test t.files named
 
-    pub shows_among : (ordered : List Output) (rows : List Row) → IsPermutation (map puts (filter test t.files)) ordered → rows ≡ map (λ (o : Output). o.1) ordered
+    pub shows_among : (ordered : List Output) (rows : List Row) → IsPermutation (map puts (filter test t.files)) ordered →
+        rows ≡ map (λ (o : Output). o.1) ordered
         → ShowWhere rows (λ given. IsPermutation given (map (found_row t caller) (filter test t.files)))
     shows_among ordered rows same shown =
         let it = unmapped puts (filter test t.files) ordered same in record {
           given = map (found_row t caller) it.0;
           are = IsPermutation-map (found_row t caller) _ _ (IsPermutation-sym _ _ it.1);
           shown = shown ∙ ap (map (λ (o : Output). o.1)) it.2 ∙ plainly it.0;
-          named = all_map (λ g. IsNamed g.row.state) (found_row t caller) it.0 (recursion_from_All (λ f. IsNamed f.state) it.0 (All-permutation (λ f. IsNamed f.state) (filter test t.files) it.0 it.1 (All-from_recursion (λ f. IsNamed f.state) (filter test t.files) kept)));
+          named = all_map (λ g. IsNamed g.row.state) (found_row t caller) it.0
+              (recursion_from_All (λ f. IsNamed f.state) it.0 (All-permutation (λ f. IsNamed f.state) (filter test t.files) it.0 it.1
+              (All-from_recursion (λ f. IsNamed f.state) (filter test t.files) kept)));
         }
 
   -- a row by no key
@@ -251,7 +277,8 @@ module _ (t : Tables) (caller : ℕ) where
   plain_unkeyed fs = map-map (λ (o : Output). o.1) unkeyed fs ∙ sym (map-map shown_found (found_row t caller) fs)
 
   -- rows in the order of their numbers that show the files that pass a test
-  pub shows_found : (test : FileRow → Bool) → AllByRecursion (λ f. IsNamed f.state) t.files → (ordered : List Output) (rows : List Row) → IsPermutation (map out (filter test t.files)) ordered → IsSorted (output_cmp every_query) ordered
+  pub shows_found : (test : FileRow → Bool) → AllByRecursion (λ f. IsNamed f.state) t.files → (ordered : List Output) (rows : List Row) →
+      IsPermutation (map out (filter test t.files)) ordered → IsSorted (output_cmp every_query) ordered
       → rows ≡ map (λ (o : Output). o.1) ordered → ShowFound t rows (map (found_row t caller) (filter test t.files))
   shows_found test named ordered rows same sorted shown = elim (rises_or_not t.files) [
     | inl up ↦ in_order up
@@ -264,7 +291,8 @@ module _ (t : Tables) (caller : ℕ) where
           let strict = ascending-map (λ a b. output_cmp every_query a b ≡ Less) out _ (ascending_weaker _ _ (λ a b l. rise a b l) _ low) in record {
             given = map (found_row t caller) (filter test t.files);
             are = record { same = IsPermutation-refl _; order = λ _. refl };
-            shown = shown ∙ ap (map (λ (o : Output). o.1)) (sorted_unique (output_cmp every_query) (output_cmp_total every_query) (map out (filter test t.files)) ordered strict same sorted) ∙ plain (filter test t.files);
+            shown = shown ∙ ap (map (λ (o : Output). o.1)) (sorted_unique (output_cmp every_query) (output_cmp_total every_query)
+                (map out (filter test t.files)) ordered strict same sorted) ∙ plain (filter test t.files);
             named = all_map (λ g. IsNamed g.row.state) (found_row t caller) (filter test t.files) (kept out plain test named);
           }
 

@@ -1,5 +1,6 @@
 -- The truth of the tests of a selection.
-use Rattle.std.proofs.Common.{◌≡◌, refl, sym, ap, ap₂, ◌∙◌, ℕ, suc, ◌+◌, ◌<◌, ℤ, pos, negsuc, Bool, true, false, cond, not, eqb, ltb, leb, Option, Some, None, option_map, unwrap_or, [], arith, is_ge, is_lt, int_cmp}
+use Rattle.std.proofs.Common.{◌≡◌, refl, sym, ap, ap₂, ◌∙◌, ℕ, suc, ◌+◌, ◌<◌, ℤ, pos, negsuc, Bool, true, false, cond, not, eqb, ltb, leb, Option, Some, None}
+use Rattle.std.proofs.Common.{option_map, unwrap_or, [], arith, is_ge, is_lt, int_cmp}
 use Rattle.std.specs.Prelude.{◌&&◌, ◌||◌}
 use Rattle.std.proofs.lemmas.Bool.Decides.{nat_tests}
 use Rattle.sqlite.specs.declared.types.Value.{Value}
@@ -167,7 +168,8 @@ same_flag false false = eq_is 0 0
 abbrev pub cell_tests : Value → Value → Value → Stage → Bool → Timing → ℕ → Bool → Bool
 cell_tests stage stopped deadline s b t day after =
     is_true (binary (Compare Eq Binary) stage (int (stage_code s)))
-    && (is_true (binary (Compare Eq Binary) stopped (flag b)) && (is_true (binary (Compare Ge Binary) deadline (first_deadline t day)) && (is_true (binary (Compare Lt Binary) deadline (next_deadline t day)) && after)))
+    && (is_true (binary (Compare Eq Binary) stopped (flag b)) && (is_true (binary (Compare Ge Binary) deadline (first_deadline t day))
+    && (is_true (binary (Compare Lt Binary) deadline (next_deadline t day)) && after)))
 
 regroup : (a b g h r : Bool) → (a && (b && (g && (h && r)))) ≡ (((a && b) && (g && h)) && r)
 regroup false b g h r = refl
@@ -176,10 +178,13 @@ regroup true true false h r = refl
 regroup true true true false r = refl
 regroup true true true true r = refl
 
-pub kept_is : (s : Stage) (b : Bool) (t : Timing) (day : ℕ) (f : State) (after : Bool) → cell_tests (int (stage_code f.stage)) (flag f.stopped) (or_minus_one f.deadline) s b t day after ≡ (is_kept_in s b t day f && after)
+pub kept_is : (s : Stage) (b : Bool) (t : Timing) (day : ℕ) (f : State) (after : Bool) →
+    cell_tests (int (stage_code f.stage)) (flag f.stopped) (or_minus_one f.deadline) s b t day after ≡ (is_kept_in s b t day f && after)
 kept_is s b t day f after =
-    regroup (is_true (binary (Compare Eq Binary) (int (stage_code f.stage)) (int (stage_code s)))) (is_true (binary (Compare Eq Binary) (flag f.stopped) (flag b)))
-    (is_true (binary (Compare Ge Binary) (or_minus_one f.deadline) (first_deadline t day))) (is_true (binary (Compare Lt Binary) (or_minus_one f.deadline) (next_deadline t day))) after
+    regroup (is_true (binary (Compare Eq Binary) (int (stage_code f.stage)) (int (stage_code s))))
+    (is_true (binary (Compare Eq Binary) (flag f.stopped) (flag b)))
+    (is_true (binary (Compare Ge Binary) (or_minus_one f.deadline) (first_deadline t day)))
+    (is_true (binary (Compare Lt Binary) (or_minus_one f.deadline) (next_deadline t day))) after
     ∙ ap (λ k. k && after) (ap₂ ◌&&◌ (ap₂ ◌&&◌ (same_number (stage_code f.stage) (stage_code s)) (same_flag f.stopped b)) (timed t day f.deadline))
 
 -- after a plus
@@ -197,17 +202,21 @@ plus_minus_one None = plus_int (negsuc 0)
 plus_minus_one (Some n) = plus_int (pos n)
 
 pub kept_plus : (s : Stage) (b : Bool) (t : Timing) (day : ℕ) (f : State) (after : Bool)
-    → cell_tests (binary Coalesce (int (stage_code f.stage)) Null) (binary Coalesce (flag f.stopped) Null) (binary Coalesce (or_minus_one f.deadline) Null) s b t day after ≡ (is_kept_in s b t day f && after)
+    → cell_tests (binary Coalesce (int (stage_code f.stage)) Null) (binary Coalesce (flag f.stopped) Null)
+    (binary Coalesce (or_minus_one f.deadline) Null) s b t day after ≡ (is_kept_in s b t day f && after)
 kept_plus s b t day f after =
-    ap (λ v. cell_tests v (binary Coalesce (flag f.stopped) Null) (binary Coalesce (or_minus_one f.deadline) Null) s b t day after) (plus_int (pos (stage_code f.stage)))
+    ap (λ v. cell_tests v (binary Coalesce (flag f.stopped) Null) (binary Coalesce (or_minus_one f.deadline) Null) s b t day after)
+    (plus_int (pos (stage_code f.stage)))
     ∙ ap (λ v. cell_tests (int (stage_code f.stage)) v (binary Coalesce (or_minus_one f.deadline) Null) s b t day after) (plus_flag f.stopped)
     ∙ ap (λ v. cell_tests (int (stage_code f.stage)) (flag f.stopped) v s b t day after) (plus_minus_one f.deadline)
     ∙ kept_is s b t day f after
 
 -- with a relation that leads, and a second one
 pub led_is : (s : Stage) (b : Bool) (t : Timing) (day : ℕ) (f : State) (lead second : Bool)
-    → (lead && cell_tests (binary Coalesce (int (stage_code f.stage)) Null) (binary Coalesce (flag f.stopped) Null) (binary Coalesce (or_minus_one f.deadline) Null) s b t day (second && true)) ≡ (is_kept_in s b t day f && (lead && second))
-led_is s b t day f lead second = ap (λ k. lead && k) (kept_plus s b t day f (second && true) ∙ ap (λ r. is_kept_in s b t day f && r) (and_all second)) ∙ and_swap lead _ second
+    → (lead && cell_tests (binary Coalesce (int (stage_code f.stage)) Null) (binary Coalesce (flag f.stopped) Null)
+    (binary Coalesce (or_minus_one f.deadline) Null) s b t day (second && true)) ≡ (is_kept_in s b t day f && (lead && second))
+led_is s b t day f lead second = ap (λ k. lead && k) (kept_plus s b t day f (second && true) ∙ ap (λ r. is_kept_in s b t day f && r) (and_all second))
+    ∙ and_swap lead _ second
 
 -- ---- relations
 
@@ -227,7 +236,8 @@ null_is : (v : Value) → is_true (binary (Compare Eq Binary) Null v) ≡ false
 unfolding binary
 null_is v = refl
 
-pub owner_is : (o : Option Parcel) (caller : ℕ) → is_true (binary (Compare Eq Binary) (column (beside_row o) 4) (int caller)) ≡ is_the_party (option_map (λ (p : Parcel). p.owner) o) caller
+pub owner_is : (o : Option Parcel) (caller : ℕ) → is_true (binary (Compare Eq Binary) (column (beside_row o) 4) (int caller))
+    ≡ is_the_party (option_map (λ (p : Parcel). p.owner) o) caller
 owner_is None caller = null_is (int caller)
 owner_is (Some p) caller = eq_is p.owner caller
 
@@ -249,10 +259,12 @@ second_value code applicant contractor owner reviewer inspector conflict =
 -- no second relation is asked for, or the one of the code
 abbrev pub has_second : ℕ → Relations → Bool
 has_second code set =
-    ((((((eqb code 0 || (eqb code 1 && set.applicant)) || (eqb code 2 && set.contractor)) || (eqb code 3 && set.owner)) || (eqb code 4 && set.assigned_reviewer)) || (eqb code 5 && set.assigned_inspector))
+    ((((((eqb code 0 || (eqb code 1 && set.applicant)) || (eqb code 2 && set.contractor)) || (eqb code 3 && set.owner)) ||
+    (eqb code 4 && set.assigned_reviewer)) || (eqb code 5 && set.assigned_inspector))
     || (eqb code 6 && set.conflict))
 
-pub second_is : (code : ℕ) (set : Relations) (applicant contractor owner reviewer inspector conflict : Value) → is_true applicant ≡ set.applicant → is_true contractor ≡ set.contractor → is_true owner ≡ set.owner
+pub second_is : (code : ℕ) (set : Relations) (applicant contractor owner reviewer inspector conflict : Value) → is_true applicant ≡ set.applicant →
+    is_true contractor ≡ set.contractor → is_true owner ≡ set.owner
     → is_true reviewer ≡ set.assigned_reviewer → is_true inspector ≡ set.assigned_inspector → is_true conflict ≡ set.conflict
     → is_true (second_value code applicant contractor owner reviewer inspector conflict) ≡ has_second code set
 second_is code set applicant contractor owner reviewer inspector conflict a c o r i k =
@@ -268,8 +280,10 @@ abbrev later : Bool → Bool
 later b = b || false
 
 second_relation_is : (r : Relation) (set : Relations) → has_second (suc (relation_code r)) set ≡ holds set r
-second_relation_is relation.Applicant set = ap (λ b. later (later (later (later b)))) (or_false _) ∙ ap (λ b. later (later (later b))) (or_false _) ∙ ap (λ b. later (later b)) (or_false _) ∙ ap later (or_false _) ∙ or_false _
-second_relation_is relation.Contractor set = ap (λ b. later (later (later b))) (or_false _) ∙ ap (λ b. later (later b)) (or_false _) ∙ ap later (or_false _) ∙ or_false _
+second_relation_is relation.Applicant set = ap (λ b. later (later (later (later b)))) (or_false _) ∙ ap (λ b. later (later (later b))) (or_false _)
+    ∙ ap (λ b. later (later b)) (or_false _) ∙ ap later (or_false _) ∙ or_false _
+second_relation_is relation.Contractor set = ap (λ b. later (later (later b))) (or_false _) ∙ ap (λ b. later (later b)) (or_false _) ∙ ap later (or_false _)
+    ∙ or_false _
 second_relation_is relation.Owner set = ap (λ b. later (later b)) (or_false _) ∙ ap later (or_false _) ∙ or_false _
 second_relation_is relation.AssignedReviewer set = ap later (or_false _) ∙ or_false _
 second_relation_is relation.AssignedInspector set = or_false _

@@ -1,5 +1,6 @@
 -- What an INSERT of values and an UPDATE make of the tables of the office.
-use Rattle.std.proofs.Common.{◌≡◌, ◌⊎◌, inl, inr, ℕ, false, cond, List, [], ◌∷◌, Option, None, Ok, Err, Result, MatchBool, int_cmp, is_lt, refl, sym, ap, subst, ◌∙◌}
+use Rattle.std.proofs.Common.{◌≡◌, ◌⊎◌, inl, inr, ℕ, false, cond, List, [], ◌∷◌, Option, None, Ok, Err, Result, MatchBool, int_cmp, is_lt, refl, sym, ap, subst}
+use Rattle.std.proofs.Common.{◌∙◌}
 use Rattle.std.specs.List.{AllByRecursion}
 use Rattle.sqlite_value.specs.Order.{Row}
 use Rattle.sqlite_trees.specs.Tree.{Trees}
@@ -46,9 +47,11 @@ no_actions tree olds new = refl
 none_set : (tree : ℕ) → works office_schema Enforced 0 tree [] [] ≡ []
 none_set tree = refl
 
-module _ (limit : Option ℕ) (mode : Mode) (table : Table) (uncounted : table.is_counted ≡ false) (params : Row) (db : Trees) (tally : Tally) (after : Database) where
+module _ (limit : Option ℕ) (mode : Mode) (table : Table) (uncounted : table.is_counted ≡ false) (params : Row) (db : Trees) (tally : Tally)
+    (after : Database) where
   pub inserted : (at : ℕ) (from : Source) → OnRows (task_on limit table params) mode None (Insert at from) db (Ok (tally, after))
-      → (rows : List Row) × IsSource (on_office db) (stamped table params) from rows × Applies office_schema Enforced db (edit_of db table [] Chosen 0 rows) after.trees × (after.schema ≡ office_schema)
+      → (rows : List Row) × IsSource (on_office db) (stamped table params) from rows
+      × Applies office_schema Enforced db (edit_of db table [] Chosen 0 rows) after.trees × (after.schema ≡ office_schema)
   inserted at from h =
       let done = went h in
       let now = ap (λ (p : Tally × Database). p.1) (same_value (went (went done.2).2).2) in
@@ -60,15 +63,18 @@ module _ (limit : Option ℕ) (mode : Mode) (table : Table) (uncounted : table.i
       let chosen : rowids_for table (count_of numbers.0) ≡ Chosen = ap (λ b. cond b (Above (count_of numbers.0)) Chosen) uncounted in
       let wrote = subst (λ r. Edited office_schema Enforced db (edit_of db table [] r 0 given.0) (Ok written.0)) chosen written.1 in
       let top = Rattle.std.specs.Prelude.fold higher (count_of numbers.0) (edit_of db table [] (rowids_for table (count_of numbers.0)) 0 given.0).news in
-      let still : Same counted.0 written.0 = subst (λ b. MatchBool (cond b (is_lt (int_cmp (count_of numbers.0) top)) false) (CountsIn task written.0 numbers.0 top (sequence office_schema) (Ok counted.0)) (Same counted.0 written.0)) uncounted counted.1 in
+      let still : Same counted.0 written.0 = subst (λ b. MatchBool (cond b (is_lt (int_cmp (count_of numbers.0) top)) false)
+      (CountsIn task written.0 numbers.0 top (sequence office_schema) (Ok counted.0)) (Same counted.0 written.0)) uncounted counted.1 in
       let trees : after.trees ≡ written.0 = ap (λ (d : Database). d.trees) now ∙ ap (λ (it : Written). it.trees) (same_value counted.2) ∙ same_value still in
-      let step = one_step office_schema Enforced db written.0 (edit_of db table [] Chosen 0 given.0) (no_works office_schema Enforced 0 table.tree (edit_of db table [] Chosen 0 given.0).news) wrote in
+      let step = one_step office_schema Enforced db written.0 (edit_of db table [] Chosen 0 given.0)
+      (no_works office_schema Enforced 0 table.tree (edit_of db table [] Chosen 0 given.0).news) wrote in
       (given.0, given.1, subst (Applies office_schema Enforced db (edit_of db table [] Chosen 0 given.0)) (sym trees) step, ap (λ (d : Database). d.schema) now)
 
   pub updated : (at : ℕ) (q : Program) → OnRows (task_on limit table params) mode None (Update at q) db (Ok (tally, after))
       → (rows : List Row) × Answers (on_office db) q params rows × (after.schema ≡ office_schema)
       × ((rows ≡ [] → Applies office_schema Enforced db (edit_of db table [] Given 1 []) after.trees)
-      × ((new : Row) → (edit_of db table (ids_of rows) Given 1 rows).news ≡ new ∷ [] → Applies office_schema Enforced db (edit_of db table (ids_of rows) Given 1 rows) after.trees))
+      × ((new : Row) → (edit_of db table (ids_of rows) Given 1 rows).news ≡ new ∷ [] →
+      Applies office_schema Enforced db (edit_of db table (ids_of rows) Given 1 rows) after.trees))
   updated at q h =
       let done = went h in
       let now = ap (λ (p : Tally × Database). p.1) (same_value (went (went done.2).2).2) in
@@ -81,8 +87,10 @@ module _ (limit : Option ℕ) (mode : Mode) (table : Table) (uncounted : table.i
         ap (λ (d : Database). d.schema) now,
         (
           λ none. subst (Applies office_schema Enforced db (edit_of db table [] Given 1 [])) (sym trees)
-              (one_step office_schema Enforced db written.0 (edit_of db table [] Given 1 []) (none_set table.tree) (subst (λ rows. Edited office_schema Enforced db (edit_of db table (ids_of rows) Given 1 rows) (Ok written.0)) none written.1)),
+              (one_step office_schema Enforced db written.0 (edit_of db table [] Given 1 []) (none_set table.tree)
+              (subst (λ rows. Edited office_schema Enforced db (edit_of db table (ids_of rows) Given 1 rows) (Ok written.0)) none written.1)),
           λ new is. subst (Applies office_schema Enforced db edit) (sym trees)
-              (one_step office_schema Enforced db written.0 edit (subst (λ ns. works office_schema Enforced 0 table.tree (taken_by db edit) ns ≡ []) (sym is) (no_actions table.tree (taken_by db edit) new)) written.1),
+              (one_step office_schema Enforced db written.0 edit (subst (λ ns. works office_schema Enforced 0 table.tree (taken_by db edit) ns ≡ []) (sym is)
+              (no_actions table.tree (taken_by db edit) new)) written.1),
         ),
       )

@@ -9,7 +9,8 @@ use Rattle.sqlite_schema.specs.declared.command.Command.TheVariants.{Insert, Upd
 use Rattle.sqlite_schema.specs.declared.command.Source.TheVariants.{Values}
 use Rattle.sqlite.proofs.Callers.{command_of, IsPlain}
 use Rattle.permit_sql_rows.specs.Schema.{office_schema}
-use Rattle.permit_sql_statements.specs.declared.texts.TheConstants.{ADD_PARTY, ADD_PARCEL, ADD_INTEREST, ADD_FILE, ADD_PAPER, FOUND_DESK, WRITE_DESK, SET_OWNER, WRITE_FILE, CLOSE_NOTICE}
+use Rattle.permit_sql_statements.specs.declared.texts.TheConstants.{ADD_PARTY, ADD_PARCEL, ADD_INTEREST, ADD_FILE, ADD_PAPER, FOUND_DESK, WRITE_DESK, SET_OWNER}
+use Rattle.permit_sql_statements.specs.declared.texts.TheConstants.{WRITE_FILE, CLOSE_NOTICE}
 use Rattle.permit_sql_statements.proofs.Lookups.{plain_query, equals}
 use Rattle.permit_sql_statements.proofs.QueryTexts.{alone}
 
@@ -47,7 +48,8 @@ unfolding understood everything
 add_interest_plain = (refl, refl)
 
 abbrev pub add_file_terms : List Term
-add_file_terms = col 0 0 ∷ lit Null ∷ col 0 1 ∷ col 0 2 ∷ col 0 3 ∷ col 0 4 ∷ col 0 5 ∷ col 0 6 ∷ col 0 7 ∷ col 0 8 ∷ col 0 9 ∷ col 0 10 ∷ col 0 11 ∷ col 0 12 ∷ col 0 13 ∷ col 0 14 ∷ col 0 15 ∷ col 0 16 ∷ col 0 17 ∷ col 0 18 ∷ col 0 19 ∷ []
+add_file_terms = col 0 0 ∷ lit Null ∷ col 0 1 ∷ col 0 2 ∷ col 0 3 ∷ col 0 4 ∷ col 0 5 ∷ col 0 6 ∷ col 0 7 ∷ col 0 8 ∷ col 0 9 ∷ col 0 10 ∷ col 0 11 ∷ col 0 12
+    ∷ col 0 13 ∷ col 0 14 ∷ col 0 15 ∷ col 0 16 ∷ col 0 17 ∷ col 0 18 ∷ col 0 19 ∷ []
 
 pub add_file_is : command_of (understood office_schema ADD_FILE.now) ≡ Insert 4 (Values add_file_terms 21)
 unfolding understood everything
@@ -80,7 +82,8 @@ unfolding understood everything
 found_desk_plain = (refl, refl)
 
 abbrev pub write_desk_query : Query
-write_desk_query = plain_query (inner 0 end) (equals (col 1 0) (lit (Int (pos 1))) ∷ []) (col 1 0 ∷ col 1 0 ∷ lit Null ∷ col 1 2 ∷ col 0 0 ∷ col 0 1 ∷ col 0 2 ∷ col 0 3 ∷ []) []
+write_desk_query = plain_query (inner 0 end) (equals (col 1 0) (lit (Int (pos 1))) ∷ [])
+    (col 1 0 ∷ col 1 0 ∷ lit Null ∷ col 1 2 ∷ col 0 0 ∷ col 0 1 ∷ col 0 2 ∷ col 0 3 ∷ []) []
 
 pub write_desk_is : command_of (understood office_schema WRITE_DESK.now) ≡ Update 0 (alone write_desk_query)
 unfolding understood everything
@@ -102,7 +105,9 @@ unfolding understood everything
 set_owner_plain = (refl, refl)
 
 abbrev pub write_file_query : Query
-write_file_query = plain_query (inner 7 end) (equals (col 1 0) (col 0 0) ∷ []) (col 1 0 ∷ col 1 0 ∷ lit Null ∷ col 1 2 ∷ col 1 3 ∷ col 0 1 ∷ col 0 2 ∷ col 0 3 ∷ col 0 4 ∷ col 1 8 ∷ col 1 9 ∷ col 0 5 ∷ col 0 6 ∷ col 0 7 ∷ col 0 8 ∷ col 0 9 ∷ col 0 10 ∷ col 0 11 ∷ col 0 12 ∷ col 0 13 ∷ col 0 14 ∷ col 0 15 ∷ []) []
+write_file_query = plain_query (inner 7 end) (equals (col 1 0) (col 0 0) ∷ [])
+    (col 1 0 ∷ col 1 0 ∷ lit Null ∷ col 1 2 ∷ col 1 3 ∷ col 0 1 ∷ col 0 2 ∷ col 0 3 ∷ col 0 4 ∷ col 1 8 ∷ col 1 9 ∷ col 0 5 ∷ col 0 6 ∷ col 0 7 ∷ col 0 8
+    ∷ col 0 9 ∷ col 0 10 ∷ col 0 11 ∷ col 0 12 ∷ col 0 13 ∷ col 0 14 ∷ col 0 15 ∷ []) []
 
 pub write_file_is : command_of (understood office_schema WRITE_FILE.now) ≡ Update 4 (alone write_file_query)
 unfolding understood everything
@@ -113,7 +118,8 @@ unfolding understood everything
 write_file_plain = (refl, refl)
 
 abbrev pub close_notice_query : Query
-close_notice_query = plain_query (inner 8 end) (equals (col 1 1) (col 0 0) ∷ equals (col 1 2) (col 0 1) ∷ []) (col 1 0 ∷ col 1 0 ∷ col 1 1 ∷ col 1 2 ∷ col 1 3 ∷ col 1 4 ∷ col 1 5 ∷ col 1 6 ∷ col 1 7 ∷ col 1 8 ∷ lit (Int (pos 0)) ∷ []) []
+close_notice_query = plain_query (inner 8 end) (equals (col 1 1) (col 0 0) ∷ equals (col 1 2) (col 0 1) ∷ [])
+    (col 1 0 ∷ col 1 0 ∷ col 1 1 ∷ col 1 2 ∷ col 1 3 ∷ col 1 4 ∷ col 1 5 ∷ col 1 6 ∷ col 1 7 ∷ col 1 8 ∷ lit (Int (pos 0)) ∷ []) []
 
 pub close_notice_is : command_of (understood office_schema CLOSE_NOTICE.now) ≡ Update 5 (alone close_notice_query)
 unfolding understood everything

@@ -14,12 +14,18 @@ use Rattle.permit_model.specs.Caller.{Party}
 use Rattle.permit_model.specs.Parcels.{Parcel, Interest}
 use Rattle.permit_model.specs.Tables.{Desk, State as FileState, FileRow, Paper, Tables}
 use Rattle.permit_sql_rows.specs.Schema.{office_schema, desk_table, party_table, parcel_table, interest_table, file_table, paper_table}
-use Rattle.permit_sql_rows.specs.Rows.{int, or_zero, or_minus_one, step_value, flag, desk_row, party_row, parcel_row, file_row, shown_party, shown_parcel, shown_file, shown_interest, shown_paper}
+use Rattle.permit_sql_rows.specs.Rows.{int, or_zero, or_minus_one, step_value, flag, desk_row, party_row, parcel_row, file_row, shown_party, shown_parcel}
+use Rattle.permit_sql_rows.specs.Rows.{shown_file, shown_interest, shown_paper}
 use Rattle.permit_sql_rows.specs.Kept.{Keeps}
-use Rattle.permit_sql_statements.specs.declared.texts.TheConstants.{WRITE_DESK, ADD_PARTY, ADD_PARCEL, ADD_INTEREST, ADD_FILE, ADD_PAPER, SET_OWNER, WRITE_FILE, FOUND_DESK}
+use Rattle.permit_sql_statements.specs.declared.texts.TheConstants.{WRITE_DESK, ADD_PARTY, ADD_PARCEL, ADD_INTEREST, ADD_FILE, ADD_PAPER, SET_OWNER, WRITE_FILE}
+use Rattle.permit_sql_statements.specs.declared.texts.TheConstants.{FOUND_DESK}
 use Rattle.permit_sql_statements.proofs.Permuted.{alone, has_is}
 use Rattle.permit_sql_statements.proofs.Lookups.{one_test, eq_is, finds_one}
-use Rattle.permit_sql_statements.proofs.WriteTexts.{write_desk_query, write_desk_is, write_desk_plain, add_party_terms, add_party_is, add_party_plain, add_parcel_terms, add_parcel_is, add_parcel_plain, add_interest_terms, add_interest_is, add_interest_plain, add_file_terms, add_file_is, add_file_plain, add_paper_terms, add_paper_is, add_paper_plain, set_owner_query, set_owner_is, set_owner_plain, write_file_query, write_file_is, write_file_plain, found_desk_terms, found_desk_is, found_desk_plain}
+use Rattle.permit_sql_statements.proofs.WriteTexts.{write_desk_query, write_desk_is, write_desk_plain, add_party_terms, add_party_is, add_party_plain}
+use Rattle.permit_sql_statements.proofs.WriteTexts.{add_parcel_terms, add_parcel_is, add_parcel_plain, add_interest_terms, add_interest_is, add_interest_plain}
+use Rattle.permit_sql_statements.proofs.WriteTexts.{add_file_terms, add_file_is, add_file_plain, add_paper_terms, add_paper_is, add_paper_plain}
+use Rattle.permit_sql_statements.proofs.WriteTexts.{set_owner_query, set_owner_is, set_owner_plain, write_file_query, write_file_is, write_file_plain}
+use Rattle.permit_sql_statements.proofs.WriteTexts.{found_desk_terms, found_desk_is, found_desk_plain}
 use Rattle.permit_sql_statements.proofs.Effects.{cast_int, cast_null, cast_or_zero, cast_or_minus_one, cast_step, cast_flag, Leaves, Adds, adds, sets}
 
 -- ---- the rows are stored as they are
@@ -45,63 +51,83 @@ cast_paper p = simp (cast_int, cast_null, cast_flag)
 -- ---- new rows
 
 module _ (old new : State) (count : ℕ) (schema : old.now.schema ≡ office_schema) where
-  pub founds_desk : (last : ℕ) → Executes FOUND_DESK.now (int last ∷ []) old new (Ok count) → Adds old.now new.now desk_table (desk_row (record { last = last; parties = 1; parcels = 0; files = 0 }))
+  pub founds_desk : (last : ℕ) → Executes FOUND_DESK.now (int last ∷ []) old new (Ok count) →
+      Adds old.now new.now desk_table (desk_row (record { last = last; parties = 1; parcels = 0; files = 0 }))
   founds_desk last h =
       adds FOUND_DESK.now 0 desk_table refl found_desk_terms 7 found_desk_is found_desk_plain (int last ∷ []) old new count schema _ (λ tally d. d)
       (ap (λ r. with_rowid Chosen (old.now.trees 0) r ∷ []) (cast_desk (record { last = last; parties = 1; parcels = 0; files = 0 }))) h
 
   pub adds_party : (p : Party) → Executes ADD_PARTY.now (shown_party p) old new (Ok count) → Adds old.now new.now party_table (party_row p)
   adds_party p h =
-      adds ADD_PARTY.now 1 party_table refl add_party_terms 5 add_party_is add_party_plain (shown_party p) old new count schema _ (λ tally d. d) (ap (λ r. with_rowid Chosen (old.now.trees 1) r ∷ []) (cast_party p)) h
+      adds ADD_PARTY.now 1 party_table refl add_party_terms 5 add_party_is add_party_plain (shown_party p) old new count schema _ (λ tally d. d)
+      (ap (λ r. with_rowid Chosen (old.now.trees 1) r ∷ []) (cast_party p)) h
 
   pub adds_parcel : (p : Parcel) → Executes ADD_PARCEL.now (shown_parcel p) old new (Ok count) → Adds old.now new.now parcel_table (parcel_row p)
   adds_parcel p h =
-      adds ADD_PARCEL.now 2 parcel_table refl add_parcel_terms 5 add_parcel_is add_parcel_plain (shown_parcel p) old new count schema _ (λ tally d. d) (ap (λ r. with_rowid Chosen (old.now.trees 3) r ∷ []) (cast_parcel p)) h
+      adds ADD_PARCEL.now 2 parcel_table refl add_parcel_terms 5 add_parcel_is add_parcel_plain (shown_parcel p) old new count schema _ (λ tally d. d)
+      (ap (λ r. with_rowid Chosen (old.now.trees 3) r ∷ []) (cast_parcel p)) h
 
-  pub adds_interest : (i : Interest) → Executes ADD_INTEREST.now (shown_interest i) old new (Ok count) → Adds old.now new.now interest_table (Int (next_rowid (old.now.trees 5)) ∷ shown_interest i)
+  pub adds_interest : (i : Interest) → Executes ADD_INTEREST.now (shown_interest i) old new (Ok count) →
+      Adds old.now new.now interest_table (Int (next_rowid (old.now.trees 5)) ∷ shown_interest i)
   adds_interest i h =
-      adds ADD_INTEREST.now 3 interest_table refl add_interest_terms 3 add_interest_is add_interest_plain (shown_interest i) old new count schema _ (λ tally d. d) (ap (λ r. with_rowid Chosen (old.now.trees 5) r ∷ []) (cast_interest i)) h
+      adds ADD_INTEREST.now 3 interest_table refl add_interest_terms 3 add_interest_is add_interest_plain (shown_interest i) old new count schema _
+      (λ tally d. d) (ap (λ r. with_rowid Chosen (old.now.trees 5) r ∷ []) (cast_interest i)) h
 
   pub adds_file : (f : FileRow) → Executes ADD_FILE.now (shown_file f) old new (Ok count) → Adds old.now new.now file_table (file_row f)
   adds_file f h =
-      adds ADD_FILE.now 4 file_table refl add_file_terms 21 add_file_is add_file_plain (shown_file f) old new count schema _ (λ tally d. d) (ap (λ r. with_rowid Chosen (old.now.trees 7) r ∷ []) (cast_file f)) h
+      adds ADD_FILE.now 4 file_table refl add_file_terms 21 add_file_is add_file_plain (shown_file f) old new count schema _ (λ tally d. d)
+      (ap (λ r. with_rowid Chosen (old.now.trees 7) r ∷ []) (cast_file f)) h
 
-  pub adds_paper : (p : Paper) → Executes ADD_PAPER.now (shown_paper p) old new (Ok count) → Adds old.now new.now paper_table (Int (next_rowid (old.now.trees 8)) ∷ shown_paper p)
+  pub adds_paper : (p : Paper) → Executes ADD_PAPER.now (shown_paper p) old new (Ok count) →
+      Adds old.now new.now paper_table (Int (next_rowid (old.now.trees 8)) ∷ shown_paper p)
   adds_paper p h =
-      adds ADD_PAPER.now 5 paper_table refl add_paper_terms 10 add_paper_is add_paper_plain (shown_paper p) old new count schema _ (λ tally d. d) (ap (λ r. with_rowid Chosen (old.now.trees 8) r ∷ []) (cast_paper p)) h
+      adds ADD_PAPER.now 5 paper_table refl add_paper_terms 10 add_paper_is add_paper_plain (shown_paper p) old new count schema _ (λ tally d. d)
+      (ap (λ r. with_rowid Chosen (old.now.trees 8) r ∷ []) (cast_paper p)) h
 
   -- ---- rows that are set
 
-  pub sets_desk : (was d : Desk) → old.now.trees 0 ≡ desk_row was ∷ [] → Executes WRITE_DESK.now (int d.last ∷ int d.parties ∷ int d.parcels ∷ int d.files ∷ []) old new (Ok count)
+  pub sets_desk : (was d : Desk) → old.now.trees 0 ≡ desk_row was ∷ [] →
+      Executes WRITE_DESK.now (int d.last ∷ int d.parties ∷ int d.parcels ∷ int d.files ∷ []) old new (Ok count)
       → Leaves old.now new.now desk_table × (new.now.trees 0 ≡ desk_row d ∷ [])
   sets_desk was d is h =
       let params = int d.last ∷ int d.parties ∷ int d.parcels ∷ int d.files ∷ [] in
       let it = sets WRITE_DESK.now 0 desk_table write_desk_query write_desk_is write_desk_plain params old new count schema refl (λ tally x. x) h in
-      let found = finds_one desk_row (λ x. int 1 ∷ desk_row d) 0 write_desk_query.filter write_desk_query.project (overlay old.now.trees []) params (was ∷ []) (λ x. true) (λ x. one_test _ ∙ eq_is 1 1) (λ x. refl)
+      let found = finds_one desk_row (λ x. int 1 ∷ desk_row d) 0 write_desk_query.filter write_desk_query.project (overlay old.now.trees []) params (was ∷ [])
+      (λ x. true) (λ x. one_test _ ∙ eq_is 1 1) (λ x. refl)
       (IsPermutation-same _ _ (sym is)) (omega arith) it.found (it.answer.answer Null) in
-      let done = it.one (pos 1) (desk_row d) (cast_desk d) found in
-      (done.0, done.1 ∙ ap (λ rows. put_row (desk_row d) (without_rowid (pos 1) rows)) is ∙ ap (put_row (desk_row d)) (alone (pos 1) (desk_row was) (has_is 1 1)))
+      let done = it.one (pos 1) (desk_row d) (cast_desk d) found in (
+        done.0,
+        done.1 ∙ ap (λ rows. put_row (desk_row d) (without_rowid (pos 1) rows)) is
+            ∙ ap (put_row (desk_row d)) (alone (pos 1) (desk_row was) (has_is 1 1)),
+      )
 
-  pub sets_owner : (t : Tables) (k : Keeps t old.now) (id owner : ℕ) (p : Parcel) → filter (λ x. eqb x.id id) t.parcels ≡ p ∷ [] → p.id ≡ id → Executes SET_OWNER.now (int id ∷ int owner ∷ []) old new (Ok count)
+  pub sets_owner : (t : Tables) (k : Keeps t old.now) (id owner : ℕ) (p : Parcel) → filter (λ x. eqb x.id id) t.parcels ≡ p ∷ [] → p.id ≡ id →
+      Executes SET_OWNER.now (int id ∷ int owner ∷ []) old new (Ok count)
       → Leaves old.now new.now parcel_table × (new.now.trees 3 ≡ put_row (parcel_row (record p { owner = owner })) (without_rowid (pos id) (old.now.trees 3)))
   sets_owner t k id owner p there same h =
       let params = int id ∷ int owner ∷ [] in
       let it = sets SET_OWNER.now 2 parcel_table set_owner_query set_owner_is set_owner_plain params old new count schema refl (λ tally x. x) h in
       let set : Parcel → Row = λ x. int x.id ∷ parcel_row (record x { owner = owner }) in
-      let found = finds_one parcel_row set 3 set_owner_query.filter set_owner_query.project (overlay old.now.trees []) params t.parcels (λ x. eqb x.id id) (λ x. one_test _ ∙ eq_is x.id id) (λ x. refl)
+      let found = finds_one parcel_row set 3 set_owner_query.filter set_owner_query.project (overlay old.now.trees []) params t.parcels (λ x. eqb x.id id)
+      (λ x. one_test _ ∙ eq_is x.id id) (λ x. refl)
       k.rows.parcels (k.keyed.parcels id) it.found (it.answer.answer Null) in
-      it.one (pos id) (parcel_row (record p { owner = owner })) (cast_parcel (record p { owner = owner })) (found ∙ ap (map set) there ∙ ap (λ n. (int n ∷ parcel_row (record p { owner = owner })) ∷ []) same)
+      it.one (pos id) (parcel_row (record p { owner = owner })) (cast_parcel (record p { owner = owner }))
+      (found ∙ ap (map set) there ∙ ap (λ n. (int n ∷ parcel_row (record p { owner = owner })) ∷ []) same)
 
-  pub sets_file : (t : Tables) (k : Keeps t old.now) (id : ℕ) (s : FileState) (f : FileRow) → filter (λ x. eqb x.id id) t.files ≡ f ∷ [] → f.id ≡ id → s.parcel ≡ f.state.parcel → s.applicant ≡ f.state.applicant
-      → Executes WRITE_FILE.now (int id ∷ or_zero s.contractor ∷ or_zero s.reviewer ∷ or_zero s.inspector ∷ int (kind_code s.kind) ∷ int s.filed ∷ int (stage_code s.stage) ∷ or_minus_one s.deadline ∷ int s.done ∷ step_value s.request
+  pub sets_file : (t : Tables) (k : Keeps t old.now) (id : ℕ) (s : FileState) (f : FileRow) → filter (λ x. eqb x.id id) t.files ≡ f ∷ [] → f.id ≡ id →
+      s.parcel ≡ f.state.parcel → s.applicant ≡ f.state.applicant
+      → Executes WRITE_FILE.now (int id ∷ or_zero s.contractor ∷ or_zero s.reviewer ∷ or_zero s.inspector ∷ int (kind_code s.kind) ∷ int s.filed
+      ∷ int (stage_code s.stage) ∷ or_minus_one s.deadline ∷ int s.done ∷ step_value s.request
       ∷ or_minus_one s.requested ∷ or_zero s.ask ∷ flag s.stopped ∷ int s.notices ∷ int s.papers ∷ or_minus_one s.temporary ∷ []) old new (Ok count)
       → Leaves old.now new.now file_table × (new.now.trees 7 ≡ put_row (file_row (record f { state = s })) (without_rowid (pos id) (old.now.trees 7)))
   sets_file t k id s f there same parcel applicant h =
-      let params = int id ∷ or_zero s.contractor ∷ or_zero s.reviewer ∷ or_zero s.inspector ∷ int (kind_code s.kind) ∷ int s.filed ∷ int (stage_code s.stage) ∷ or_minus_one s.deadline ∷ int s.done ∷ step_value s.request
+      let params = int id ∷ or_zero s.contractor ∷ or_zero s.reviewer ∷ or_zero s.inspector ∷ int (kind_code s.kind) ∷ int s.filed ∷ int (stage_code s.stage)
+      ∷ or_minus_one s.deadline ∷ int s.done ∷ step_value s.request
       ∷ or_minus_one s.requested ∷ or_zero s.ask ∷ flag s.stopped ∷ int s.notices ∷ int s.papers ∷ or_minus_one s.temporary ∷ [] in
       let it = sets WRITE_FILE.now 4 file_table write_file_query write_file_is write_file_plain params old new count schema refl (λ tally x. x) h in
       let set : FileRow → Row = λ x. int x.id ∷ file_row (record x { state = record s { parcel = x.state.parcel; applicant = x.state.applicant } }) in
-      let found = finds_one file_row set 7 write_file_query.filter write_file_query.project (overlay old.now.trees []) params t.files (λ x. eqb x.id id) (λ x. one_test _ ∙ eq_is x.id id) (λ x. refl)
+      let found = finds_one file_row set 7 write_file_query.filter write_file_query.project (overlay old.now.trees []) params t.files (λ x. eqb x.id id)
+      (λ x. one_test _ ∙ eq_is x.id id) (λ x. refl)
       k.rows.files (k.keyed.files id) it.found (it.answer.answer Null) in
       let made = record f { state = s } in
       let whole : set f ∷ [] ≡ (int id ∷ file_row made) ∷ [] =

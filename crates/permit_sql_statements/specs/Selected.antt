@@ -19,7 +19,10 @@ use Rattle.permit_model.specs.Routes.{Found}
 use Rattle.permit_store.specs.Handing.{AreFound}
 use Rattle.permit_sql_rows.specs.Kept.{IsNamed}
 use Rattle.permit_sql_rows.specs.Rows.{int, flag, shown_found}
-use Rattle.permit_sql_statements.specs.declared.question.TheConstants.{EVERY, WHOLE, BY_APPLICANT, BY_CONTRACTOR, BY_OWNER, BY_REVIEWER, BY_INSPECTOR, BY_CONFLICT, AS_APPLICANT, AS_CONTRACTOR, AS_OWNER, AS_REVIEWER, AS_INSPECTOR, AS_CONFLICT, EVERY_WITHOUT, AS_APPLICANT_WITHOUT, AS_CONTRACTOR_WITHOUT, AS_OWNER_WITHOUT, AS_REVIEWER_WITHOUT, AS_INSPECTOR_WITHOUT}
+use Rattle.permit_sql_statements.specs.declared.question.TheConstants.{EVERY, WHOLE, BY_APPLICANT, BY_CONTRACTOR, BY_OWNER, BY_REVIEWER, BY_INSPECTOR}
+use Rattle.permit_sql_statements.specs.declared.question.TheConstants.{BY_CONFLICT, AS_APPLICANT, AS_CONTRACTOR, AS_OWNER, AS_REVIEWER, AS_INSPECTOR}
+use Rattle.permit_sql_statements.specs.declared.question.TheConstants.{AS_CONFLICT, EVERY_WITHOUT, AS_APPLICANT_WITHOUT, AS_CONTRACTOR_WITHOUT}
+use Rattle.permit_sql_statements.specs.declared.question.TheConstants.{AS_OWNER_WITHOUT, AS_REVIEWER_WITHOUT, AS_INSPECTOR_WITHOUT}
 
 -- ---- the question
 
@@ -147,7 +150,8 @@ text_without Conflict = None
 
 -- The text shows the rows of each of these selections to such a caller, and may show others.
 abbrev pub ShowsEachWithout : List Route → List ℕ → Type 0
-ShowsEachWithout routes text = (text ≡ EVERY_WITHOUT.now) ⊎ ((r : Relation) × AllByRecursion (λ route. relation_of route ≡ Some r) routes × (text_without r ≡ Some text))
+ShowsEachWithout routes text = (text ≡ EVERY_WITHOUT.now) ⊎ ((r : Relation) × AllByRecursion (λ route. relation_of route ≡ Some r) routes
+    × (text_without r ≡ Some text))
 
 -- ---- the answer
 

@@ -11,9 +11,13 @@ each_row-requires-clause-plain g c =
     subst (λ s. IsPlain (understood s c.args.sql.now)) (sym office) c.requires.plain
 
 pub returns-in-Ok-clause-all : goal.returns-in-Ok-clause-all
-returns-in-Ok-clause-all g c clean said = (sym c.schema.ensures.value ∙ c.is_office.ensures c.if-not-is_office.false, go c.in-Ok.all (c.in-Ok.ensures.ok clean) said)
+returns-in-Ok-clause-all g c clean said = (
+  sym c.schema.ensures.value ∙ c.is_office.ensures c.if-not-is_office.false,
+  go c.in-Ok.all (c.in-Ok.ensures.ok clean) said,
+)
   where
-    go : (all : Bool) → TookRows g.T.Taker.took g.S.Store c.args.sql.now [] c.args.conn.now c.each_row.new.conn c.args.taker.now c.each_row.new.taker all → IsTrue all
+    go : (all : Bool) → TookRows g.T.Taker.took g.S.Store c.args.sql.now [] c.args.conn.now c.each_row.new.conn c.args.taker.now c.each_row.new.taker all →
+        IsTrue all
         → TookTable g.T.Taker.took g.S.Store c.args.sql.now c.args.conn.now c.each_row.new.conn c.args.taker.now c.each_row.new.taker
     go true h is = (h.0, h.1, h.2.0.now_is, (c.schema.ensures.live h.2.0.was_open).0, h.3, h.4)
     go false h is = absurd (true≢false (sym is))

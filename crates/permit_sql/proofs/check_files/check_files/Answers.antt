@@ -15,15 +15,19 @@ returns-clause-good g c clean =
 
 pub returns-then-not-all-clause-kept : goal.returns-then-not-all-clause-kept
 returns-then-not-all-clause-kept g c clean t typed k same =
-    let took = took_with (files_taken g.S.Store c.args.conn.now c.takes_all.new.conn t typed k _ c.takes_all.new.taker _ c.new.ensures.items (c.in_ok-all.ensures.handed clean)) c.if-files.false in
+    let took = took_with (files_taken g.S.Store c.args.conn.now c.takes_all.new.conn t typed k _ c.takes_all.new.taker _ c.new.ensures.items
+    (c.in_ok-all.ensures.handed clean)) c.if-files.false in
     absurd (true≢false (sym took.0 ∙ c.if-not-all.true))
 
 pub returns-then-len-count-clause-kept : goal.returns-then-len-count-clause-kept
 returns-then-len-count-clause-kept g c clean t typed k same =
-    let took = took_with (files_taken g.S.Store c.args.conn.now c.takes_all.new.conn t typed k _ c.takes_all.new.taker _ c.new.ensures.items (c.in_ok-all.ensures.handed clean)) c.if-files.false in
-    let long : length c.takes_all.new.taker.counts.items ≡ c.args.count = ap length took.1 ∙ long_map (λ f. f.state.papers) t.files ∙ typed.file_count ∙ sym same in
+    let took = took_with (files_taken g.S.Store c.args.conn.now c.takes_all.new.conn t typed k _ c.takes_all.new.taker _ c.new.ensures.items
+    (c.in_ok-all.ensures.handed clean)) c.if-files.false in
+    let long : length c.takes_all.new.taker.counts.items ≡ c.args.count = ap length took.1 ∙ long_map (λ f. f.state.papers) t.files ∙ typed.file_count
+    ∙ sym same in
     omega (arith, long)
 
 pub returns-clause-kept : goal.returns-clause-kept
 returns-clause-kept g c clean t typed k same =
-    (took_with (files_taken g.S.Store c.args.conn.now c.takes_all.new.conn t typed k _ c.takes_all.new.taker _ c.new.ensures.items (c.in_ok-all.ensures.handed clean)) c.if-files.false).1
+    (took_with (files_taken g.S.Store c.args.conn.now c.takes_all.new.conn t typed k _ c.takes_all.new.taker _ c.new.ensures.items
+    (c.in_ok-all.ensures.handed clean)) c.if-files.false).1

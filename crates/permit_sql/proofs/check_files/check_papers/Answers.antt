@@ -13,4 +13,5 @@ returns-clause-good g c clean said =
     papers_are g.S.Store c.args.conn.now c.takes_all.new.conn took.0 _ _ refl refl c.args.counts.items refl took.1
 
 pub returns-clause-kept : goal.returns-clause-kept
-returns-clause-kept g c clean t typed k same = took_every (papers_taken g.S.Store c.args.conn.now c.takes_all.new.conn t typed k _ _ _ refl refl same (c.in_ok-all.ensures.handed clean)) c.if-papers.false
+returns-clause-kept g c clean t typed k same = took_every (papers_taken g.S.Store c.args.conn.now c.takes_all.new.conn t typed k _ _ _ refl refl same
+    (c.in_ok-all.ensures.handed clean)) c.if-papers.false

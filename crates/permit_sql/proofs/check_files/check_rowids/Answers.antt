@@ -13,4 +13,5 @@ returns-clause-good g c clean said =
     rowids_are g.S.Store c.args.conn.now c.takes_all.new.conn took.0 _ _ took.1
 
 pub returns-clause-kept : goal.returns-clause-kept
-returns-clause-kept g c clean t typed k = took_every (rowids_taken g.S.Store c.args.conn.now c.takes_all.new.conn t typed k _ _ _ refl (c.in_ok-all.ensures.handed clean)) c.if-rowids.false
+returns-clause-kept g c clean t typed k = took_every (rowids_taken g.S.Store c.args.conn.now c.takes_all.new.conn t typed k _ _ _ refl
+    (c.in_ok-all.ensures.handed clean)) c.if-rowids.false

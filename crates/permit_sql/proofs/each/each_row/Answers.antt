@@ -11,7 +11,8 @@ use Rattle.permit_sql.specs.Taken.{TookAll, TookRows}
 use Rattle.permit_sql_statements.proofs.KeptLemmas.{failed_open, failed_same}
 use Rattle.permit_sql.proofs.each.each_row.Goals as goal
 
-commits_nothing : (sql : List ℕ) (params : Row) (old new : State) → IsPlain (understood old.now.schema sql) → Survives old new (CommitsShowing sql params old) → Survives old new (λ _. ⊥)
+commits_nothing : (sql : List ℕ) (params : Row) (old new : State) → IsPlain (understood old.now.schema sql) → Survives old new (CommitsShowing sql params old) →
+    Survives old new (λ _. ⊥)
 commits_nothing sql params old new plain = survives_weaker old new _ _ (λ _ db. never_commits sql params old db plain)
 
 pub returns-in_err-rows-clause-crash : goal.returns-in_err-rows-clause-crash
@@ -24,10 +25,16 @@ returns-in_err-rows-clause-crash g c =
 
 pub rows-init : goal.rows-init
 rows-init g c =
-    let made = c.in_ok-rows.ensures in
-    (refl, commits_nothing _ _ _ _ c.requires.plain made.survives, λ clean. let begun = begun_plain g.S.Store _ _ c.args.conn.now _ c.requires.plain (made.begun clean) in ([], begun.0, begun.1, refl), search rules)
+    let made = c.in_ok-rows.ensures in (
+      refl,
+      commits_nothing _ _ _ _ c.requires.plain made.survives,
+      λ clean. let begun =
+          begun_plain g.S.Store _ _ c.args.conn.now _ c.requires.plain (made.begun clean) in ([], begun.0, begun.1, refl),
+      search rules,
+    )
 
-took_more : {T : Type 0} (took : T → Row → T → Bool → Type 0) (given : List Row) (row : Row) (a b d : T) → TookAll took given a b → took b row d true → TookAll took (given ++ row ∷ []) a d
+took_more : {T : Type 0} (took : T → Row → T → Bool → Type 0) (given : List Row) (row : Row) (a b d : T) → TookAll took given a b → took b row d true →
+    TookAll took (given ++ row ∷ []) a d
 took_more took [] row a b d is h = (d, subst (λ x. took x row d true) is h, refl)
 took_more took (r ∷ rs) row a b d all h = (all.0, all.1, took_more took rs row all.0 b d all.2 h)
 
@@ -54,8 +61,14 @@ returns-then-not-take-clause-ok g c clean =
     let params = bound c.args.params.now in
     let given = (rw (c.in_ok-row.was, c.in-Some.is) at (moved.ok late)) sql params was.0 was.1 in
     let kept = rw c.in_ok-row.was at (moved.same late) in
-    let still = unchanged_then (state g.S.Store c.args.conn.now) (state g.S.Store c.rows.rows.conn.now) (state g.S.Store now) was.2 kept in
-    (was.0, c.in-Some.row.now, now, still, given_begin g.S.Store sql params now (was.0 ++ c.in-Some.row.now ∷ []) given, (c.rows.taker, was.3, rw c.if-not-take.true at c.take.ensures))
+    let still = unchanged_then (state g.S.Store c.args.conn.now) (state g.S.Store c.rows.rows.conn.now) (state g.S.Store now) was.2 kept in (
+      was.0,
+      c.in-Some.row.now,
+      now,
+      still,
+      given_begin g.S.Store sql params now (was.0 ++ c.in-Some.row.now ∷ []) given,
+      (c.rows.taker, was.3, rw c.if-not-take.true at c.take.ensures),
+    )
 
 pub rows-preserved : goal.rows-preserved
 rows-preserved g c =
@@ -64,13 +77,19 @@ rows-preserved g c =
     let sql = c.args.sql.now in
     let params = bound c.args.params.now in (
       search rules,
-      survives_then (state g.S.Store c.args.conn.now) (state g.S.Store c.rows.rows.conn.now) (state g.S.Store now) _ _ (λ _. ⊥) (λ _ db none. none) (λ _ db none. none) c.rows.invariant.1 moved.survives,
+      survives_then (state g.S.Store c.args.conn.now) (state g.S.Store c.rows.rows.conn.now) (state g.S.Store now) _ _ (λ _. ⊥) (λ _ db none. none)
+          (λ _ db none. none) c.rows.invariant.1 moved.survives,
       λ clean.
           let was = c.rows.invariant.2 (omega (arith, moved.survives.clean)) in
           let given = (rw (c.in_ok-row.was, c.in-Some.is) at (moved.ok clean)) sql params was.0 was.1 in
           let kept = rw c.in_ok-row.was at (moved.same clean) in
-          let still = unchanged_then (state g.S.Store c.args.conn.now) (state g.S.Store c.rows.rows.conn.now) (state g.S.Store now) was.2 kept in
-          (was.0 ++ c.in-Some.row.now ∷ [], given, still, took_more g.T.Taker.took was.0 c.in-Some.row.now c.args.taker.now c.rows.taker c.take.new.self was.3 (rw c.if-not-take.false at c.take.ensures)),
+          let still = unchanged_then (state g.S.Store c.args.conn.now) (state g.S.Store c.rows.rows.conn.now) (state g.S.Store now) was.2 kept in (
+            was.0 ++ c.in-Some.row.now ∷ [],
+            given,
+            still,
+            took_more g.T.Taker.took was.0 c.in-Some.row.now c.args.taker.now c.rows.taker c.take.new.self was.3
+                (rw c.if-not-take.false at c.take.ensures),
+          ),
       moved.mode c.rows.invariant.3,
     )
 

@@ -12,5 +12,6 @@ invariant-rows g l =
     let old = state g.S.Store l.fn.conn in
     let now = state g.S.Store l.rows.conn.now in
     (l.rows.conn.ghost_name ≡ l.initial.rows.conn.ghost_name) × Survives old now (λ _. ⊥)
-    × (HasCleanDisk now → (given : List Row) × HasGiven g.S.Store l.sql (bound l.params) l.rows.conn.now given × IsUnchanged old now × TookAll g.T.Taker.took given l.fn.taker l.taker)
+    × (HasCleanDisk now → (given : List Row) × HasGiven g.S.Store l.sql (bound l.params) l.rows.conn.now given × IsUnchanged old now
+    × TookAll g.T.Taker.took given l.fn.taker l.taker)
     × (l.rows.conn.now.in_transaction ≡ false)

@@ -14,7 +14,11 @@ shown_too (Some x) p f = f x p
 pub returns-in-len1-clause-back : goal.returns-in-len1-clause-back
 returns-in-len1-clause-back c =
     let row = c.row-item.result in
-    shown_too c.desk_in.result c.desk_in.ensures.back (λ d shown. (row, first_alone c.args.rows.now row row c.in-len1.len_at_least c.in-len1.len_below c.row-item.is, shown))
+    shown_too c.desk_in.result c.desk_in.ensures.back (λ d shown. (
+      row,
+      first_alone c.args.rows.now row row c.in-len1.len_at_least c.in-len1.len_below c.row-item.is,
+      shown,
+    ))
 
 pub returns-in-len1-clause-some : goal.returns-in-len1-clause-some
 returns-in-len1-clause-some c = λ is good e.

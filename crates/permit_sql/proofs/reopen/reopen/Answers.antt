@@ -9,5 +9,6 @@ use Rattle.permit_sql.proofs.reopen.reopen.Goals as goal
 pub returns : goal.returns
 returns g c t held =
     let was = file_state c.settled.result in
-    IfSome_then c.opened_again.result {P = λ again. HasCleanDisk (file_state again) → FindsAgain was (file_state again)} {Q = λ again. HasCleanDisk (file_state again) → Keeps t (file_state again).now} c.opened_again.ensures
+    IfSome_then c.opened_again.result {P = λ again. HasCleanDisk (file_state again) →
+    FindsAgain was (file_state again)} {Q = λ again. HasCleanDisk (file_state again) → Keeps t (file_state again).now} c.opened_again.ensures
     (λ again found clean. found_again t was (file_state again) (c.settled.ensures t held) (found clean))

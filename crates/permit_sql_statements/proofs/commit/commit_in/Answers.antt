@@ -29,5 +29,6 @@ returns-clause-crash g c t k fits =
     survives_then (state g.S.Store c.args.conn.now) (state g.S.Store c.read_desk.new.conn) (state g.S.Store c.make.new.conn) _ _ _ (λ _ db none. absurd none)
     (λ clean db made.
     let mid : HasCleanDisk (state g.S.Store c.read_desk.new.conn) = omega (arith, c.make.ensures.doubt, clean) in
-    made t c.args.day (c.read_desk.ensures.kept t mid (λ _. k) (c.in_ok-desk.ensures.open mid)) (c.in_ok-after.ensures t (c.in_ok-desk.ensures.found t mid (λ _. k))) fits)
+    made t c.args.day (c.read_desk.ensures.kept t mid (λ _. k) (c.in_ok-desk.ensures.open mid))
+    (c.in_ok-after.ensures t (c.in_ok-desk.ensures.found t mid (λ _. k))) fits)
     (c.read_desk.ensures.crash t k) c.make.ensures.crash

@@ -21,8 +21,18 @@ pub returns-clause-made : goal.returns-clause-made
 returns-clause-made g c clean =
     let a = c.args in
     let f = a.founder.now in
-    join c.found.result (c.found.ensures.shown clean) (on_ok_weaker c.found.result (λ h. founding_made g.S.Store a.conn.now _ f.day (founder_of f.name f.digest) c.requires.empty
-    (rw (c.params-to_sql.ensures, c.params-to_sql-2.ensures, c.params-to_sql-3.ensures, c.params-to_sql-4.ensures, c.params-to_sql-5.ensures, c.get.ensures.same, c.as_str.ensures.same, c.as_str-2.ensures.same) at h)) (c.found.ensures.all clean))
+    join c.found.result (c.found.ensures.shown clean) (on_ok_weaker c.found.result
+    (λ h. founding_made g.S.Store a.conn.now _ f.day (founder_of f.name f.digest) c.requires.empty
+    (rw (
+      c.params-to_sql.ensures,
+      c.params-to_sql-2.ensures,
+      c.params-to_sql-3.ensures,
+      c.params-to_sql-4.ensures,
+      c.params-to_sql-5.ensures,
+      c.get.ensures.same,
+      c.as_str.ensures.same,
+      c.as_str-2.ensures.same,
+    ) at h)) (c.found.ensures.all clean))
     (λ same h. subst (Keeps (tables (founding f.name f.digest f.day))) (sym same) h)
 
 pub returns-clause-crash : goal.returns-clause-crash
@@ -33,7 +43,16 @@ returns-clause-crash g c =
     (λ clean trees h. (
       h.0,
       founding_made g.S.Store a.conn.now h.0 f.day (founder_of f.name f.digest) c.requires.empty
-          (rw (c.params-to_sql.ensures, c.params-to_sql-2.ensures, c.params-to_sql-3.ensures, c.params-to_sql-4.ensures, c.params-to_sql-5.ensures, c.get.ensures.same, c.as_str.ensures.same, c.as_str-2.ensures.same) at h.1),
+          (rw (
+            c.params-to_sql.ensures,
+            c.params-to_sql-2.ensures,
+            c.params-to_sql-3.ensures,
+            c.params-to_sql-4.ensures,
+            c.params-to_sql-5.ensures,
+            c.get.ensures.same,
+            c.as_str.ensures.same,
+            c.as_str-2.ensures.same,
+          ) at h.1),
       h.2,
     ))
     c.found.ensures.crash

@@ -30,7 +30,8 @@ returns-clause-all g c clean =
 
 pub returns-clause-crash : goal.returns-clause-crash
 returns-clause-crash g c =
-    subst (λ (l : List Statement). Survives (state g.S.Store c.args.conn.now) (state g.S.Store c.run_all.new.conn) (λ trees. (db : Database) × RanAll g.S.Store l c.args.conn.now db × (trees ≡ db.trees)))
+    subst (λ (l : List Statement). Survives (state g.S.Store c.args.conn.now) (state g.S.Store c.run_all.new.conn)
+    (λ trees. (db : Database) × RanAll g.S.Store l c.args.conn.now db × (trees ≡ db.trees)))
     (ap₂ ◌∷◌ (ap₂ (λ a b. (a, bound b)) c.statement.ensures.0 (c.statement.ensures.1 ∙ c.requires.bare))
     (ap₂ ◌∷◌ (ap₂ (λ a b. (a, bound b)) c.statement-2.ensures.0 (c.statement-2.ensures.1 ∙ c.requires.bare))
     (ap₂ ◌∷◌ (ap₂ (λ a b. (a, bound b)) c.statement-3.ensures.0 (c.statement-3.ensures.1 ∙ c.requires.bare))

@@ -31,7 +31,8 @@ returns-clause-same g c good plain =
 
 pub returns-clause-crash : goal.returns-clause-crash
 returns-clause-crash g c plain =
-    survives_weaker (state g.S.Store c.args.conn.now) (state g.S.Store c.query_all.new.self) _ _ (λ _ db. never_commits c.args.sql.now (bound c.args.params.now) (state g.S.Store c.args.conn.now) db plain) c.query_all.ensures.survives
+    survives_weaker (state g.S.Store c.args.conn.now) (state g.S.Store c.query_all.new.self) _ _
+    (λ _ db. never_commits c.args.sql.now (bound c.args.params.now) (state g.S.Store c.args.conn.now) db plain) c.query_all.ensures.survives
 
 ok_only : {A E R : Type 0} {P : A → Type 0} (r : Result A E) → IfOk r P → ((x : A) → P x → R) → OnOk r R
 ok_only (Ok x) p f = f x p

@@ -11,7 +11,8 @@ returns-clause-found g c t clean there =
     let new = state g.S.Store c.rows_of.new.conn in
     IfOk-weaker c.rows_of.result _ _ (λ rows h.
     let keeps = there (shown_open _ _ old new rows.items h) in
-    notice_shown old new t rows.items keeps c.args.file c.args.number (rw (c.params-to_sql.ensures, c.params-to_sql-2.ensures, c.get.ensures.same, c.get-2.ensures.same) at h)) (c.rows_of.ensures.shown clean)
+    notice_shown old new t rows.items keeps c.args.file c.args.number (rw
+    (c.params-to_sql.ensures, c.params-to_sql-2.ensures, c.get.ensures.same, c.get-2.ensures.same) at h)) (c.rows_of.ensures.shown clean)
 
 pub returns-clause-kept : goal.returns-clause-kept
 returns-clause-kept g c t clean there = c.rows_of.ensures.kept find_notice_plain t clean there

@@ -31,7 +31,9 @@ pub returns-clause-kept : goal.returns-clause-kept
 returns-clause-kept g c t clean there = λ opened.
     let old = state g.S.Store c.args.conn.now in
     let k = there (c.hand_sifted.ensures.fine (clean, opened)).1 in
-    subst (Keeps t) (sym (c.hand_sifted.ensures.same (clean, opened) (any_plain t old.now c.args.routes.now c.text_of_any.result.now c.text_of_any.ensures k))) k
+    subst (Keeps t) (sym (c.hand_sifted.ensures.same (clean, opened)
+    (any_plain t old.now c.args.routes.now c.text_of_any.result.now c.text_of_any.ensures k))) k
 
 pub returns-clause-crash : goal.returns-clause-crash
-returns-clause-crash g c t k = c.hand_sifted.ensures.crash (λ clean. any_plain t (state g.S.Store c.args.conn.now).now c.args.routes.now c.text_of_any.result.now c.text_of_any.ensures (k clean))
+returns-clause-crash g c t k = c.hand_sifted.ensures.crash (λ clean. any_plain t
+    (state g.S.Store c.args.conn.now).now c.args.routes.now c.text_of_any.result.now c.text_of_any.ensures (k clean))

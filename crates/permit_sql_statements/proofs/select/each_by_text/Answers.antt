@@ -17,7 +17,8 @@ returns-clause-handed g c =
       it.2,
       λ t clean there.
           let gave = it.3 clean (λ opened. plain_in t old.now c.args.route.now c.text_of.result.now c.text_of.ensures (there opened)) in
-          handed_shown t c.args.caller c.get-id.ensures.within.0 c.args.route.now c.args.day c.hand_rows.result old new it.0 there (subst₂ (λ s p. Gave c.hand_rows.result s p old new it.0) c.text_of.ensures params gave),
+          handed_shown t c.args.caller c.get-id.ensures.within.0 c.args.route.now c.args.day c.hand_rows.result old new it.0 there
+          (subst₂ (λ s p. Gave c.hand_rows.result s p old new it.0) c.text_of.ensures params gave),
     )
 
 pub returns-clause-kept : goal.returns-clause-kept
@@ -27,4 +28,5 @@ returns-clause-kept g c t clean there = λ opened.
     subst (Keeps t) (sym (c.hand_rows.ensures.same (clean, opened) (plain_in t old.now c.args.route.now c.text_of.result.now c.text_of.ensures k))) k
 
 pub returns-clause-crash : goal.returns-clause-crash
-returns-clause-crash g c t k = c.hand_rows.ensures.crash (λ clean. plain_in t (state g.S.Store c.args.conn.now).now c.args.route.now c.text_of.result.now c.text_of.ensures (k clean))
+returns-clause-crash g c t k = c.hand_rows.ensures.crash (λ clean. plain_in t
+    (state g.S.Store c.args.conn.now).now c.args.route.now c.text_of.result.now c.text_of.ensures (k clean))

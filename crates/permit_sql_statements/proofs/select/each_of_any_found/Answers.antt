@@ -14,17 +14,27 @@ use Rattle.permit_sql_statements.proofs.select.each_of_any_found.Goals as goal
 
 pub returns-in_err-is_interested-clause-handed : goal.returns-in_err-is_interested-clause-handed
 returns-in_err-is_interested-clause-handed g c =
-    let failed = c.from_residual.ensures.0 in
-    ([], none_taken c.from_residual.result failed g.T.Taker.took _, none_counted c.args.handed.now (omega (arith, c.if-prove.false)), λ t clean there. none_among c.from_residual.result failed _)
+    let failed = c.from_residual.ensures.0 in (
+      [],
+      none_taken c.from_residual.result failed g.T.Taker.took _,
+      none_counted c.args.handed.now (omega (arith, c.if-prove.false)),
+      λ t clean there. none_among c.from_residual.result failed _,
+    )
 
 pub returns-then-branch-clause-handed : goal.returns-then-branch-clause-handed
 returns-then-branch-clause-handed g c =
-    let it = c.each_by_any_text-then-branch.ensures.handed in
-    (it.0, it.1, it.2, λ t clean there. it.3 t clean (c.is_interested.ensures.kept t (omega (arith, c.each_by_any_text-then-branch.ensures.doubt, clean)) there))
+    let it = c.each_by_any_text-then-branch.ensures.handed in (
+      it.0,
+      it.1,
+      it.2,
+      λ t clean there. it.3 t clean (c.is_interested.ensures.kept t
+          (omega (arith, c.each_by_any_text-then-branch.ensures.doubt, clean)) there),
+    )
 
 pub returns-then-branch-clause-kept : goal.returns-then-branch-clause-kept
 returns-then-branch-clause-kept g c t clean there =
-    c.each_by_any_text-then-branch.ensures.kept t clean (c.is_interested.ensures.kept t (omega (arith, c.each_by_any_text-then-branch.ensures.doubt, clean)) there)
+    c.each_by_any_text-then-branch.ensures.kept t clean (c.is_interested.ensures.kept t
+    (omega (arith, c.each_by_any_text-then-branch.ensures.doubt, clean)) there)
 
 pub returns-then-branch-clause-crash : goal.returns-then-branch-clause-crash
 returns-then-branch-clause-crash g c t k =
@@ -59,11 +69,13 @@ returns-clause-kept g c t clean there = λ opened.
     let mid = state g.S.Store c.is_interested.new.conn in
     let shows = c.is_interested.ensures.kept t (omega (arith, c.hand_sifted.ensures.doubt, clean)) there in
     let k = shows (c.hand_sifted.ensures.fine (clean, opened)).1 in
-    subst (Keeps t) (sym (c.hand_sifted.ensures.same (clean, opened) (any_plain_without t mid.now c.args.routes.now c.in-Some.text.now c.in-Some.ensures.some k))) k
+    subst (Keeps t) (sym (c.hand_sifted.ensures.same (clean, opened)
+    (any_plain_without t mid.now c.args.routes.now c.in-Some.text.now c.in-Some.ensures.some k))) k
 
 pub returns-clause-crash : goal.returns-clause-crash
 returns-clause-crash g c t k =
     let mid = state g.S.Store c.is_interested.new.conn in
     survives_both _ _ _ (c.is_interested.ensures.crash t k) (c.hand_sifted.ensures.crash (λ clean.
     let late : HasCleanDisk (state g.S.Store c.is_interested.new.conn) = omega (arith, c.hand_sifted.ensures.doubt, clean) in
-    any_plain_without t mid.now c.args.routes.now c.in-Some.text.now c.in-Some.ensures.some (c.is_interested.ensures.kept t late (λ opened. k) (c.in_ok-is_interested.ensures.open late))))
+    any_plain_without t mid.now c.args.routes.now c.in-Some.text.now c.in-Some.ensures.some
+    (c.is_interested.ensures.kept t late (λ opened. k) (c.in_ok-is_interested.ensures.open late))))

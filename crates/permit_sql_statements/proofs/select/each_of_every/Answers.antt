@@ -12,8 +12,12 @@ use Rattle.permit_sql_statements.proofs.select.each_of_every.Goals as goal
 
 pub returns-in_err-is_interested-clause-handed : goal.returns-in_err-is_interested-clause-handed
 returns-in_err-is_interested-clause-handed g c =
-    let failed = c.from_residual.ensures.0 in
-    ([], none_taken c.from_residual.result failed g.T.Taker.took _, none_counted c.args.handed.now (omega (arith, c.if-prove.false)), λ t clean there. none_handed c.from_residual.result failed t _)
+    let failed = c.from_residual.ensures.0 in (
+      [],
+      none_taken c.from_residual.result failed g.T.Taker.took _,
+      none_counted c.args.handed.now (omega (arith, c.if-prove.false)),
+      λ t clean there. none_handed c.from_residual.result failed t _,
+    )
 
 pub returns-then-branch-clause-handed : goal.returns-then-branch-clause-handed
 returns-then-branch-clause-handed g c =
@@ -21,7 +25,8 @@ returns-then-branch-clause-handed g c =
     (it.0, it.1, it.2, λ t clean there. it.3 t clean (c.is_interested.ensures.kept t (omega (arith, c.each_by_text.ensures.doubt, clean)) there))
 
 pub returns-then-branch-clause-kept : goal.returns-then-branch-clause-kept
-returns-then-branch-clause-kept g c t clean there = c.each_by_text.ensures.kept t clean (c.is_interested.ensures.kept t (omega (arith, c.each_by_text.ensures.doubt, clean)) there)
+returns-then-branch-clause-kept g c t clean there = c.each_by_text.ensures.kept t clean
+    (c.is_interested.ensures.kept t (omega (arith, c.each_by_text.ensures.doubt, clean)) there)
 
 pub returns-then-branch-clause-crash : goal.returns-then-branch-clause-crash
 returns-then-branch-clause-crash g c t k =
@@ -43,7 +48,8 @@ returns-clause-handed g c =
           let none = sym (c.in_ok-is_interested.ensures.found t late there) ∙ c.if-branch.false in
           let asked = ap₂ (λ v w. v ∷ w ∷ []) (c.number.ensures ∙ ap int c.get.ensures.same) c.number-2.ensures in
           let gave = it.3 clean (λ opened. plain_without t mid.now (shows opened)) in
-          handed_without t c.args.caller c.get.ensures.within.0 none c.args.day c.hand_rows.result mid new it.0 shows (subst (λ p. Gave c.hand_rows.result EVERY_WITHOUT.now p mid new it.0) asked gave),
+          handed_without t c.args.caller c.get.ensures.within.0 none c.args.day c.hand_rows.result mid new it.0 shows
+          (subst (λ p. Gave c.hand_rows.result EVERY_WITHOUT.now p mid new it.0) asked gave),
     )
 
 pub returns-clause-kept : goal.returns-clause-kept

@@ -11,7 +11,8 @@ returns-clause-found g c t clean there =
     let new = state g.S.Store c.rows_of.new.conn in
     let params = asked c.args.route.now c.args.caller c.args.day c.count_of.result c.values_of-values.result c.count_of.ensures c.values_of-values.ensures in
     IfOk-weaker c.rows_of.result _ _ (λ rows h.
-    route_shown t c.args.caller c.get-id.ensures.within.0 c.args.route.now c.args.day old new (there (shown_open _ _ old new rows.items h)) rows.items (rw (c.text_of.ensures, params) at h)) (c.rows_of.ensures.shown clean)
+    route_shown t c.args.caller c.get-id.ensures.within.0 c.args.route.now c.args.day old new (there (shown_open _ _ old new rows.items h)) rows.items
+    (rw (c.text_of.ensures, params) at h)) (c.rows_of.ensures.shown clean)
 
 pub returns-clause-kept : goal.returns-clause-kept
 returns-clause-kept g c t clean there = c.rows_of.ensures.kept (plain_for c.args.route.now c.text_of.result.now c.text_of.ensures) t clean there

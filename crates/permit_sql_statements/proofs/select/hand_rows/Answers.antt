@@ -14,21 +14,34 @@ use Rattle.permit_sql_statements.proofs.KeptLemmas.{shown_open, shown_still, fai
 use Rattle.permit_sql_statements.proofs.Reading.{read_more, begins_since, shown_since, took_more, none_counted, one_counted}
 use Rattle.permit_sql_statements.proofs.select.hand_rows.Goals as goal
 
-commits_nothing : (sql : List ℕ) (params : Row) (old new : State) → (HasCleanDisk new → IsPlain (understood old.now.schema sql)) → Survives old new (CommitsShowing sql params old) → Survives old new (λ _. ⊥)
+commits_nothing : (sql : List ℕ) (params : Row) (old new : State) → (HasCleanDisk new → IsPlain (understood old.now.schema sql)) →
+    Survives old new (CommitsShowing sql params old) → Survives old new (λ _. ⊥)
 commits_nothing sql params old new plain = survives_weaker old new _ _ (λ clean db. never_commits sql params old db (plain clean))
 
-survives_more : (sql : List ℕ) (params : Row) (a b c : State) → Survives a b (CommitsShowing sql params a) → Survives b c (λ _. ⊥) → Survives a c (CommitsShowing sql params a)
+survives_more : (sql : List ℕ) (params : Row) (a b c : State) → Survives a b (CommitsShowing sql params a) → Survives b c (λ _. ⊥) →
+    Survives a c (CommitsShowing sql params a)
 survives_more sql params a b c = survives_then a b c _ _ (CommitsShowing sql params a) (λ _ db h. h) (λ _ db none. absurd none)
 
-ended : (sql : List ℕ) (params : Row) (old mid now end : State) → Survives old mid (CommitsShowing sql params old) → Survives mid now (λ _. ⊥) → now ≡ end → (HasCleanDisk end → IsPlain (understood old.now.schema sql)) → Survives old end (λ _. ⊥)
-ended sql params old mid now end was moved same plain = commits_nothing sql params old end plain (subst (λ s. Survives old s (CommitsShowing sql params old)) same (survives_more sql params old mid now was moved))
+ended : (sql : List ℕ) (params : Row) (old mid now end : State) → Survives old mid (CommitsShowing sql params old) → Survives mid now (λ _. ⊥) → now ≡ end →
+    (HasCleanDisk end → IsPlain (understood old.now.schema sql)) → Survives old end (λ _. ⊥)
+ended sql params old mid now end was moved same plain = commits_nothing sql params old end plain
+    (subst (λ s. Survives old s (CommitsShowing sql params old)) same (survives_more sql params old mid now was moved))
 
-begun_open : {S : Type 0} (g : Ghosts S) (sql : List ℕ) (params : Row) (old new : Held S) → HasBegun g sql params old new → IsTrue (state g old).is_open × IsTrue (state g new).is_open
+begun_open : {S : Type 0} (g : Ghosts S) (sql : List ℕ) (params : Row) (old new : Held S) → HasBegun g sql params old new → IsTrue (state g old).is_open
+    × IsTrue (state g new).is_open
 begun_open g sql params old new (inl h) = (h.1.0.was_open, h.1.0.is_open)
-begun_open g sql params old new (inr h) = (shown_open sql params (state g old) (state g new) (returned new.reading) h.1, shown_still sql params (state g old) (state g new) (returned new.reading) h.1)
+begun_open g sql params old new (inr h) = (
+  shown_open sql params (state g old) (state g new) (returned new.reading) h.1,
+  shown_still sql params (state g old) (state g new) (returned new.reading) h.1,
+)
 
 pub returns-in_default-clause-handed : goal.returns-in_default-clause-handed
-returns-in_default-clause-handed g c = ([], refl, none_counted c.args.handed.now (omega (arith, c.if-prove.false)), λ clean plain. record { rows = []; are = inl refl; shown = tt })
+returns-in_default-clause-handed g c = (
+  [],
+  refl,
+  none_counted c.args.handed.now (omega (arith, c.if-prove.false)),
+  λ clean plain. record { rows = []; are = inl refl; shown = tt },
+)
 
 pub returns-in_default-clause-fine : goal.returns-in_default-clause-fine
 returns-in_default-clause-fine g c fine =
@@ -37,8 +50,11 @@ returns-in_default-clause-fine g c fine =
     let last = c.query.follows.lender-at-none in
     let held = c.query.follows.holds-at-none in
     let refused : IsRefused g.S.Store sql params c.args.conn.now c.query.result last = search rules in
-    let failed = rw c.in_default.is at (refused.err fine.0) in
-    (omega (arith, fine.0, refused.survives.clean), failed_open sql params (state g.S.Store c.args.conn.now) (state g.S.Store last) c.in_default.field-0 fine.1 failed)
+    let failed = rw c.in_default.is at (refused.err fine.0) in (
+      omega (arith, fine.0, refused.survives.clean),
+      failed_open sql params (state g.S.Store c.args.conn.now)
+          (state g.S.Store last) c.in_default.field-0 fine.1 failed,
+    )
 
 pub returns-in_default-clause-same : goal.returns-in_default-clause-same
 returns-in_default-clause-same g c fine plain =
@@ -94,7 +110,15 @@ returns-in_default-next-clause-handed g c =
           let sql = c.args.sql.now in
           let params = bound c.args.params.now in
           let begins = given_begin g.S.Store sql params c.rows.rows.conn.now it.1 it.2 in
-          record { rows = it.1; are = inr (here.0, begins_since sql params (state g.S.Store c.args.conn.now) (state g.S.Store c.rows.rows.conn.now) it.1 it.0.0.now_is begins); shown = it.3 },
+          record {
+            rows = it.1;
+            are = inr (
+              here.0,
+              begins_since sql params (state g.S.Store c.args.conn.now)
+                  (state g.S.Store c.rows.rows.conn.now) it.1 it.0.0.now_is begins,
+            );
+            shown = it.3;
+          },
     )
 
 pub returns-in_default-next-2-clause-handed : goal.returns-in_default-next-2-clause-handed
@@ -132,7 +156,15 @@ returns-in_default-found_in-clause-handed g c =
           let sql = c.args.sql.now in
           let params = bound c.args.params.now in
           let begins = given_begin g.S.Store sql params c.rows.rows.conn.now it.1 it.2 in
-          record { rows = it.1; are = inr (here.0, begins_since sql params (state g.S.Store c.args.conn.now) (state g.S.Store c.rows.rows.conn.now) it.1 it.0.0.now_is begins); shown = it.3 },
+          record {
+            rows = it.1;
+            are = inr (
+              here.0,
+              begins_since sql params (state g.S.Store c.args.conn.now)
+                  (state g.S.Store c.rows.rows.conn.now) it.1 it.0.0.now_is begins,
+            );
+            shown = it.3;
+          },
     )
 
 pub returns-then-not-take-clause-handed : goal.returns-then-not-take-clause-handed
@@ -156,32 +188,40 @@ returns-then-not-take-clause-handed g c =
           let kept = rw c.in-Ok-next.is at (moved.same late) in
           let still = unchanged_then old (state g.S.Store c.rows.rows.conn.now) (state g.S.Store now) it.0 kept in
           let begins = given_begin g.S.Store sql params now (it.1 ++ row ∷ []) given in
-          record { rows = it.1 ++ row ∷ []; are = (here.0, begins_since sql params old (state g.S.Store now) (it.1 ++ row ∷ []) still.0.now_is begins); shown = read_more it.1 was.4 row found it.3 c.in-Some-found_in.ensures },
+          record {
+            rows = it.1 ++ row ∷ [];
+            are = (here.0, begins_since sql params old (state g.S.Store now) (it.1 ++ row ∷ []) still.0.now_is begins);
+            shown = read_more it.1 was.4 row found it.3 c.in-Some-found_in.ensures;
+          },
     )
 
 pub returns-in_default-next-clause-crash : goal.returns-in_default-next-clause-crash
 returns-in_default-next-clause-crash g c plain =
     let now = c.next.follows.lender-at-none.conn.now in
     let same : now ≡ c.conn-in_default-next-1.given.0 = search rules in
-    ended c.args.sql.now (bound c.args.params.now) (state g.S.Store c.args.conn.now) (state g.S.Store c.rows.rows.conn.now) (state g.S.Store now) _ c.rows.invariant.2 c.next.follows.holds-at-none.survives (ap (state g.S.Store) same) plain
+    ended c.args.sql.now (bound c.args.params.now) (state g.S.Store c.args.conn.now) (state g.S.Store c.rows.rows.conn.now)
+    (state g.S.Store now) _ c.rows.invariant.2 c.next.follows.holds-at-none.survives (ap (state g.S.Store) same) plain
 
 pub returns-in_default-next-2-clause-crash : goal.returns-in_default-next-2-clause-crash
 returns-in_default-next-2-clause-crash g c plain =
     let now = c.next.follows.lender-at-none.conn.now in
     let same : now ≡ c.conn-in_default-next-2-1.given.0 = search rules in
-    ended c.args.sql.now (bound c.args.params.now) (state g.S.Store c.args.conn.now) (state g.S.Store c.rows.rows.conn.now) (state g.S.Store now) _ c.rows.invariant.2 c.next.follows.holds-at-none.survives (ap (state g.S.Store) same) plain
+    ended c.args.sql.now (bound c.args.params.now) (state g.S.Store c.args.conn.now) (state g.S.Store c.rows.rows.conn.now)
+    (state g.S.Store now) _ c.rows.invariant.2 c.next.follows.holds-at-none.survives (ap (state g.S.Store) same) plain
 
 pub returns-in_default-found_in-clause-crash : goal.returns-in_default-found_in-clause-crash
 returns-in_default-found_in-clause-crash g c plain =
     let now = c.next.follows.lender-at-none.conn.now in
     let same : now ≡ c.conn-in_default-found_in-1.given.0 = search rules in
-    ended c.args.sql.now (bound c.args.params.now) (state g.S.Store c.args.conn.now) (state g.S.Store c.rows.rows.conn.now) (state g.S.Store now) _ c.rows.invariant.2 c.next.follows.holds-at-none.survives (ap (state g.S.Store) same) plain
+    ended c.args.sql.now (bound c.args.params.now) (state g.S.Store c.args.conn.now) (state g.S.Store c.rows.rows.conn.now)
+    (state g.S.Store now) _ c.rows.invariant.2 c.next.follows.holds-at-none.survives (ap (state g.S.Store) same) plain
 
 pub returns-then-not-take-clause-crash : goal.returns-then-not-take-clause-crash
 returns-then-not-take-clause-crash g c plain =
     let now = c.next.follows.lender-at-none.conn.now in
     let same : now ≡ c.conn-then-not-take-1.given.0 = search rules in
-    ended c.args.sql.now (bound c.args.params.now) (state g.S.Store c.args.conn.now) (state g.S.Store c.rows.rows.conn.now) (state g.S.Store now) _ c.rows.invariant.2 c.next.follows.holds-at-none.survives (ap (state g.S.Store) same) plain
+    ended c.args.sql.now (bound c.args.params.now) (state g.S.Store c.args.conn.now) (state g.S.Store c.rows.rows.conn.now)
+    (state g.S.Store now) _ c.rows.invariant.2 c.next.follows.holds-at-none.survives (ap (state g.S.Store) same) plain
 
 pub rows-preserved : goal.rows-preserved
 rows-preserved g c =
@@ -208,8 +248,12 @@ rows-preserved g c =
                 let it = here.2 plain in
                 let sql = c.args.sql.now in
                 let params = bound c.args.params.now in
-                let given = (rw (c.in-Ok-next.is, c.in-Some.is) at (moved.ok clean)) sql params it.1 it.2 in
-                (unchanged_then old mid (state g.S.Store now) it.0 kept, it.1 ++ row ∷ [], given, read_more it.1 was.4 row found it.3 c.in-Some-found_in.ensures),
+                let given = (rw (c.in-Ok-next.is, c.in-Some.is) at (moved.ok clean)) sql params it.1 it.2 in (
+                  unchanged_then old mid (state g.S.Store now) it.0 kept,
+                  it.1 ++ row ∷ [],
+                  given,
+                  read_more it.1 was.4 row found it.3 c.in-Some-found_in.ensures,
+                ),
           ),
     )
 
@@ -226,5 +270,13 @@ returns-clause-handed g c =
           let sql = c.args.sql.now in
           let params = bound c.args.params.now in
           let begins = given_begin g.S.Store sql params c.rows.rows.conn.now it.1 it.2 in
-          record { rows = it.1; are = inr (here.0, begins_since sql params (state g.S.Store c.args.conn.now) (state g.S.Store c.rows.rows.conn.now) it.1 it.0.0.now_is begins); shown = it.3 },
+          record {
+            rows = it.1;
+            are = inr (
+              here.0,
+              begins_since sql params (state g.S.Store c.args.conn.now)
+                  (state g.S.Store c.rows.rows.conn.now) it.1 it.0.0.now_is begins,
+            );
+            shown = it.3;
+          },
     )

@@ -18,7 +18,9 @@ abbrev pub invariant-rows : goal.invariant-rows
 invariant-rows g l =
     let old = state g.S.Store l.fn.conn in
     let now = state g.S.Store l.rows.conn.now in
-    (l.rows.conn.ghost_name ≡ l.initial.rows.conn.ghost_name) × (doubt old.is_clean ≤ doubt now.is_clean) × Survives old now (CommitsShowing l.sql (bound l.params) old) × (l.rows.conn.now.in_transaction ≡ false)
+    (l.rows.conn.ghost_name ≡ l.initial.rows.conn.ghost_name) × (doubt old.is_clean ≤ doubt now.is_clean)
+    × Survives old now (CommitsShowing l.sql (bound l.params) old) × (l.rows.conn.now.in_transaction ≡ false)
     × (given : List Found) × TookAll g.T.Taker.took given l.fn.taker l.taker × (l.handed ≡ more_handed (length given) l.fn.handed)
     × (HasCleanDisk now → IsTrue old.is_open × IsTrue now.is_open
-    × (IsPlain (understood l.fn.conn.schema l.sql) → IsUnchanged old now × (rows : List Row) × HasGiven g.S.Store l.sql (bound l.params) l.rows.conn.now rows × AreReadAs rows given))
+    × (IsPlain (understood l.fn.conn.schema l.sql) → IsUnchanged old now × (rows : List Row) × HasGiven g.S.Store l.sql (bound l.params) l.rows.conn.now rows
+    × AreReadAs rows given))

@@ -12,7 +12,8 @@ returns-clause-handed g c =
     let routes = c.args.routes.now in
     let it = c.hand_rows-all.ensures.handed in
     let test = is_found_by_any routes c.args.caller c.args.day in
-    let on = passed_on g.T.Taker.took routes c.args.caller c.args.day c.hand_rows-all.result it.0 _ c.hand_rows-all.new.taker (omega arith) (refl, refl, refl) it.1 in
+    let on = passed_on g.T.Taker.took routes c.args.caller c.args.day c.hand_rows-all.result it.0 _ c.hand_rows-all.new.taker (omega arith)
+    (refl, refl, refl) it.1 in
     let named = on.same in (
       it.0,
       subst (λ x. Took g.T.Taker.took (filter test it.0) c.args.taker.now x c.hand_rows-all.result) (search rules) on.taken,

@@ -7,4 +7,5 @@ use Rattle.permit_sql_statements.proofs.select.select_found.Goals as goal
 pub returns-clause-found : goal.returns-clause-found
 returns-clause-found g c t clean there =
     let shown = c.in_ok-rows.ensures.found t clean there in
-    IfOk-weaker c.all_found.result _ _ (λ v is. subst (λ l. AreFound t l (found_by c.args.route.now c.args.caller c.args.day t)) (sym is) shown.are) (c.all_found.ensures shown.given shown.named (c.deref.ensures.value ∙ shown.shown))
+    IfOk-weaker c.all_found.result _ _ (λ v is. subst (λ l. AreFound t l (found_by c.args.route.now c.args.caller c.args.day t)) (sym is) shown.are)
+    (c.all_found.ensures shown.given shown.named (c.deref.ensures.value ∙ shown.shown))

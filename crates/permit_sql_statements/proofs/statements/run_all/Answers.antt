@@ -15,7 +15,8 @@ use Rattle.permit_sql_statements.proofs.statements.run_all.Goals as goal
 abbrev no_statement : program.Statement
 no_statement = record { text = record { ref_ptr = (0, 0); now = [] }; params = record { ref_ptr = (0, 0); now = [] } }
 
-ran_more : {S : Type 0} (g : Ghosts S) (statements : List Statement) (s : Statement) (a b d : Held S) (count : ℕ) → Ran g statements a b → Executes s.0 s.1 (state g b) (state g d) (Ok count) → Ran g (statements ++ s ∷ []) a d
+ran_more : {S : Type 0} (g : Ghosts S) (statements : List Statement) (s : Statement) (a b d : Held S) (count : ℕ) → Ran g statements a b →
+    Executes s.0 s.1 (state g b) (state g d) (Ok count) → Ran g (statements ++ s ∷ []) a d
 ran_more g [] s a b d count is h = (d, count, subst (λ x. Executes s.0 s.1 (state g x) (state g d) (Ok count)) is h, refl)
 ran_more g (t ∷ ts) s a b d count all h = (all.0, all.1, all.2, ran_more g ts s all.0 b d count all.3 h)
 
@@ -29,17 +30,25 @@ statements-preserved g c =
       λ clean.
           let kept = c.statements.invariant.2 (omega (arith, c.execute.ensures.survives.clean)) in
           let ran = c.in_ok-execute.ensures.runs clean kept.1 in (
-            subst (λ l. Ran g.S.Store l begun c.execute.new.self.conn.now) (sym (map_more text_and_params c.args.statements.now c.statements.statement-index no_statement (omega (arith, c.statements-test.true))))
-                (ran_more g.S.Store (map text_and_params (take c.statements.statement-index c.args.statements.now)) (text_and_params (get_or c.args.statements.now c.statements.statement-index no_statement)) begun c.statements.tx.conn.now c.execute.new.self.conn.now c.in_ok-execute.field-0 kept.0 ran.0),
+            subst (λ l. Ran g.S.Store l begun c.execute.new.self.conn.now)
+                (sym (map_more text_and_params c.args.statements.now c.statements.statement-index no_statement (omega (arith, c.statements-test.true))))
+                (ran_more g.S.Store (map text_and_params (take c.statements.statement-index c.args.statements.now))
+                (text_and_params (get_or c.args.statements.now c.statements.statement-index no_statement)) begun c.statements.tx.conn.now c.execute.new.self.conn.now c.in_ok-execute.field-0 kept.0 ran.0),
             search rules,
             ran.1.committed_is ∙ kept.2,
             λ shows. kept.3 ran.1.was_open,
           ),
     )
 
-all_ran : {S : Type 0} (g : Ghosts S) (statements : List program.Statement) (at : ℕ) (old last : Held S) → length statements ≤ at → Ran g (map text_and_params (take at statements)) (record old { in_transaction = true }) last
+all_ran : {S : Type 0} (g : Ghosts S) (statements : List program.Statement) (at : ℕ) (old last : Held S) → length statements ≤ at →
+    Ran g (map text_and_params (take at statements)) (record old { in_transaction = true }) last
     → RanAll g (map text_and_params statements) old (state g last).now
-all_ran g statements at old last whole ran = record { last = last; ran = subst (λ l. Ran g (map text_and_params l) (record old { in_transaction = true }) last) (take_all at statements whole) ran; is = refl }
+all_ran g statements at old last whole ran = record {
+  last = last;
+  ran =
+      subst (λ l. Ran g (map text_and_params l) (record old { in_transaction = true }) last) (take_all at statements whole) ran;
+  is = refl;
+}
 
 pub returns-clause-all : goal.returns-clause-all
 returns-clause-all g c clean =
@@ -58,7 +67,12 @@ returns-clause-crash g c =
     let last = c.statements.tx.conn.now in
     let P = λ (trees : Trees). (db : Database) × RanAll g.S.Store (map text_and_params c.args.statements.now) old db × (trees ≡ db.trees) in
     let whole = survives_then (state g.S.Store old) (state g.S.Store last) (state g.S.Store c.commit.new.self.0) _ _ P (λ _ db none. absurd none)
-    (λ clean db is. (_, all_ran g.S.Store c.args.statements.now c.statements.statement-index old last (omega (arith, c.statements-test.false)) (c.statements.invariant.2 (omega (arith, c.commit.ensures.survives.clean))).0, is))
+    (λ clean db is. (
+      _,
+      all_ran g.S.Store c.args.statements.now c.statements.statement-index old last (omega (arith, c.statements-test.false))
+          (c.statements.invariant.2 (omega (arith, c.commit.ensures.survives.clean))).0,
+      is,
+    ))
     (survives_begin g.S.Store old (state g.S.Store last) _ c.statements.invariant.1) c.commit.ensures.survives in
     let same : c.commit.new.self.0 ≡ c.conn-2-1.given.0 = search rules in
     subst (λ h. Survives (state g.S.Store old) (state g.S.Store h) P) same whole
@@ -69,7 +83,12 @@ returns-in_err-commit-clause-crash g c =
     let last = c.statements.tx.conn.now in
     let P = λ (trees : Trees). (db : Database) × RanAll g.S.Store (map text_and_params c.args.statements.now) old db × (trees ≡ db.trees) in
     let whole = survives_then (state g.S.Store old) (state g.S.Store last) (state g.S.Store c.commit.new.self.0) _ _ P (λ _ db none. absurd none)
-    (λ clean db is. (_, all_ran g.S.Store c.args.statements.now c.statements.statement-index old last (omega (arith, c.statements-test.false)) (c.statements.invariant.2 (omega (arith, c.commit.ensures.survives.clean))).0, is))
+    (λ clean db is. (
+      _,
+      all_ran g.S.Store c.args.statements.now c.statements.statement-index old last (omega (arith, c.statements-test.false))
+          (c.statements.invariant.2 (omega (arith, c.commit.ensures.survives.clean))).0,
+      is,
+    ))
     (survives_begin g.S.Store old (state g.S.Store last) _ c.statements.invariant.1) c.commit.ensures.survives in
     let same : c.commit.new.self.0 ≡ c.conn-2-1.given.0 = search rules in
     subst (λ h. Survives (state g.S.Store old) (state g.S.Store h) P) same whole

@@ -12,4 +12,5 @@ invariant-statements g l =
     let begun = record l.fn.conn { in_transaction = true } in
     let now = state g.S.Store l.tx.conn.now in
     (l.tx.conn.ghost_name ≡ l.initial.tx.conn.ghost_name) × Survives (state g.S.Store begun) now (λ _. ⊥)
-    × (HasCleanDisk now → Ran g.S.Store (map text_and_params (take l.statement-index l.statements)) begun l.tx.conn.now × IsTrue now.in_transaction × (now.committed ≡ (state g.S.Store begun).committed) × (IsTrue now.is_open → IsTrue (state g.S.Store begun).is_open))
+    × (HasCleanDisk now → Ran g.S.Store (map text_and_params (take l.statement-index l.statements)) begun l.tx.conn.now × IsTrue now.in_transaction
+    × (now.committed ≡ (state g.S.Store begun).committed) × (IsTrue now.is_open → IsTrue (state g.S.Store begun).is_open))

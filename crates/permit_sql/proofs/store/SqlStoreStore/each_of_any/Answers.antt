@@ -7,7 +7,10 @@ returns-in-Ok-clause-handed g c =
     let s = c.args.self.now in
     let it = c.in-Ok.ensures.handed in (
       it.0,
-      record { taken = it.1; read = hand_ok g.S.Store s.conn c.each_of_any_found.new.conn s.handed s.failed s.commits _ _ _ it.2 c.each_of_any_found.ensures.kept c.each_of_any_found.ensures.doubt c.in-Ok.ensures.open },
+      record {
+        taken = it.1;
+        read = hand_ok g.S.Store s.conn c.each_of_any_found.new.conn s.handed s.failed s.commits _ _ _ it.2 c.each_of_any_found.ensures.kept c.each_of_any_found.ensures.doubt c.in-Ok.ensures.open;
+      },
       λ sure t held. it.3 t sure (held (omega (arith, c.each_of_any_found.ensures.doubt, sure))),
     )
 
@@ -16,6 +19,9 @@ returns-in-Err-clause-handed g c =
     let s = c.args.self.now in
     let it = c.in-Err.ensures.handed in (
       it.0,
-      record { taken = it.1; read = hand_err g.S.Store s.conn c.each_of_any_found.new.conn s.handed s.failed s.commits _ _ _ it.2 c.each_of_any_found.ensures.kept c.each_of_any_found.ensures.doubt },
+      record {
+        taken = it.1;
+        read = hand_err g.S.Store s.conn c.each_of_any_found.new.conn s.handed s.failed s.commits _ _ _ it.2 c.each_of_any_found.ensures.kept c.each_of_any_found.ensures.doubt;
+      },
       λ sure t held. it.3 t sure (held (omega (arith, c.each_of_any_found.ensures.doubt, sure))),
     )

@@ -3,7 +3,8 @@ use Rattle.permit_sql.proofs.Calls.{read_ok, look_up_err}
 use Rattle.permit_sql.proofs.store.SqlStoreStore.state.Goals as goal
 
 pub returns-in-Ok-Some-clause-found : goal.returns-in-Ok-Some-clause-found
-returns-in-Ok-Some-clause-found g c sure t held = sym c.in-Ok-Some.field-0-is ∙ c.in-Ok-Some.ensures.found t sure (held (omega (arith, c.read_state.ensures.doubt, sure)))
+returns-in-Ok-Some-clause-found g c sure t held = sym c.in-Ok-Some.field-0-is
+    ∙ c.in-Ok-Some.ensures.found t sure (held (omega (arith, c.read_state.ensures.doubt, sure)))
 
 pub returns-in-Ok-Some-clause-read : goal.returns-in-Ok-Some-clause-read
 returns-in-Ok-Some-clause-read g c =
@@ -11,7 +12,8 @@ returns-in-Ok-Some-clause-read g c =
     read_ok g.S.Store s.conn c.read_state.new.conn s.handed s.failed s.commits _ _ c.read_state.ensures.kept c.read_state.ensures.doubt c.in-Ok-Some.ensures.open
 
 pub returns-in-Ok-None-clause-found : goal.returns-in-Ok-None-clause-found
-returns-in-Ok-None-clause-found g c sure t held = sym c.in-Ok-None.field-0-is ∙ c.in-Ok-None.ensures.found t sure (held (omega (arith, c.read_state.ensures.doubt, sure)))
+returns-in-Ok-None-clause-found g c sure t held = sym c.in-Ok-None.field-0-is
+    ∙ c.in-Ok-None.ensures.found t sure (held (omega (arith, c.read_state.ensures.doubt, sure)))
 
 pub returns-in-Ok-None-clause-read : goal.returns-in-Ok-None-clause-read
 returns-in-Ok-None-clause-read g c =
