@@ -5,8 +5,6 @@
 #[cfg(test)]
 mod asking;
 #[cfg(test)]
-mod listings;
-#[cfg(test)]
 mod program;
 #[cfg(test)]
 mod registers;

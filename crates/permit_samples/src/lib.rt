@@ -15,5 +15,6 @@ mod plans;
 pub mod scenarios;
 pub mod script;
 pub mod standard;
+pub mod transcript;
 mod unknown_and_missing;
 mod work;
