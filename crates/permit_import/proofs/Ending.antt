@@ -61,7 +61,7 @@ unread view remaining token day left before after old new reader number tally p 
     let n : length p.rows + 1 ≡ number = p.count in
     record { rows = p.rows; replies = p.replies; tried = inr (begins remaining left reader (header ∷ p.rows) p.behind); few = omega arith; steps = p.told.steps; model = p.told.model; written = p.written }
 
--- memory was wanting for a record's values
+-- memory ran out for a record's values
 pub unmade : {S R : Type 0} (view : S → StoreView) (remaining : R → Option (List ℕ)) (token : List ℕ) (day : ℕ) (left before after : Option (List ℕ)) (old between new : OfficeView S) (reader : Reader R) (number : ℕ) (tally : Tally) →
     Progress view remaining token day left before after old between reader number tally → number ≤ 1000000 → new ≡ between → Imports view token day left before after old new (Err Memory)
 unmade view remaining token day left before after old between new reader number tally p few same =

@@ -11,10 +11,8 @@ use Rattle.csv.specs.declared.reader.Reader.{Reader}
 use Rattle.permit_base.specs.Digests.{digest_of}
 use Rattle.permit_base.specs.declared.request.Asked.{Asked}
 use Rattle.permit_base.specs.declared.request.Request.{Request}
-use Rattle.permit_model.specs.History.{History}
-use Rattle.permit_model.specs.Tables.{tables}
-use Rattle.permit_model.specs.Machine.{IsHistory, step_as}
-use Rattle.permit_store.specs.Frames.{StoreView}
+use Rattle.permit_model.specs.Machine.{step_as}
+use Rattle.permit_store.specs.Frames.{StoreView, OverHistory}
 use Rattle.permit_office.specs.Answers.{Answers}
 use Rattle.permit_office.specs.Frames.{IsStep, Steps}
 use Rattle.permit_office.specs.Opening.{rows_opened, Opens}
@@ -108,7 +106,7 @@ tally_last os (Refused why) = same_counts _ _ _ _ _ _ (count_same is_added os (R
 pub record Told {S : Type 0} (view : S → StoreView) (requests : List (Asked × ℕ)) (replies : List Reply) (old new : OfficeView S) : Type 0 where
   pub each : length replies ≡ length requests
   pub steps : Steps view requests replies old new
-  pub model : (view new.store).doubt ≡ 0 → (h : History) → IsHistory h → (view old.store).holds (tables h) → Ran (view new.store).holds old.policy requests replies h
+  pub model : OverHistory (view old.store) (view new.store) (λ h. Ran (view new.store).holds old.policy requests replies h)
 
 pub told_none : {S : Type 0} (view : S → StoreView) (office : OfficeView S) → Told view [] [] office office
 told_none view office = record { each = refl; steps = refl; model = λ doubt h is held. ran_none (view office.store).holds office.policy h held }

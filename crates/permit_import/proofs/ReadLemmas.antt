@@ -28,7 +28,7 @@ no_value : {T F : Type 0} (told : Result T F) (Q : F → Type 0) (P : T → Type
 no_value (Ok x) Q P h = absurd h
 no_value (Err e) Q P h = tt
 
--- what a read of a record says, with its error told as another
+-- what a read of a record says, with its error reported as another
 pub next_read : {R F : Type 0} (remaining : R → Option (List ℕ)) (left : Option (List ℕ)) (rows : List Fields) (old new : Reader R) (fields : Fields) (r : Result Bool Error) (told : Result Bool F) (Q : Error → F → Type 0) →
     Behind remaining left old rows → OnOk r (took_first new ≡ true) → IfOk r (λ found. ReadRecord remaining old new found fields) →
     MatchResult r (λ x. told ≡ Ok x) (λ e. IsErrAnd told (Q e)) → IfOk told (ReadsNext remaining left rows fields new)

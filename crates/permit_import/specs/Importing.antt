@@ -1,10 +1,7 @@
 -- What an import does.
 use Rattle.std.specs.Prelude.{◌≡◌, ◌≤◌, ◌⊎◌, ℕ, List, [], ◌∷◌, ◌++◌, length, Option, Result, Ok, Err}
 use Rattle.std.specs.Io.KnownBytes.{Appends}
-use Rattle.permit_model.specs.History.{History}
-use Rattle.permit_model.specs.Tables.{tables}
-use Rattle.permit_model.specs.Machine.{IsHistory}
-use Rattle.permit_store.specs.Frames.{StoreView}
+use Rattle.permit_store.specs.Frames.{StoreView, OverHistory}
 use Rattle.permit_office.specs.Frames.{Steps}
 use Rattle.permit_office.specs.Office.{OfficeView}
 use Rattle.permit_office.specs.Runs.{Ran}
@@ -42,6 +39,5 @@ pub record Imports {S : Type 0} (view : S → StoreView) (token : List ℕ) (day
   pub tried : TriedOf left result rows
   pub few : length rows ≤ 999999
   pub steps : Steps view (requests_of token day rows) replies old new
-  pub model : (view new.store).doubt ≡ 0 → (h : History) → IsHistory h → (view old.store).holds (tables h)
-      → Ran (view new.store).holds old.policy (requests_of token day rows) replies h
+  pub model : OverHistory (view old.store) (view new.store) (λ h. Ran (view new.store).holds old.policy (requests_of token day rows) replies h)
   pub written : WritesOf before after result (outcomes_of rows replies)

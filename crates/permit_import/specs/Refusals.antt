@@ -22,7 +22,7 @@ refusal_word Large = codes "large"
 abbrev pub all_refusal_words : List RefusalWord
 all_refusal_words = Syntax ∷ Caller ∷ Clock ∷ Record ∷ Store ∷ Route ∷ Large ∷ []
 
--- a refusal of the office, as its answer tells it
+-- a refusal of the office, as its answer reports it
 abbrev pub refused_by : Refusal → Refused
 refused_by refusal.Syntax = Plain Syntax
 refused_by refusal.Caller = Plain Caller

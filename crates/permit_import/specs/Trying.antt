@@ -1,10 +1,8 @@
 -- What trying one record does.
 use Rattle.std.specs.Prelude.{◌≡◌, ℕ, List, Option, None, Some}
 use Rattle.permit_base.specs.declared.request.Request.{Request}
-use Rattle.permit_model.specs.History.{History}
-use Rattle.permit_model.specs.Tables.{tables}
-use Rattle.permit_model.specs.Machine.{IsHistory, step_as}
-use Rattle.permit_store.specs.Frames.{StoreView}
+use Rattle.permit_model.specs.Machine.{step_as}
+use Rattle.permit_store.specs.Frames.{StoreView, OverHistory}
 use Rattle.permit_office.specs.Answers.{Answers}
 use Rattle.permit_office.specs.Frames.{IsStep}
 use Rattle.permit_office.specs.Office.{OfficeView}
@@ -15,8 +13,7 @@ use Rattle.permit_import.specs.declared.outcome.Outcome.{Outcome}
 -- the office made one step, and the reply is the machine's, or the store's refusal
 pub record Stepped {S : Type 0} (view : S → StoreView) (digest : List ℕ) (day : ℕ) (request : Request) (old new : OfficeView S) (reply : Reply) : Type 0 where
   pub step : IsStep view digest request day old new reply
-  pub model : (view new.store).doubt ≡ 0 → (h : History) → IsHistory h → (view old.store).holds (tables h)
-      → Answers (view new.store).holds reply (step_as old.policy h digest request day) h
+  pub model : OverHistory (view old.store) (view new.store) (λ h. Answers (view new.store).holds reply (step_as old.policy h digest request day) h)
 
 -- a record that is no request never reaches the office; any other comes to what the reply to its request makes of it
 abbrev pub Tries : {S : Type 0} → (S → StoreView) → List ℕ → ℕ → Option Request → OfficeView S → OfficeView S → Outcome → Type 0

@@ -14,7 +14,7 @@ pub record WroteFront (old new : Option (List ℕ)) (text : List ℕ) : Type 0 w
   pub within : count < length text
   pub wrote : Appends old new (take count text)
 
--- a line was not written whole: for want of memory not at all, else a beginning of it
+-- a line was not written whole: where memory ran out not at all, else a beginning of it
 abbrev pub StopsShort : Option (List ℕ) → Option (List ℕ) → List ℕ → ImportFault → Type 0
 StopsShort old new text Memory = Keeps old new
 StopsShort old new text Writing = WroteFront old new text

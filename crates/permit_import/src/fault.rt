@@ -12,7 +12,7 @@ pub enum ImportFault {
     FirstRecord,
     /// The reader failed or found no memory, or more than 999999 records stand behind the first.
     Reading,
-    /// Memory was wanting for a record's values or its line.
+    /// Memory ran out for a record's values or its line.
     Memory,
     /// The writer failed, or took no byte.
     Writing,

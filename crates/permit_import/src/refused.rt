@@ -19,7 +19,7 @@ pub enum RefusalWord {
     Clock,
     /// The parcel or file that is asked for is not there.
     Record,
-    /// Memory was wanting, or a call of the store failed.
+    /// Memory ran out, or a call of the store failed.
     Store,
     /// No route has the method and the path.
     Route,
@@ -62,7 +62,7 @@ impl Word for RefusalWord {
     ghost is_read = { Prim.search rules };
 }
 
-/// Why a request was refused, as its answer tells it.
+/// Why a request was refused, as its answer reports it.
 #[derive(Clone, Copy, PartialEq, Eq)]
 pub enum Refused {
     /// The word says all.
