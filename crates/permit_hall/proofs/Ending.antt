@@ -6,7 +6,7 @@ use Rattle.crossbeam_channel.specs.Claims.{view, IsSeatAt}
 use Rattle.crossbeam_channel.specs.Ends.{sends_on, receives_on}
 use Rattle.permit_hall.specs.Runs.{Entry, Runs, requests_of, replies_of}
 use Rattle.permit_hall.specs.declared.hall.Hall.{Hall}
-use Rattle.permit_hall.specs.declared.intake.Message.{Message}
+use Rattle.permit_hall.specs.declared.intake.Envelope.{Envelope}
 use Rattle.permit_hall.specs.declared.owner.Outlet.{Outlet}
 use Rattle.permit_hall.specs.declared.session.Session.{Session}
 use Rattle.permit_hall.specs.declared.worker.Worker.{Worker}
@@ -74,7 +74,7 @@ module _ {A Y : Type 0} where
 
   -- the whole theorem, of what the owner's loop and the closing left
   pub all_served : {S O T : Type 0} (step : S → A → ℕ → Y → S → Type 0) (is_day : ℕ → Type 0) (did : T → List A → List Y → O → Type 0) (n : ℕ) (tasks : List T) (workers : List (Worker A Y O T)) (lanes : List (Outlet Y)) (known : List (List A)) (outs : List (Option O))
-      (got queued : List (Message A)) (s t : S) (served : List (Entry A Y))
+      (got queued : List (Envelope A)) (s t : S) (served : List (Entry A Y))
       → Serves step is_day n got s t served → n ≡ length tasks → map (λ w. w.task.value) workers ≡ tasks → length lanes ≡ length tasks → Sent served lanes
       → length outs ≡ length workers → AreClosed did known lanes workers outs
       → ((k : ℕ) → k < length known → slice_index_or known k [] ≡ requests_in k (got ++ queued))

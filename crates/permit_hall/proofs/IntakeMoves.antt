@@ -8,7 +8,7 @@ use mathlib.Core.Option.{some, some-ne-none}
 use lib.ListN.{get_elem?}
 use Rattle.crossbeam_channel.specs.Fifo.{Pushes, Pops, Forks, Merges, Learns}
 use Rattle.atomic_table.proofs.Lists.{at_set}
-use Rattle.permit_hall.specs.declared.intake.Message.{Message}
+use Rattle.permit_hall.specs.declared.intake.Envelope.{Envelope}
 use Rattle.permit_hall.specs.declared.intake.IntakeNote.{IntakeNote}
 use Rattle.permit_hall.specs.Intake.{said, requests_in, owner, session, nobody, FitsSender, FitsOwner, Fits, Taken, PutsOne, TakesOne, Compares}
 use Rattle.permit_hall.proofs.Cases.{by_number, not_eqb, put_at, put_here, put_else, at_end, at_snoc_or_end, EachView, all_set}
@@ -18,14 +18,14 @@ module _ {A : Type 0} where
   joined true s t u v e = ap (λ x. s ++ x) e ∙ sym (append_assoc s t v)
   joined false s t u v e = e
 
-  pub requests_append : (p : ℕ) (xs ys : List (Message A)) → requests_in p (xs ++ ys) ≡ requests_in p xs ++ requests_in p ys
+  pub requests_append : (p : ℕ) (xs ys : List (Envelope A)) → requests_in p (xs ++ ys) ≡ requests_in p xs ++ requests_in p ys
   requests_append p [] ys = refl
   requests_append p (m ∷ ms) ys = joined (m.from == p) (said m.request) (requests_in p ms) (requests_in p (ms ++ ys)) (requests_in p ys) (requests_append p ms ys)
 
-  pub requests_same : (p : ℕ) (log : List (Message A)) (m : Message A) → m.from ≡ p → requests_in p (log ++ m ∷ []) ≡ requests_in p log ++ said m.request
+  pub requests_same : (p : ℕ) (log : List (Envelope A)) (m : Envelope A) → m.from ≡ p → requests_in p (log ++ m ∷ []) ≡ requests_in p log ++ said m.request
   requests_same p log m e = requests_append p log (m ∷ []) ∙ ap (λ (b : Bool). requests_in p log ++ (if b then said m.request ++ [] else [])) (eq-eqb m.from p e) ∙ ap (λ x. requests_in p log ++ x) (append-nil (said m.request))
 
-  pub requests_else : (p : ℕ) (log : List (Message A)) (m : Message A) → m.from ≢ p → requests_in p (log ++ m ∷ []) ≡ requests_in p log
+  pub requests_else : (p : ℕ) (log : List (Envelope A)) (m : Envelope A) → m.from ≢ p → requests_in p (log ++ m ∷ []) ≡ requests_in p log
   requests_else p log m n = requests_append p log (m ∷ []) ∙ ap (λ (b : Bool). requests_in p log ++ (if b then said m.request ++ [] else [])) (not_eqb m.from p n) ∙ append-nil (requests_in p log)
 
   pub begins : Taken {A = A} [] (owner 0 [] [] ∷ [])
@@ -38,8 +38,8 @@ module _ {A : Type 0} where
         (λ j u other e. absurd (other (at_end [] _ u j (λ x. some-ne-none u (sym x)) e))),
   )
 
-  -- a message of another session leaves what a pass knows
-  others_fit : (log items : List (Message A)) (seat : ℕ → ℕ) (reader j : ℕ) (u : IntakeNote A) (m : Message A) → (u.sends ≡ true → m.from ≢ u.from) → seat m.from ≢ 0
+  -- an envelope of another session leaves what a pass knows
+  others_fit : (log items : List (Envelope A)) (seat : ℕ → ℕ) (reader j : ℕ) (u : IntakeNote A) (m : Envelope A) → (u.sends ≡ true → m.from ≢ u.from) → seat m.from ≢ 0
       → Fits log items seat reader j u → Fits (log ++ m ∷ []) (items ++ m ∷ []) seat reader j u
   others_fit log items seat reader j u m apart sits h = (
     (λ s. ((h.0 s).0, (h.0 s).1 ∙ sym (requests_else u.from log m (apart s)))),
@@ -52,7 +52,7 @@ module _ {A : Type 0} where
     ),
   )
 
-  pub puts : (n pass : ℕ) (v : IntakeNote A) (m : Message A) → v.sends ≡ true → v.gets ≡ false → v.from ≡ m.from → Pushes Taken n pass v m (PutsOne v m)
+  pub puts : (n pass : ℕ) (v : IntakeNote A) (m : Envelope A) → v.sends ≡ true → v.gets ≡ false → v.from ≡ m.from → Pushes Taken n pass v m (PutsOne v m)
   puts n pass v m may _ same items views _ h at =
       let w : IntakeNote A = session v.from (v.put ++ said m.request) in let mine = (h.3 pass v at).0 may in let log = h.0 ++ m ∷ [] in
       let sits : h.1 m.from ≡ pass + 1 = ap h.1 (sym same) ∙ mine.0 in (

@@ -6,7 +6,7 @@ use Rattle.std.proofs.lemmas.List.Elements.{All-append}
 use Rattle.crossbeam_channel.specs.Claims.{view}
 use Rattle.permit_hall.specs.Runs.{Entry, Runs, requests_of, replies_of}
 use Rattle.permit_hall.proofs.Entries.{runs_more, requests_here, requests_away, replies_here, replies_away}
-use Rattle.permit_hall.specs.declared.intake.Message.{Message}
+use Rattle.permit_hall.specs.declared.intake.Envelope.{Envelope}
 use Rattle.permit_hall.specs.declared.intake.IntakeNote.{IntakeNote}
 use Rattle.permit_hall.specs.declared.owner.Outlet.{Outlet}
 use Rattle.permit_hall.specs.Intake.{said, requests_in, owner, TakesOne}
@@ -36,10 +36,10 @@ module _ {S A Y : Type 0} (step : S → A → ℕ → Y → S → Type 0) (is_da
   pub serves_none : (s : S) → Serves step is_day n [] s s []
   serves_none s = record { runs = refl; each = (λ k d low. absurd (omega arith)); requests = (λ p low. refl) }
 
-  pub serves_as : (got more : List (Message A)) (s t : S) (served : List (Entry A Y)) → got ≡ more → Serves step is_day n got s t served → Serves step is_day n more s t served
+  pub serves_as : (got more : List (Envelope A)) (s t : S) (served : List (Entry A Y)) → got ≡ more → Serves step is_day n got s t served → Serves step is_day n more s t served
   serves_as got more s t served is h = subst (λ l. Serves step is_day n l s t served) is h
 
-  pub serves_ask : (got : List (Message A)) (s t u : S) (served : List (Entry A Y)) (m : Message A) (a : A) (day : ℕ) (reply : Y) → m.from < n → m.request ≡ Some a → is_day day → step t a day reply u
+  pub serves_ask : (got : List (Envelope A)) (s t u : S) (served : List (Entry A Y)) (m : Envelope A) (a : A) (day : ℕ) (reply : Y) → m.from < n → m.request ≡ Some a → is_day day → step t a day reply u
       → Serves step is_day n got s t served → Serves step is_day n (got ++ m ∷ []) s u (served ++ record { from = m.from; request = a; day = day; reply = reply } ∷ [])
   serves_ask got s t u served m a day reply inside is today go h = let e : Entry A Y = record { from = m.from; request = a; day = day; reply = reply } in record {
     runs = runs_more step s t u served e h.runs go;
@@ -49,21 +49,21 @@ module _ {S A Y : Type 0} (step : S → A → ℕ → Y → S → Type 0) (is_da
         (λ other. requests_away p served e other ∙ h.requests p low ∙ sym (requests_else p got m other));
   }
 
-  pub serves_skip : (got : List (Message A)) (s t : S) (served : List (Entry A Y)) (m : Message A) → ((p : ℕ) → p < n → requests_in p (got ++ m ∷ []) ≡ requests_in p got)
+  pub serves_skip : (got : List (Envelope A)) (s t : S) (served : List (Entry A Y)) (m : Envelope A) → ((p : ℕ) → p < n → requests_in p (got ++ m ∷ []) ≡ requests_in p got)
       → Serves step is_day n got s t served → Serves step is_day n (got ++ m ∷ []) s t served
   serves_skip got s t served m same h = record { runs = h.runs; each = h.each; requests = λ p low. h.requests p low ∙ sym (same p low) }
 
 module _ {A : Type 0} where
-  pub mark_says_nothing : (p : ℕ) (got : List (Message A)) (m : Message A) → m.request ≡ None → requests_in p (got ++ m ∷ []) ≡ requests_in p got
+  pub mark_says_nothing : (p : ℕ) (got : List (Envelope A)) (m : Envelope A) → m.request ≡ None → requests_in p (got ++ m ∷ []) ≡ requests_in p got
   mark_says_nothing p got m is = by_number m.from p (λ same. requests_same p got m same ∙ ap (λ o. requests_in p got ++ said o) is ∙ append-nil (requests_in p got)) (λ other. requests_else p got m other)
 
-  pub outsider_says_nothing : (n p : ℕ) (got : List (Message A)) (m : Message A) → n ≤ m.from → p < n → requests_in p (got ++ m ∷ []) ≡ requests_in p got
+  pub outsider_says_nothing : (n p : ℕ) (got : List (Envelope A)) (m : Envelope A) → n ≤ m.from → p < n → requests_in p (got ++ m ∷ []) ≡ requests_in p got
   outsider_says_nothing n p got m out low = requests_else p got m (λ e. omega arith)
 
   pub starts : (v : IntakeNote A) (made : ℕ) → v ≡ owner made [] [] → v ≡ owner made v.got []
   starts v made is = is ∙ (λ i. owner made (sym (ap (λ (x : IntakeNote A). x.got) is) i) [])
 
-  pub takes_keeps : (v w : IntakeNote A) (made : ℕ) (m : Message A) → v ≡ owner made v.got [] → TakesOne v m w → (w ≡ owner made w.got []) × (w.got ≡ v.got ++ m ∷ [])
+  pub takes_keeps : (v w : IntakeNote A) (made : ℕ) (m : Envelope A) → v ≡ owner made v.got [] → TakesOne v m w → (w ≡ owner made w.got []) × (w.got ≡ v.got ++ m ∷ [])
   takes_keeps v w made m is next = let more = ap (λ (x : IntakeNote A). x.got) next in (next ∙ (λ i. owner ((is i).made) (sym more i) ((is i).known)), more)
 
 module _ {Y : Type 0} where

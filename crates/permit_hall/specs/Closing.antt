@@ -2,7 +2,7 @@
 use Rattle.std.specs.Prelude.{◌≡◌, ◌<◌, ℕ, List, [], ◌++◌, length, slice_index_or, Option, MatchOption}
 use Rattle.crossbeam_channel.specs.Claims.{view}
 use Rattle.crossbeam_channel.specs.Ends.{sends_on, receives_on}
-use Rattle.permit_hall.specs.declared.intake.Message.{Message}
+use Rattle.permit_hall.specs.declared.intake.Envelope.{Envelope}
 use Rattle.permit_hall.specs.declared.intake.IntakeNote.{IntakeNote}
 use Rattle.permit_hall.specs.declared.owner.Outlet.{Outlet}
 use Rattle.permit_hall.specs.declared.session.Session.{Session}

@@ -5,9 +5,8 @@ use Rattle.permit_base.specs.declared.request.Asked.{Asked}
 use Rattle.permit_model.specs.History.{History}
 use Rattle.permit_model.specs.Policy.{Policy}
 use Rattle.permit_model.specs.Tables.{Tables, tables}
-use Rattle.permit_model.specs.Machine.{IsHistory}
 use Rattle.permit_model.specs.HallRun.{Event, Put, Take, Collect, served, collected, hall_run}
-use Rattle.permit_store.specs.Frames.{StoreView}
+use Rattle.permit_store.specs.Frames.{StoreView, OverHistory}
 use Rattle.permit_office.specs.declared.reply.Reply.{Reply}
 use Rattle.permit_office.specs.Answers.{reply_of, is_store_refusal}
 use Rattle.permit_office.specs.Office.{OfficeView}
@@ -36,5 +35,5 @@ pub record HallRuns {S : Type 0} (view : S → StoreView) (events : List (Event 
     (old new : OfficeView S) (replies : List Reply) : Type 0 where
   pub run : IsRun view (served events) replies old new
   pub answered : answers ≡ collected events replies
-  pub model : (view new.store).doubt ≡ 0 → (h : History) → IsHistory h → (view old.store).holds (tables h)
-      → is_never_refused replies ≡ true → IsHallRun (view new.store).holds old.policy events answers h
+  pub model : OverHistory (view old.store) (view new.store)
+      (λ h. is_never_refused replies ≡ true → IsHallRun (view new.store).holds old.policy events answers h)

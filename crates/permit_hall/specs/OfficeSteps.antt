@@ -2,10 +2,8 @@
 use Rattle.std.specs.Prelude.{◌≡◌, ◌≤◌, ℕ, List}
 use Rattle.permit_base.specs.Digests.{digest_of}
 use Rattle.permit_base.specs.declared.request.Asked.{Asked}
-use Rattle.permit_model.specs.History.{History}
-use Rattle.permit_model.specs.Tables.{tables}
-use Rattle.permit_model.specs.Machine.{IsHistory, step}
-use Rattle.permit_store.specs.Frames.{StoreView}
+use Rattle.permit_model.specs.Machine.{step}
+use Rattle.permit_store.specs.Frames.{StoreView, OverHistory}
 use Rattle.permit_office.specs.declared.reply.Reply.{Reply}
 use Rattle.permit_office.specs.Answers.{Answers}
 use Rattle.permit_office.specs.Frames.{IsStep, Steps}
@@ -15,14 +13,12 @@ use Rattle.permit_office.specs.Runs.{Ran}
 -- the office made one step for a request on a day, and its reply and its tables are the machine's, or the store's refusal
 pub record StepFor {S : Type 0} (view : S → StoreView) (old : OfficeView S) (asked : Asked) (day : ℕ) (reply : Reply) (new : OfficeView S) : Type 0 where
   pub made : IsStep view (digest_of asked.token) asked.request day old new reply
-  pub model : (view new.store).doubt ≡ 0 → (h : History) → IsHistory h → (view old.store).holds (tables h)
-      → Answers (view new.store).holds reply (step old.policy h asked day) h
+  pub model : OverHistory (view old.store) (view new.store) (λ h. Answers (view new.store).holds reply (step old.policy h asked day) h)
 
 -- The office served the requests on their days, one step each. Where the store held a history's tables, and is without
 -- doubt, the replies and the tables are the machine's over the requests that the store didn't refuse.
 pub record IsRun {S : Type 0} (view : S → StoreView) (requests : List (Asked × ℕ)) (replies : List Reply) (old new : OfficeView S) : Type 0 where
   pub steps : Steps view requests replies old new
-  pub model : (view new.store).doubt ≡ 0 → (h : History) → IsHistory h → (view old.store).holds (tables h)
-      → Ran (view new.store).holds old.policy requests replies h
+  pub model : OverHistory (view old.store) (view new.store) (λ h. Ran (view new.store).holds old.policy requests replies h)
   pub policy : new.policy ≡ old.policy
   pub doubt : (view old.store).doubt ≤ (view new.store).doubt

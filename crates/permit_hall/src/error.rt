@@ -8,7 +8,7 @@ ghost use Rattle.permit_hall.specs.Errors.{may_open as is_count};
 pub enum HallError {
     /// There are not 1 to 8 doors or lists.
     Count,
-    /// Want of memory.
+    /// Out of memory.
     Memory,
     /// Not one worker could be started.
     NoWorker,

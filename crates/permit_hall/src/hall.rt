@@ -9,7 +9,7 @@ ghost use Rattle.permit_hall.specs.Session.{Has};
 ghost use Rattle.permit_hall.specs.Hall.{IsOf, IsWhole, IsNew};
 
 use crate::intake::{
-    Intake, IntakeNote, IntakePass, IntakeReceiver, IntakeSender, Message, Sessions,
+    Envelope, Intake, IntakeNote, IntakePass, IntakeReceiver, IntakeSender, Sessions,
 };
 use crate::lane::{Ends, Lane, LaneNote};
 use crate::owner::Outlet;
@@ -61,7 +61,7 @@ fn lane<A: Drop, Y: Drop>(
 fn empty<A: Drop, Y: Drop>(alloc: Global) -> Result<Hall<A, Y>, AllocError>
     ensures { IfOk result (λ h. IsNew h []) }
 {
-    let (sender, intake, pass) = bounded_with::<Message<A>, IntakeNote<A>, Intake, Global>(
+    let (sender, intake, pass) = bounded_with::<Envelope<A>, IntakeNote<A>, Intake, Global>(
         alloc, ROOM,
     )?;
     Ok(Hall {

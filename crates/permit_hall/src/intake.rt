@@ -9,7 +9,7 @@ use std::collections::LinkedList;
 
 /// What a session puts, with its number: a request, or an end mark, which has none.
 #[derive(Drop)]
-pub struct Message<A> {
+pub struct Envelope<A> {
     pub from: usize,
     pub request: Option<A>,
 }
@@ -23,14 +23,14 @@ pub struct IntakeNote<A> {
     pub from: usize,
     pub made: u64,
     pub put: LinkedList<A>,
-    pub got: LinkedList<Message<A>>,
+    pub got: LinkedList<Envelope<A>>,
     pub known: LinkedList<LinkedList<A>>,
 }
 
 /// The rule of the intake.
 pub struct Intake;
 
-impl<A> Protocol<Message<A>, IntakeNote<A>> for Intake {
+impl<A> Protocol<Envelope<A>, IntakeNote<A>> for Intake {
     ghost holds = { Taken };
 
     ghost first = { owner 0 [] [] };
@@ -39,29 +39,29 @@ impl<A> Protocol<Message<A>, IntakeNote<A>> for Intake {
 /// A session puts. At a full intake it learns nothing.
 pub struct Puts;
 
-impl<A> Outcome<Message<A>, IntakeNote<A>> for Puts {
+impl<A> Outcome<Envelope<A>, IntakeNote<A>> for Puts {
     ghost then = { PutsOne };
 }
 
-impl<A> Lesson<Message<A>, IntakeNote<A>> for Puts {
+impl<A> Lesson<Envelope<A>, IntakeNote<A>> for Puts {
     ghost fact = { λ v items. Unit {0} };
 }
 
 /// The owner takes. At an empty intake it learns nothing.
 pub struct Takes;
 
-impl<A> Outcome<Message<A>, IntakeNote<A>> for Takes {
+impl<A> Outcome<Envelope<A>, IntakeNote<A>> for Takes {
     ghost then = { TakesOne };
 }
 
-impl<A> Lesson<Message<A>, IntakeNote<A>> for Takes {
+impl<A> Lesson<Envelope<A>, IntakeNote<A>> for Takes {
     ghost fact = { λ v items. Unit {0} };
 }
 
 /// The owner compares what the sessions that came back had put with what it has taken.
 pub struct Compared;
 
-impl<A> Lesson<Message<A>, IntakeNote<A>> for Compared {
+impl<A> Lesson<Envelope<A>, IntakeNote<A>> for Compared {
     ghost fact = { Compares };
 }
 
@@ -81,10 +81,10 @@ impl<A> Join<IntakeNote<A>> for Sessions {
 }
 
 /// A session's end of the intake.
-pub type IntakeSender<A> = RuledSender<Message<A>, IntakeNote<A>, Intake>;
+pub type IntakeSender<A> = RuledSender<Envelope<A>, IntakeNote<A>, Intake>;
 
 /// The owner's end of the intake.
-pub type IntakeReceiver<A> = RuledReceiver<Message<A>, IntakeNote<A>, Intake>;
+pub type IntakeReceiver<A> = RuledReceiver<Envelope<A>, IntakeNote<A>, Intake>;
 
 /// What its holder knows of the intake: the owner has one, and each session.
-pub type IntakePass<A> = Pass<Message<A>, IntakeNote<A>>;
+pub type IntakePass<A> = Pass<Envelope<A>, IntakeNote<A>>;

@@ -3,12 +3,12 @@ ghost use Rattle.std.specs.Prelude.{◌≡◌, ℕ, ◌++◌, ◌∷◌, [], ◌
 ghost use Rattle.crossbeam_channel.specs.Claims.{view, IsSeatAt};
 ghost use Rattle.crossbeam_channel.specs.Ends.{sends_on, receives_on};
 ghost use Rattle.permit_hall.specs.Runs.{Entry};
-ghost use Rattle.permit_hall.specs.declared.intake.Message.{Message};
+ghost use Rattle.permit_hall.specs.declared.intake.Envelope.{Envelope};
 ghost use Rattle.permit_hall.specs.Intake.{owner};
 ghost use Rattle.permit_hall.specs.Lane.{lane_note};
 ghost use Rattle.permit_hall.specs.Owner.{Serves, Sent, SameLanes, HasSent};
 
-use crate::intake::{IntakePass, IntakeReceiver, Message, Takes};
+use crate::intake::{Envelope, IntakePass, IntakeReceiver, Takes};
 use crate::lane::{LanePass, LaneSender, Sends};
 use crate::machine::Machine;
 use permit_base::values::Day;
@@ -67,24 +67,24 @@ fn answer<M: Machine, C: Fn() -> Day, R: Wait>(
     outlets[from].send(rt, reply);
 }
 
-// Takes a message, and says whether it was an end mark.
+// Takes an envelope, and says whether it was an end mark.
 fn take_one<M: Machine, C: Fn() -> Day, R: Wait>(
     rt: &R,
     machine: &mut M,
     outlets: &mut Vec<Outlet<M::Reply>>,
     clock: &C,
-    message: Message<M::Request>,
+    envelope: Envelope<M::Request>,
 ) -> bool
     requires clock { C.IsAlwaysCallable clock.now }
     requires sent { (served : List (Entry M.Request M.Reply)) × Sent served outlets.old.items }
     ensures lanes { SameLanes outlets.old.items outlets.new.items }
-    ensures served { (n : ℕ) (got : List (Message M.Request)) (start : M) (served : List (Entry M.Request M.Reply))
+    ensures served { (n : ℕ) (got : List (Envelope M.Request)) (start : M) (served : List (Entry M.Request M.Reply))
         → n ≡ length outlets.old.items
         → Serves M.step (C.post clock.now) n got start machine.old served → Sent served outlets.old.items
         → (next : List (Entry M.Request M.Reply))
-        × Serves M.step (C.post clock.now) n (got ++ message ∷ []) start machine.new next × Sent next outlets.new.items }
+        × Serves M.step (C.post clock.now) n (got ++ envelope ∷ []) start machine.new next × Sent next outlets.new.items }
 {
-    let Message { from, request } = message;
+    let Envelope { from, request } = envelope;
     let Some(request) = request else {
         return true;
     };
@@ -120,8 +120,8 @@ pub fn serve_all<M: Machine, C: Fn() -> Day, R: Wait>(
             break;
         }
         match intake.recv_as::<Takes, R>(rt, pass) {
-            Ok(message) => {
-                if take_one(rt, machine, outlets, clock, message) {
+            Ok(envelope) => {
+                if take_one(rt, machine, outlets, clock, envelope) {
                     left -= 1;
                 }
             }

@@ -6,7 +6,7 @@ ghost use Rattle.permit_hall.specs.Intake.{session, said};
 ghost use Rattle.permit_hall.specs.Lane.{lane_note};
 ghost use Rattle.permit_hall.specs.Session.{Has, put_by, got_by, IsSession, IsSamePlace};
 
-use crate::intake::{IntakePass, IntakeSender, Message, Puts};
+use crate::intake::{Envelope, IntakePass, IntakeSender, Puts};
 use crate::lane::{Collects, LanePass, LaneReceiver};
 use std::sync::Wait;
 use std::thread;
@@ -21,23 +21,23 @@ pub struct Session<A: Drop, Y: Drop> {
     pub lane_pass: LanePass<Y>,
 }
 
-// Puts a message, and tries again where the send is refused.
+// Puts an envelope, and tries again where the send is refused.
 fn put<A: Drop, R: Wait>(
     rt: &R,
     intake: &IntakeSender<A>,
     pass: &mut IntakePass<A>,
-    message: Message<A>,
+    envelope: Envelope<A>,
 )
     requires seat { IsSeatAt (sends_on intake.now) pass.old }
-    requires session { view pass.old ≡ session message.from (view pass.old).put }
+    requires session { view pass.old ≡ session envelope.from (view pass.old).put }
     ensures seat { IsSeatAt (sends_on intake.now) pass.new }
-    ensures put { view pass.new ≡ session message.from ((view pass.old).put ++ said message.request) }
+    ensures put { view pass.new ≡ session envelope.from ((view pass.old).put ++ said envelope.request) }
 {
-    let mut message = message;
+    let mut envelope = envelope;
     for _ in rt.forever() {
-        match intake.send_as::<Puts, R>(rt, pass, message) {
+        match intake.send_as::<Puts, R>(rt, pass, envelope) {
             Ok(()) => return,
-            Err(refused) => message = refused.into_inner(),
+            Err(refused) => envelope = refused.into_inner(),
         }
         thread::yield_now();
     }
@@ -71,7 +71,7 @@ impl<A: Drop, Y: Drop> Session<A, Y> {
             rt,
             &self.intake,
             &mut self.pass,
-            Message {
+            Envelope {
                 from: self.number,
                 request: Some(request),
             },
@@ -89,7 +89,7 @@ impl<A: Drop, Y: Drop> Session<A, Y> {
             rt,
             &self.intake,
             &mut self.pass,
-            Message {
+            Envelope {
                 from: self.number,
                 request: None,
             },

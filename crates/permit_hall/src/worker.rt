@@ -40,7 +40,7 @@ pub struct Done<A: Drop, Y: Drop, O: Drop> {
     pub out: Option<O>,
 }
 
-/// What a worker was told to do.
+/// What a worker is to do.
 #[derive(Drop)]
 pub struct Assignment<A: Drop, Y: Drop, T> {
     pub place: Snapshot<Session<A, Y>>,
@@ -58,7 +58,7 @@ pub enum State<A: Drop, Y: Drop, O: Drop, T: Task<A, Y, O>> {
     Left(Done<A, Y, O>),
 }
 
-/// A worker that was started or left out, with what it was told, by which the answer to `join` is judged.
+/// A worker that was started or left out, with what it was to do, by which the answer to `join` is judged.
 #[derive(Drop)]
 pub struct Worker<A: Drop, Y: Drop, O: Drop, T: Task<A, Y, O>> {
     pub place: Snapshot<Session<A, Y>>,

@@ -17,7 +17,7 @@ recv_as-requires-clause-rule g c = (takes _ _ (ap (λ v. v.gets) c.loop.invarian
 
 pub loop-preserved-then-take_one : goal.loop-preserved-then-take_one
 loop-preserved-then-take_one g c =
-    let h = c.loop.invariant in let k = takes_keeps (view c.loop.pass) (view c.recv_as.new.pass) _ c.in-Ok.message h.1 c.in-Ok.ensures.rule in
+    let h = c.loop.invariant in let k = takes_keeps (view c.loop.pass) (view c.recv_as.new.pass) _ c.in-Ok.envelope h.1 c.in-Ok.ensures.rule in
     let r = c.take_one.ensures.served _ (view c.loop.pass).got _ h.3.0 (sym h.2.0) h.3.1 h.3.2 in (
       c.recv_as.ensures.channel.0,
       k.0,
@@ -27,7 +27,7 @@ loop-preserved-then-take_one g c =
 
 pub loop-preserved-else-take_one : goal.loop-preserved-else-take_one
 loop-preserved-else-take_one g c =
-    let h = c.loop.invariant in let k = takes_keeps (view c.loop.pass) (view c.recv_as.new.pass) _ c.in-Ok.message h.1 c.in-Ok.ensures.rule in
+    let h = c.loop.invariant in let k = takes_keeps (view c.loop.pass) (view c.recv_as.new.pass) _ c.in-Ok.envelope h.1 c.in-Ok.ensures.rule in
     let r = c.take_one.ensures.served _ (view c.loop.pass).got _ h.3.0 (sym h.2.0) h.3.1 h.3.2 in (
       c.recv_as.ensures.channel.0,
       k.0,
