@@ -1,4 +1,4 @@
--- The body of a refusal's answer tells the refusal.
+-- The body of a refusal's answer says which it is.
 use Rattle.std.proofs.Common.{◌≡◌, ◌++◌, ℕ, List, ap, arith, codes, get_or, refl, sym}
 use Rattle.std.proofs.lemmas.List.{append_cancel_left, append_cancel_right}
 use Rattle.permit_base.specs.Words.{reason_word}
@@ -25,7 +25,7 @@ no_word Store rule e = let bad : 100 ≡ 115 = ap (λ t. get_or t 12 0) e in abs
 no_word Route rule e = let bad : 100 ≡ 114 = ap (λ t. get_or t 12 0) e in absurd (omega (arith, bad))
 no_word Large rule e = let bad : 100 ≡ 108 = ap (λ t. get_or t 12 0) e in absurd (omega (arith, bad))
 
--- the fourth letter tells a reason's body
+-- the fourth letter shows a reason's body
 no_reason : (word reason : List ℕ) → refused_text word ≡ not_admitted_text reason → ⊥
 no_reason word reason e = let bad : 102 ≡ 97 = ap (λ t. get_or t 4 0) e in absurd (omega (arith, bad))
 

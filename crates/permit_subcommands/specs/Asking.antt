@@ -1,5 +1,12 @@
--- One request on a connection of its own.
-use Rattle.std.specs.Prelude.{◌≡◌, ◌⊎◌, ℕ, List, [], Option, Some}
+-- One request on a connection of its own, and what is printed of its answer.
+use Rattle.std.specs.Prelude.{◌≡◌, ◌⊎◌, ℕ, List, [], ◌∷◌, ◌++◌, Option, Some, codes}
+use Rattle.std.specs.Io.KnownBytes.{Appends}
+use Rattle.permit_import.specs.declared.refused.Refused.{Refused}
+use Rattle.permit_import.specs.declared.refused.RefusalWord.TheVariants.{Store}
+use Rattle.permit_subcommands.specs.Failures.{plain}
+use Rattle.permit_subcommands.specs.Refusals.{refused_body, IsNamed}
+use Rattle.permit_subcommands.specs.declared.failure.Failure.{Failure}
+use Rattle.permit_subcommands.specs.declared.failure.Failure.TheVariants as failure
 use Rattle.permit_store.specs.Frames.{StoreView}
 use Rattle.permit_office.specs.Office.{OfficeView}
 use Rattle.permit_http.specs.Stream.{InboxData, fresh}
@@ -14,3 +21,20 @@ pub record Asks {S : Type 0} (view : S → StoreView) (day : ℕ) (office office
   pub inbox : InboxData
   pub left : Option (List ℕ)
   pub serves : Serves view day office office' request fresh inbox left (Some []) (Some answer) served
+
+-- the body of an answer, what stands behind an empty line of it, is printed with its line end
+pub record Prints (answer : List ℕ) (before after : Option (List ℕ)) (body : List ℕ) : Type 0 where
+  pub head : List ℕ
+  pub behind : answer ≡ head ++ (codes "\r\n\r\n" ++ body)
+  pub printed : Appends before after (body ++ 10 ∷ [])
+
+-- the body is no refusal's
+abbrev pub IsNoRefusal : List ℕ → Type 0
+IsNoRefusal body = (why : Refused) → IsNamed why → body ≡ refused_body why → ⊥
+
+-- the failure is the output's, or the refusal whose body was printed; where memory ran out, or the answer has no body, it is the store's
+abbrev pub IsShownRefusal : List ℕ → Option (List ℕ) → Option (List ℕ) → Failure → Type 0
+IsShownRefusal answer before after (failure.Refused why) =
+    (failure.Refused why ≡ plain Store) ⊎ ((body : List ℕ) × Prints answer before after body × (body ≡ refused_body why))
+IsShownRefusal answer before after failure.Output = Unit {0}
+IsShownRefusal answer before after _ = ⊥

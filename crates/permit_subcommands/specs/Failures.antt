@@ -43,24 +43,24 @@ failure_status (Refused why) = 1
 failure_status Output = 1
 failure_status _ = 2
 
--- a file that can't be read is told by its path, unless memory is wanting for that
+-- a file that can't be read is named by its path, unless memory runs out for that
 abbrev pub IsUnread : List ℕ → Failure → Type 0
 IsUnread path (File told) = string_bytes told ≡ path
 IsUnread path failure = failure ≡ plain Store
 
--- an address that can't be listened on is told, unless memory is wanting for that
+-- an address that can't be listened on is named, unless memory runs out for that
 abbrev pub IsUnheard : List ℕ → Failure → Type 0
 IsUnheard address (Listen told) = string_bytes told ≡ address
 IsUnheard address failure = failure ≡ plain Store
 
--- an import's records can't be read, memory is wanting, or the output failed
+-- an import's records can't be read, memory ran out, or the output failed
 abbrev pub IsFailureOfImport : List ℕ → ImportFault → Failure → Type 0
 IsFailureOfImport path stopping.FirstRecord failure = IsUnread path failure
 IsFailureOfImport path stopping.Reading failure = IsUnread path failure
 IsFailureOfImport path stopping.Memory failure = failure ≡ plain Store
 IsFailureOfImport path stopping.Writing failure = failure ≡ Output
 
--- for words that give no plan: 2 where they are bad, 1 where memory is wanting, and for help 0 unless it cannot be printed
+-- for words that give no plan: 2 where they are bad, 1 where memory ran out, and for help 0 unless it cannot be printed
 abbrev pub IsStatusOf : PlanFault → ℕ → Type 0
 IsStatusOf (planning.Help text) status = status ≤ 1
 IsStatusOf (planning.Words text) status = status ≡ 2

@@ -37,7 +37,7 @@ listed (Parcel parcel) = Err (plain Store)
 listed (File file papers) = Err (plain Store)
 listed (Register kind listing) = Err (plain Store)
 
--- how the office handed the files out, as the program tells it: an output that failed asked it to stop, or failed at the end
+-- how the office handed the files out, as the program reports it: an output that failed asked it to stop, or failed at the end
 abbrev pub Tells : RowsEnd → Result (Unit {0}) Failure → Type 0
 Tells (ended.All read) (Ok done) = Unit {0}
 Tells (ended.All read) (Err why) = why ≡ Output
@@ -51,7 +51,7 @@ IsRegisterOf kind (Shown.Refused why) = RefusesCaller why
 IsRegisterOf kind reply = ⊥
 
 -- The register of the machine's reply is written, or a beginning of it where the output failed or the store refused. Where
--- the machine refuses, nothing is, and its refusal is told, or the store's.
+-- the machine refuses, nothing is, and its refusal is reported, or the store's.
 abbrev pub Writes : ℕ → Option (List ℕ) → Option (List ℕ) → TheReply → Result (Unit {0}) Failure → Type 0
 Writes day before after (RegisterShown kind files) (Ok done) = Appends before after (register_text kind day files)
 Writes day before after (RegisterShown kind files) (Err why) = ((why ≡ Output) ⊎ (why ≡ plain Store)) × WroteFront before after (register_text kind day files)

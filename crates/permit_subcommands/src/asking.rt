@@ -3,7 +3,7 @@
 ghost use Rattle.std.specs.Prelude.{◌≡◌, ◌≤◌, ◌++◌, ◌∷◌, [], List, ℕ, IfErr, IfOk, IfSome, OnOk, codes};
 ghost use Rattle.std.specs.Io.KnownBytes.{Appends};
 ghost use Rattle.permit_wire.specs.Serving.{Moves};
-ghost use Rattle.permit_subcommands.specs.Asking.{Asks};
+ghost use Rattle.permit_subcommands.specs.Asking.{Asks, IsNoRefusal, IsShownRefusal, Prints};
 ghost use Rattle.permit_subcommands.specs.declared.failure.Failure.TheVariants as failure;
 
 use crate::failure::Failure;
@@ -60,10 +60,10 @@ pub fn print<O: Write>(out: &mut O, line: &str) -> Result<(), Failure>
     }
 }
 
-/// Prints an answer's body and a line end. The refusal that it tells is the failure then.
+/// Prints an answer's body and a line end. The refusal that the body says is the failure then.
 pub fn show<O: Write>(answer: &[u8], out: &mut O) -> Result<(), Failure>
-    ensures whole { OnOk result ((head body : List ℕ) × (answer.now ≡ head ++ (codes "\r\n\r\n" ++ body))
-        × Appends (O.contents out.old) (O.contents out.new) (body ++ 10 ∷ [])) }
+    ensures whole { OnOk result ((body : List ℕ) × Prints answer.now (O.contents out.old) (O.contents out.new) body × IsNoRefusal body) }
+    ensures refused { IfErr result (IsShownRefusal answer.now (O.contents out.old) (O.contents out.new)) }
 {
     // Each answer is text with a head, so that there is a body.
     let Some(body) = str::from_utf8(answer).ok().and_then(body_in) else {

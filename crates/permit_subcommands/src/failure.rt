@@ -16,7 +16,7 @@ use std::io::{self, ErrorKind};
 /// Why the program does not do what its words ask. Printed, it is one line without its end.
 #[derive(Drop)]
 pub enum Failure {
-    /// A request or a founding is refused, or memory is wanting.
+    /// A request or a founding is refused, or memory ran out.
     Refused(Refused),
     /// The file of the path cannot be read.
     File(String),
@@ -44,7 +44,7 @@ impl Failure {
         Failure::Refused(Refused::Plain(word))
     }
 
-    /// Want of memory, which is told as the store's refusal is.
+    /// Out of memory, which is reported as the store's refusal is.
     pub fn memory() -> Failure
         ensures { result ≡ plain Store }
     {
@@ -71,7 +71,7 @@ impl Failure {
         }
     }
 
-    /// Why a file could not be read: its path is told, unless memory was wanting.
+    /// Why a file could not be read: its path is named, unless memory ran out.
     pub fn of_reading(alloc: Global, path: &str, error: &io::Error) -> Failure {
         if error.kind() == ErrorKind::OutOfMemory {
             Failure::memory()
@@ -80,7 +80,7 @@ impl Failure {
         }
     }
 
-    /// Why an import of the records at a path stopped. A first record that is none of an import's is told as a file that
+    /// Why an import of the records at a path stopped. A first record that is none of an import's is reported as a file that
     /// cannot be read.
     pub fn of_import(alloc: Global, path: &str, fault: ImportFault) -> Failure
         ensures { IsFailureOfImport path.now fault result }
@@ -92,7 +92,7 @@ impl Failure {
         }
     }
 
-    /// Why a policy was refused: by its place, unless memory was wanting.
+    /// Why a policy was refused: by its place, unless memory ran out.
     pub fn of_policy(error: PolicyError) -> Failure {
         if error.code == PolicyFault::Memory {
             Failure::memory()

@@ -3,14 +3,13 @@
 ghost use Rattle.std.specs.Prelude.{◌≡◌, ◌≤◌, IfOk, string_bytes};
 ghost use Rattle.permit_base.specs.Digests.{digest_of};
 ghost use Rattle.permit_base.specs.declared.request.Request.TheVariants.{ListFiles, Register};
-ghost use Rattle.permit_model.specs.History.{History};
-ghost use Rattle.permit_model.specs.Tables.{tables};
-ghost use Rattle.permit_model.specs.Machine.{IsHistory, step_as};
-ghost use Rattle.permit_office.specs.Frames.{IsStep};
+ghost use Rattle.permit_model.specs.Machine.{step_as};
 ghost use Rattle.permit_office.specs.Opening.{rows_opened};
 ghost use Rattle.permit_office.specs.Showing.{IsShowing, OpensAt};
 ghost use Rattle.permit_office.specs.declared.reply.Reply.{Reply as TheReply};
 ghost use Rattle.permit_office.specs.declared.showing.RowsEnd.{RowsEnd as TheEnd};
+ghost use Rattle.permit_store.specs.Frames.{OverHistory};
+ghost use Rattle.permit_wire.specs.Serving.{Steps};
 ghost use Rattle.permit_subcommands.specs.Listings.{listed, listing_text, Tells, Writes, WritesSome};
 
 use crate::failure::Failure;
@@ -47,7 +46,8 @@ pub fn list<S: Store + Drop>(
     filter: Filter,
     day: Day,
 ) -> Result<Listing, Failure>
-    ensures step { (reply : TheReply) × IsStep S.view (digest_of token) (ListFiles filter) day office.old office.new reply × (result ≡ listed reply) }
+    ensures step { (reply : TheReply) × (result ≡ listed reply)
+        × Steps S.view day (record { token = token; request = ListFiles filter }) reply office.old office.new }
 {
     let request = Request::ListFiles { filter };
     let reply = office.step(&Asked { token, request }, day);
@@ -63,12 +63,12 @@ pub fn write_register<S: Store + Drop, W: Write>(
     day: Day,
     out: &mut W,
 ) -> Result<(), Failure>
-    ensures text { (S.view office.new.store).doubt ≡ 0 → (h : History) → IsHistory h → (S.view office.old.store).holds (tables h)
-        → Writes day (W.contents out.old) (W.contents out.new) (step_as office.old.policy h (digest_of token) (Register kind) day).reply result }
+    ensures text { OverHistory (S.view office.old.store) (S.view office.new.store) (λ h.
+        Writes day (W.contents out.old) (W.contents out.new) (step_as office.old.policy h (digest_of token) (Register kind) day).reply result) }
     ensures some { WritesSome kind day (W.contents out.old) (W.contents out.new) result }
     ensures ends { (end : TheEnd) × Tells end result × IsShowing (S.view office.old.store) (S.view office.new.store) end
-        × ((S.view office.new.store).doubt ≡ 0 → (h : History) → IsHistory h → (S.view office.old.store).holds (tables h)
-        → OpensAt (rows_opened office.old.policy h (digest_of token) (Register kind) day) end (S.view office.old.store).handed (S.view office.new.store).handed) }
+        × OverHistory (S.view office.old.store) (S.view office.new.store) (λ h. OpensAt (rows_opened office.old.policy h (digest_of token) (Register kind) day)
+        end (S.view office.old.store).handed (S.view office.new.store).handed) }
     ensures policy { office.new.policy ≡ office.old.policy }
 {
     written_registers::<W>();

@@ -18,7 +18,7 @@ fn between<'a>(text: &'a str, front: &str, back: &str) -> Option<&'a str>
 
 /// The refusal whose answer has this body, or none where the body is no refusal's.
 ///
-/// A refusal's body is one of three fixed texts round a word or a name, so their fronts and backs tell it, and no memory
+/// A refusal's body is one of three fixed texts round a word or a name, so their fronts and backs show which, and no memory
 /// is taken for reading JSON.
 pub fn refused_in(body: &str) -> Option<Refused>
     ensures read { IfSome result (λ why. body.now ≡ refused_body why) }
