@@ -3,7 +3,7 @@
 ghost use Rattle.std.specs.Prelude.{◌≡◌, All, IfOk, Some, length};
 
 use crate::limits::PAUSE;
-use crate::pace::{AnswerWriter, RequestReader, paced};
+use crate::pace::{AnswerWriter, RequestReader, with_timeouts};
 use permit_hall::doors::Door;
 use std::alloc::Global;
 use std::net::TcpListener;
@@ -36,7 +36,7 @@ impl<C: Clock + Copy + Drop + Send> Door for Connections<C> {
                 thread::sleep(&self.clock, Duration::from_millis(PAUSE));
                 continue;
             };
-            if let Ok(connection) = paced(self.alloc, self.clock, stream) {
+            if let Ok(connection) = with_timeouts(self.alloc, self.clock, stream) {
                 self.left = self.left.map(|left| left.saturating_sub(1));
                 return Some(connection);
             }

@@ -4,7 +4,7 @@ ghost use Rattle.std.specs.Prelude.{◌≡◌, ◌+◌, ◌-◌, ◌<◌, ◌≤
 ghost use Rattle.std.specs.Duration.{as_nanos};
 ghost use Rattle.std.specs.Time.{instant_nanos};
 
-use crate::limits::{ANSWER, FAREWELL, REQUEST, SILENCE};
+use crate::limits::{ANSWER, IDLE_TIMEOUT, LINGER, REQUEST};
 use std::alloc::Global;
 use std::io::{self, ErrorKind, Read, Write};
 use std::net::{Shutdown, TcpStream};
@@ -49,7 +49,7 @@ impl<C: Clock + Drop> Read for RequestReader<C> {
         }
         let wait = match self.since {
             Some(since) => wait_within(since, Instant::now(&self.clock)?, REQUEST)?,
-            None => Duration::from_secs(SILENCE),
+            None => Duration::from_secs(IDLE_TIMEOUT),
         };
         if self.wait != Some(wait) {
             self.stream.set_read_timeout(Some(wait))?;
@@ -66,7 +66,7 @@ impl<C: Clock + Drop> Read for RequestReader<C> {
 impl<C: Clock + Drop> Drop for RequestReader<C> {
     fn drop(self) {
         if self.answered.load(Ordering::SeqCst) {
-            let _ = see_off(&self.stream, &self.clock);
+            let _ = linger_close(&self.stream, &self.clock);
         }
         let RequestReader {
             stream: _,
@@ -79,12 +79,12 @@ impl<C: Clock + Drop> Drop for RequestReader<C> {
 }
 
 /// Says that no more answers come, and reads away what the other end still sends, until it ends too.
-fn see_off<C: Clock>(stream: &TcpStream, clock: &C) -> io::Result<()> {
+fn linger_close<C: Clock>(stream: &TcpStream, clock: &C) -> io::Result<()> {
     stream.shutdown(Shutdown::Write)?;
     let since = Instant::now(clock)?;
     let mut bytes = [0u8; 4096];
     for _ in 0..u64::MAX {
-        let wait = wait_within(since, Instant::now(clock)?, FAREWELL)?;
+        let wait = wait_within(since, Instant::now(clock)?, LINGER)?;
         stream.set_read_timeout(Some(wait))?;
         let mut reader = stream;
         if reader.read(&mut bytes)? == 0 {
@@ -129,7 +129,7 @@ impl<C: Clock + Drop> Write for AnswerWriter<C> {
 }
 
 /// A connection's reader and writer.
-pub fn paced<C: Clock + Copy + Drop>(
+pub fn with_timeouts<C: Clock + Copy + Drop>(
     alloc: Global,
     clock: C,
     stream: TcpStream,
