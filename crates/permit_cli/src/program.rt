@@ -43,7 +43,7 @@ enum Outcome {
     Ended,
 }
 
-/// Says a failure on standard error, of whose own nobody can be told, and gives its status.
+/// Says a failure on standard error, whose own failure can't be reported, and gives its status.
 fn complain<E: Write>(failure: &Failure, err: &mut E) -> u8
     ensures { result ≡ failure_status failure.now }
 {
@@ -245,7 +245,7 @@ fn print_text<O: Write>(out: &mut O, text: &str) -> Result<(), Failure> {
     }
 }
 
-/// Prints what a plan came to, and gives the status. The refusal that an answer tells is the failure then.
+/// Prints what a plan came to, and gives the status. The refusal that an answer says is the failure then.
 fn tell<O: Write>(alloc: Global, outcome: &Outcome, out: &mut O) -> Result<u8, Failure>
     ensures { IfOk result (λ status. status ≤ 1) }
 {
