@@ -17,8 +17,10 @@ use Rattle.permit_hall.specs.Closing.{sent_by, Closed, AreClosed}
 use Rattle.permit_hall.proofs.Cases.{by_number}
 
 module _ {A : Type 0} where
-  pub grown_view : (v w : IntakeNote A) (made : ℕ) (got : _) (put : List A) → v ≡ owner made got v.known → w ≡ owner v.made v.got (v.known ++ put ∷ []) → (w ≡ owner made got w.known) × (w.known ≡ v.known ++ put ∷ [])
-  grown_view v w made got put is next = let more = ap (λ (x : IntakeNote A). x.known) next in (next ∙ (λ i. owner ((is i).made) ((is i).got) (sym more i)), more)
+  pub grown_view : (v w : IntakeNote A) (made : ℕ) (got : _) (put : List A) → v ≡ owner made got v.known → w ≡ owner v.made v.got (v.known ++ put ∷ []) →
+      (w ≡ owner made got w.known) × (w.known ≡ v.known ++ put ∷ [])
+  grown_view v w made got put is next = let more = ap (λ (x : IntakeNote A). x.known) next in
+      (next ∙ (λ i. owner ((is i).made) ((is i).got) (sym more i)), more)
 
 module _ {A Y : Type 0} where
   pub has_is : (s : Session A Y) (put : List A) (got : List Y) → Has s put got → IsSession s × (put_by s ≡ put) × (got_by s ≡ got)
@@ -29,15 +31,18 @@ module _ {A Y O T : Type 0} (did : T → List A → List Y → O → Type 0) whe
   abbrev Gave : Session A Y → T → Option O → Type 0
   Gave s task a = MatchOption a (put_by s ≡ []) (λ x. (length (put_by s) ≡ length (got_by s)) × did task (put_by s) (got_by s) x)
 
-  pub done_is : (s : Session A Y) (task : T) (a : Option O) → MatchOption a (Has s [] []) (λ x. IsSession s × (length (put_by s) ≡ length (got_by s)) × did task (put_by s) (got_by s) x) → IsSession s × Gave s task a
+  pub done_is : (s : Session A Y) (task : T) (a : Option O) → MatchOption a (Has s [] [])
+      (λ x. IsSession s × (length (put_by s) ≡ length (got_by s)) × did task (put_by s) (got_by s) x) → IsSession s × Gave s task a
   done_is s task None h = let r = has_is s [] [] h in (r.0, r.1)
   done_is s task (Some v) h = (h.0, (h.1, h.2))
 
-  pub closes : (s : Session A Y) (task : T) (a : Option O) (sent : List Y) → Gave s task a → ((rest : List Y) × (sent ≡ got_by s ++ rest)) → Closed did (put_by s) sent task a
+  pub closes : (s : Session A Y) (task : T) (a : Option O) (sent : List Y) → Gave s task a → ((rest : List Y) × (sent ≡ got_by s ++ rest)) →
+      Closed did (put_by s) sent task a
   closes s task None sent h r = h
   closes s task (Some v) sent h r = (got_by s, r.0, r.1, h.0, h.1)
 
-  pub closed_more : (known more : List (List A)) (outlets : List (Outlet Y)) (workers : List (Worker A Y O T)) (answers next : List (Option O)) (put : List A) (a : Option O)
+  pub closed_more : (known more : List (List A)) (outlets : List (Outlet Y)) (workers : List (Worker A Y O T)) (answers next : List (Option O)) (put : List A)
+      (a : Option O)
       → AreClosed did known outlets workers answers → more ≡ known ++ put ∷ [] → next ≡ answers ++ a ∷ []
       → ((o : Outlet Y) (w : Worker A Y O T) → Closed did put (sent_by (get_or outlets (length answers) o)) (get_or workers (length answers) w).task.value a)
       → AreClosed did more outlets workers next
@@ -61,6 +66,8 @@ module _ {A Y O T : Type 0} (did : T → List A → List Y → O → Type 0) whe
             (h.1 k o w b (omega arith))),
       )
 
-  pub at_place : (outlets : List (Outlet Y)) (workers : List (Worker A Y O T)) (put : List A) (a : Option O) (n k : ℕ) (p : Outlet Y) (v : Worker A Y O T) (o : Outlet Y) (w : Worker A Y O T) → k ≡ n → get_or outlets n p ≡ o → get_or workers k v ≡ w
+  pub at_place : (outlets : List (Outlet Y)) (workers : List (Worker A Y O T)) (put : List A) (a : Option O) (n k : ℕ) (p : Outlet Y) (v : Worker A Y O T)
+      (o : Outlet Y) (w : Worker A Y O T) → k ≡ n → get_or outlets n p ≡ o → get_or workers k v ≡ w
       → Closed did put (sent_by o) w.task.value a → Closed did put (sent_by (get_or outlets k p)) (get_or workers k v).task.value a
-  at_place outlets workers put a n k p v o w e lane worker h = subst (λ (x : Outlet Y × Worker A Y O T). Closed did put (sent_by x.0) x.1.task.value a) (λ i. (sym (ap (λ m. get_or outlets m p) e ∙ lane) i, sym worker i)) h
+  at_place outlets workers put a n k p v o w e lane worker h = subst (λ (x : Outlet Y × Worker A Y O T). Closed did put (sent_by x.0) x.1.task.value a)
+      (λ i. (sym (ap (λ m. get_or outlets m p) e ∙ lane) i, sym worker i)) h

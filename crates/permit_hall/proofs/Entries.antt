@@ -15,10 +15,12 @@ module _ {S A Y : Type 0} (step : S → A → ℕ → Y → S → Type 0) where
 module _ {A Y : Type 0} where
   module _ (p : ℕ) (es : List (Entry A Y)) (e : Entry A Y) where
     here : e.from ≡ p → filter (λ (x : Entry A Y). eqb x.from p) (es ++ e ∷ []) ≡ filter (λ (x : Entry A Y). eqb x.from p) es ++ e ∷ []
-    here is = filter-append (λ (x : Entry A Y). eqb x.from p) es (e ∷ []) ∙ ap (λ (b : Bool). filter (λ (x : Entry A Y). eqb x.from p) es ++ (if b then e ∷ [] else [])) (eq-eqb e.from p is)
+    here is = filter-append (λ (x : Entry A Y). eqb x.from p) es (e ∷ [])
+        ∙ ap (λ (b : Bool). filter (λ (x : Entry A Y). eqb x.from p) es ++ (if b then e ∷ [] else [])) (eq-eqb e.from p is)
 
     away : e.from ≢ p → filter (λ (x : Entry A Y). eqb x.from p) (es ++ e ∷ []) ≡ filter (λ (x : Entry A Y). eqb x.from p) es
-    away n = filter-append (λ (x : Entry A Y). eqb x.from p) es (e ∷ []) ∙ ap (λ (b : Bool). filter (λ (x : Entry A Y). eqb x.from p) es ++ (if b then e ∷ [] else [])) (not_eqb e.from p n)
+    away n = filter-append (λ (x : Entry A Y). eqb x.from p) es (e ∷ [])
+        ∙ ap (λ (b : Bool). filter (λ (x : Entry A Y). eqb x.from p) es ++ (if b then e ∷ [] else [])) (not_eqb e.from p n)
         ∙ append-nil (filter (λ (x : Entry A Y). eqb x.from p) es)
 
     pub requests_here : e.from ≡ p → requests_of p (es ++ e ∷ []) ≡ requests_of p es ++ e.request ∷ []

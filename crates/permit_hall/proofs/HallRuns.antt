@@ -1,12 +1,14 @@
 -- The three lists of what acted are those of the model's events, and the answers are those that the model collects.
-use Rattle.std.proofs.Common.{◌≡◌, ◌≢◌, ℕ, zero, suc, ◌+◌, Bool, true, false, List, [], ◌∷◌, ◌++◌, length, map, take, drop, get_or, sym, refl, ap, ◌∙◌, subst, arith}
+use Rattle.std.proofs.Common.{◌≡◌, ◌≢◌, ℕ, zero, suc, ◌+◌, Bool, true, false, List, [], ◌∷◌, ◌++◌, length, map, take, drop, get_or, sym, refl, ap, ◌∙◌, subst}
+use Rattle.std.proofs.Common.{arith}
 use Rattle.std.specs.Prelude.{if◌then◌else◌, filter, ◌==◌, ◌&&◌, nat_lt, zip, Option, Some, None, option_to_list, slice_get}
 use Rattle.std.specs.List.{filter_map}
 use Rattle.std.proofs.lemmas.Bool.{eq-eqb, eqb-true}
 use Rattle.std.proofs.lemmas.List.{append-nil, length-map}
 use Rattle.std.proofs.lemmas.List.Elements.{filter_map-append}
 use Rattle.permit_base.specs.declared.request.Asked.{Asked}
-use Rattle.permit_model.specs.HallRun.{Event, Put, Take, Collect, put_of, day_of, collect_of, puts, takes, collects, of_session, count_of, acts, acting, acting_after, served_by, served, collected, collected_after}
+use Rattle.permit_model.specs.HallRun.{Event, Put, Take, Collect, put_of, day_of, collect_of, puts, takes, collects, of_session, count_of, acts, acting}
+use Rattle.permit_model.specs.HallRun.{acting_after, served_by, served, collected, collected_after}
 use Rattle.permit_store.specs.Frames.{StoreView}
 use Rattle.permit_office.specs.declared.reply.Reply.{Reply}
 use Rattle.permit_office.specs.Office.{OfficeView}
@@ -32,8 +34,10 @@ module _ {A : Type 0} where
   same_lists ps qs ds es cs bs p d c i = lists (p i) (d i) (c i)
 
   -- an event more
-  appended : (done : List (Event A)) (e : Event A) → acted_of (done ++ e ∷ []) ≡ lists (puts done ++ puts (e ∷ [])) (takes done ++ takes (e ∷ [])) (collects done ++ collects (e ∷ []))
-  appended done e = same_lists _ _ _ _ _ _ (filter_map-append put_of done (e ∷ [])) (filter_map-append day_of done (e ∷ [])) (filter_map-append collect_of done (e ∷ []))
+  appended : (done : List (Event A)) (e : Event A) → acted_of (done ++ e ∷ [])
+      ≡ lists (puts done ++ puts (e ∷ [])) (takes done ++ takes (e ∷ [])) (collects done ++ collects (e ∷ []))
+  appended done e = same_lists _ _ _ _ _ _ (filter_map-append put_of done (e ∷ [])) (filter_map-append day_of done (e ∷ []))
+      (filter_map-append collect_of done (e ∷ []))
 
   put_more : (done : List (Event A)) (s : ℕ) (a : A) → lists (puts done ++ (s, a) ∷ []) (takes done) (collects done) ≡ acted_of (done ++ Put s a ∷ [])
   put_more done s a = same_lists _ _ _ _ _ _ refl (sym (append-nil (takes done))) (sym (append-nil (collects done))) ∙ sym (appended done (Put s a))
@@ -45,13 +49,15 @@ module _ {A : Type 0} where
   collect_more done s = same_lists _ _ _ _ _ _ (sym (append-nil (puts done))) (sym (append-nil (takes done))) refl ∙ sym (appended done (Collect s))
 
   -- the event acts, or not
-  choice : (b c : Bool) (done : List (Event A)) (e : Event A) (h : Acted A) → b ≡ c → h ≡ acted_of (done ++ e ∷ []) → (if b then h else acted_of done) ≡ acted_of (if c then done ++ e ∷ [] else done)
+  choice : (b c : Bool) (done : List (Event A)) (e : Event A) (h : Acted A) → b ≡ c → h ≡ acted_of (done ++ e ∷ []) →
+      (if b then h else acted_of done) ≡ acted_of (if c then done ++ e ∷ [] else done)
   choice true true done e h same is = is
   choice false false done e h same is = refl
   choice true false done e h same is = cc
   choice false true done e h same is = cc
 
-  counted : (b : Bool) (p : ℕ × A) (ps : List (ℕ × A)) (ss : List ℕ) → length ps ≡ length ss → length (if b then p ∷ ps else ps) ≡ length (if b then p.0 ∷ ss else ss)
+  counted : (b : Bool) (p : ℕ × A) (ps : List (ℕ × A)) (ss : List ℕ) → length ps ≡ length ss →
+      length (if b then p ∷ ps else ps) ≡ length (if b then p.0 ∷ ss else ss)
   counted true p ps ss e = ap suc e
   counted false p ps ss e = e
 
@@ -60,10 +66,14 @@ module _ {A : Type 0} where
   count_sessions s (p ∷ ps) = counted (p.0 == s) p (of_session s ps) (filter (λ x. x == s) (sessions ps)) (count_sessions s ps)
 
   one_more : (done : List (Event A)) (e : Event A) → after (acted_of done) e ≡ acted_of (if acts done e then done ++ e ∷ [] else done)
-  one_more done (Put s a) = choice (puts_now (acted_of done) s) (acts done (Put s a)) done (Put s a) (lists (puts done ++ (s, a) ∷ []) (takes done) (collects done))
-      (ap (λ n. (n == count_of s (collects done)) && nat_lt (length (puts done)) (length (takes done) + 64)) (sym (count_sessions s (puts done)))) (put_more done s a)
-  one_more done (Take d) = choice (nat_lt (length (takes done)) (length (puts done))) (acts done (Take d)) done (Take d) (lists (puts done) (takes done ++ d ∷ []) (collects done)) refl (take_more done d)
-  one_more done (Collect s) = choice (nat_lt (count_of s (collects done)) (count_of s (sessions (take (length (takes done)) (puts done))))) (acts done (Collect s)) done (Collect s) (lists (puts done) (takes done) (collects done ++ s ∷ []))
+  one_more done (Put s a) = choice (puts_now (acted_of done) s) (acts done (Put s a)) done (Put s a)
+      (lists (puts done ++ (s, a) ∷ []) (takes done) (collects done))
+      (ap (λ n. (n == count_of s (collects done)) && nat_lt (length (puts done)) (length (takes done) + 64)) (sym (count_sessions s (puts done))))
+      (put_more done s a)
+  one_more done (Take d) = choice (nat_lt (length (takes done)) (length (puts done))) (acts done (Take d)) done (Take d)
+      (lists (puts done) (takes done ++ d ∷ []) (collects done)) refl (take_more done d)
+  one_more done (Collect s) = choice (nat_lt (count_of s (collects done)) (count_of s (sessions (take (length (takes done)) (puts done)))))
+      (acts done (Collect s)) done (Collect s) (lists (puts done) (takes done) (collects done ++ s ∷ []))
       (ap (λ n. nat_lt (count_of s (collects done)) n) (sym (count_sessions s (take (length (takes done)) (puts done))))) (collect_more done s)
 
   acting_from : (events done : List (Event A)) → acted_from (acted_of done) events ≡ acted_of (acting_after events done)
@@ -85,7 +95,8 @@ module _ {A Y : Type 0} where
   abbrev answer : Entry A Y → ℕ × Y
   answer e = (e.from, e.reply)
 
-  pairs_served : (ps : List (ℕ × A)) (es : List (Entry A Y)) → map who es ≡ take (length es) ps → map asked_on es ≡ map (λ s. (s.0.1, s.1)) (zip ps (map (λ e. e.day) es))
+  pairs_served : (ps : List (ℕ × A)) (es : List (Entry A Y)) → map who es ≡ take (length es) ps →
+      map asked_on es ≡ map (λ s. (s.0.1, s.1)) (zip ps (map (λ e. e.day) es))
   pairs_served [] [] h = refl
   pairs_served (p ∷ ps) [] h = refl
   pairs_served [] (e ∷ es) h = absurd (let l = ap length h in omega arith)
@@ -93,7 +104,8 @@ module _ {A Y : Type 0} where
       ap (λ (x : ℕ × A). (x.1, e.day) ∷ map asked_on es) (ap (λ l. get_or l 0 p) h)
       ∙ ap (λ l. (p.1, e.day) ∷ l) (pairs_served ps es (ap (λ l. drop 1 l) h))
 
-  answers_served : (ps : List (ℕ × A)) (es : List (Entry A Y)) → map who es ≡ take (length es) ps → zip (map (λ p. p.0) ps) (map (λ e. e.reply) es) ≡ map answer es
+  answers_served : (ps : List (ℕ × A)) (es : List (Entry A Y)) → map who es ≡ take (length es) ps →
+      zip (map (λ p. p.0) ps) (map (λ e. e.reply) es) ≡ map answer es
   answers_served [] [] h = refl
   answers_served (p ∷ ps) [] h = refl
   answers_served [] (e ∷ es) h = absurd (let l = ap length h in omega arith)
@@ -101,7 +113,8 @@ module _ {A Y : Type 0} where
       ap (λ (x : ℕ × A). (x.0, e.reply) ∷ zip (map (λ p. p.0) ps) (map (λ e. e.reply) es)) (sym (ap (λ l. get_or l 0 p) h))
       ∙ ap (λ l. (e.from, e.reply) ∷ l) (answers_served ps es (ap (λ l. drop 1 l) h))
 
-  picked : (b : Bool) (e : Entry A Y) (xs : List (Entry A Y)) (ys : List (ℕ × Y)) → map (λ e. e.reply) xs ≡ map (λ y. y.1) ys → map (λ e. e.reply) (if b then e ∷ xs else xs) ≡ map (λ y. y.1) (if b then answer e ∷ ys else ys)
+  picked : (b : Bool) (e : Entry A Y) (xs : List (Entry A Y)) (ys : List (ℕ × Y)) → map (λ e. e.reply) xs ≡ map (λ y. y.1) ys →
+      map (λ e. e.reply) (if b then e ∷ xs else xs) ≡ map (λ y. y.1) (if b then answer e ∷ ys else ys)
   picked true e xs ys h = ap (λ l. e.reply ∷ l) h
   picked false e xs ys h = h
 
@@ -137,14 +150,16 @@ module _ {Y : Type 0} where
   named : (s c : ℕ) (y : Y) (pairs : List (ℕ × Y)) → GetsPair s c y (of_session s pairs)
   named s c y [] = λ h. cc
   named s c y (p ∷ ps) = by_test (p.0 == s)
-      (λ same. subst (λ (b : Bool). GetsPair s c y (if b then p ∷ of_session s ps else of_session s ps)) (sym same) (named_here s c p y (of_session s ps) (eqb-true p.0 s same) (λ k. named s k y ps)))
+      (λ same. subst (λ (b : Bool). GetsPair s c y (if b then p ∷ of_session s ps else of_session s ps)) (sym same)
+      (named_here s c p y (of_session s ps) (eqb-true p.0 s same) (λ k. named s k y ps)))
       (λ other. subst (λ (b : Bool). GetsPair s c y (if b then p ∷ of_session s ps else of_session s ps)) (sym other) (named s c y ps))
 
   -- what was given goes on where what was collected before ends
   abbrev GoesOn : List (ℕ × Y) → List ℕ → List (ℕ × Y) → ℕ → Type 0
   GoesOn answers before given s = given_to s given ≡ take (count_of s (map (λ g. g.0) given)) (drop (count_of s before) (given_to s answers))
 
-  collected_is : (answers : List (ℕ × Y)) (given : List (ℕ × Y)) (before : List ℕ) → ((s : ℕ) → GoesOn answers before given s) → given ≡ collected_after answers before (map (λ g. g.0) given)
+  collected_is : (answers : List (ℕ × Y)) (given : List (ℕ × Y)) (before : List ℕ) → ((s : ℕ) → GoesOn answers before given s) →
+      given ≡ collected_after answers before (map (λ g. g.0) given)
   collected_is answers [] before h = refl
   collected_is answers (g ∷ rest) before h =
       let s = g.0 in let y = g.1 in let c = count_of s before in let sessions = map (λ g. g.0) rest in
@@ -154,7 +169,8 @@ module _ {Y : Type 0} where
       let found : slice_get (of_session s answers) c ≡ Some (s, y) = named s c y answers both.0 in
       let here : GoesOn answers (s ∷ before) rest s = both.1 ∙ ap (λ n. take (count_of s sessions) (drop n (given_to s answers))) (sym (count_here s before)) in
       let away : (t : ℕ) → s ≢ t → GoesOn answers (s ∷ before) rest t = λ t other. sym (given_away t g rest other) ∙ h t
-      ∙ ap (λ n. take n (drop (count_of t before) (given_to t answers))) (count_away s t sessions other) ∙ ap (λ n. take (count_of t sessions) (drop n (given_to t answers))) (sym (count_away s t before other)) in
+      ∙ ap (λ n. take n (drop (count_of t before) (given_to t answers))) (count_away s t sessions other)
+      ∙ ap (λ n. take (count_of t sessions) (drop n (given_to t answers))) (sym (count_away s t before other)) in
       ap (λ l. g ∷ l) (collected_is answers rest (s ∷ before) (λ t. by_number s t (λ same. subst (GoesOn answers (s ∷ before) rest) same here) (away t)))
       ∙ ap (λ (o : Option (ℕ × Y)). option_to_list o ++ collected_after answers (s ∷ before) sessions) (sym found)
 
@@ -169,11 +185,15 @@ module _ {A Y : Type 0} (events : List (Event A)) (es : List (Entry A Y)) (given
 
   given_is : AreTaken (acted_of (acting events)) es → AreGiven (acted_of (acting events)) es given → given ≡ collected events (map (λ e. e.reply) es)
   given_is t g =
-      let mine = collected_is (map answer es) given [] (λ s. g.1 s ∙ ap (λ cs. take (count_of s cs) (replies_of s es)) (sym g.0) ∙ ap (λ l. take (count_of s (map (λ x. x.0) given)) l) (replies_given s es)) in
-      mine ∙ ap (λ cs. collected_after (map answer es) [] cs) g.0 ∙ ap (λ l. collected_after l [] (collects (acting events))) (sym (answers_served (puts (acting events)) es (as_long t)))
+      let mine = collected_is (map answer es) given [] (λ s. g.1 s ∙ ap (λ cs. take (count_of s cs) (replies_of s es)) (sym g.0)
+      ∙ ap (λ l. take (count_of s (map (λ x. x.0) given)) l) (replies_given s es)) in
+      mine ∙ ap (λ cs. collected_after (map answer es) [] cs) g.0 ∙ ap (λ l. collected_after l [] (collects (acting events)))
+      (sym (answers_served (puts (acting events)) es (as_long t)))
 
-pub hall_runs : {S : Type 0} (view : S → StoreView) (events : List (Event Asked)) (given : List (ℕ × Reply)) (old new : OfficeView S) (es : List (Entry Asked Reply))
-    → Runs (StepFor view) old es new → AreTaken (acted events) es → AreGiven (acted events) es given → (replies : List Reply) × HallRuns view events given old new replies
+pub hall_runs : {S : Type 0} (view : S → StoreView) (events : List (Event Asked)) (given : List (ℕ × Reply)) (old new : OfficeView S)
+    (es : List (Entry Asked Reply))
+    → Runs (StepFor view) old es new → AreTaken (acted events) es → AreGiven (acted events) es given → (replies : List Reply)
+    × HallRuns view events given old new replies
 hall_runs view events given old new es runs taken collected =
     let t = subst (λ h. AreTaken h es) (acting_is events) taken in
     let g = subst (λ h. AreGiven h es given) (acting_is events) collected in

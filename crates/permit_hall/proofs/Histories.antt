@@ -26,18 +26,21 @@ list_done list put got answers = (put ≡ list.items) × (map (λ d. d.reply) go
 
 module _ {S : Type 0} (view : S → StoreView) (is_day : ℕ → Type 0) where
   -- the entries are a run of the office
-  one_history : {O T : Type 0} (did : T → List Asked → List Dated → O → Type 0) (tasks : List T) (outs : List (Option O)) (old new : OfficeView S) (served : List (Entry Asked Dated))
+  one_history : {O T : Type 0} (did : T → List Asked → List Dated → O → Type 0) (tasks : List T) (outs : List (Option O)) (old new : OfficeView S)
+      (served : List (Entry Asked Dated))
       → AreServed (StepOn view) is_day did tasks outs old new served → OneHistory view is_day (length tasks) old new served
   one_history did tasks outs old new served h = record {
     run = is_run view (λ d. d.reply) (StepOn view) (λ o a d y p s. s.0) old served new h.runs;
     each = h.each;
   }
 
-  pub lists_served : (tasks : List ListTask) (lists : List (Vec Asked Global)) (outs : List (Option (Vec Reply Global))) (old new : OfficeView S) (served : List (Entry Asked Dated))
+  pub lists_served : (tasks : List ListTask) (lists : List (Vec Asked Global)) (outs : List (Option (Vec Reply Global))) (old new : OfficeView S)
+      (served : List (Entry Asked Dated))
       → map (λ t. t.list) tasks ≡ lists → AreServed (StepOn view) is_day (λ t put got answers. list_done t.list put got answers) tasks outs old new served
       → OneHistory view is_day (length lists) old new served × AreListsServed lists outs served
   lists_served tasks lists outs old new served same h =
-      let by_list = served_as (StepOn view) is_day (λ (t : ListTask) put got answers. list_done t.list put got answers) list_done (λ t. t.list) (λ t put got x d. d) tasks lists outs old new served same h in (
+      let by_list = served_as (StepOn view) is_day (λ (t : ListTask) put got answers. list_done t.list put got answers) list_done (λ t. t.list)
+      (λ t put got x d. d) tasks lists outs old new served same h in (
         one_history list_done lists outs old new served by_list,
         record {
           count = by_list.len;
@@ -50,24 +53,29 @@ module _ {S : Type 0} (view : S → StoreView) (is_day : ℕ → Type 0) where
 
   module _ {D : Type 0} (spent : D → Type 0) where
     -- of both kinds of None nothing is said
-    flat_done : (put : List Asked) (got : List Dated) (nothing : Type 0) (o : Option (Option (DoorEnd D))) → MatchOption o nothing (λ end. IsDoorDone spent put got end) → IsDoorDone spent put got (option_flatten o)
+    flat_done : (put : List Asked) (got : List Dated) (nothing : Type 0) (o : Option (Option (DoorEnd D))) →
+        MatchOption o nothing (λ end. IsDoorDone spent put got end) → IsDoorDone spent put got (option_flatten o)
     flat_done put got nothing None h = tt
     flat_done put got nothing (Some end) h = h
 
-    pub doors_served : (tasks : List (DoorTask D)) (doors : List D) (outs : List (Option (Option (DoorEnd D)))) (ends : List (Option (DoorEnd D))) (old new : OfficeView S) (served : List (Entry Asked Dated))
-        → map (λ t. t.door) tasks ≡ doors → ends ≡ map option_flatten outs → AreServed (StepOn view) is_day (λ (t : DoorTask D) put got end. IsDoorDone spent put got end) tasks outs old new served
+    pub doors_served : (tasks : List (DoorTask D)) (doors : List D) (outs : List (Option (Option (DoorEnd D)))) (ends : List (Option (DoorEnd D)))
+        (old new : OfficeView S) (served : List (Entry Asked Dated))
+        → map (λ t. t.door) tasks ≡ doors → ends ≡ map option_flatten outs →
+        AreServed (StepOn view) is_day (λ (t : DoorTask D) put got end. IsDoorDone spent put got end) tasks outs old new served
         → OneHistory view is_day (length doors) old new served × AreDoorsServed spent (length doors) ends served
     doors_served tasks doors outs ends old new served same flat h =
         let len : length tasks ≡ length doors = sym (length-map tasks (λ (t : DoorTask D). t.door)) ∙ ap length same in
         let many : length ends ≡ length outs = ap length flat ∙ length-map outs (λ (o : Option (Option (DoorEnd D))). option_flatten o) in (
-          subst (λ n. OneHistory view is_day n old new served) len (one_history (λ (t : DoorTask D) put got end. IsDoorDone spent put got end) tasks outs old new served h),
+          subst (λ n. OneHistory view is_day n old new served) len (one_history
+              (λ (t : DoorTask D) put got end. IsDoorDone spent put got end) tasks outs old new served h),
           record {
             count = many ∙ h.len ∙ len;
             each = λ k end at.
                 let low : k < length ends = slice_get_within ends k end at in
                 let long = h.len in
                 let task : DoorTask D = element_of tasks (omega arith) in
-                let is : get_or ends k None ≡ option_flatten (get_or outs k None) = ap (λ l. get_or l k None) flat ∙ get_or-map (λ (o : Option (Option (DoorEnd D))). option_flatten o) outs k None None (omega arith) in
+                let is : get_or ends k None ≡ option_flatten (get_or outs k None) = ap (λ l. get_or l k None) flat
+                ∙ get_or-map (λ (o : Option (Option (DoorEnd D))). option_flatten o) outs k None None (omega arith) in
                 subst (λ e. IsDoorDone spent (requests_of k served) (replies_of k served) e) (get_or_from_slice_get ends k end None at)
                 (subst (λ e. IsDoorDone spent (requests_of k served) (replies_of k served) e) (sym is)
                 (flat_done (requests_of k served) (replies_of k served) (requests_of k served ≡ []) (get_or outs k None) (h.right k task None (omega arith))));

@@ -1,5 +1,6 @@
 -- Each move keeps the rule of the intake.
-use Rattle.std.proofs.Common.{◌≡◌, ◌≢◌, ℕ, zero, suc, ◌+◌, ◌<◌, ◌≤◌, ◌==◌, Bool, true, false, true≢false, List, [], ◌∷◌, ◌++◌, length, set, get_or, sym, refl, ap, ◌∙◌, subst, ⊎_elim, append_assoc, arith}
+use Rattle.std.proofs.Common.{◌≡◌, ◌≢◌, ℕ, zero, suc, ◌+◌, ◌<◌, ◌≤◌, ◌==◌, Bool, true, false, true≢false, List, [], ◌∷◌, ◌++◌, length, set, get_or, sym, refl}
+use Rattle.std.proofs.Common.{ap, ◌∙◌, subst, ⊎_elim, append_assoc, arith}
 use Rattle.std.specs.Prelude.{if◌then◌else◌, slice_index_or}
 use Rattle.std.proofs.lemmas.Bool.{eq-eqb}
 use Rattle.std.proofs.lemmas.List.{get_or_append_left, append-nil, length-append}
@@ -20,13 +21,16 @@ module _ {A : Type 0} where
 
   pub requests_append : (p : ℕ) (xs ys : List (Envelope A)) → requests_in p (xs ++ ys) ≡ requests_in p xs ++ requests_in p ys
   requests_append p [] ys = refl
-  requests_append p (m ∷ ms) ys = joined (m.from == p) (said m.request) (requests_in p ms) (requests_in p (ms ++ ys)) (requests_in p ys) (requests_append p ms ys)
+  requests_append p (m ∷ ms) ys = joined (m.from == p) (said m.request) (requests_in p ms) (requests_in p (ms ++ ys)) (requests_in p ys)
+      (requests_append p ms ys)
 
   pub requests_same : (p : ℕ) (log : List (Envelope A)) (m : Envelope A) → m.from ≡ p → requests_in p (log ++ m ∷ []) ≡ requests_in p log ++ said m.request
-  requests_same p log m e = requests_append p log (m ∷ []) ∙ ap (λ (b : Bool). requests_in p log ++ (if b then said m.request ++ [] else [])) (eq-eqb m.from p e) ∙ ap (λ x. requests_in p log ++ x) (append-nil (said m.request))
+  requests_same p log m e = requests_append p log (m ∷ []) ∙ ap (λ (b : Bool). requests_in p log ++ (if b then said m.request ++ [] else []))
+      (eq-eqb m.from p e) ∙ ap (λ x. requests_in p log ++ x) (append-nil (said m.request))
 
   pub requests_else : (p : ℕ) (log : List (Envelope A)) (m : Envelope A) → m.from ≢ p → requests_in p (log ++ m ∷ []) ≡ requests_in p log
-  requests_else p log m n = requests_append p log (m ∷ []) ∙ ap (λ (b : Bool). requests_in p log ++ (if b then said m.request ++ [] else [])) (not_eqb m.from p n) ∙ append-nil (requests_in p log)
+  requests_else p log m n = requests_append p log (m ∷ []) ∙ ap (λ (b : Bool). requests_in p log ++ (if b then said m.request ++ [] else []))
+      (not_eqb m.from p n) ∙ append-nil (requests_in p log)
 
   pub begins : Taken {A = A} [] (owner 0 [] [] ∷ [])
   begins = (
@@ -39,7 +43,8 @@ module _ {A : Type 0} where
   )
 
   -- an envelope of another session leaves what a pass knows
-  others_fit : (log items : List (Envelope A)) (seat : ℕ → ℕ) (reader j : ℕ) (u : IntakeNote A) (m : Envelope A) → (u.sends ≡ true → m.from ≢ u.from) → seat m.from ≢ 0
+  others_fit : (log items : List (Envelope A)) (seat : ℕ → ℕ) (reader j : ℕ) (u : IntakeNote A) (m : Envelope A) → (u.sends ≡ true → m.from ≢ u.from) →
+      seat m.from ≢ 0
       → Fits log items seat reader j u → Fits (log ++ m ∷ []) (items ++ m ∷ []) seat reader j u
   others_fit log items seat reader j u m apart sits h = (
     (λ s. ((h.0 s).0, (h.0 s).1 ∙ sym (requests_else u.from log m (apart s)))),
@@ -63,7 +68,8 @@ module _ {A : Type 0} where
           h.2,
           all_set (Fits log (items ++ m ∷ []) h.1 h.2) views pass w
               ((λ _. (mine.0, ap (λ l. l ++ said m.request) mine.1 ∙ sym (requests_same v.from h.0 m (sym same)))), λ g. absurd (true≢false (sym g)))
-              (λ j u other e. others_fit h.0 items h.1 h.2 j u m (λ s is. other (let a = ((h.3 j u e).0 s).0 in let b = sym sits ∙ ap h.1 is in omega arith)) (λ z. let b = sits in omega arith) (h.3 j u e)),
+              (λ j u other e. others_fit h.0 items h.1 h.2 j u m (λ s is. other (let a = ((h.3 j u e).0 s).0 in let b = sym sits ∙ ap h.1 is in omega arith))
+              (λ z. let b = sits in omega arith) (h.3 j u e)),
         ),
         refl,
       )
@@ -75,7 +81,10 @@ module _ {A : Type 0} where
       h.0,
       h.1,
       h.2,
-      all_set (Fits h.0 items h.1 h.2) views pass w ((λ s. absurd (true≢false (sym s))), λ _. (mine.0, append_assoc v.got (m ∷ []) items ∙ mine.1, mine.2, mine.3, mine.4))
+      all_set (Fits h.0 items h.1 h.2) views pass w (
+        (λ s. absurd (true≢false (sym s))),
+        λ _. (mine.0, append_assoc v.got (m ∷ []) items ∙ mine.1, mine.2, mine.3, mine.4),
+      )
           (λ j u other e. ((h.3 j u e).0, λ g. absurd (other (((h.3 j u e).1 g).0 ∙ sym mine.0)))),
     ),
     refl,
@@ -83,7 +92,8 @@ module _ {A : Type 0} where
 
   pub forks : (pass : ℕ) (v : IntakeNote A) → v.gets ≡ true → Forks Taken pass v (owner (v.made + 1) v.got v.known) (session v.made [])
   forks pass v may items views h at =
-      let l : IntakeNote A = owner (v.made + 1) v.got v.known in let r : IntakeNote A = session v.made [] in let mine = (h.3 pass v at).1 may in let vs : List (IntakeNote A) = set views pass l in
+      let l : IntakeNote A = owner (v.made + 1) v.got v.known in let r : IntakeNote A = session v.made [] in let mine =
+      (h.3 pass v at).1 may in let vs : List (IntakeNote A) = set views pass l in
       let seat : ℕ → ℕ = put_at h.1 v.made (length vs + 1) in let fresh = mine.2 v.made (omega arith) in
       let Old : ℕ → IntakeNote A → Type 0 = λ j u. Fits h.0 items seat h.2 j u in
       let old : EachView Old vs = all_set Old views pass l (
@@ -109,12 +119,16 @@ module _ {A : Type 0} where
             (at_snoc_or_end vs r u j e),
       )
 
-  pub merges : (pass : ℕ) (v : IntakeNote A) (other : ℕ) (u : IntakeNote A) → v.gets ≡ true → u.sends ≡ true → u.from ≡ length v.known → Merges Taken pass v other u (owner v.made v.got (v.known ++ u.put ∷ [])) nobody
+  pub merges : (pass : ℕ) (v : IntakeNote A) (other : ℕ) (u : IntakeNote A) → v.gets ≡ true → u.sends ≡ true → u.from ≡ length v.known →
+      Merges Taken pass v other u (owner v.made v.got (v.known ++ u.put ∷ [])) nobody
   merges pass v other u may sent next items views h at two at' =
-      let both : IntakeNote A = owner v.made v.got (v.known ++ u.put ∷ []) in let mine = (h.3 pass v at).1 may in let vs : List (IntakeNote A) = set views pass both in
-      let was : get_elem? views other ≡ some u = ⊎_elim (λ x. absurd (two x.0)) (λ x. x.1) (at_set views pass other both u at') in let theirs = (h.3 other u was).0 sent in
+      let both : IntakeNote A = owner v.made v.got (v.known ++ u.put ∷ []) in let mine = (h.3 pass v at).1 may in let vs : List (IntakeNote A) =
+      set views pass both in
+      let was : get_elem? views other ≡ some u = ⊎_elim (λ x. absurd (two x.0)) (λ x. x.1) (at_set views pass other both u at') in let theirs =
+      (h.3 other u was).0 sent in
       let seat : ℕ → ℕ = put_at h.1 u.from 0 in
-      let early : length v.known < v.made = by_number (length v.known) v.made (λ e. let z = (mine.2 u.from (omega arith)).0 in let t = theirs.0 in absurd (omega arith)) (λ n. let m = mine.4 in omega arith) in
+      let early : length v.known < v.made = by_number (length v.known) v.made
+      (λ e. let z = (mine.2 u.from (omega arith)).0 in let t = theirs.0 in absurd (omega arith)) (λ n. let m = mine.4 in omega arith) in
       let len : length (v.known ++ u.put ∷ []) ≡ length v.known + 1 = omega (arith, length-append v.known (u.put ∷ [])) in
       let silent : (p : ℕ) → h.1 p ≡ 0 → seat p ≡ 0 = λ p z. by_number p u.from (λ e. put_here h.1 u.from 0 p e) (λ n. put_else h.1 u.from 0 p n ∙ z) in
       let Now : ℕ → IntakeNote A → Type 0 = λ j y. j ≢ other → Fits h.0 items seat h.2 j y in
@@ -126,7 +140,11 @@ module _ {A : Type 0} where
           mine.1,
           (λ p far. let q = mine.2 p far in (silent p q.0, q.1)),
           (λ k low. by_number k (length v.known)
-              (λ e. (put_here h.1 u.from 0 k (e ∙ sym next), ap (λ n. slice_index_or (v.known ++ u.put ∷ []) n []) e ∙ get_or-append_seam v.known u.put [] [] ∙ theirs.1 ∙ ap (λ n. requests_in n h.0) (next ∙ sym e)))
+              (λ e. (
+                put_here h.1 u.from 0 k (e ∙ sym next),
+                ap (λ n. slice_index_or (v.known ++ u.put ∷ []) n []) e ∙ get_or-append_seam v.known u.put [] []
+                    ∙ theirs.1 ∙ ap (λ n. requests_in n h.0) (next ∙ sym e),
+              ))
               (λ n. let q = mine.3 k (omega arith) in (silent k q.0, get_or_append_left v.known (u.put ∷ []) [] k (omega arith) ∙ q.1))),
           omega arith,
         ),
@@ -134,8 +152,13 @@ module _ {A : Type 0} where
       (λ j y n e apart. (
         (λ s. let q = (h.3 j y e).0 s in (put_else h.1 u.from 0 y.from (λ is. apart (let z = sym q.0 ∙ ap h.1 is ∙ theirs.0 in omega arith)) ∙ q.0, q.1)),
         λ g. absurd (n (((h.3 j y e).1 g).0 ∙ sym mine.0)),
-      )) in
-      (h.0, seat, h.2, all_set (Fits h.0 items seat h.2) vs other nobody ((λ s. absurd (true≢false (sym s))), λ g. absurd (true≢false (sym g))) (λ j y apart e. now j y e apart))
+      )) in (
+        h.0,
+        seat,
+        h.2,
+        all_set (Fits h.0 items seat h.2) vs other nobody ((λ s. absurd (true≢false (sym s))), λ g. absurd (true≢false (sym g)))
+            (λ j y apart e. now j y e apart),
+      )
 
   pub compares : (pass : ℕ) (v : IntakeNote A) → v.gets ≡ true → Learns Taken pass v (Compares v)
   compares pass v may items views h at = let mine = (h.3 pass v at).1 may in λ k low. (mine.3 k low).1 ∙ ap (λ l. requests_in k l) (sym mine.1)

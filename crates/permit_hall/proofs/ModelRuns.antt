@@ -26,7 +26,8 @@ module _ {R Q : Type 0} (f : R → Q) where
   zip_told (s ∷ ss) [] = refl
   zip_told (s ∷ ss) (r ∷ rs) = ap (λ l. (s, f r) ∷ l) (zip_told ss rs)
 
-  picked : (b : Bool) (a : ℕ × R) (xs : List (ℕ × R)) (ys : List (ℕ × Q)) → map told xs ≡ ys → map told (if b then a ∷ xs else xs) ≡ (if b then told a ∷ ys else ys)
+  picked : (b : Bool) (a : ℕ × R) (xs : List (ℕ × R)) (ys : List (ℕ × Q)) → map told xs ≡ ys →
+      map told (if b then a ∷ xs else xs) ≡ (if b then told a ∷ ys else ys)
   picked true a xs ys e = ap (λ l. told a ∷ l) e
   picked false a xs ys e = e
 
@@ -54,7 +55,8 @@ kept : {X : Type 0} (b rest : Bool) (x : X) (xs ys : List X) → (not b && rest)
 kept true rest x xs ys own same = absurd (true≢false (sym own))
 kept false rest x xs ys own same = ap (λ l. x ∷ l) (same own)
 
-all_answered : (requests : List (Asked × ℕ)) (replies : List Reply) → length replies ≡ length requests → is_never_refused replies ≡ true → answered requests replies ≡ requests
+all_answered : (requests : List (Asked × ℕ)) (replies : List Reply) → length replies ≡ length requests → is_never_refused replies ≡ true →
+    answered requests replies ≡ requests
 all_answered [] replies e own = refl
 all_answered (q ∷ qs) [] e own = absurd (omega arith)
 all_answered (q ∷ qs) (r ∷ rs) e own = kept (is_store_refusal r) (is_never_refused rs) q (answered qs rs) qs own (all_answered qs rs (omega arith))
@@ -70,7 +72,8 @@ all_own (r ∷ rs) own = owned (not (is_store_refusal r)) (is_never_refused rs) 
 -- ---- the run
 
 pub is_hall_run : (holds : Tables → Type 0) (policy : Policy) (events : List (Event Asked)) (answers : List (ℕ × Reply)) (replies : List Reply) (h : History)
-    → answers ≡ collected events replies → Ran holds policy (served events) replies h → is_never_refused replies ≡ true → IsHallRun holds policy events answers h
+    → answers ≡ collected events replies → Ran holds policy (served events) replies h → is_never_refused replies ≡ true →
+    IsHallRun holds policy events answers h
 is_hall_run holds policy events answers replies h is ran own =
     let sessions = map (λ (p : ℕ × Asked). p.0) (puts (acting events)) in
     let all = all_answered (served events) replies ran.each own in (

@@ -33,29 +33,36 @@ module _ {S Y : Type 0} (view : S → StoreView) (told : Y → Reply) (makes : O
   policy_along s (e ∷ es) t r = policy_along r.0 es t r.2 ∙ (as_step s e.request e.day e.reply r.0 r.1).made.policy
 
   -- one step a request
-  steps_along : (s : OfficeView S) (es : List (Entry Asked Y)) (t : OfficeView S) → Runs makes s es t → Steps view (map (λ e. (e.request, e.day)) es) (map (λ e. told e.reply) es) s t
+  steps_along : (s : OfficeView S) (es : List (Entry Asked Y)) (t : OfficeView S) → Runs makes s es t →
+      Steps view (map (λ e. (e.request, e.day)) es) (map (λ e. told e.reply) es) s t
   steps_along s [] t r = sym r
   steps_along s (e ∷ es) t r = (r.0, (as_step s e.request e.day e.reply r.0 r.1).made, steps_along r.0 es t r.2)
 
   -- what ran before, and then these
-  ran_along : (policy : Policy) (h : History) → IsHistory h → (s : OfficeView S) (rs : List (Asked × ℕ)) (ys : List Reply) (es : List (Entry Asked Y)) (t : OfficeView S)
+  ran_along : (policy : Policy) (h : History) → IsHistory h → (s : OfficeView S) (rs : List (Asked × ℕ)) (ys : List Reply) (es : List (Entry Asked Y))
+      (t : OfficeView S)
       → s.policy ≡ policy → Ran (view s.store).holds policy rs ys h → Runs makes s es t → (view t.store).doubt ≡ 0
       → Ran (view t.store).holds policy (rs ++ map (λ e. (e.request, e.day)) es) (ys ++ map (λ e. told e.reply) es) h
   ran_along policy h is s rs ys [] t same ran r sure =
-      both_as (λ rs ys. Ran (view t.store).holds policy rs ys h) rs (rs ++ []) ys (ys ++ []) (sym (append-nil rs)) (sym (append-nil ys)) (subst (λ (o : OfficeView S). Ran (view o.store).holds policy rs ys h) r ran)
+      both_as (λ rs ys. Ran (view t.store).holds policy rs ys h) rs (rs ++ []) ys (ys ++ []) (sym (append-nil rs)) (sym (append-nil ys))
+      (subst (λ (o : OfficeView S). Ran (view o.store).holds policy rs ys h) r ran)
   ran_along policy h is s rs ys (e ∷ es) t same ran r sure =
       let one = as_step s e.request e.day e.reply r.0 r.1 in
       let none : (view (r.0).store).doubt ≡ 0 = let late = doubt_along r.0 es t r.2 in omega arith in
       let more = ran_more (view s.store).holds (view (r.0).store).holds policy rs ys h (e.request, e.day) (told e.reply) is ran
-      (λ now his held. subst (λ (p : Policy). Answers (view (r.0).store).holds (told e.reply) (step p now e.request e.day) now) same (one.model none now his held))
-      (λ now his held. tells (rows_opened policy now (digest_of e.request.token) e.request.request e.day) (told e.reply) (view s.store).handed (view (r.0).store).handed
-      (subst (λ (p : Policy). Opens (rows_opened p now (digest_of e.request.token) e.request.request e.day) (told e.reply) (view s.store).handed (view (r.0).store).handed) same (one.made.opened none now his held))) in
+      (λ now his held. subst (λ (p : Policy). Answers (view (r.0).store).holds (told e.reply) (step p now e.request e.day) now) same
+      (one.model none now his held))
+      (λ now his held. tells (rows_opened policy now (digest_of e.request.token) e.request.request e.day) (told e.reply) (view s.store).handed
+      (view (r.0).store).handed
+      (subst (λ (p : Policy). Opens (rows_opened p now (digest_of e.request.token) e.request.request e.day) (told e.reply) (view s.store).handed
+      (view (r.0).store).handed) same (one.made.opened none now his held))) in
       both_as (λ rs ys. Ran (view t.store).holds policy rs ys h) _ _ _ _
       (append_assoc rs ((e.request, e.day) ∷ []) (map (λ (e : Entry Asked Y). (e.request, e.day)) es))
       (append_assoc ys (told e.reply ∷ []) (map (λ (e : Entry Asked Y). told e.reply) es))
       (ran_along policy h is r.0 (rs ++ (e.request, e.day) ∷ []) (ys ++ told e.reply ∷ []) es t (one.made.policy ∙ same) more r.2 sure)
 
-  pub is_run : (s : OfficeView S) (es : List (Entry Asked Y)) (t : OfficeView S) → Runs makes s es t → IsRun view (map (λ e. (e.request, e.day)) es) (map (λ e. told e.reply) es) s t
+  pub is_run : (s : OfficeView S) (es : List (Entry Asked Y)) (t : OfficeView S) → Runs makes s es t →
+      IsRun view (map (λ e. (e.request, e.day)) es) (map (λ e. told e.reply) es) s t
   is_run s es t r = record {
     steps = steps_along s es t r;
     model = λ sure h is held. ran_along s.policy h is s [] [] es t refl (ran_none (view s.store).holds s.policy h held) r sure;

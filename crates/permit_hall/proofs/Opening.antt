@@ -18,11 +18,13 @@ module _ {A Y : Type 0} where
   abbrev One : Hall A Y → ℕ → Outlet Y → Session A Y → Type 0
   One h k o s = HasSent [] o × Has s [] [] × IsOf h k o s
 
-  pub new_more : (h w : Hall A Y) (ss : List (Session A Y)) (o : Outlet Y) (s : Session A Y) → IsNew h ss → IsWhole w → sends_on w.sender ≡ sends_on h.sender → view w.pass ≡ owner (length ss + 1) [] []
+  pub new_more : (h w : Hall A Y) (ss : List (Session A Y)) (o : Outlet Y) (s : Session A Y) → IsNew h ss → IsWhole w → sends_on w.sender ≡ sends_on h.sender →
+      view w.pass ≡ owner (length ss + 1) [] []
       → w.outlets.items ≡ h.outlets.items ++ o ∷ [] → HasSent [] o → Has s [] [] → IsOf h (length ss) o s → IsNew w (ss ++ s ∷ [])
   new_more h w ss o s new whole same knows more sent has of =
       let len : length (ss ++ s ∷ []) ≡ length ss + 1 = omega (arith, length-append ss (s ∷ [])) in
-      let lanes : length w.outlets.items ≡ length (ss ++ s ∷ []) = let n = new.2 in ap length more ∙ omega (arith, length-append ss (s ∷ []), length-append h.outlets.items (o ∷ [])) in
+      let lanes : length w.outlets.items ≡ length (ss ++ s ∷ []) = let n = new.2 in ap length more
+      ∙ omega (arith, length-append ss (s ∷ []), length-append h.outlets.items (o ∷ [])) in
       let moved : (k : ℕ) (p : Outlet Y) (t : Session A Y) → One h k p t → One w k p t = λ k p t x. (x.0, x.1, (x.2.0, x.2.1 ∙ sym same, x.2.2)) in (
         whole,
         knows ∙ ap (λ n. owner n [] []) (sym len),
@@ -31,7 +33,8 @@ module _ {A Y : Type 0} where
             (λ e. subst (λ (x : ℕ × Outlet Y × Session A Y). One w x.0 x.1 x.2)
             (λ i. (
               sym e i,
-              sym (ap (λ l. get_or l k p) more ∙ ap (λ n. get_or (h.outlets.items ++ o ∷ []) n p) (e ∙ sym new.2) ∙ get_or-append_seam h.outlets.items o [] p) i,
+              sym (ap (λ l. get_or l k p) more ∙ ap (λ n. get_or (h.outlets.items ++ o ∷ []) n p) (e ∙ sym new.2)
+                  ∙ get_or-append_seam h.outlets.items o [] p) i,
               sym (ap (λ n. get_or (ss ++ s ∷ []) n t) e ∙ get_or-append_seam ss s [] t) i,
             ))
             (moved (length ss) o s (sent, has, of)))
@@ -44,9 +47,11 @@ module _ {A Y : Type 0} where
             (moved k (get_or h.outlets.items k p) (get_or ss k t) (new.3 k p t below))),
       )
 
-  pub new_next : (h w : Hall A Y) (ss ts : List (Session A Y)) (n : ℕ) (o : Outlet Y) (s : Session A Y) → IsNew h ss → length ss ≡ n → IsWhole w → sends_on w.sender ≡ sends_on h.sender → view w.pass ≡ owner (n + 1) [] []
+  pub new_next : (h w : Hall A Y) (ss ts : List (Session A Y)) (n : ℕ) (o : Outlet Y) (s : Session A Y) → IsNew h ss → length ss ≡ n → IsWhole w →
+      sends_on w.sender ≡ sends_on h.sender → view w.pass ≡ owner (n + 1) [] []
       → w.outlets.items ≡ h.outlets.items ++ o ∷ [] → ts ≡ ss ++ s ∷ [] → HasSent [] o → Has s [] [] → IsOf h n o s → IsNew w ts × (length ts ≡ n + 1)
   new_next h w ss ts n o s new len whole same knows more longer sent has of = (
-    subst (λ l. IsNew w l) (sym longer) (new_more h w ss o s new whole same (knows ∙ ap (λ k. owner (k + 1) [] []) (sym len)) more sent has (subst (λ k. IsOf h k o s) (sym len) of)),
+    subst (λ l. IsNew w l) (sym longer) (new_more h w ss o s new whole same (knows ∙ ap (λ k. owner (k + 1) [] []) (sym len)) more sent has
+        (subst (λ k. IsOf h k o s) (sym len) of)),
     ap length longer ∙ omega (arith, length-append ss (s ∷ []), len),
   )

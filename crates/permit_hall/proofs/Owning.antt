@@ -15,14 +15,17 @@ use Rattle.permit_hall.proofs.Cases.{by_number}
 use Rattle.permit_hall.proofs.IntakeMoves.{requests_same, requests_else}
 
 module _ {A Y : Type 0} where
-  pub sent_more : (outlets : List (Outlet Y)) (o before : Outlet Y) (served : List (Entry A Y)) (e : Entry A Y) → e.from < length outlets → before ≡ get_or outlets e.from before
+  pub sent_more : (outlets : List (Outlet Y)) (o before : Outlet Y) (served : List (Entry A Y)) (e : Entry A Y) → e.from < length outlets →
+      before ≡ get_or outlets e.from before
       → Sent served outlets → HasSent ((view before.lane_pass).sent ++ e.reply ∷ []) o → Sent (served ++ e ∷ []) (slice_set outlets e.from o)
   sent_more outlets o before served e inside at h now p d low =
       let low' : p < length outlets = subst (λ n. p < n) (length-set outlets e.from o) low in
       let was = subst (λ (x : Outlet Y). HasSent (replies_of e.from served) x) (sym at) (h e.from before inside) in
       by_number e.from p
-      (λ is. let all : (view before.lane_pass).sent ++ e.reply ∷ [] ≡ replies_of p (served ++ e ∷ []) = ap (λ v. v.sent ++ e.reply ∷ []) was.1 ∙ ap (λ n. replies_of n served ++ e.reply ∷ []) is ∙ sym (replies_here p served e is) in
-      let there : o ≡ slice_index_or (slice_set outlets e.from o) p d = sym (ap (λ n. get_or (set outlets e.from o) n d) (sym is) ∙ get_or-set_same outlets e.from o d inside) in
+      (λ is. let all : (view before.lane_pass).sent ++ e.reply ∷ [] ≡ replies_of p (served ++ e ∷ []) = ap (λ v. v.sent ++ e.reply ∷ []) was.1
+      ∙ ap (λ n. replies_of n served ++ e.reply ∷ []) is ∙ sym (replies_here p served e is) in
+      let there : o ≡ slice_index_or (slice_set outlets e.from o) p d =
+      sym (ap (λ n. get_or (set outlets e.from o) n d) (sym is) ∙ get_or-set_same outlets e.from o d inside) in
       subst (λ (x : List Y × Outlet Y). HasSent x.0 x.1) (λ i. (all i, there i)) now)
       (λ n. let all : replies_of p served ≡ replies_of p (served ++ e ∷ []) = sym (replies_away p served e n) in
       let there : get_or outlets p d ≡ slice_index_or (slice_set outlets e.from o) p d = sym (get_or-set_other outlets e.from p o d (λ q. n (sym q))) in
@@ -36,26 +39,34 @@ module _ {S A Y : Type 0} (step : S → A → ℕ → Y → S → Type 0) (is_da
   pub serves_none : (s : S) → Serves step is_day n [] s s []
   serves_none s = record { runs = refl; each = (λ k d low. absurd (omega arith)); requests = (λ p low. refl) }
 
-  pub serves_as : (got more : List (Envelope A)) (s t : S) (served : List (Entry A Y)) → got ≡ more → Serves step is_day n got s t served → Serves step is_day n more s t served
+  pub serves_as : (got more : List (Envelope A)) (s t : S) (served : List (Entry A Y)) → got ≡ more → Serves step is_day n got s t served →
+      Serves step is_day n more s t served
   serves_as got more s t served is h = subst (λ l. Serves step is_day n l s t served) is h
 
-  pub serves_ask : (got : List (Envelope A)) (s t u : S) (served : List (Entry A Y)) (m : Envelope A) (a : A) (day : ℕ) (reply : Y) → m.from < n → m.request ≡ Some a → is_day day → step t a day reply u
-      → Serves step is_day n got s t served → Serves step is_day n (got ++ m ∷ []) s u (served ++ record { from = m.from; request = a; day = day; reply = reply } ∷ [])
-  serves_ask got s t u served m a day reply inside is today go h = let e : Entry A Y = record { from = m.from; request = a; day = day; reply = reply } in record {
-    runs = runs_more step s t u served e h.runs go;
-    each = All-append (λ (x : Entry A Y). (x.from < n) × is_day x.day) served (e ∷ []) h.each (λ k d low. subst (λ (x : Entry A Y). (x.from < n) × is_day x.day) (first k d low e) (inside, today));
-    requests = λ p low. by_number m.from p
-        (λ same. requests_here p served e same ∙ ap (λ l. l ++ a ∷ []) (h.requests p low) ∙ ap (λ o. requests_in p got ++ said o) (sym is) ∙ sym (requests_same p got m same))
-        (λ other. requests_away p served e other ∙ h.requests p low ∙ sym (requests_else p got m other));
-  }
+  pub serves_ask : (got : List (Envelope A)) (s t u : S) (served : List (Entry A Y)) (m : Envelope A) (a : A) (day : ℕ) (reply : Y) → m.from < n →
+      m.request ≡ Some a → is_day day → step t a day reply u
+      → Serves step is_day n got s t served → Serves step is_day n (got ++ m ∷ []) s u
+      (served ++ record { from = m.from; request = a; day = day; reply = reply } ∷ [])
+  serves_ask got s t u served m a day reply inside is today go h = let e : Entry A Y =
+      record { from = m.from; request = a; day = day; reply = reply } in record {
+        runs = runs_more step s t u served e h.runs go;
+        each = All-append (λ (x : Entry A Y). (x.from < n) × is_day x.day) served (e ∷ []) h.each
+            (λ k d low. subst (λ (x : Entry A Y). (x.from < n) × is_day x.day) (first k d low e) (inside, today));
+        requests = λ p low. by_number m.from p
+            (λ same. requests_here p served e same ∙ ap (λ l. l ++ a ∷ []) (h.requests p low) ∙ ap (λ o. requests_in p got ++ said o) (sym is)
+            ∙ sym (requests_same p got m same))
+            (λ other. requests_away p served e other ∙ h.requests p low ∙ sym (requests_else p got m other));
+      }
 
-  pub serves_skip : (got : List (Envelope A)) (s t : S) (served : List (Entry A Y)) (m : Envelope A) → ((p : ℕ) → p < n → requests_in p (got ++ m ∷ []) ≡ requests_in p got)
+  pub serves_skip : (got : List (Envelope A)) (s t : S) (served : List (Entry A Y)) (m : Envelope A) →
+      ((p : ℕ) → p < n → requests_in p (got ++ m ∷ []) ≡ requests_in p got)
       → Serves step is_day n got s t served → Serves step is_day n (got ++ m ∷ []) s t served
   serves_skip got s t served m same h = record { runs = h.runs; each = h.each; requests = λ p low. h.requests p low ∙ sym (same p low) }
 
 module _ {A : Type 0} where
   pub mark_says_nothing : (p : ℕ) (got : List (Envelope A)) (m : Envelope A) → m.request ≡ None → requests_in p (got ++ m ∷ []) ≡ requests_in p got
-  mark_says_nothing p got m is = by_number m.from p (λ same. requests_same p got m same ∙ ap (λ o. requests_in p got ++ said o) is ∙ append-nil (requests_in p got)) (λ other. requests_else p got m other)
+  mark_says_nothing p got m is = by_number m.from p (λ same. requests_same p got m same ∙ ap (λ o. requests_in p got ++ said o) is
+      ∙ append-nil (requests_in p got)) (λ other. requests_else p got m other)
 
   pub outsider_says_nothing : (n p : ℕ) (got : List (Envelope A)) (m : Envelope A) → n ≤ m.from → p < n → requests_in p (got ++ m ∷ []) ≡ requests_in p got
   outsider_says_nothing n p got m out low = requests_else p got m (λ e. omega arith)
@@ -63,7 +74,8 @@ module _ {A : Type 0} where
   pub starts : (v : IntakeNote A) (made : ℕ) → v ≡ owner made [] [] → v ≡ owner made v.got []
   starts v made is = is ∙ (λ i. owner made (sym (ap (λ (x : IntakeNote A). x.got) is) i) [])
 
-  pub takes_keeps : (v w : IntakeNote A) (made : ℕ) (m : Envelope A) → v ≡ owner made v.got [] → TakesOne v m w → (w ≡ owner made w.got []) × (w.got ≡ v.got ++ m ∷ [])
+  pub takes_keeps : (v w : IntakeNote A) (made : ℕ) (m : Envelope A) → v ≡ owner made v.got [] → TakesOne v m w → (w ≡ owner made w.got [])
+      × (w.got ≡ v.got ++ m ∷ [])
   takes_keeps v w made m is next = let more = ap (λ (x : IntakeNote A). x.got) next in (next ∙ (λ i. owner ((is i).made) (sym more i) ((is i).known)), more)
 
 module _ {Y : Type 0} where

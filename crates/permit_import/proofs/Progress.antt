@@ -1,5 +1,6 @@
 -- An import goes on by one record, and what it has done where it ends.
-use Rattle.std.proofs.Common.{Bool, cond, ◌≡◌, ◌≤◌, ◌<◌, ℕ, suc, ◌+◌, ◌^◌, ◌-◌, List, [], ◌∷◌, ◌++◌, length, refl, sym, ap, ◌∙◌, subst, arith, append_assoc, append-nil, length-append}
+use Rattle.std.proofs.Common.{Bool, cond, ◌≡◌, ◌≤◌, ◌<◌, ℕ, suc, ◌+◌, ◌^◌, ◌-◌, List, [], ◌∷◌, ◌++◌, length, refl, sym, ap, ◌∙◌, subst, arith, append_assoc}
+use Rattle.std.proofs.Common.{append-nil, length-append}
 use Rattle.std.specs.Prelude.{Option, None, Some, Result, Ok, option_map, count_by}
 use Rattle.std.specs.Result.{result_unwrap_or}
 use Rattle.std.specs.List.{cons_option}
@@ -44,13 +45,15 @@ requests_last token day rows row o e =
 -- the first of the records, by whether it is a request
 outcomes_first : (token : List ℕ) (day : ℕ) (o : Option Request) (rows : List Fields) (row : Fields) (replies more : List Reply) →
     length replies ≡ length (cons_option (option_map (asked_on token day) o) (requests_of token day rows)) →
-    ((left : List Reply) → length left ≡ length (requests_of token day rows) → outcomes_of (rows ++ row ∷ []) (left ++ more) ≡ outcomes_of rows left ++ outcomes_of (row ∷ []) more) →
+    ((left : List Reply) → length left ≡ length (requests_of token day rows) →
+    outcomes_of (rows ++ row ∷ []) (left ++ more) ≡ outcomes_of rows left ++ outcomes_of (row ∷ []) more) →
     outcomes_with o (replies ++ more) (outcomes_of (rows ++ row ∷ [])) ≡ outcomes_with o replies (outcomes_of rows) ++ outcomes_of (row ∷ []) more
 outcomes_first token day None rows row replies more e behind = ap (λ os. unasked ∷ os) (behind replies e)
 outcomes_first token day (Some request) rows row [] more e behind = absurd (omega arith)
 outcomes_first token day (Some request) rows row (reply ∷ replies) more e behind = ap (λ os. outcome_of reply ∷ os) (behind replies (omega arith))
 
-outcomes_last : (token : List ℕ) (day : ℕ) (rows : List Fields) (row : Fields) (replies more : List Reply) → length replies ≡ length (requests_of token day rows) →
+outcomes_last : (token : List ℕ) (day : ℕ) (rows : List Fields) (row : Fields) (replies more : List Reply) →
+    length replies ≡ length (requests_of token day rows) →
     outcomes_of (rows ++ row ∷ []) (replies ++ more) ≡ outcomes_of rows replies ++ outcomes_of (row ∷ []) more
 outcomes_last token day [] row [] more e = refl
 outcomes_last token day [] row (reply ∷ replies) more e = absurd (omega arith)
@@ -86,7 +89,8 @@ count_last : (test : Outcome → Bool) (outcomes : List Outcome) (outcome : Outc
 count_last test outcomes outcome more e =
     ap (λ n. count_by test outcomes + n) (sym e) ∙ sym (sum_by-append (λ o. cond (test o) 1 0) outcomes (outcome ∷ []))
 
-count_same : (test : Outcome → Bool) (outcomes : List Outcome) (outcome : Outcome) → count_by test (outcome ∷ []) ≡ 0 → count_by test outcomes ≡ count_by test (outcomes ++ outcome ∷ [])
+count_same : (test : Outcome → Bool) (outcomes : List Outcome) (outcome : Outcome) → count_by test (outcome ∷ []) ≡ 0 →
+    count_by test outcomes ≡ count_by test (outcomes ++ outcome ∷ [])
 count_same test outcomes outcome e = sym (omega arith) ∙ count_last test outcomes outcome 0 e
 
 abbrev counts : ℕ → ℕ → ℕ → Tally
@@ -96,9 +100,11 @@ same_counts : (a b k l r s : ℕ) → a ≡ b → k ≡ l → r ≡ s → counts
 same_counts a b k l r s e f g = ap (λ x. counts x k r) e ∙ ap (λ x. counts b x r) f ∙ ap (counts b l) g
 
 tally_last : (outcomes : List Outcome) (outcome : Outcome) → counted (tally_of outcomes) outcome ≡ tally_of (outcomes ++ outcome ∷ [])
-tally_last os (Added number) = same_counts _ _ _ _ _ _ (count_last is_added os (Added number) 1 refl) (count_same is_kept os (Added number) refl) (count_same is_refused os (Added number) refl)
+tally_last os (Added number) = same_counts _ _ _ _ _ _ (count_last is_added os (Added number) 1 refl) (count_same is_kept os (Added number) refl)
+    (count_same is_refused os (Added number) refl)
 tally_last os Kept = same_counts _ _ _ _ _ _ (count_same is_added os Kept refl) (count_last is_kept os Kept 1 refl) (count_same is_refused os Kept refl)
-tally_last os (Refused why) = same_counts _ _ _ _ _ _ (count_same is_added os (Refused why) refl) (count_same is_kept os (Refused why) refl) (count_last is_refused os (Refused why) 1 refl)
+tally_last os (Refused why) = same_counts _ _ _ _ _ _ (count_same is_added os (Refused why) refl) (count_same is_kept os (Refused why) refl)
+    (count_last is_refused os (Refused why) 1 refl)
 
 -- ---- what was tried
 
@@ -111,7 +117,8 @@ pub record Told {S : Type 0} (view : S → StoreView) (requests : List (Asked ×
 pub told_none : {S : Type 0} (view : S → StoreView) (office : OfficeView S) → Told view [] [] office office
 told_none view office = record { each = refl; steps = refl; model = λ doubt h is held. ran_none (view office.store).holds office.policy h held }
 
-pub told_more : {S : Type 0} (view : S → StoreView) (token : List ℕ) (digest : List ℕ) (day : ℕ) (request : Request) (requests : List (Asked × ℕ)) (replies : List Reply) (old between new : OfficeView S) (reply : Reply) →
+pub told_more : {S : Type 0} (view : S → StoreView) (token : List ℕ) (digest : List ℕ) (day : ℕ) (request : Request) (requests : List (Asked × ℕ))
+    (replies : List Reply) (old between new : OfficeView S) (reply : Reply) →
     digest ≡ digest_of token → between.policy ≡ old.policy → Told view requests replies old between → Stepped view digest day request between new reply →
     Told view (requests ++ asked_on token day request ∷ []) (replies ++ reply ∷ []) old new
 told_more view token digest day request requests replies old between new reply same policy told stepped = record {
@@ -126,11 +133,13 @@ told_more view token digest day request requests replies old between new reply s
       (subst (λ p. Answers (view new.store).holds reply (step_as p now digest request day) now) policy (stepped.model doubt now his kept)))
       (λ now his kept. tells (rows_opened old.policy now (digest_of token) request day) reply (view between.store).handed (view new.store).handed
       (subst (λ d. Opens (rows_opened old.policy now d request day) reply (view between.store).handed (view new.store).handed) same
-      (subst (λ p. Opens (rows_opened p now digest request day) reply (view between.store).handed (view new.store).handed) policy (stepped.step.opened doubt now his kept))));
+      (subst (λ p. Opens (rows_opened p now digest request day) reply (view between.store).handed (view new.store).handed) policy
+      (stepped.step.opened doubt now his kept))));
 }
 
 -- the records that were tried so far, and what became of them
-pub record Progress {S R : Type 0} (view : S → StoreView) (remaining : R → Option (List ℕ)) (token : List ℕ) (day : ℕ) (left before after : Option (List ℕ)) (old new : OfficeView S)
+pub record Progress {S R : Type 0} (view : S → StoreView) (remaining : R → Option (List ℕ)) (token : List ℕ) (day : ℕ) (left before after : Option (List ℕ))
+    (old new : OfficeView S)
     (reader : Reader R) (number : ℕ) (tally : Tally) : Type 0 where
   pub rows : List Fields
   pub replies : List Reply
@@ -140,8 +149,10 @@ pub record Progress {S R : Type 0} (view : S → StoreView) (remaining : R → O
   pub written : Appends before after (lines_from 1 (outcomes_of rows replies))
   pub tally_is : tally ≡ tally_of (outcomes_of rows replies)
 
-pub begun : {S R : Type 0} (view : S → StoreView) (remaining : R → Option (List ℕ)) (token : List ℕ) (day : ℕ) (left before : Option (List ℕ)) (office : OfficeView S) (reader : Reader R) →
-    Behind remaining left reader (header ∷ []) → Progress view remaining token day left before before office office reader 1 (record { added = 0; kept = 0; refused = 0 })
+pub begun : {S R : Type 0} (view : S → StoreView) (remaining : R → Option (List ℕ)) (token : List ℕ) (day : ℕ) (left before : Option (List ℕ))
+    (office : OfficeView S) (reader : Reader R) →
+    Behind remaining left reader (header ∷ []) → Progress view remaining token day left before before office office reader 1
+    (record { added = 0; kept = 0; refused = 0 })
 begun view remaining token day left before office reader behind = record {
   rows = [];
   replies = [];
@@ -153,12 +164,14 @@ begun view remaining token day left before office reader behind = record {
 }
 
 -- the records with one more, and what became of it
-pub record More {S : Type 0} (view : S → StoreView) (token : List ℕ) (day : ℕ) (rows : List Fields) (replies : List Reply) (row : Fields) (outcome : Outcome) (old new : OfficeView S) : Type 0 where
+pub record More {S : Type 0} (view : S → StoreView) (token : List ℕ) (day : ℕ) (rows : List Fields) (replies : List Reply) (row : Fields) (outcome : Outcome)
+    (old new : OfficeView S) : Type 0 where
   pub given : List Reply
   pub told : Told view (requests_of token day (rows ++ row ∷ [])) given old new
   pub outcomes : outcomes_of (rows ++ row ∷ []) given ≡ outcomes_of rows replies ++ outcome ∷ []
 
-more_by : {S : Type 0} (view : S → StoreView) (token digest : List ℕ) (day : ℕ) (rows : List Fields) (replies : List Reply) (row : Fields) (outcome : Outcome) (old between new : OfficeView S) →
+more_by : {S : Type 0} (view : S → StoreView) (token digest : List ℕ) (day : ℕ) (rows : List Fields) (replies : List Reply) (row : Fields) (outcome : Outcome)
+    (old between new : OfficeView S) →
     digest ≡ digest_of token → between.policy ≡ old.policy → Told view (requests_of token day rows) replies old between →
     (o : Option Request) → request_of_record row ≡ o → Tries view digest day o between new outcome → More view token day rows replies row outcome old new
 more_by view token digest day rows replies row outcome old between new same policy told None e tries = record {
@@ -176,14 +189,16 @@ more_by view token digest day rows replies row outcome old between new same poli
       ∙ ap (λ o. outcomes_of rows replies ++ outcomes_with o (tries.0 ∷ []) (outcomes_of [])) e ∙ ap (λ o. outcomes_of rows replies ++ o ∷ []) (sym tries.2);
 }
 
-pub more_tried : {S : Type 0} (view : S → StoreView) (token digest : List ℕ) (day : ℕ) (rows : List Fields) (replies : List Reply) (row : Fields) (outcome : Outcome) (old between new : OfficeView S) →
+pub more_tried : {S : Type 0} (view : S → StoreView) (token digest : List ℕ) (day : ℕ) (rows : List Fields) (replies : List Reply) (row : Fields)
+    (outcome : Outcome) (old between new : OfficeView S) →
     digest ≡ digest_of token → between.policy ≡ old.policy → Told view (requests_of token day rows) replies old between →
     Tries view digest day (request_of_record row) between new outcome → More view token day rows replies row outcome old new
 more_tried view token digest day rows replies row outcome old between new same policy told tries =
     more_by view token digest day rows replies row outcome old between new same policy told (request_of_record row) refl tries
 
 -- the lines with that of the record more
-pub more_lines : (token : List ℕ) (day number : ℕ) (rows : List Fields) (replies given : List Reply) (row : Fields) (outcome : Outcome) → length replies ≡ length (requests_of token day rows) →
+pub more_lines : (token : List ℕ) (day number : ℕ) (rows : List Fields) (replies given : List Reply) (row : Fields) (outcome : Outcome) →
+    length replies ≡ length (requests_of token day rows) →
     length rows + 1 ≡ number → outcomes_of (rows ++ row ∷ []) given ≡ outcomes_of rows replies ++ outcome ∷ [] →
     lines_from 1 (outcomes_of (rows ++ row ∷ []) given) ≡ lines_from 1 (outcomes_of rows replies) ++ record_line number outcome
 more_lines token day number rows replies given row outcome each count same =
@@ -191,7 +206,8 @@ more_lines token day number rows replies given row outcome each count same =
     ap (lines_from 1) same ∙ lines_last 1 (outcomes_of rows replies) outcome number (omega arith)
 
 -- the import goes on behind a record whose line was written
-pub went_on : {S R : Type 0} (view : S → StoreView) (remaining : R → Option (List ℕ)) (token digest : List ℕ) (day : ℕ) (left before mid after : Option (List ℕ)) (old between new : OfficeView S)
+pub went_on : {S R : Type 0} (view : S → StoreView) (remaining : R → Option (List ℕ)) (token digest : List ℕ) (day : ℕ)
+    (left before mid after : Option (List ℕ)) (old between new : OfficeView S)
     (reader next : Reader R) (number : ℕ) (tally : Tally) (row : Fields) (outcome : Outcome) → digest ≡ digest_of token → between.policy ≡ old.policy →
     (p : Progress view remaining token day left before mid old between reader number tally) → Behind remaining left next (header ∷ (p.rows ++ row ∷ [])) →
     Tries view digest day (request_of_record row) between new outcome → Appends mid after (record_line number outcome) →
@@ -210,8 +226,10 @@ went_on view remaining token digest day left before mid after old between new re
     }
 
 -- no count passes that of the records
-pub counts_fit : {S R : Type 0} (view : S → StoreView) (remaining : R → Option (List ℕ)) (token : List ℕ) (day : ℕ) (left before after : Option (List ℕ)) (old new : OfficeView S) (reader : Reader R) (number : ℕ) (tally : Tally) →
-    Progress view remaining token day left before after old new reader number tally → number ≤ 1000000 → (tally.added < 2 ^ 32 - 1) × (tally.kept < 2 ^ 32 - 1) × (tally.refused < 2 ^ 32 - 1)
+pub counts_fit : {S R : Type 0} (view : S → StoreView) (remaining : R → Option (List ℕ)) (token : List ℕ) (day : ℕ) (left before after : Option (List ℕ))
+    (old new : OfficeView S) (reader : Reader R) (number : ℕ) (tally : Tally) →
+    Progress view remaining token day left before after old new reader number tally → number ≤ 1000000 → (tally.added < 2 ^ 32 - 1) × (tally.kept < 2 ^ 32 - 1)
+    × (tally.refused < 2 ^ 32 - 1)
 counts_fit view remaining token day left before after old new reader number tally p few =
     let os = outcomes_of p.rows p.replies in
     let long : length os ≡ length p.rows = length-outcomes token day p.rows p.replies p.told.each in
@@ -222,11 +240,13 @@ counts_fit view remaining token day left before after old new reader number tall
     (omega arith, omega arith, omega arith)
 
 -- trying a record leaves the policy, and no doubt goes
-pub tries_policy : {S : Type 0} (view : S → StoreView) (digest : List ℕ) (day : ℕ) (o : Option Request) (old new : OfficeView S) (outcome : Outcome) → Tries view digest day o old new outcome → new.policy ≡ old.policy
+pub tries_policy : {S : Type 0} (view : S → StoreView) (digest : List ℕ) (day : ℕ) (o : Option Request) (old new : OfficeView S) (outcome : Outcome) →
+    Tries view digest day o old new outcome → new.policy ≡ old.policy
 tries_policy view digest day None old new outcome tries = ap (λ (o : OfficeView _). o.policy) tries.0
 tries_policy view digest day (Some request) old new outcome tries = tries.1.step.policy
 
-pub tries_doubt : {S : Type 0} (view : S → StoreView) (digest : List ℕ) (day : ℕ) (o : Option Request) (old new : OfficeView S) (outcome : Outcome) → Tries view digest day o old new outcome →
+pub tries_doubt : {S : Type 0} (view : S → StoreView) (digest : List ℕ) (day : ℕ) (o : Option Request) (old new : OfficeView S) (outcome : Outcome) →
+    Tries view digest day o old new outcome →
     (view old.store).doubt ≤ (view new.store).doubt
 tries_doubt view digest day None old new outcome tries = subst (λ (o : OfficeView _). (view old.store).doubt ≤ (view o.store).doubt) (sym tries.0) (omega arith)
 tries_doubt view digest day (Some request) old new outcome tries = tries.1.step.doubt

@@ -29,7 +29,8 @@ no_value (Ok x) Q P h = absurd h
 no_value (Err e) Q P h = tt
 
 -- what a read of a record says, with its error reported as another
-pub next_read : {R F : Type 0} (remaining : R → Option (List ℕ)) (left : Option (List ℕ)) (rows : List Fields) (old new : Reader R) (fields : Fields) (r : Result Bool Error) (told : Result Bool F) (Q : Error → F → Type 0) →
+pub next_read : {R F : Type 0} (remaining : R → Option (List ℕ)) (left : Option (List ℕ)) (rows : List Fields) (old new : Reader R) (fields : Fields)
+    (r : Result Bool Error) (told : Result Bool F) (Q : Error → F → Type 0) →
     Behind remaining left old rows → OnOk r (took_first new ≡ true) → IfOk r (λ found. ReadRecord remaining old new found fields) →
     MatchResult r (λ x. told ≡ Ok x) (λ e. IsErrAnd told (Q e)) → IfOk told (ReadsNext remaining left rows fields new)
 next_read remaining left rows old new fields (Ok found) told Q behind took read same =
@@ -37,7 +38,8 @@ next_read remaining left rows old new fields (Ok found) told Q behind took read 
 next_read remaining left rows old new fields (Err e) told Q behind took read same = no_value told (Q e) (ReadsNext remaining left rows fields new) same
 
 -- a reader behind these records shows that the bytes begin with them
-pub begins : {R : Type 0} (remaining : R → Option (List ℕ)) (left : Option (List ℕ)) (reader : Reader R) (rows : List Fields) → Behind remaining left reader rows → BeginWith left rows
+pub begins : {R : Type 0} (remaining : R → Option (List ℕ)) (left : Option (List ℕ)) (reader : Reader R) (rows : List Fields) →
+    Behind remaining left reader rows → BeginWith left rows
 begins remaining left reader rows behind = λ bytes e. let k = behind.reached bytes e in (reader.state, k.0, k.2)
 
 -- what holds with a premise of each value holds of the value with the premise

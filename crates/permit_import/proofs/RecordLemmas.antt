@@ -9,7 +9,8 @@ use Rattle.permit_import.specs.Records.{Fields, header, text_in, parcel_of, requ
 -- ---- the header
 
 -- a record of three fields is these three
-three_fields : (fields : Fields) (a b c : List ℕ) → length fields ≡ 3 → field_at fields 0 ≡ Some a → field_at fields 1 ≡ Some b → field_at fields 2 ≡ Some c → fields ≡ a ∷ b ∷ c ∷ []
+three_fields : (fields : Fields) (a b c : List ℕ) → length fields ≡ 3 → field_at fields 0 ≡ Some a → field_at fields 1 ≡ Some b → field_at fields 2 ≡ Some c →
+    fields ≡ a ∷ b ∷ c ∷ []
 unfolding field_at
 three_fields [] a b c n x y z = cc
 three_fields (p ∷ []) a b c n x y z = cc
@@ -64,7 +65,8 @@ by_texts x y z lot address owner e f g =
     (subst (λ z. (z >>= parcel_of lot address) ≡ parcel_of lot address owner) g refl))
 
 -- the request of three texts
-pub record_read : (fields : Fields) (lot address owner : List ℕ) → length fields ≡ 3 → Some lot ≡ option_and_then text_in (field_at fields 0) → Some address ≡ option_and_then text_in (field_at fields 1) →
+pub record_read : (fields : Fields) (lot address owner : List ℕ) → length fields ≡ 3 → Some lot ≡ option_and_then text_in (field_at fields 0) →
+    Some address ≡ option_and_then text_in (field_at fields 1) →
     Some owner ≡ option_and_then text_in (field_at fields 2) → parcel_of lot address owner ≡ request_of_record fields
 unfolding field_at
 record_read [] lot address owner n x y z = cc

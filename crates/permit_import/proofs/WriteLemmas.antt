@@ -23,10 +23,15 @@ whole_beginning old new text wrote = (length text, subst (Appends old new) (sym 
 
 -- a text behind which nothing was written is a beginning of what goes on from it
 pub kept_beginning : (old mid new : Option (List ℕ)) (text more : List ℕ) → Appends old mid text → Keeps mid new → WroteBeginning old new (text ++ more)
-kept_beginning old mid new text more wrote kept = (length text, subst (Appends old new) (sym (take-append_seam text more)) (Appends-kept old mid new text wrote kept))
+kept_beginning old mid new text more wrote kept = (
+  length text,
+  subst (Appends old new) (sym (take-append_seam text more))
+      (Appends-kept old mid new text wrote kept),
+)
 
 -- a beginning of the next piece is one of the whole
-pub front_within : (old mid new : Option (List ℕ)) (text piece behind : List ℕ) → Appends old mid text → WroteFront mid new piece → WroteFront old new (text ++ (piece ++ behind))
+pub front_within : (old mid new : Option (List ℕ)) (text piece behind : List ℕ) → Appends old mid text → WroteFront mid new piece →
+    WroteFront old new (text ++ (piece ++ behind))
 front_within old mid new text piece behind wrote front =
     let n = front.count in
     let within : n < length piece = front.within in

@@ -19,5 +19,6 @@ module _ {S : Type 0} (view : S → StoreView) (day : ℕ) (office office' : Off
     left = left;
     whole = whole;
     serves = subst (λ w. Serves view day office office' request fresh inbox left w (Some answer) served) empty
-        (subst (λ o. Serves view day office office' request o inbox left before (Some answer) served) is (serves request (ap (λ o. stream o (Some request)) is)));
+        (subst (λ o. Serves view day office office' request o inbox left before (Some answer) served) is
+        (serves request (ap (λ o. stream o (Some request)) is)));
   }

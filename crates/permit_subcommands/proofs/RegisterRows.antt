@@ -54,24 +54,29 @@ module _ (policy : Policy) (h : History) (day : ℕ) (kind : RegisterKind) where
   by_clock caller true = refl
   by_clock caller false = refl
 
-  by_caller : (found : Option Party) → (outcome_by_caller policy h day (request.Register kind) found).reply ≡ as_register kind (outcome_by_caller policy h day (request.ListFiles (register_filter kind)) found).reply
+  by_caller : (found : Option Party) → (outcome_by_caller policy h day (request.Register kind) found).reply
+      ≡ as_register kind (outcome_by_caller policy h day (request.ListFiles (register_filter kind)) found).reply
   by_caller None = refl
   by_caller (Some caller) = by_clock caller (nat_lt day (last_day h))
 
   pub register_reply : (digest : List ℕ) (wanted : Filter) → wanted ≡ register_filter kind
       → (step_as policy h digest (request.Register kind) day).reply ≡ as_register kind (step_as policy h digest (request.ListFiles wanted) day).reply
-  register_reply digest wanted is = subst (λ (f : Filter). (step_as policy h digest (request.Register kind) day).reply ≡ as_register kind (step_as policy h digest (request.ListFiles f) day).reply) (sym is) (by_caller (who h digest))
+  register_reply digest wanted is = subst (λ (f : Filter). (step_as policy h digest (request.Register kind) day).reply
+      ≡ as_register kind (step_as policy h digest (request.ListFiles f) day).reply) (sym is) (by_caller (who h digest))
 
   -- as many rows are handed out as for the listing
   pub opens_register : (digest : List ℕ) (wanted : Filter) → wanted ≡ register_filter kind → (end : RowsEnd) (old new : ℕ)
-      → OpensAt (rows_opened policy h digest (request.ListFiles wanted) day) end old new → OpensAt (rows_opened policy h digest (request.Register kind) day) end old new
-  opens_register digest wanted is end old new opens = subst (λ (f : Filter). OpensAt (rows_opened policy h digest (request.ListFiles f) day) end old new) is opens
+      → OpensAt (rows_opened policy h digest (request.ListFiles wanted) day) end old new →
+      OpensAt (rows_opened policy h digest (request.Register kind) day) end old new
+  opens_register digest wanted is end old new opens = subst (λ (f : Filter). OpensAt
+      (rows_opened policy h digest (request.ListFiles f) day) end old new) is opens
 
 -- ---- what is written
 
 module _ {W : Type 0} (contents : W → Option (List ℕ)) (kind : RegisterKind) (day : ℕ) (old new : RegisterWriter W) (begun : IsBegun kind day old) where
   -- a writer of which the files were taken writes to where it wrote
-  pub keeps_output : KeepsOutput contents → CutsLine contents → LacksEnding contents → (reply : Reply) (end : RowsEnd) → Shows (TakesFile contents) reply old new end → IsSameOutput old new
+  pub keeps_output : KeepsOutput contents → CutsLine contents → LacksEnding contents → (reply : Reply) (end : RowsEnd) →
+      Shows (TakesFile contents) reply old new end → IsSameOutput old new
   keeps_output output cut lacks (Listed files) (ended.All read) took = output files old new took
   keeps_output output cut lacks (Listed files) ended.Stopped stopped = (cut kind day files old new begun stopped).1
   keeps_output output cut lacks (Listed files) (ended.Refused refusal.Store) began = (lacks kind day files old new begun began).1
@@ -97,7 +102,8 @@ module _ {W : Type 0} (contents : W → Option (List ℕ)) (kind : RegisterKind)
 
   -- all files and then the ending
   pub writes_all : MakesText contents → (reply : Reply) (read : ℕ) (after : W) → Shows (TakesFile contents) reply old new (ended.All read)
-      → Appends (contents new.writer.now) (contents after) (ending (progress new)) → Writes day (contents old.writer.now) (contents after) (as_register kind reply) (Ok tt)
+      → Appends (contents new.writer.now) (contents after) (ending (progress new)) →
+      Writes day (contents old.writer.now) (contents after) (as_register kind reply) (Ok tt)
   writes_all makes (Listed files) read after took ended = makes kind day files old new (contents after) begun took ended
   writes_all makes (shown.Done number) read after took ended = elim took [ ]
   writes_all makes (shown.ParcelShown parcel) read after took ended = elim took [ ]
@@ -107,7 +113,8 @@ module _ {W : Type 0} (contents : W → Option (List ℕ)) (kind : RegisterKind)
 
   -- all files, and an ending that is cut
   pub writes_cut : CutsEnding contents → (reply : Reply) (read : ℕ) (after : W) → Shows (TakesFile contents) reply old new (ended.All read)
-      → WroteFront (contents new.writer.now) (contents after) (ending (progress new)) → Writes day (contents old.writer.now) (contents after) (as_register kind reply) (Err failure.Output)
+      → WroteFront (contents new.writer.now) (contents after) (ending (progress new)) →
+      Writes day (contents old.writer.now) (contents after) (as_register kind reply) (Err failure.Output)
   writes_cut cuts (Listed files) read after took ended = (inl refl, cuts kind day files old new (contents after) begun took ended)
   writes_cut cuts (shown.Done number) read after took ended = elim took [ ]
   writes_cut cuts (shown.ParcelShown parcel) read after took ended = elim took [ ]
@@ -130,12 +137,28 @@ module _ {W : Type 0} (contents : W → Option (List ℕ)) (kind : RegisterKind)
       → Writes day (contents old.writer.now) (contents new.writer.now) (as_register kind reply) (Err (failure.Refused (refused_by why)))
   writes_refused lacks (Listed files) refusal.Store began = (inr refl, (lacks kind day files old new begun began).0)
   writes_refused lacks (shown.Refused why) refusal.Store is = (inr refl, ap (λ (w : RegisterWriter W). contents w.writer.now) is)
-  writes_refused lacks (shown.Refused why) refusal.Syntax is = (inl (ap (λ (r : Refusal). Err (failure.Refused (refused_by r))) is.0), ap (λ (w : RegisterWriter W). contents w.writer.now) is.1)
-  writes_refused lacks (shown.Refused why) refusal.Caller is = (inl (ap (λ (r : Refusal). Err (failure.Refused (refused_by r))) is.0), ap (λ (w : RegisterWriter W). contents w.writer.now) is.1)
-  writes_refused lacks (shown.Refused why) refusal.Clock is = (inl (ap (λ (r : Refusal). Err (failure.Refused (refused_by r))) is.0), ap (λ (w : RegisterWriter W). contents w.writer.now) is.1)
-  writes_refused lacks (shown.Refused why) refusal.Record is = (inl (ap (λ (r : Refusal). Err (failure.Refused (refused_by r))) is.0), ap (λ (w : RegisterWriter W). contents w.writer.now) is.1)
-  writes_refused lacks (shown.Refused why) (refusal.Denied rule) is = (inl (ap (λ (r : Refusal). Err (failure.Refused (refused_by r))) is.0), ap (λ (w : RegisterWriter W). contents w.writer.now) is.1)
-  writes_refused lacks (shown.Refused why) (refusal.NotAdmitted against) is = (inl (ap (λ (r : Refusal). Err (failure.Refused (refused_by r))) is.0), ap (λ (w : RegisterWriter W). contents w.writer.now) is.1)
+  writes_refused lacks (shown.Refused why) refusal.Syntax is = (
+    inl (ap (λ (r : Refusal). Err (failure.Refused (refused_by r))) is.0),
+    ap (λ (w : RegisterWriter W). contents w.writer.now) is.1,
+  )
+  writes_refused lacks (shown.Refused why) refusal.Caller is = (
+    inl (ap (λ (r : Refusal). Err (failure.Refused (refused_by r))) is.0),
+    ap (λ (w : RegisterWriter W). contents w.writer.now) is.1,
+  )
+  writes_refused lacks (shown.Refused why) refusal.Clock is = (
+    inl (ap (λ (r : Refusal). Err (failure.Refused (refused_by r))) is.0),
+    ap (λ (w : RegisterWriter W). contents w.writer.now) is.1,
+  )
+  writes_refused lacks (shown.Refused why) refusal.Record is = (
+    inl (ap (λ (r : Refusal). Err (failure.Refused (refused_by r))) is.0),
+    ap (λ (w : RegisterWriter W). contents w.writer.now) is.1,
+  )
+  writes_refused lacks (shown.Refused why) (refusal.Denied rule) is = (
+    inl (ap (λ (r : Refusal). Err (failure.Refused (refused_by r))) is.0),
+    ap (λ (w : RegisterWriter W). contents w.writer.now) is.1,
+  )
+  writes_refused lacks (shown.Refused why) (refusal.NotAdmitted against) is =
+      (inl (ap (λ (r : Refusal). Err (failure.Refused (refused_by r))) is.0), ap (λ (w : RegisterWriter W). contents w.writer.now) is.1)
   writes_refused lacks (shown.Done number) why is = elim is [ ]
   writes_refused lacks (shown.ParcelShown parcel) why is = elim is [ ]
   writes_refused lacks (shown.FileShown file papers) why is = elim is [ ]

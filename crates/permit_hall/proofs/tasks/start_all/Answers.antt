@@ -16,22 +16,32 @@ loop-session-init g c = let no = c.requires.room.0 in let same = c.into_iter-ses
 )
 
 pub start-requires-after_bounds : goal.start-requires-after_bounds
-start-requires-after_bounds g c κs within = all_first (λ j. Has j.0 [] []) (c.in-Some.session, c.in-Some.prepared) _ (into_iter_items c.next.new.self) (search rules) c.loop-session.invariant.3
+start-requires-after_bounds g c κs within = all_first (λ j. Has j.0 [] []) (c.in-Some.session, c.in-Some.prepared) _ (into_iter_items c.next.new.self)
+    (search rules) c.loop-session.invariant.3
 
 pub loop-session-preserved : goal.loop-session-preserved
 loop-session-preserved g c =
-    let h = c.loop-session.invariant in let cut : into_iter_items c.loop-session.session-iterator ≡ (c.in-Some.session, c.in-Some.prepared) ∷ into_iter_items c.next.new.self = search rules in (
-      works_on (λ j. j.0) (λ w. w.place.value) c.loop-session.workers.items c.push_reserved.new.self.items c.start.result (into_iter_items c.loop-session.session-iterator) (into_iter_items c.next.new.self) (c.in-Some.session, c.in-Some.prepared) (map (λ j. j.0) c.args.jobs.items)
+    let h = c.loop-session.invariant in let cut : into_iter_items c.loop-session.session-iterator ≡ (c.in-Some.session, c.in-Some.prepared)
+    ∷ into_iter_items c.next.new.self = search rules in (
+      works_on (λ j. j.0) (λ w. w.place.value) c.loop-session.workers.items c.push_reserved.new.self.items c.start.result
+          (into_iter_items c.loop-session.session-iterator) (into_iter_items c.next.new.self) (c.in-Some.session, c.in-Some.prepared)
+          (map (λ j. j.0) c.args.jobs.items)
           c.push_reserved.ensures.items cut c.start.ensures.told.0 h.0,
-      works_on (λ j. j.1.task) (λ w. w.task.value) c.loop-session.workers.items c.push_reserved.new.self.items c.start.result (into_iter_items c.loop-session.session-iterator) (into_iter_items c.next.new.self) (c.in-Some.session, c.in-Some.prepared) (map (λ j. j.1.task) c.args.jobs.items)
+      works_on (λ j. j.1.task) (λ w. w.task.value) c.loop-session.workers.items c.push_reserved.new.self.items c.start.result
+          (into_iter_items c.loop-session.session-iterator) (into_iter_items c.next.new.self) (c.in-Some.session, c.in-Some.prepared)
+          (map (λ j. j.1.task) c.args.jobs.items)
           c.push_reserved.ensures.items cut c.start.ensures.told.1 h.1,
       all_more (λ w. WillBe g.T.Task.did w.place.value w.task.value w.state) c.loop-session.workers.items c.push_reserved.new.self.items c.start.result c.push_reserved.ensures.items h.2 c.start.ensures.right,
-      all_left (λ j. Has j.0 [] []) (c.in-Some.session, c.in-Some.prepared) (into_iter_items c.loop-session.session-iterator) (into_iter_items c.next.new.self) cut h.3,
-      room_left c.loop-session.workers.items c.push_reserved.new.self.items c.start.result (into_iter_items c.loop-session.session-iterator) (into_iter_items c.next.new.self) (c.in-Some.session, c.in-Some.prepared) _ _ c.push_reserved.ensures.items cut c.push_reserved.ensures.capacity h.4,
+      all_left (λ j. Has j.0 [] []) (c.in-Some.session, c.in-Some.prepared) (into_iter_items c.loop-session.session-iterator)
+          (into_iter_items c.next.new.self) cut h.3,
+      room_left c.loop-session.workers.items c.push_reserved.new.self.items c.start.result (into_iter_items c.loop-session.session-iterator)
+          (into_iter_items c.next.new.self) (c.in-Some.session, c.in-Some.prepared) _ _ c.push_reserved.ensures.items cut c.push_reserved.ensures.capacity h.4,
     )
 
 pub returns-clause-places : goal.returns-clause-places
-returns-clause-places g c = works_end (λ j. j.0) (λ w. w.place.value) c.loop-session.workers.items (into_iter_items c.loop-session.session-iterator) (map (λ j. j.0) c.args.jobs.items) (nil_of _ (sym c.loop-session.session-iterator.rest.ok.0 ∙ c.in-None.ensures.steps.0)) c.loop-session.invariant.0
+returns-clause-places g c = works_end (λ j. j.0) (λ w. w.place.value) c.loop-session.workers.items (into_iter_items c.loop-session.session-iterator)
+    (map (λ j. j.0) c.args.jobs.items) (nil_of _ (sym c.loop-session.session-iterator.rest.ok.0 ∙ c.in-None.ensures.steps.0)) c.loop-session.invariant.0
 
 pub returns-clause-tasks : goal.returns-clause-tasks
-returns-clause-tasks g c = works_end (λ j. j.1.task) (λ w. w.task.value) c.loop-session.workers.items (into_iter_items c.loop-session.session-iterator) (map (λ j. j.1.task) c.args.jobs.items) (nil_of _ (sym c.loop-session.session-iterator.rest.ok.0 ∙ c.in-None.ensures.steps.0)) c.loop-session.invariant.1
+returns-clause-tasks g c = works_end (λ j. j.1.task) (λ w. w.task.value) c.loop-session.workers.items (into_iter_items c.loop-session.session-iterator)
+    (map (λ j. j.1.task) c.args.jobs.items) (nil_of _ (sym c.loop-session.session-iterator.rest.ok.0 ∙ c.in-None.ensures.steps.0)) c.loop-session.invariant.1

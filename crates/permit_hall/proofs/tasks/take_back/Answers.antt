@@ -4,7 +4,8 @@ use Rattle.permit_hall.proofs.LaneMoves as lane
 use Rattle.permit_hall.proofs.tasks.take_back.Goals as goal
 
 pub absorb-requires-clause-rule : goal.absorb-requires-clause-rule
-absorb-requires-clause-rule g c = intake.merges _ _ _ _ (ap (λ v. v.gets) c.requires.pass.1) (ap (λ v. v.sends) c.requires.session.0.2) (ap (λ v. v.from) c.requires.session.0.2 ∙ c.requires.session.1)
+absorb-requires-clause-rule g c = intake.merges _ _ _ _ (ap (λ v. v.gets) c.requires.pass.1) (ap (λ v. v.sends) c.requires.session.0.2)
+    (ap (λ v. v.from) c.requires.session.0.2 ∙ c.requires.session.1)
 
 pub absorb-requires-2-clause-rule : goal.absorb-requires-2-clause-rule
 absorb-requires-2-clause-rule g c = lane.merges _ _ _ _ (ap (λ v. v.sends) c.requires.outlet.1) (ap (λ v. v.gets) c.requires.session.0.3)

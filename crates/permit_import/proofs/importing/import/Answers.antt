@@ -14,12 +14,14 @@ use Rattle.permit_import.proofs.importing.import.Goals.{then-not-branch-via-then
 pub returns-in_err-line-clause-imports : goal.returns-in_err-line-clause-imports
 returns-in_err-line-clause-imports g c =
     let p = err_from_is_err_and c.from_residual-in_err-line.result c.from_residual-in_err-line.ensures.1 in
-    rw (p.1, p.2) (no_memory g.S.Store.view c.args.token.now c.args.day (g.R.Read.remaining c.args.reader) (g.W.Write.contents c.args.out.now) c.args.office.now)
+    rw (p.1, p.2) (no_memory g.S.Store.view c.args.token.now c.args.day (g.R.Read.remaining c.args.reader)
+    (g.W.Write.contents c.args.out.now) c.args.office.now)
 
 pub returns-in_err-read_next-clause-imports : goal.returns-in_err-read_next-clause-imports
 returns-in_err-read_next-clause-imports g c =
     let p = err_from_is_err_and c.from_residual-in_err-read_next.result c.from_residual-in_err-read_next.ensures.1 in
-    rw (p.1, p.2, c.in_err-read_next.ensures.fault) (no_first g.S.Store.view c.args.token.now c.args.day (g.R.Read.remaining c.args.reader) (g.W.Write.contents c.args.out.now) c.args.office.now)
+    rw (p.1, p.2, c.in_err-read_next.ensures.fault) (no_first g.S.Store.view c.args.token.now c.args.day (g.R.Read.remaining c.args.reader)
+    (g.W.Write.contents c.args.out.now) c.args.office.now)
 
 pub returns-then-not-branch-clause-imports : goal.returns-then-not-branch-clause-imports
 returns-then-not-branch-clause-imports g c =
@@ -29,16 +31,23 @@ returns-then-not-branch-clause-imports g c =
       | then-not-branch-via-then-not-branch w ↦ inl (when_false _ _ w.if-not-branch.true next)
       | then-not-branch-via-else-not-branch+then-not-is_header w ↦
           let behind = when_true _ _ w.if-not-branch.false next in
-          inr (fields_of c.read_next.new.row, λ e. let bad : false ≡ true = sym w.if-not-is_header.true ∙ w.is_header.ensures.1 e in cc, begins g.R.Read.remaining left c.read_next.new.records (fields_of c.read_next.new.row ∷ []) behind)
+          inr (
+            fields_of c.read_next.new.row,
+            λ e. let bad : false ≡ true = sym w.if-not-is_header.true
+                ∙ w.is_header.ensures.1 e in cc,
+            begins g.R.Read.remaining left c.read_next.new.records (fields_of c.read_next.new.row ∷ []) behind,
+          )
     ])
 
 pub loop-number-init : goal.loop-number-init
 loop-number-init g c =
     let left = g.R.Read.remaining c.args.reader in
     let next = when_true _ _ c.if-not-branch.false (c.in_ok-read_next.ensures.next left [] c.records-records.ensures) in
-    let behind : Behind g.R.Read.remaining left c.read_next.new.records (header ∷ []) = subst (λ f. Behind g.R.Read.remaining left c.read_next.new.records (f ∷ [])) (c.is_header.ensures.0 c.if-not-is_header.false) next in
+    let behind : Behind g.R.Read.remaining left c.read_next.new.records (header ∷ []) =
+    subst (λ f. Behind g.R.Read.remaining left c.read_next.new.records (f ∷ [])) (c.is_header.ensures.0 c.if-not-is_header.false) next in
     record {
-      progress = rw c.new-tally.ensures (begun g.S.Store.view g.R.Read.remaining c.args.token.now c.args.day left (g.W.Write.contents c.args.out.now) c.args.office.now c.read_next.new.records behind);
+      progress = rw c.new-tally.ensures (begun g.S.Store.view g.R.Read.remaining c.args.token.now c.args.day left
+          (g.W.Write.contents c.args.out.now) c.args.office.now c.read_next.new.records behind);
       policy = refl;
       doubt = omega arith;
       few = omega arith;
@@ -59,7 +68,8 @@ returns-in_err-write_counts-clause-imports g c =
 pub returns-then-not-branch-2-clause-imports : goal.returns-then-not-branch-2-clause-imports
 returns-then-not-branch-2-clause-imports g c =
     let inv = c.loop-number.invariant in
-    let all = when_false _ _ c.if-not-branch-2.true (c.in_ok-read_next-2.ensures.next (g.R.Read.remaining c.args.reader) (header ∷ inv.progress.rows) inv.progress.behind) in
+    let all = when_false _ _ c.if-not-branch-2.true (c.in_ok-read_next-2.ensures.next (g.R.Read.remaining c.args.reader)
+    (header ∷ inv.progress.rows) inv.progress.behind) in
     ended _ _ _ _ _ _ _ _ _ _ _ _ _ inv.progress inv.few all c.in_ok-write_counts.ensures.whole
 
 pub returns-in_err-outcome-clause-imports : goal.returns-in_err-outcome-clause-imports
@@ -72,7 +82,8 @@ pub returns-in_err-write_outcome-clause-imports : goal.returns-in_err-write_outc
 returns-in_err-write_outcome-clause-imports g c =
     let inv = c.loop-number.invariant in
     let same = same_value _ _ c.digest.result c.in_ok-digest.digest (digest_of c.args.token.now) c.in_ok-digest.was c.digest.ensures in
-    let behind = when_true _ _ c.if-not-branch-2.false (c.in_ok-read_next-2.ensures.next (g.R.Read.remaining c.args.reader) (header ∷ inv.progress.rows) inv.progress.behind) in
+    let behind = when_true _ _ c.if-not-branch-2.false (c.in_ok-read_next-2.ensures.next (g.R.Read.remaining c.args.reader)
+    (header ∷ inv.progress.rows) inv.progress.behind) in
     let p = err_from_is_err_and c.from_residual-in_err-write_outcome.result c.from_residual-in_err-write_outcome.ensures.1 in
     rw (p.1, p.2) (line_short _ _ _ _ _ _ _ _ _ _ _ _ _ _ _ _ _ _ _ same inv.policy inv.progress c.if-number-gt-MOST_RECORDS.false behind c.in_ok-outcome.ensures.tries c.in_err-write_outcome.ensures.short)
 
@@ -89,7 +100,8 @@ pub loop-number-preserved : goal.loop-number-preserved
 loop-number-preserved g c =
     let inv = c.loop-number.invariant in
     let same = same_value _ _ c.digest.result c.in_ok-digest.digest (digest_of c.args.token.now) c.in_ok-digest.was c.digest.ensures in
-    let behind = when_true _ _ c.if-not-branch-2.false (c.in_ok-read_next-2.ensures.next (g.R.Read.remaining c.args.reader) (header ∷ inv.progress.rows) inv.progress.behind) in
+    let behind = when_true _ _ c.if-not-branch-2.false (c.in_ok-read_next-2.ensures.next (g.R.Read.remaining c.args.reader)
+    (header ∷ inv.progress.rows) inv.progress.behind) in
     let tries = c.in_ok-outcome.ensures.tries in
     let later = tries_doubt _ _ _ _ _ _ _ tries in
     record {

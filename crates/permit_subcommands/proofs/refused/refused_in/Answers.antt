@@ -24,13 +24,15 @@ returns-in_err-read-clause-every c = λ why named is.
 
 pub returns-in_err-word-clause-every : goal.returns-in_err-word-clause-every
 returns-in_err-word-clause-every c = λ why named is.
-    let plain = is_plain c.args.body.now why is (λ rule e. let some = c.in_default.ensures.every rule e in cc) (λ text e. let some = c.in_default-between.ensures.every text e in cc) in
+    let plain = is_plain c.args.body.now why is (λ rule e. let some = c.in_default.ensures.every rule e in cc)
+    (λ text e. let some = c.in_default-between.ensures.every text e in cc) in
     let some = c.in_err-word.ensures.every (refusal_word plain.0) plain.2 in
     cc
 
 pub returns-in_err-read-2-clause-every : goal.returns-in_err-read-2-clause-every
 returns-in_err-read-2-clause-every c = λ why named is.
-    let plain = is_plain c.args.body.now why is (λ rule e. let some = c.in_default.ensures.every rule e in cc) (λ text e. let some = c.in_default-between.ensures.every text e in cc) in
+    let plain = is_plain c.args.body.now why is (λ rule e. let some = c.in_default.ensures.every rule e in cc)
+    (λ text e. let some = c.in_default-between.ensures.every text e in cc) in
     let word = same_middle (codes "{\"refused\":\"") (codes "\"}") c.in_ok-word.word.now (refusal_word plain.0) (sym c.in_ok-word.ensures.read ∙ plain.2) in
     let read = c.in_err-read-2.ensures.reads plain.0 (sym word) in
     cc
