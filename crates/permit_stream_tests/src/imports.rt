@@ -1,9 +1,11 @@
 //! Parcel lists that are imported over vectors.
 
-use crate::streams::{BYTE_BY_BYTE, Narrow, PLAIN, Pieces, Streams};
+use crate::streams::{Narrow, Trickle};
 use permit_import::fault::ImportFault;
 use permit_import::importing::import;
+use permit_import::tally::Tally;
 use permit_office::office::Office;
+use permit_samples::ask::TOKENS;
 use permit_samples::makers::{day, parcel, token};
 use permit_samples::offices::over_vectors;
 use permit_samples::opening::OPENING;
@@ -11,171 +13,11 @@ use permit_samples::script::play;
 use permit_store::plain::PlainStore;
 use permit_store::store::Store;
 use std::alloc::Global;
+use std::io::Read;
 use std::test::Fail;
 
 /// The list of the worked rows.
-const LIST: &[u8] = b"lot,address,owner\nB-1,1 High St,5\nB-2,2 High St,99\nB-1,Other,5\n";
-
-/// A list of one parcel.
-const ONE: &[u8] = b"lot,address,owner\nB-1,1 High St,5\n";
-
-/// A list whose address has quotes, with a byte order mark and empty lines.
-const QUOTED: &[u8] =
-    b"\xEF\xBB\xBFlot,address,owner\r\n\r\n\"B-1\",\"1, High \"\"St\"\"\",5\r\n\r\n";
-
-/// Eleven records out of form, and a good one.
-const OUT_OF_FORM: &[u8] =
-    b"lot,address,owner\nB-1,1 High St\nB-1,1 High St,5,6\nB-1\nB-1,\xff,5\nb-1,1 High St,5\nB-1,,5\nB-1,1 High St,05\nB-1,1 High St,0\nB-1,1 High St,100000\nB-1,1 High St,+5\nB-1,1 High St,\nB-1,1 High St,5\n";
-
-/// An import, and what it comes to.
-#[derive(Clone, Copy)]
-struct Import<'x> {
-    name: &'x str,
-    token: &'x str,
-    day: u32,
-    list: &'x [u8],
-    streams: Streams,
-    /// How many records are added, kept and refused, or why the import ends before its end.
-    end: Result<(u32, u32, u32), ImportFault>,
-    /// What is written.
-    lines: &'x str,
-    /// The address of parcel 3, empty where there is none.
-    address: &'x str,
-}
-
-/// The import of the list by the clerk.
-const IMPORT: Import<'static> = Import {
-    name: "the list",
-    token: "clerk2clerk2clerk2",
-    day: 19700,
-    list: LIST,
-    streams: PLAIN,
-    end: Ok((1, 1, 1)),
-    lines: "1 added 3\n2 refused: not admitted, person\n3 kept\nadded 1 kept 1 refused 1\n",
-    address: "1 High St",
-};
-
-/// An import whose first record is another than wanted.
-const UNREAD: Import<'static> = Import {
-    end: Err(ImportFault::FirstRecord),
-    lines: "",
-    address: "",
-    ..IMPORT
-};
-
-/// Imports, each in an office of its own.
-const IMPORTS: &[Import<'static>] = &[
-    IMPORT,
-    Import {
-        name: "a party that may not",
-        token: "public5public5public5",
-        end: Ok((0, 0, 3)),
-        lines: "1 refused: denied by default\n2 refused: denied by default\n3 refused: denied by default\nadded 0 kept 0 refused 3\n",
-        address: "",
-        ..IMPORT
-    },
-    Import {
-        name: "an unknown caller",
-        token: "0000000000000000",
-        list: ONE,
-        end: Ok((0, 0, 1)),
-        lines: "1 refused: caller\nadded 0 kept 0 refused 1\n",
-        address: "",
-        ..IMPORT
-    },
-    Import {
-        name: "a day before the last one",
-        day: 19699,
-        list: ONE,
-        end: Ok((0, 0, 1)),
-        lines: "1 refused: clock\nadded 0 kept 0 refused 1\n",
-        address: "",
-        ..IMPORT
-    },
-    Import {
-        name: "no byte",
-        list: b"",
-        ..UNREAD
-    },
-    Import {
-        name: "empty lines alone",
-        list: b"\n\n",
-        ..UNREAD
-    },
-    Import {
-        name: "a field too few",
-        list: b"lot,address\n",
-        ..UNREAD
-    },
-    Import {
-        name: "a field too many",
-        list: b"lot,address,owner,more\n",
-        ..UNREAD
-    },
-    Import {
-        name: "a capital letter",
-        list: b"Lot,address,owner\n",
-        ..UNREAD
-    },
-    Import {
-        name: "a parcel as the first record",
-        list: b"B-1,1 High St,5\n",
-        ..UNREAD
-    },
-    Import {
-        name: "no record behind the first",
-        list: b"lot,address,owner",
-        end: Ok((0, 0, 0)),
-        lines: "added 0 kept 0 refused 0\n",
-        address: "",
-        ..IMPORT
-    },
-    Import {
-        name: "a reader that fails in record 2",
-        list: b"lot,address,owner\nB-1,1 High St,5\nB-2,2 Hi",
-        streams: FAILS,
-        end: Err(ImportFault::Reading),
-        lines: "1 added 3\n",
-        ..IMPORT
-    },
-    Import {
-        name: "a reader that fails in record 3",
-        list: b"lot,address,owner\nB-1,1 High St,5\nB-2,2 High St,99\nB-1",
-        streams: FAILS,
-        end: Err(ImportFault::Reading),
-        lines: "1 added 3\n2 refused: not admitted, person\n",
-        ..IMPORT
-    },
-    Import {
-        name: "records out of form",
-        list: OUT_OF_FORM,
-        end: Ok((1, 0, 11)),
-        lines: "1 refused: syntax\n2 refused: syntax\n3 refused: syntax\n4 refused: syntax\n5 refused: syntax\n6 refused: syntax\n7 refused: syntax\n8 refused: syntax\n9 refused: syntax\n10 refused: syntax\n11 refused: syntax\n12 added 3\nadded 1 kept 0 refused 11\n",
-        ..IMPORT
-    },
-    Import {
-        name: "quotes, a byte order mark and empty lines",
-        list: QUOTED,
-        end: Ok((1, 0, 0)),
-        lines: "1 added 3\nadded 1 kept 0 refused 0\n",
-        address: "1, High \"St\"",
-        ..IMPORT
-    },
-];
-
-/// The list once more, in an office that has it.
-const AGAIN: Import<'static> = Import {
-    name: "the list once more",
-    end: Ok((0, 2, 1)),
-    lines: "1 kept\n2 refused: not admitted, person\n3 kept\nadded 0 kept 2 refused 1\n",
-    ..IMPORT
-};
-
-/// A reader that gives one byte in one read and fails behind the last.
-const FAILS: Streams = Streams {
-    reader_fails: true,
-    ..BYTE_BY_BYTE
-};
+const LIST: &str = "lot,address,owner\nB-1,1 High St,5\nB-2,2 High St,99\nB-1,Other,5\n";
 
 /// The office with its seven parties and two parcels.
 fn opened(alloc: Global) -> Result<Office<PlainStore>, Fail> {
@@ -184,76 +26,182 @@ fn opened(alloc: Global) -> Result<Office<PlainStore>, Fail> {
     Ok(office)
 }
 
-/// How an import ends, and whether it writes the lines of the case.
-fn imported(
+/// How an import by the party ends on a day, and what it writes.
+fn imported<R: Read + Drop>(
     alloc: Global,
     office: &mut Office<PlainStore>,
-    case: &Import<'_>,
-) -> Result<(Result<(u32, u32, u32), ImportFault>, bool), Fail> {
-    let token = token(alloc, case.token)?;
-    let reader = Pieces::new(alloc, case.list, case.streams)?;
-    let mut writer = Narrow::new(alloc, case.streams)?;
-    let end = match import(alloc, office, &token, day(case.day)?, reader, &mut writer) {
-        Ok(tally) => Ok((tally.added, tally.kept, tally.refused)),
-        Err(fault) => Err(fault),
-    };
-    Ok((end, writer.taken() == case.lines.as_bytes()))
+    letters: &str,
+    number: u32,
+    reader: R,
+) -> Result<(Result<Tally, ImportFault>, String), Fail> {
+    let token = token(alloc, letters)?;
+    let mut out = Vec::new(alloc);
+    let ended = import(alloc, office, &token, day(number)?, reader, &mut out);
+    Ok((ended, String::from_utf8(out).ok().ok_or("lines are text")?))
 }
 
-/// Whether the parcel that an import adds has the address of the case, and none stands behind it.
-fn has_parcel(office: Office<PlainStore>, case: &Import<'_>) -> Result<bool, Fail> {
-    let mut store = office.into_store();
-    let (third, fourth) = (store.parcel(parcel(3)?)?, store.parcel(parcel(4)?)?);
-    let address = match &third {
-        Some(parcel) => parcel.address.as_str(),
-        None => "",
-    };
-    Ok(address == case.address && fourth.is_none())
-}
-
-/// Fails where the imports, one after the other in a new office, don't come to what is wanted.
-fn hold(alloc: Global, cases: &[Import<'_>]) -> Result<(), Fail> {
-    let mut office = opened(alloc)?;
-    let mut last = IMPORT;
-    for case in cases {
-        let (end, writes) = imported(alloc, &mut office, case)?;
-        if end != case.end || !writes {
-            return Err(Fail::new(case.name));
-        }
-        last = *case;
+/// What an import of a whole list by the clerk writes, with its counts.
+fn lines(
+    alloc: Global,
+    office: &mut Office<PlainStore>,
+    list: &[u8],
+) -> Result<((u32, u32, u32), String), Fail> {
+    let (ended, lines) = imported(alloc, office, TOKENS[1], 19700, list)?;
+    match ended {
+        Ok(tally) => Ok(((tally.added, tally.kept, tally.refused), lines)),
+        Err(_) => Err(Fail::new("an import with its counts")),
     }
-    if !has_parcel(office, &last)? {
-        return Err(Fail::new(last.name));
+}
+
+/// How many parcels there are.
+fn parcels(office: Office<PlainStore>) -> Result<u32, Fail> {
+    Ok(office.into_store().desk()?.parcels)
+}
+
+/// The address of a parcel.
+fn address_of(alloc: Global, office: Office<PlainStore>, number: u32) -> Result<String, Fail> {
+    let found = office
+        .into_store()
+        .parcel(parcel(number)?)?
+        .ok_or("a parcel")?;
+    Ok(String::from_str(alloc, found.address.as_str())?)
+}
+
+#[test]
+fn import_twice(rt: HostRuntime) -> Result<(), Fail> {
+    let mut office = opened(rt.alloc())?;
+    let (counts, first) = lines(rt.alloc(), &mut office, LIST.as_bytes())?;
+    assert_eq!(rt;
+        first.as_str(),
+        "1 added 3\n2 refused: not admitted, person\n3 kept\nadded 1 kept 1 refused 1\n"
+    );
+    assert_eq!(rt; counts, (1, 1, 1));
+    let (counts, again) = lines(rt.alloc(), &mut office, LIST.as_bytes())?;
+    assert_eq!(rt;
+        again.as_str(),
+        "1 kept\n2 refused: not admitted, person\n3 kept\nadded 0 kept 2 refused 1\n"
+    );
+    assert_eq!(rt; counts, (0, 2, 1));
+    assert_eq!(rt; parcels(office)?, 3);
+    Ok(())
+}
+
+#[test]
+fn import_denied(rt: HostRuntime) -> Result<(), Fail> {
+    let mut office = opened(rt.alloc())?;
+    let (ended, lines) = imported(rt.alloc(), &mut office, TOKENS[4], 19700, LIST.as_bytes())?;
+    assert_eq!(rt;
+        lines.as_str(),
+        "1 refused: denied by default\n2 refused: denied by default\n3 refused: denied by default\nadded 0 kept 0 refused 3\n"
+    );
+    assert!(rt; ended.is_ok());
+    assert_eq!(rt; parcels(office)?, 2);
+    Ok(())
+}
+
+#[test]
+fn callers_and_days_are_told(rt: HostRuntime) -> Result<(), Fail> {
+    let mut office = opened(rt.alloc())?;
+    let list = b"lot,address,owner\nB-1,1 High St,5\n".as_slice();
+    let (_, lines) = imported(rt.alloc(), &mut office, "0000000000000000", 19700, list)?;
+    assert_eq!(rt;
+        lines.as_str(),
+        "1 refused: caller\nadded 0 kept 0 refused 1\n"
+    );
+    let (_, lines) = imported(rt.alloc(), &mut office, TOKENS[1], 19699, list)?;
+    assert_eq!(rt;
+        lines.as_str(),
+        "1 refused: clock\nadded 0 kept 0 refused 1\n"
+    );
+    Ok(())
+}
+
+#[test]
+fn another_first_record_is_a_fault(rt: HostRuntime) -> Result<(), Fail> {
+    for list in [
+        "",
+        "\n\n",
+        "lot,address\n",
+        "lot,address,owner,more\n",
+        "Lot,address,owner\n",
+        "B-1,1 High St,5\n",
+    ] {
+        let mut office = opened(rt.alloc())?;
+        let (ended, lines) = imported(rt.alloc(), &mut office, TOKENS[1], 19700, list.as_bytes())?;
+        assert!(rt; ended == Err(ImportFault::FirstRecord), "{list}");
+        assert!(rt; lines.is_empty());
+        assert_eq!(rt; parcels(office)?, 2);
     }
     Ok(())
 }
 
 #[test]
-fn imports(rt: HostRuntime) -> Result<(), Fail> {
-    let alloc = rt.alloc();
-    for case in IMPORTS {
-        hold(alloc, &[*case])?;
+fn a_list_may_have_no_record_behind_the_first(rt: HostRuntime) -> Result<(), Fail> {
+    let mut office = opened(rt.alloc())?;
+    let (_, lines) = lines(rt.alloc(), &mut office, b"lot,address,owner")?;
+    assert_eq!(rt; lines.as_str(), "added 0 kept 0 refused 0\n");
+    Ok(())
+}
+
+#[test]
+fn a_reader_that_fails_leaves_what_was_tried(rt: HostRuntime) -> Result<(), Fail> {
+    let mut office = opened(rt.alloc())?;
+    let reader = Trickle {
+        rest: b"lot,address,owner\nB-1,1 High St,5\nB-2,2 Hi",
+        fails: true,
+    };
+    let (ended, lines) = imported(rt.alloc(), &mut office, TOKENS[1], 19700, reader)?;
+    assert!(rt; ended == Err(ImportFault::Reading));
+    assert_eq!(rt; lines.as_str(), "1 added 3\n");
+    assert_eq!(rt; parcels(office)?, 3);
+    Ok(())
+}
+
+#[test]
+fn a_writer_that_fails_leaves_what_was_tried(rt: HostRuntime) -> Result<(), Fail> {
+    let whole = b"1 added 3\n2 refused: not admitted, person\n3 kept\nadded 1 kept 1 refused 1\n";
+    for fails_at in [0, 4, 10, 30, 50, 60] {
+        let mut office = opened(rt.alloc())?;
+        let token = token(rt.alloc(), TOKENS[1])?;
+        let mut out = Narrow::new(7, fails_at);
+        let ended = import(
+            rt.alloc(),
+            &mut office,
+            &token,
+            day(19700)?,
+            LIST.as_bytes(),
+            &mut out,
+        );
+        assert!(rt; ended == Err(ImportFault::Writing));
+        assert!(rt; whole.starts_with(out.taken()) && out.taken().len() == fails_at);
+        assert_eq!(rt; parcels(office)?, 3);
     }
-    hold(alloc, &[IMPORT, AGAIN])?;
-    for room in 0..IMPORT.lines.len() {
-        for at_once in [7, 1000] {
-            let streams = Streams {
-                at_once,
-                room,
-                ..PLAIN
-            };
-            let lines = IMPORT.lines.get(..room).ok_or("a beginning")?;
-            hold(
-                alloc,
-                &[Import {
-                    name: "a writer that fails",
-                    streams,
-                    end: Err(ImportFault::Writing),
-                    lines,
-                    ..IMPORT
-                }],
-            )?;
-        }
-    }
+    Ok(())
+}
+
+#[test]
+fn records_out_of_form_are_refused_one_by_one(rt: HostRuntime) -> Result<(), Fail> {
+    let mut office = opened(rt.alloc())?;
+    let list =
+        b"lot,address,owner\nB-1,1 High St\nB-1,1 High St,5,6\nB-1\nB-1,\xff,5\nb-1,1 High St,5\nB-1,,5\nB-1,1 High St,05\nB-1,1 High St,0\nB-1,1 High St,100000\nB-1,1 High St,+5\nB-1,1 High St,\nB-1,1 High St,5\n";
+    let (counts, lines) = lines(rt.alloc(), &mut office, list)?;
+    assert_eq!(rt;
+        lines.as_str(),
+        "1 refused: syntax\n2 refused: syntax\n3 refused: syntax\n4 refused: syntax\n5 refused: syntax\n6 refused: syntax\n7 refused: syntax\n8 refused: syntax\n9 refused: syntax\n10 refused: syntax\n11 refused: syntax\n12 added 3\nadded 1 kept 0 refused 11\n"
+    );
+    assert_eq!(rt; counts, (1, 0, 11));
+    Ok(())
+}
+
+#[test]
+fn quotes_marks_and_empty_lines_are_read_as_such(rt: HostRuntime) -> Result<(), Fail> {
+    let mut office = opened(rt.alloc())?;
+    let list = b"\xEF\xBB\xBFlot,address,owner\r\n\r\n\"B-1\",\"1, High \"\"St\"\"\",5\r\n\r\n";
+    let (_, lines) = lines(rt.alloc(), &mut office, list)?;
+    assert_eq!(rt; lines.as_str(), "1 added 3\nadded 1 kept 0 refused 0\n");
+    assert_eq!(rt;
+        address_of(rt.alloc(), office, 3)?.as_str(),
+        "1, High \"St\""
+    );
     Ok(())
 }

@@ -5,9 +5,9 @@
 #[cfg(test)]
 mod answers;
 #[cfg(test)]
-mod connections;
-#[cfg(test)]
 mod hall;
+#[cfg(test)]
+mod hall_streams;
 #[cfg(test)]
 mod imports;
 #[cfg(test)]
@@ -15,12 +15,8 @@ mod memory_doors;
 #[cfg(test)]
 mod messages;
 #[cfg(test)]
-mod offices;
-#[cfg(test)]
 mod registers;
 #[cfg(test)]
-mod requests;
-#[cfg(test)]
-mod serving;
-#[cfg(test)]
 mod streams;
+#[cfg(test)]
+mod wire;

@@ -2,31 +2,41 @@
 
 ghost use Rattle.std.specs.Prelude.{◌≡◌, []};
 
-use crate::streams::{Narrow, Pieces, Streams};
 use permit_base::values::Day;
 use permit_hall::doors::{Door, HallEnd, run_hall};
 use permit_hall::error::HallError;
 use permit_office::office::Office;
 use permit_store::plain::PlainStore;
 use std::alloc::Global;
-use std::io::{self, Write};
+use std::io::{self, ErrorKind, Read, Write};
 use std::sync::atomic::{AtomicBool, Ordering};
 use std::sync::{Arc, Mutex, Wait};
 use std::test::*;
 use std::thread::{self, Threads};
 
-/// What a connection wrote, and whether it wrote anything yet.
+/// What connections wrote, one after the other, and whether one wrote anything yet.
 #[derive(Drop)]
 pub struct Record {
-    writer: Mutex<Narrow>,
+    text: Mutex<String>,
     begun: AtomicBool,
 }
 
 pub type Shared = Arc<Record, Global>;
 
-/// What a writer took whose connection is at its end.
-pub fn written<R: Wait>(rt: &R, alloc: Global, record: &Shared) -> Result<Vec<u8>, Fail> {
-    Ok(Vec::from_slice(alloc, record.writer.lock(rt).taken())?)
+/// A record of nothing yet.
+pub fn new_record(alloc: Global) -> Result<Shared, Fail> {
+    Ok(Arc::new(
+        alloc,
+        Record {
+            text: Mutex::new(String::new(alloc)),
+            begun: AtomicBool::new(false),
+        },
+    )?)
+}
+
+/// What was written.
+pub fn written<R: Wait>(rt: &R, alloc: Global, record: &Shared) -> Result<String, Fail> {
+    Ok(String::from_str(alloc, record.text.lock(rt).as_str())?)
 }
 
 /// Whether something is written before a million looks.
@@ -40,16 +50,65 @@ fn has_begun(record: &Shared) -> bool {
     false
 }
 
-/// Where a connection writes its answers.
+/// How the streams of a connection go wrong.
+#[derive(Clone, Copy)]
+pub struct Trouble {
+    /// Whether the reader fails, and doesn't end, behind the requests.
+    pub reader_fails: bool,
+    /// How many bytes the writer takes at most in one write.
+    pub at_once: usize,
+    /// How many bytes the writer takes before it fails.
+    pub fails_at: usize,
+}
+
+/// Streams that do as memory does.
+pub const NO_TROUBLE: Trouble = Trouble {
+    reader_fails: false,
+    at_once: usize::MAX,
+    fails_at: usize::MAX,
+};
+
+/// The requests of a connection, behind which its input ends, or fails.
+#[derive(Drop)]
+pub struct Requests {
+    bytes: Vec<u8>,
+    at: usize,
+    fails: bool,
+}
+
+impl Read for Requests {
+    fn read(&mut self, buf: &mut [u8]) -> io::Result<usize> {
+        let mut rest = self.bytes.get(self.at..).unwrap_or(&[]);
+        if rest.is_empty() && self.fails {
+            return Err(io::Error::from(ErrorKind::ConnectionReset));
+        }
+        let count = rest.read(buf)?;
+        self.at = self.at.saturating_add(count);
+        Ok(count)
+    }
+}
+
+/// Where a connection writes its answers, until no byte more is free.
 #[derive(Drop)]
 pub struct Answers<R: Wait + Drop> {
     rt: R,
     record: Shared,
+    at_once: usize,
+    free: usize,
 }
 
 impl<R: Wait + Drop> Write for Answers<R> {
     fn write(&mut self, bytes: &[u8]) -> io::Result<usize> {
-        let count = self.record.writer.lock(&self.rt).write(bytes)?;
+        if self.free == 0 {
+            return Err(io::Error::from(ErrorKind::BrokenPipe));
+        }
+        let count = bytes.len().min(self.at_once).min(self.free);
+        let taken = str::from_utf8(&bytes[..count]).unwrap_or("?");
+        let mut text = self.record.text.lock(&self.rt);
+        if text.push_str(taken).is_err() {
+            return Err(io::Error::from(ErrorKind::OutOfMemory));
+        }
+        self.free = self.free.saturating_sub(count);
         self.record.begun.store(true, Ordering::SeqCst);
         Ok(count)
     }
@@ -59,62 +118,49 @@ impl<R: Wait + Drop> Write for Answers<R> {
     }
 }
 
+/// A connection with these requests, whose answers go into the record.
+pub fn connection<R: Wait + Drop>(
+    rt: R,
+    record: &Shared,
+    bytes: Vec<u8>,
+    trouble: Trouble,
+) -> Result<(Requests, Answers<R>), Fail> {
+    let requests = Requests {
+        bytes,
+        at: 0,
+        fails: trouble.reader_fails,
+    };
+    let answers = Answers {
+        rt,
+        record: Arc::try_clone(record)?,
+        at_once: trouble.at_once,
+        free: trouble.fails_at,
+    };
+    Ok((requests, answers))
+}
+
 /// A door whose connections are in memory, the last one first. It may wait, before it gives one, until another has
 /// written.
 #[derive(Drop)]
 pub struct MemoryDoor<R: Wait + Drop> {
-    connections: Vec<(Pieces, Answers<R>)>,
-    waits_for: Option<Shared>,
+    pub connections: Vec<(Requests, Answers<R>)>,
+    pub waits_for: Option<Shared>,
 }
 
 impl<R: Wait + Drop + Send> Door for MemoryDoor<R> {
-    type In = Pieces;
+    type In = Requests;
 
     type Out = Answers<R>;
 
     ghost spent = { λ d. d.connections.items ≡ [] };
 
-    fn next(&mut self) -> Option<(Pieces, Answers<R>)> {
+    fn next(&mut self) -> Option<(Requests, Answers<R>)> {
         if let Some(record) = &self.waits_for {
             if !has_begun(record) {
                 self.connections.clear();
             }
         }
         self.connections.pop()
-    }
-}
-
-impl<R: Wait + Copy + Drop> MemoryDoor<R> {
-    /// A door without a connection.
-    pub fn new(alloc: Global, waits_for: Option<Shared>) -> MemoryDoor<R> {
-        MemoryDoor {
-            connections: Vec::new(alloc),
-            waits_for,
-        }
-    }
-
-    /// A connection more, which the door gives before the others. What it writes is kept.
-    pub fn add(
-        &mut self,
-        rt: R,
-        alloc: Global,
-        sent: &[u8],
-        streams: Streams,
-    ) -> Result<Shared, Fail> {
-        let record = Arc::new(
-            alloc,
-            Record {
-                writer: Mutex::new(Narrow::new(alloc, streams)?),
-                begun: AtomicBool::new(false),
-            },
-        )?;
-        let requests = Pieces::new(alloc, sent, streams)?;
-        let answers = Answers {
-            rt,
-            record: Arc::try_clone(&record)?,
-        };
-        self.connections.push((requests, answers))?;
-        Ok(record)
     }
 }
 

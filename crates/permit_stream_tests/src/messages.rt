@@ -1,89 +1,27 @@
-//! When the first fault of a message's head comes, and what whole messages give.
+//! When the first fault of a message's head comes, and what whole requests give.
 
-use crate::streams::{BYTE_BY_BYTE, Pieces, Streams};
+use crate::streams::Trickle;
 use permit_http::error::WireError;
 use permit_http::fault::Fault;
 use permit_http::inbox::Inbox;
 use std::alloc::{AllocError, Global};
-use std::test::Fail;
 
 /// What reading one message gives, `None` for the end.
-type Outcome = Option<Result<(), WireError>>;
+fn outcome(text: &[u8], fails: bool) -> Option<Result<(), WireError>> {
+    let mut inbox = Inbox::new();
+    let mut reader = Trickle { rest: text, fails };
+    match inbox.read_message(&mut reader) {
+        Ok(None) => None,
+        Ok(Some(_)) => Some(Ok(())),
+        Err(error) => Some(Err(error)),
+    }
+}
 
-const WHOLE: Outcome = Some(Ok(()));
-
-const ENDED: Outcome = Some(Err(WireError::Ended));
-
-const READ_FAILED: Outcome = Some(Err(WireError::ReadFailed));
-
-const HEAD: Outcome = Some(Err(WireError::Fault(Fault::Head)));
-
-const VERSION: Outcome = Some(Err(WireError::Fault(Fault::Version)));
-
-const LENGTH: Outcome = Some(Err(WireError::Fault(Fault::Length)));
-
-const LARGE: Outcome = Some(Err(WireError::Fault(Fault::Large)));
-
-/// A message of 59 bytes, the last five of them its body.
-const FIVE: &[u8] = b"GET / HTTP/1.1\r\nHost: a\r\nContent-Length: 000000005\r\n\r\n12345";
-
-/// Bytes, what they give where the input ends behind them, and what where the reader fails there.
-const MESSAGES: &[(&[u8], Outcome, Outcome)] = &[
-    (b"", None, READ_FAILED),
-    (b"\r\n", ENDED, READ_FAILED),
-    (FIVE, WHOLE, WHOLE),
-    (b"G\x01T", HEAD, HEAD),
-    (b"GET / HTTP/1.0\r\nHost: a\r\n\r\n", VERSION, VERSION),
-    (b"GET / HTTP/1.1\r\n\r\n", VERSION, VERSION),
-    (
-        b"GET / HTTP/1.1\r\nHost: a\r\nhost: b\r\n\r\n",
-        VERSION,
-        VERSION,
-    ),
-    (
-        b"GET / HTTP/1.1\r\nHost: a\r\nExpect: 100-continue\r\n\r\n",
-        VERSION,
-        VERSION,
-    ),
-    (
-        b"GET / HTTP/1.1\r\nHost: a\r\nTransfer-Encoding: chunked\r\n\r\n",
-        LENGTH,
-        LENGTH,
-    ),
-    (
-        b"GET / HTTP/1.1\r\nHost: a\r\nContent-Length: 1\r\nContent-Length: 1\r\n\r\n",
-        LENGTH,
-        LENGTH,
-    ),
-    (
-        b"GET / HTTP/1.1\r\nHost: a\r\nContent-Length: 0000000005\r\n\r\n",
-        LENGTH,
-        LENGTH,
-    ),
-    (
-        b"GET / HTTP/1.1\r\nHost: a\r\nContent-Length: +5\r\n\r\n",
-        LENGTH,
-        LENGTH,
-    ),
-    (
-        b"GET / HTTP/1.1\r\nHost: a\r\nContent-Length: 16385\r\n\r\n",
-        LARGE,
-        LARGE,
-    ),
-];
-
-/// How many bytes a head has, and what a message with it gives.
-const SIZES: [(usize, Outcome); 6] = [
-    (60, WHOLE),
-    (200, WHOLE),
-    (1000, WHOLE),
-    (4000, WHOLE),
-    (8192, WHOLE),
-    (8193, HEAD),
-];
-
-/// How many fields a head has, and what a message with it gives.
-const COUNTS: [(usize, Outcome); 2] = [(32, WHOLE), (33, HEAD)];
+/// The outcome is the same whether the input ends or the reader fails behind these bytes.
+fn answers_at_once(text: &[u8], fault: Fault) -> bool {
+    let told = Some(Err(WireError::Fault(fault)));
+    outcome(text, false) == told && outcome(text, true) == told
+}
 
 /// A request whose head has so many bytes.
 pub fn padded(alloc: Global, size: usize) -> Result<Vec<u8>, AllocError> {
@@ -108,89 +46,106 @@ pub fn fields(alloc: Global, count: usize) -> Result<Vec<u8>, AllocError> {
     Ok(text)
 }
 
-/// Fails where reading a message from these bytes, one in one read, gives something else than wanted.
-fn gives(alloc: Global, bytes: &[u8], reader_fails: bool, wanted: Outcome) -> Result<(), Fail> {
-    let mut inbox = Inbox::new();
-    let streams = Streams {
-        reader_fails,
-        ..BYTE_BY_BYTE
-    };
-    let mut reader = Pieces::new(alloc, bytes, streams)?;
-    let outcome = match inbox.read_message(&mut reader) {
-        Ok(None) => None,
-        Ok(Some(_)) => Some(Ok(())),
-        Err(error) => Some(Err(error)),
-    };
-    if outcome == wanted {
-        return Ok(());
+#[test]
+fn heads_up_to_the_limits(rt: HostRuntime) {
+    for size in [60usize, 200, 1000, 4000, 8192] {
+        let text = padded(rt.alloc(), size).expect(&rt, "memory");
+        assert!(rt; outcome(text.as_slice(), false) == Some(Ok(())));
     }
-    let shown = str::from_utf8(bytes).unwrap_or("other bytes");
-    Err(Fail::new(format!(in alloc; "reader fails {reader_fails}: {shown}")?))
-}
-
-/// The same outcome, whether the input ends or the reader fails behind the bytes.
-fn gives_at_once(alloc: Global, bytes: &[u8], wanted: Outcome) -> Result<(), Fail> {
-    gives(alloc, bytes, false, wanted)?;
-    gives(alloc, bytes, true, wanted)
+    let text = padded(rt.alloc(), 8193).expect(&rt, "memory");
+    assert!(rt; answers_at_once(text.as_slice(), Fault::Head));
+    let text = fields(rt.alloc(), 32).expect(&rt, "memory");
+    assert!(rt; outcome(text.as_slice(), false) == Some(Ok(())));
+    let text = fields(rt.alloc(), 33).expect(&rt, "memory");
+    assert!(rt; answers_at_once(text.as_slice(), Fault::Head));
 }
 
 #[test]
-fn messages_up_to_their_ends(rt: HostRuntime) -> Result<(), Fail> {
-    let alloc = rt.alloc();
-    for (bytes, at_end, at_failure) in MESSAGES {
-        gives(alloc, bytes, false, *at_end)?;
-        gives(alloc, bytes, true, *at_failure)?;
-    }
-    for at in 1..FIVE.len() {
-        gives(alloc, &FIVE[..at], false, ENDED)?;
-        gives(alloc, &FIVE[..at], true, READ_FAILED)?;
-    }
-    for (size, wanted) in SIZES {
-        gives_at_once(alloc, padded(alloc, size)?.as_slice(), wanted)?;
-    }
-    for (count, wanted) in COUNTS {
-        gives_at_once(alloc, fields(alloc, count)?.as_slice(), wanted)?;
-    }
-    Ok(())
+fn faults_of_heads(rt: HostRuntime) {
+    assert!(rt; answers_at_once(b"G\x01T", Fault::Head));
+    assert!(rt; answers_at_once(b"GET / HTTP/1.0\r\nHost: a\r\n\r\n", Fault::Version));
+    assert!(rt; answers_at_once(b"GET / HTTP/1.1\r\n\r\n", Fault::Version));
+    assert!(rt;
+        answers_at_once(
+            b"GET / HTTP/1.1\r\nHost: a\r\nhost: b\r\n\r\n",
+            Fault::Version
+        )
+    );
+    assert!(rt;
+        answers_at_once(
+            b"GET / HTTP/1.1\r\nHost: a\r\nExpect: 100-continue\r\n\r\n",
+            Fault::Version
+        )
+    );
+    assert!(rt;
+        answers_at_once(
+            b"GET / HTTP/1.1\r\nHost: a\r\nTransfer-Encoding: chunked\r\n\r\n",
+            Fault::Length
+        )
+    );
+    assert!(rt;
+        answers_at_once(
+            b"GET / HTTP/1.1\r\nHost: a\r\nContent-Length: 1\r\nContent-Length: 1\r\n\r\n",
+            Fault::Length
+        )
+    );
+    assert!(rt;
+        answers_at_once(
+            b"GET / HTTP/1.1\r\nHost: a\r\nContent-Length: 0000000005\r\n\r\n",
+            Fault::Length
+        )
+    );
+    assert!(rt;
+        answers_at_once(
+            b"GET / HTTP/1.1\r\nHost: a\r\nContent-Length: +5\r\n\r\n",
+            Fault::Length
+        )
+    );
+    assert!(rt;
+        answers_at_once(
+            b"GET / HTTP/1.1\r\nHost: a\r\nContent-Length: 16385\r\n\r\n",
+            Fault::Large
+        )
+    );
 }
 
-/// What stands in a message: its method, its path, its body, its `Authorization`, and whether it closes.
-type Parts = (
-    &'static str,
-    &'static str,
-    &'static str,
-    Option<&'static [u8]>,
-    bool,
-);
-
-const TWO: &[u8] =
-    b"POST /files HTTP/1.1\r\nHost: a\r\nAuthorization: Bearer t \r\nContent-Length: 2\r\n\r\n{}GET /files HTTP/1.1\r\nHost: a\r\nCONNECTION: Close\r\n\r\nmore";
-
-const PARTS_OF_TWO: [Parts; 2] = [
-    ("POST", "/files", "{}", Some(b"Bearer t"), false),
-    ("GET", "/files", "", None, true),
-];
+#[test]
+fn ends_and_failures(rt: HostRuntime) {
+    assert!(rt; outcome(b"", false) == None);
+    assert!(rt; outcome(b"", true) == Some(Err(WireError::ReadFailed)));
+    assert!(rt; outcome(b"\r\n", false) == Some(Err(WireError::Ended)));
+    let text = b"GET / HTTP/1.1\r\nHost: a\r\nContent-Length: 000000005\r\n\r\n12345";
+    for at in 1..text.len() {
+        assert!(rt; outcome(&text[..at], false) == Some(Err(WireError::Ended)));
+        assert!(rt; outcome(&text[..at], true) == Some(Err(WireError::ReadFailed)));
+    }
+    assert!(rt; outcome(text, true) == Some(Ok(())));
+}
 
 #[test]
 fn parts_of_two_messages(rt: HostRuntime) {
+    let text =
+        b"POST /files HTTP/1.1\r\nHost: a\r\nAuthorization: Bearer t \r\nContent-Length: 2\r\n\r\n{}GET /files HTTP/1.1\r\nHost: a\r\nCONNECTION: Close\r\n\r\nmore";
     let mut inbox = Inbox::new();
-    let mut reader = TWO;
-    for (method, path, body, authorization, closes) in PARTS_OF_TWO {
-        let Ok(Some(spans)) = inbox.read_message(&mut reader) else {
-            return assert!(rt; false, "{method}");
-        };
-        let message = inbox.message(&spans);
-        assert!(rt;
-            message.method == method.as_bytes() && message.path == path.as_bytes(),
-            "{method}"
-        );
-        assert!(rt;
-            message.body == body.as_bytes() && message.closes == closes,
-            "{method}"
-        );
-        assert!(rt; message.authorization == authorization, "{method}");
-        inbox.let_go(&spans);
-        assert!(rt; inbox.is_closed() == closes, "{method}");
-    }
-    assert!(rt; inbox.as_slice() == b"more".as_slice());
+    let mut reader = text.as_slice();
+    let Ok(Some(spans)) = inbox.read_message(&mut reader) else {
+        return assert!(rt; false);
+    };
+    let message = inbox.message(&spans);
+    assert!(rt;
+        message.method == b"POST".as_slice()
+            && message.path == b"/files".as_slice()
+            && message.body == b"{}".as_slice()
+    );
+    assert!(rt; message.authorization == Some(b"Bearer t".as_slice()) && !message.closes);
+    inbox.let_go(&spans);
+    assert!(rt; !inbox.is_closed());
+    let Ok(Some(spans)) = inbox.read_message(&mut reader) else {
+        return assert!(rt; false);
+    };
+    let message = inbox.message(&spans);
+    assert!(rt; message.method == b"GET".as_slice() && message.body.is_empty());
+    assert!(rt; message.authorization.is_none() && message.closes);
+    inbox.let_go(&spans);
+    assert!(rt; inbox.is_closed() && inbox.as_slice() == b"more".as_slice());
 }
