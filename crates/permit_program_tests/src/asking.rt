@@ -1,6 +1,6 @@
 //! What is printed for a request to an office over vectors, and why an answer says that it was refused.
 
-use crate::run::Paper;
+use crate::run::text;
 use permit_args::plan::{ActWords, DayWords, OfficeWords};
 use permit_base::refusal::Reason;
 use permit_base::values::RuleName;
@@ -47,19 +47,19 @@ fn asked<'x>(
         path,
         body: None,
     };
-    let mut out = Paper::new(alloc, usize::MAX);
-    let end = match request(alloc, &words) {
+    let mut out = Vec::new(alloc);
+    let told = match request(alloc, &words) {
         Ok(request) => show(
             ask(alloc, office, request.as_str(), day(FOUNDED)?)?.as_slice(),
             &mut out,
         ),
         Err(fault) => Err(fault),
     };
-    let line = match end {
+    let line = match told {
         Ok(()) => String::new(alloc),
         Err(fault) => fault.to_string(alloc)?,
     };
-    Ok((out.into_text()?, line))
+    Ok((text(out)?, line))
 }
 
 #[test]
@@ -91,8 +91,8 @@ fn requests_are_answered(rt: HostRuntime) -> Result<(), Fail> {
         ("GET", "/files/1 ", TOKENS[0], "", "refused: syntax"),
         ("", "/files/1", TOKENS[0], "", "refused: syntax"),
     ] {
-        let (out, fault) = asked(&rt, &mut office, method, path, token)?;
-        assert_eq!(rt; (out.as_str(), fault.as_str()), (body, line));
+        let (out, told) = asked(&rt, &mut office, method, path, token)?;
+        assert_eq!(rt; (out.as_str(), told.as_str()), (body, line));
     }
     Ok(())
 }

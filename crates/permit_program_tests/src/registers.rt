@@ -1,6 +1,7 @@
 //! A register of many files, over vectors, and a writer that fails.
 
-use crate::run::Paper;
+ghost use Rattle.std.specs.Prelude.{◌≤◌};
+
 use permit_base::request::{Asked, Filter, Request};
 use permit_base::values::Cents;
 use permit_base::words::{Kind, RegisterKind};
@@ -16,10 +17,36 @@ use permit_store::plain::PlainStore;
 use permit_subcommands::failure::Failure;
 use permit_subcommands::listing::{list, write_register};
 use std::alloc::Global;
+use std::io::{self, ErrorKind, Write};
 use std::test::Fail;
 
 /// The day of the filings.
 const FILED_ON: u32 = 19723;
+
+/// A writer that fails once it holds 300 bytes.
+#[derive(Drop)]
+struct Cut {
+    bytes: [u8; 300],
+    len: usize,
+    ghost within: { len ≤ 300 },
+}
+
+impl Write for Cut {
+    fn write(&mut self, bytes: &[u8]) -> io::Result<usize> {
+        let free = self.bytes.len() - self.len;
+        if free == 0 {
+            return Err(io::Error::from(ErrorKind::BrokenPipe));
+        }
+        let count = bytes.len().min(free);
+        self.bytes[self.len..self.len + count].copy_from_slice(&bytes[..count]);
+        self.len += count;
+        Ok(count)
+    }
+
+    fn flush(&mut self) -> io::Result<()> {
+        Ok(())
+    }
+}
 
 /// Party 5 files on parcel 1.
 fn file(alloc: Global, office: &mut Office<PlainStore>) -> Result<(), Fail> {
@@ -36,18 +63,6 @@ fn file(alloc: Global, office: &mut Office<PlainStore>) -> Result<(), Fail> {
     }
 }
 
-/// How the register of files is written, with room for so many bytes.
-fn written(
-    alloc: Global,
-    office: &mut Office<PlainStore>,
-    room: usize,
-) -> Result<(Result<(), Failure>, Paper), Fail> {
-    let mut out = Paper::new(alloc, room);
-    let token = token(alloc, TOKENS[0])?;
-    let end = write_register(office, token, RegisterKind::Files, day(FILED_ON)?, &mut out);
-    Ok((end, out))
-}
-
 #[test]
 fn a_thousand_files_and_a_writer_that_fails(rt: HostRuntime) -> Result<(), Fail> {
     let alloc = rt.alloc();
@@ -56,8 +71,9 @@ fn a_thousand_files_and_a_writer_that_fails(rt: HostRuntime) -> Result<(), Fail>
     for _ in 0..1000 {
         file(alloc, &mut office)?;
     }
+    let official = TOKENS[0];
     let on = day(FILED_ON)?;
-    let listing = list(&mut office, token(alloc, TOKENS[0])?, Filter::All, on)
+    let listing = list(&mut office, token(alloc, official)?, Filter::All, on)
         .ok()
         .ok_or("a listing")?;
     assert_eq!(rt; (listing.files.len(), listing.read), (1000, 1000));
@@ -65,10 +81,20 @@ fn a_thousand_files_and_a_writer_that_fails(rt: HostRuntime) -> Result<(), Fail>
     register(RegisterKind::Files, on, &listing.files, &mut whole)
         .ok()
         .ok_or("a register")?;
-    let (end, out) = written(alloc, &mut office, usize::MAX)?;
-    assert!(rt; end.is_ok() && out.taken() == whole.as_slice());
-    let (end, out) = written(alloc, &mut office, 300)?;
-    assert!(rt; matches!(end, Err(Failure::Output)));
-    assert!(rt; whole.starts_with(out.taken()) && out.taken().len() == 300);
+    let mut out = Vec::new(alloc);
+    let token_of = token(alloc, official)?;
+    let written = write_register(&mut office, token_of, RegisterKind::Files, on, &mut out);
+    assert!(rt; written.is_ok());
+    assert!(rt; out.as_slice() == whole.as_slice());
+    let mut cut = Cut {
+        bytes: [0; 300],
+        len: 0,
+    };
+    let token_of = token(alloc, official)?;
+    match write_register(&mut office, token_of, RegisterKind::Files, on, &mut cut) {
+        Err(Failure::Output) => {}
+        _ => return Err(Fail::new("a writer that fails is no fault of the output")),
+    }
+    assert!(rt; whole.starts_with(&cut.bytes));
     Ok(())
 }

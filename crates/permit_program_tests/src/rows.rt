@@ -4,7 +4,7 @@ use crate::program::Program;
 use permit_office::office::Office;
 use permit_samples::offices::{over_vectors, under};
 use permit_samples::opening::OPENING;
-use permit_samples::scenarios::{self, UnderPolicy};
+use permit_samples::scenarios::{self, Scenario, UnderPolicy};
 use permit_samples::script::{agree, play};
 use permit_store::plain::PlainStore;
 use std::sync::Wait;
@@ -97,26 +97,56 @@ fn hold<R: Threads + Wait + Copy + Drop + Send + 'static>(
     Ok(removed?)
 }
 
-#[test]
-fn each_row_holds(rt: HostRuntime) -> Result<(), Fail> {
-    for rows in [
-        scenarios::filings(),
-        scenarios::applications(),
-        scenarios::inspections(),
-        scenarios::orders(),
-        scenarios::certificates(),
-        scenarios::listings(),
-    ] {
-        for scripts in rows {
-            hold(&rt, rt, scripts, None)?;
-        }
+/// The same for each row alone.
+fn hold_each<R: Threads + Wait + Copy + Drop + Send + 'static>(
+    rt: &HostRuntime,
+    workers: R,
+    rows: &[Scenario],
+) -> Result<(), Fail> {
+    for scripts in rows {
+        hold(rt, workers, scripts, None)?;
     }
-    hold(
-        &rt,
-        rt,
-        &[scenarios::limits_of_text(rt.alloc())?.as_str()],
-        None,
-    )?;
+    Ok(())
+}
+
+#[test]
+fn filings(rt: HostRuntime) -> Result<(), Fail> {
+    hold_each(&rt, rt, scenarios::filings())
+}
+
+#[test]
+fn applications(rt: HostRuntime) -> Result<(), Fail> {
+    hold_each(&rt, rt, scenarios::applications())
+}
+
+#[test]
+fn inspections(rt: HostRuntime) -> Result<(), Fail> {
+    hold_each(&rt, rt, scenarios::inspections())
+}
+
+#[test]
+fn orders(rt: HostRuntime) -> Result<(), Fail> {
+    hold_each(&rt, rt, scenarios::orders())
+}
+
+#[test]
+fn certificates(rt: HostRuntime) -> Result<(), Fail> {
+    hold_each(&rt, rt, scenarios::certificates())
+}
+
+#[test]
+fn limits_of_text(rt: HostRuntime) -> Result<(), Fail> {
+    let script = scenarios::limits_of_text(rt.alloc())?;
+    hold(&rt, rt, &[script.as_str()], None)
+}
+
+#[test]
+fn listings(rt: HostRuntime) -> Result<(), Fail> {
+    hold_each(&rt, rt, scenarios::listings())
+}
+
+#[test]
+fn other_policies(rt: HostRuntime) -> Result<(), Fail> {
     for row in scenarios::other_policies() {
         hold(&rt, rt, row.scripts, Some(row))?;
     }

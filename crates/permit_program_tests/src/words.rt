@@ -1,350 +1,261 @@
-//! The words of a command line, and what the program does for them on files.
+//! The words of a command line, and what the program prints for them.
 
-use crate::program::Program;
-use permit_samples::filing::FILED;
-use permit_samples::opening::OPENING;
+use crate::run::{agrees, run};
+use permit_samples::ask::TOKENS;
 use permit_samples::standard::POLICY;
 use std::fs;
+use std::sync::Wait;
 use std::test::Fail;
+use std::thread::Threads;
 
-/// The files that the transcripts name, and their texts.
-const FILES: [(&str, &str); 8] = [
-    (
-        "good.toml",
-        "[[rule]]\nname = \"a\"\neffect = \"deny\"\n\n[[rule]]\nname = \"b\"\neffect = \"allow\"\n",
-    ),
-    (
-        "bad.toml",
-        "[[rule]]\nname = \"default\"\neffect = \"deny\"\n",
-    ),
-    ("standard.toml", POLICY),
-    (
-        "dead.toml",
-        "[[rule]]\nname = \"a\"\neffect = \"deny\"\nrole = [\"clerk\"]\n\n[[rule]]\nname = \"b\"\neffect = \"deny\"\nrole = [\"public\", \"reviewer\", \"inspector\", \"official\"]\n\n[[rule]]\nname = \"c\"\neffect = \"deny\"\n",
-    ),
-    (
-        "stages.toml",
-        "[[rule]]\nname = \"new\"\neffect = \"allow\"\nstage = [\"new\"]\nstopped = true\n",
-    ),
-    ("empty.csv", ""),
-    ("other.csv", "lot,address\nB-1,1 High St\n"),
-    (
-        "parcels.csv",
-        "lot,address,owner\nB-1,1 High St,5\nB-2,2 High St,99\nB-1,Other,5\n",
-    ),
-];
-
-/// No office is asked.
-const WORDS: &str = "
-$ @none
-= 0
-< permit
-$ check-policy|--policy|good.toml
-= 0
-< rules 2
-$ check-policy|--policy|bad.toml
-= 2
-! policy: fault 5 at rule 1
-$ check-policy|--policy|nowhere.toml
-= 2
-! cannot read nowhere.toml
-$ frob
-= 2
-! error: unrecognized subcommand 'frob'
-!
-! Usage: permit <COMMAND>
-!
-! For more information, try '--help'.
-$ check-policy
-= 2
-! error: the following required arguments were not provided:
-!   --policy <POLICY>
-!
-! Usage: permit check-policy --policy <POLICY>
-!
-! For more information, try '--help'.
-$ list|--db|none.db|--policy|none.toml|--token|abcdefghijklmnopqrstuvwxyz|--stage|frob
-= 2
-! error: invalid value 'frob' for '--stage <STAGE>'
-!
-! For more information, try '--help'.
-$ list|--db|none.db|--policy|none.toml|--token|abcdefghijklmnopqrstuvwxyz|--stage|new
-= 2
-! error: invalid value 'new' for '--stage <STAGE>'
-!
-! For more information, try '--help'.
-$ list|--db|none.db|--policy|none.toml|--token|abcdefghijklmnopqrstuvwxyz|--stage|office
-= 2
-! error: invalid value 'office' for '--stage <STAGE>'
-!
-! For more information, try '--help'.
-$ register|--db|none.db|--policy|none.toml|--token|abcdefghijklmnopqrstuvwxyz|--|frob
-= 2
-! error: invalid value 'frob' for '<NAME>'
-!
-! For more information, try '--help'.
-$ serve|--db|none.db|--policy|none.toml|--listen|nowhere|--workers|0
-= 2
-! error: invalid value '0' for '--workers <WORKERS>'
-!
-! For more information, try '--help'.
-$ serve|--db|none.db|--policy|none.toml|--listen|nowhere|--workers|9
-= 2
-! error: invalid value '9' for '--workers <WORKERS>'
-!
-! For more information, try '--help'.
-$ serve|--db|none.db|--policy|none.toml|--listen|nowhere|--workers|04
-= 2
-! error: invalid value '04' for '--workers <WORKERS>'
-!
-! For more information, try '--help'.
-$ serve|--db|none.db|--policy|none.toml|--listen|nowhere|--connections|100000
-= 2
-! error: invalid value '100000' for '--connections <CONNECTIONS>'
-!
-! For more information, try '--help'.
-$ serve|--db|none.db|--policy|none.toml|--listen|nowhere|--connections|+1
-= 2
-! error: invalid value '+1' for '--connections <CONNECTIONS>'
-!
-! For more information, try '--help'.
-$ check-policy|--policy|none.toml|--dead|--facts|x
-= 2
-! error: the argument '--dead' cannot be used with '--facts <FACTS>'
-!
-! For more information, try '--help'.
-";
-
-/// What is said of a policy's rules, and of facts under them.
-const RULES: &str = "
-$ check-policy|--dead|--policy|standard.toml
-= 0
-< rules 12
-$ check-policy|--dead|--policy|dead.toml
-= 0
-< rules 3
-< dead c
-$ check-policy|--policy|standard.toml|--facts|reviewer,assigned-reviewer+owner,approve-plans,review,no,ahead
-= 0
-< no-conflict relation
-< own-work match
-< decided own-work deny
-$ check-policy|--policy|standard.toml|--facts|
-= 2
-! facts: unreadable
-$ check-policy|--policy|standard.toml|--facts|reviewer
-= 2
-! facts: unreadable
-$ check-policy|--policy|standard.toml|--facts|reviewer,,read,review,no,ahead
-= 2
-! facts: unreadable
-$ check-policy|--policy|standard.toml|--facts|reviewer,owner+owner,read,review,no,ahead
-= 2
-! facts: unreadable
-$ check-policy|--policy|standard.toml|--facts|reviewer,owner+,read,review,no,ahead
-= 2
-! facts: unreadable
-$ check-policy|--policy|standard.toml|--facts|reviewer,-+owner,read,review,no,ahead
-= 2
-! facts: unreadable
-$ check-policy|--policy|standard.toml|--facts|reviewer,boss,read,review,no,ahead
-= 2
-! facts: unreadable
-$ check-policy|--policy|standard.toml|--facts|boss,-,read,review,no,ahead
-= 2
-! facts: unreadable
-$ check-policy|--policy|standard.toml|--facts|reviewer,-,frob,review,no,ahead
-= 2
-! facts: unreadable
-$ check-policy|--policy|standard.toml|--facts|reviewer,-,read,frob,no,ahead
-= 2
-! facts: unreadable
-$ check-policy|--policy|standard.toml|--facts|reviewer,-,read,review,maybe,ahead
-= 2
-! facts: unreadable
-$ check-policy|--policy|standard.toml|--facts|reviewer,-,read,review,no,frob
-= 2
-! facts: unreadable
-$ check-policy|--policy|standard.toml|--facts|reviewer,-,read,review,no,ahead,
-= 2
-! facts: unreadable
-$ check-policy|--policy|standard.toml|--facts|reviewer,-,read,review,no, ahead
-= 2
-! facts: unreadable
-$ check-policy|--policy|stages.toml|--facts|public,-,file,new,yes,none
-= 0
-< new match
-< decided new allow
-$ check-policy|--policy|stages.toml|--facts|public,owner,file,office,yes,past
-= 0
-< new stage
-< decided default deny
-$ check-policy|--policy|stages.toml|--facts|public,-,file,new,no,near
-= 0
-< new stopped
-< decided default deny
-";
-
-/// A founding of an office that is there, and foundings that are refused.
-const FOUNDINGS: &str = "
-$ init|@db|--name|Chief|--token|abcdefghijklmnopqrstuvwxyz|--day|2023-12-09
-= 2
-! database: exists
-$ init|--db|none.db|--name|Chief|--token|short|--day|2023-12-09
-= 1
-! refused: syntax
-$ init|--db|none.db|--name|Chief|--token|abcdefghijklmnopqrstuvwxyz|--day|1970-01-01
-= 1
-! refused: clock
-$ init|--db|none.db|--name|Chief|--token|abcdefghijklmnopqrstuvwxyz|--day|2023-12-32
-= 2
-! day: unreadable
-";
-
-/// A standard output that fails: what was done before it stands.
-const OUTPUTS: &str = "
-$ init|--db|unprinted.db|--name|Chief|--token|abcdefghijklmnopqrstuvwxyz|--day|2023-12-09|@full
-= 1
-! cannot write
-$ init|--db|unprinted.db|--name|Chief|--token|abcdefghijklmnopqrstuvwxyz|--day|2023-12-09
-= 2
-! database: exists
-$ serve|--db|unprinted.db|@policy|--day|2024-01-01|--workers|1|--connections|1|--listen|127.0.0.1:0|@full
-= 1
-! cannot write
-$ list|@1|@full
-= 1
-! cannot write
-";
-
-/// An office without a file: listings, lists that can't be read, and an import that is denied, one, and the same again.
-const IMPORTS: &str = "
-$ list|@1
-= 0
-< read 0
-$ import|empty.csv|@2
-= 2
-! cannot read empty.csv
-$ import|other.csv|@2
-= 2
-! cannot read other.csv
-$ import|none.csv|@2
-= 2
-! cannot read none.csv
-$ import|office|@2
-= 2
-! cannot read office
-$ list|@2
-= 0
-< read 0
-$ import|parcels.csv|@5
-= 1
-< 1 refused: denied by default
-< 2 refused: denied by default
-< 3 refused: denied by default
-< added 0 kept 0 refused 3
-$ act|GET|/parcels/3|@1
-= 1
-< {\"refused\":\"record\"}
-! refused: record
-$ import|parcels.csv|@2
-= 1
-< 1 added 3
-< 2 refused: not admitted, person
-< 3 kept
-< added 1 kept 1 refused 1
-$ import|parcels.csv|@2
-= 1
-< 1 kept
-< 2 refused: not admitted, person
-< 3 kept
-< added 0 kept 2 refused 1
-$ act|GET|/parcels/3|@2
-= 0
-< {\"address\":\"1 High St\",\"id\":3,\"lot\":\"B-1\",\"owner\":5}
-$ act|GET|/parcels/4|@2
-= 1
-< {\"refused\":\"record\"}
-! refused: record
-";
-
-/// The registers behind the filing.
-const REGISTERS: &str = "
-$ register|files|@1
-= 0
-<  FILE PARCEL KIND      STAGE     TIMING DEADLINE           CENTS
-<     1      1 construct filed     ahead  2024-06-29      25000000
-< files 1
-$ register|deadlines|@1
-= 0
-<  FILE STAGE     TIMING DEADLINE      LEFT
-< files 0
-$ register|inspections|@1
-= 0
-<  FILE NEXT    REQUESTED  INSPECTOR NOTICES
-< files 0
-";
-
-/// Files 2 and 3 on parcel 2, of party 6; party 5 is the contractor of file 2.
-const OTHERS: &str = r#"
-> 6 19723 POST /files {"parcel":2,"kind":"repair","valuation":100,"description":"Roof"}
-> 6 19723 POST /files {"parcel":2,"kind":"alter","valuation":100,"description":"Wall"}
-> 6 19723 POST /files/2/name-contractor {"party":5}
-"#;
-
-/// Who lists which of the three files.
-const LISTINGS: &str = "
-$ list|@5
-= 0
-< 1
-< 2
-< read 3
-$ list|@2
-= 0
-< 1
-< 2
-< 3
-< read 3
-$ list|--stage|filed|@2
-= 0
-< 1
-< 2
-< 3
-< read 3
-$ list|--stage|review|@2
-= 0
-< read 0
-$ list|@3
-= 0
-< read 0
-$ register|files|@3
-= 0
-<  FILE PARCEL KIND      STAGE     TIMING DEADLINE           CENTS
-< files 0
-";
-
-/// Scripts, and the transcript that is replayed behind each.
-const TRANSCRIPTS: [(&str, &str); 7] = [
-    ("", WORDS),
-    ("", RULES),
-    ("", FOUNDINGS),
-    ("", OUTPUTS),
-    (OPENING, IMPORTS),
-    (FILED, REGISTERS),
-    (OTHERS, LISTINGS),
-];
+/// A policy of two rules.
+const TWO: &str =
+    "[[rule]]\nname = \"a\"\neffect = \"deny\"\n\n[[rule]]\nname = \"b\"\neffect = \"allow\"\n";
 
 #[test]
-fn runs_of_the_program(rt: HostRuntime) -> Result<(), Fail> {
-    for (path, text) in FILES {
-        fs::write(&rt, path, text)?;
-    }
-    fs::create_dir(&rt, "office")?;
-    let program = Program::found(&rt, rt, "office")?;
-    for (script, transcript) in TRANSCRIPTS {
-        program.play(&rt, rt, script)?;
-        program.replay(&rt, rt, transcript)?;
+fn without_words(rt: HostRuntime) -> Result<(), Fail> {
+    let (status, out, err) = run(&rt, rt, &[])?;
+    assert_eq!(rt; (status, out.as_str(), err.as_str()), (0, "permit\n", ""));
+    Ok(())
+}
+
+#[test]
+fn a_good_policy(rt: HostRuntime) -> Result<(), Fail> {
+    fs::write(&rt, "good.toml", TWO)?;
+    let (status, out, err) = run(&rt, rt, &["check-policy", "--policy", "good.toml"])?;
+    assert_eq!(rt; (status, out.as_str(), err.as_str()), (0, "rules 2\n", ""));
+    Ok(())
+}
+
+#[test]
+fn a_bad_policy(rt: HostRuntime) -> Result<(), Fail> {
+    fs::write(
+        &rt,
+        "bad.toml",
+        "[[rule]]\nname = \"default\"\neffect = \"deny\"\n",
+    )?;
+    let (status, out, err) = run(&rt, rt, &["check-policy", "--policy", "bad.toml"])?;
+    assert_eq!(rt;
+        (status, out.as_str(), err.as_str()),
+        (2, "", "policy: fault 5 at rule 1\n")
+    );
+    Ok(())
+}
+
+#[test]
+fn no_such_file(rt: HostRuntime) -> Result<(), Fail> {
+    let (status, out, err) = run(&rt, rt, &["check-policy", "--policy", "nowhere.toml"])?;
+    assert_eq!(rt;
+        (status, out.as_str(), err.as_str()),
+        (2, "", "cannot read nowhere.toml\n")
+    );
+    Ok(())
+}
+
+#[test]
+fn a_founding(rt: HostRuntime) -> Result<(), Fail> {
+    let words = [
+        "init",
+        "--db",
+        "office.db",
+        "--name",
+        "Chief",
+        "--token",
+        TOKENS[0],
+        "--day",
+        "2023-12-09",
+    ];
+    let (status, out, err) = run(&rt, rt, &words)?;
+    assert_eq!(rt; (status, out.as_str(), err.as_str()), (0, "party 1\n", ""));
+    let (status, out, err) = run(&rt, rt, &words)?;
+    assert_eq!(rt;
+        (status, out.as_str(), err.as_str()),
+        (2, "", "database: exists\n")
+    );
+    Ok(())
+}
+
+#[test]
+fn a_founding_that_is_refused(rt: HostRuntime) -> Result<(), Fail> {
+    for (token, day, status, line) in [
+        ("short", "2023-12-09", 1, "refused: syntax\n"),
+        (TOKENS[0], "1970-01-01", 1, "refused: clock\n"),
+        (TOKENS[0], "2023-12-32", 2, "day: unreadable\n"),
+    ] {
+        let words = [
+            "init", "--db", "none.db", "--name", "Chief", "--token", token, "--day", day,
+        ];
+        let (is, out, err) = run(&rt, rt, &words)?;
+        assert_eq!(rt; (is, out.as_str(), err.as_str()), (status, "", line));
     }
     assert!(rt; !fs::exists(&rt, "none.db")?);
     Ok(())
+}
+
+#[test]
+fn bad_words(rt: HostRuntime) -> Result<(), Fail> {
+    let (status, out, err) = run(&rt, rt, &["frob"])?;
+    let wanted =
+        "error: unrecognized subcommand 'frob'\n\nUsage: permit <COMMAND>\n\nFor more information, try '--help'.\n";
+    assert_eq!(rt; (status, out.as_str(), err.as_str()), (2, "", wanted));
+    let (status, out, err) = run(&rt, rt, &["check-policy"])?;
+    let wanted =
+        "error: the following required arguments were not provided:\n  --policy <POLICY>\n\nUsage: permit check-policy --policy <POLICY>\n\nFor more information, try '--help'.\n";
+    assert_eq!(rt; (status, out.as_str(), err.as_str()), (2, "", wanted));
+    Ok(())
+}
+
+/// What the program does for words alone.
+fn told<R: Threads + Wait + Copy + Drop + Send + 'static>(
+    rt: &HostRuntime,
+    workers: R,
+    words: &[&str],
+    status: u8,
+    out: &str,
+    err: &str,
+) -> Result<(), Fail> {
+    let (is, printed, complained) = run(rt, workers, words)?;
+    agrees(rt, (is, &printed, &complained), (status, out, err))
+}
+
+/// A rule for clerks, one for all other roles, and one without a condition.
+const DEAD: &str =
+    "[[rule]]\nname = \"a\"\neffect = \"deny\"\nrole = [\"clerk\"]\n\n[[rule]]\nname = \"b\"\neffect = \"deny\"\nrole = [\"public\", \"reviewer\", \"inspector\", \"official\"]\n\n[[rule]]\nname = \"c\"\neffect = \"deny\"\n";
+
+#[test]
+fn dead_rule(rt: HostRuntime) -> Result<(), Fail> {
+    fs::write(&rt, "standard.toml", POLICY)?;
+    fs::write(&rt, "dead.toml", DEAD)?;
+    let of = |path| ["check-policy", "--dead", "--policy", path];
+    told(&rt, rt, &of("standard.toml"), 0, "rules 12\n", "")?;
+    told(&rt, rt, &of("dead.toml"), 0, "rules 3\ndead c\n", "")
+}
+
+#[test]
+fn explanation_of_a_denial(rt: HostRuntime) -> Result<(), Fail> {
+    fs::write(&rt, "standard.toml", POLICY)?;
+    let of = |facts| [
+        "check-policy",
+        "--policy",
+        "standard.toml",
+        "--facts",
+        facts,
+    ];
+    let own = "no-conflict relation\nown-work match\ndecided own-work deny\n";
+    told(
+        &rt,
+        rt,
+        &of("reviewer,assigned-reviewer+owner,approve-plans,review,no,ahead"),
+        0,
+        own,
+        "",
+    )?;
+    for facts in [
+        "",
+        "reviewer",
+        "reviewer,,read,review,no,ahead",
+        "reviewer,owner+owner,read,review,no,ahead",
+        "reviewer,owner+,read,review,no,ahead",
+        "reviewer,-+owner,read,review,no,ahead",
+        "reviewer,boss,read,review,no,ahead",
+        "boss,-,read,review,no,ahead",
+        "reviewer,-,frob,review,no,ahead",
+        "reviewer,-,read,frob,no,ahead",
+        "reviewer,-,read,review,maybe,ahead",
+        "reviewer,-,read,review,no,frob",
+        "reviewer,-,read,review,no,ahead,",
+        "reviewer,-,read,review,no, ahead",
+    ] {
+        told(&rt, rt, &of(facts), 2, "", "facts: unreadable\n")?;
+    }
+    Ok(())
+}
+
+#[test]
+fn facts_in_every_stage(rt: HostRuntime) -> Result<(), Fail> {
+    let policy =
+        "[[rule]]\nname = \"new\"\neffect = \"allow\"\nstage = [\"new\"]\nstopped = true\n";
+    fs::write(&rt, "stages.toml", policy)?;
+    let of = |facts| ["check-policy", "--policy", "stages.toml", "--facts", facts];
+    let (match_new, no_rule) = (
+        "new match\ndecided new allow\n",
+        "new stage\ndecided default deny\n",
+    );
+    told(&rt, rt, &of("public,-,file,new,yes,none"), 0, match_new, "")?;
+    told(
+        &rt,
+        rt,
+        &of("public,owner,file,office,yes,past"),
+        0,
+        no_rule,
+        "",
+    )?;
+    let not_stopped = "new stopped\ndecided default deny\n";
+    told(
+        &rt,
+        rt,
+        &of("public,-,file,new,no,near"),
+        0,
+        not_stopped,
+        "",
+    )
+}
+
+#[test]
+fn words_that_name_nothing(rt: HostRuntime) -> Result<(), Fail> {
+    let help = "\n\nFor more information, try '--help'.\n";
+    let office = [
+        "--db",
+        "none.db",
+        "--policy",
+        "none.toml",
+        "--token",
+        TOKENS[0],
+    ];
+    for (words, value, place) in [
+        (["list", "--stage"], "frob", "--stage <STAGE>"),
+        (["list", "--stage"], "new", "--stage <STAGE>"),
+        (["list", "--stage"], "office", "--stage <STAGE>"),
+        (["register", "--"], "frob", "<NAME>"),
+    ] {
+        let mut all = Vec::new(rt.alloc());
+        all.push(words[0])?;
+        all.extend_from_slice(&office)?;
+        all.extend_from_slice(&[words[1], value])?;
+        let line = format!(in rt.alloc(); "error: invalid value '{value}' for '{place}'{help}")?;
+        told(&rt, rt, &all, 2, "", line.as_str())?;
+    }
+    for (option, value, place) in [
+        ("--workers", "0", "--workers <WORKERS>"),
+        ("--workers", "9", "--workers <WORKERS>"),
+        ("--workers", "04", "--workers <WORKERS>"),
+        ("--connections", "100000", "--connections <CONNECTIONS>"),
+        ("--connections", "+1", "--connections <CONNECTIONS>"),
+    ] {
+        let words = [
+            "serve",
+            "--db",
+            "none.db",
+            "--policy",
+            "none.toml",
+            "--listen",
+            "nowhere",
+            option,
+            value,
+        ];
+        let line = format!(in rt.alloc(); "error: invalid value '{value}' for '{place}'{help}")?;
+        told(&rt, rt, &words, 2, "", line.as_str())?;
+    }
+    let both = [
+        "check-policy",
+        "--policy",
+        "none.toml",
+        "--dead",
+        "--facts",
+        "x",
+    ];
+    let line = format!(in rt.alloc();
+        "error: the argument '--dead' cannot be used with '--facts <FACTS>'{help}"
+    )?;
+    told(&rt, rt, &both, 2, "", line.as_str())
 }

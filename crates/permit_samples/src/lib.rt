@@ -15,6 +15,5 @@ mod plans;
 pub mod scenarios;
 pub mod script;
 pub mod standard;
-pub mod transcript;
 mod unknown_and_missing;
 mod work;
