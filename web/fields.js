@@ -1,7 +1,7 @@
 // The fields of the forms: each type has its control, its limits in words, and the value that goes into a body.
 
 import { el } from './dom.js';
-import { KINDS, REQUIRED, ROLES, STEPS } from './words.js';
+import { KINDS, ROLES, STEPS, stepsOf } from './words.js';
 
 const MOST_BYTES = 2000;
 const bytesOf = text => new TextEncoder().encode(text).length;
@@ -62,7 +62,7 @@ const TYPES = {
   paper: wholeNumber(9999),
   kind: choice(KINDS, () => Object.keys(KINDS)),
   role: choice(ROLES, () => Object.keys(ROLES)),
-  step: choice(STEPS, file => REQUIRED[file.kind]),
+  step: choice(STEPS, stepsOf),
   days: {
     control: (file, field) => numberInput(field.most(file)),
     hint: (file, field) => `1 to ${field.most(file)} days.`,

@@ -6,7 +6,7 @@ import { FILE_COMMANDS, isFirstFor } from './commands.js';
 import { el, said } from './dom.js';
 import { foldedForm } from './forms.js';
 import { learnToday } from './today.js';
-import { CLOSED, KINDS, PASSED, REQUIRED, SORTS, STAGES, STEPS, VIEWS, isCertifiable, money, nextOf, party } from './words.js';
+import { CLOSED, KINDS, PASSED, SORTS, STAGES, STEPS, VIEWS, isCertifiable, isEnergyOpen, money, nextOf, party, stepsOf } from './words.js';
 
 function paperBody(paper) {
   return [
@@ -54,11 +54,12 @@ function stepWords(file, step) {
   if (file.done.includes(step)) return ['passed', 'approved'];
   if (step === file.request) return ['here', 'requested'];
   if (step === file.next) return [file.stage === 'working' ? 'here' : 'coming', 'next'];
+  if (step === 'energy' && isEnergyOpen(file)) return ['coming', 'to come, unless the file is from before this inspection'];
   return ['coming', 'to come'];
 }
 
 function stepsSection(file) {
-  const items = REQUIRED[file.kind].map(step => {
+  const items = stepsOf(file).map(step => {
     const [how, words] = stepWords(file, step);
     const since = step === file.request ? [', since ', dateNode(file.requested)] : [];
     return el('li', { class: how }, el('span', { class: 'stage' }, STEPS[step]), el('span', { class: 'how' }, words, since));

@@ -20,18 +20,26 @@ export const KINDS = {
   occupancy: 'Occupancy',
 };
 
-export const STEPS = { footing: 'Footing', slab: 'Slab', frame: 'Frame', lath: 'Lath', final: 'Final' };
+export const STEPS = { footing: 'Footing', slab: 'Slab', frame: 'Frame', energy: 'Energy', lath: 'Lath', final: 'Final' };
 
-// The steps that each kind of work requires, in their order.
-export const REQUIRED = {
-  construct: ['footing', 'slab', 'frame', 'lath', 'final'],
-  enlarge: ['footing', 'slab', 'frame', 'lath', 'final'],
-  alter: ['frame', 'lath', 'final'],
+// The steps that each kind of work requires, in their order. A file from before the inspection of energy has none of it.
+const REQUIRED = {
+  construct: ['footing', 'slab', 'frame', 'energy', 'lath', 'final'],
+  enlarge: ['footing', 'slab', 'frame', 'energy', 'lath', 'final'],
+  alter: ['frame', 'energy', 'lath', 'final'],
   repair: ['frame', 'final'],
   move: ['footing', 'frame', 'final'],
   demolish: ['final'],
   occupancy: ['final'],
 };
+
+// An answer doesn't say from when a file is: that shows once frame is approved.
+const hasEnergy = file => file.done.includes('energy') || file.next === 'energy';
+const isPastEnergy = file => file.next === null || file.next === 'lath' || file.done.includes('lath');
+
+export const isEnergyOpen = file => !hasEnergy(file) && !isPastEnergy(file);
+
+export const stepsOf = file => REQUIRED[file.kind].filter(step => step !== 'energy' || hasEnergy(file) || !isPastEnergy(file));
 
 // Whether a kind of work ends with a certificate.
 export const isCertifiable = kind => kind !== 'repair' && kind !== 'demolish';

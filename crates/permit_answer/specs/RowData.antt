@@ -46,7 +46,7 @@ papers_data papers = array (items_of (map paper_data papers))
 
 -- the steps that are approved: as many of the kind's required steps as are done, from the first on
 abbrev pub done_steps : State → List Step
-done_steps state = take state.done (required_steps state.kind)
+done_steps state = take state.done (required_steps state.edition state.kind)
 
 abbrev pub steps_data : List Step → Data
 steps_data steps = array (items_of (map (λ step. string (step_word step)) steps))

@@ -93,7 +93,7 @@ fn send_before<S: Serializer>(out: &mut S, file: &FileView) -> Result<(), S::Err
     ensures { OnOk result (SendsBefore file.now (S.written out.old) (S.written out.new)) }
 {
     let state = &file.row.state;
-    let required = required_steps(state.kind());
+    let required = required_steps(state.edition(), state.kind());
     put_count(out, "applicant", u64::from(state.applicant().get()))?;
     put_number(out, "ask", state.ask().map(|days| days.get()))?;
     put_number(

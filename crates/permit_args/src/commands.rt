@@ -2,11 +2,14 @@
 
 ghost use Rattle.std.specs.Prelude.{◌≡◌, IfOk, codes, false};
 ghost use Rattle.clap.specs.Words.{app_of, new_app, rule_of};
-ghost use Rattle.permit_args.specs.Plans.{act_app, check_policy_app, flag, import_app, init_app, list_app, optional_option, optional_word};
+ghost use Rattle.permit_args.specs.Plans.{act_app, check_policy_app, flag, import_app, init_app, list_app, optional_option, optional_word, upgrade_app};
 ghost use Rattle.permit_args.specs.Plans.{register_app, required_option, required_word, serve_app, with_days, with_office};
 
 use clap::{Arg, ArgAction, Command};
 use std::alloc::{AllocError, Global};
+
+/// What `--version` prints behind the program's name: its version, and that of the tables.
+const VERSION: &str = "2.0 (schema 2)";
 
 /// The subcommand of this name, whose usage names the program too, and whose help says what it does and shows an example.
 fn subcommand<'a>(
@@ -266,11 +269,26 @@ pub(crate) fn serve<'a>(alloc: Global) -> Result<Command<'a>, AllocError>
         ))
 }
 
+/// The subcommand that upgrades a database.
+pub(crate) fn upgrade<'a>(alloc: Global) -> Result<Command<'a>, AllocError>
+    ensures { IfOk result (λ command. app_of command ≡ upgrade_app) }
+{
+    subcommand(
+        alloc,
+        "upgrade",
+        "permit upgrade",
+        "Makes of a database of schema version 1 one of version 2, whole or not at all; there is no way back but a backup",
+        "Example: permit upgrade --db office.db",
+    )?
+    .arg(database(alloc))
+}
+
 /// The program with all its subcommands, for help and for words that begin with none of them.
 pub(crate) fn program<'a>(alloc: Global) -> Result<Command<'a>, AllocError> {
     Command::new(alloc, "permit")
         .bin_name("permit")?
         .about("A city's building permits and inspections")
+        .version(VERSION)
         .no_binary_name(true)
         .subcommand_required(true)
         .subcommand(check_policy(alloc)?)?
@@ -279,5 +297,6 @@ pub(crate) fn program<'a>(alloc: Global) -> Result<Command<'a>, AllocError> {
         .subcommand(list(alloc)?)?
         .subcommand(register(alloc)?)?
         .subcommand(import(alloc)?)?
-        .subcommand(serve(alloc)?)
+        .subcommand(serve(alloc)?)?
+        .subcommand(upgrade(alloc)?)
 }

@@ -25,6 +25,8 @@ pub enum Plan<'a> {
     Import(ImportWords<'a>),
     /// Serves the office over TCP.
     Serve(ServeWords<'a>),
+    /// Makes of a database of the schema's first version one of the second.
+    Upgrade(UpgradeWords<'a>),
 }
 
 /// Which policy is read, and what is said of it.
@@ -158,4 +160,11 @@ impl From<AllocError> for PlanFault {
     fn from(_error: AllocError) -> PlanFault {
         PlanFault::Memory
     }
+}
+
+/// Which database is upgraded.
+#[derive(Clone, Copy, PartialEq, Drop)]
+pub struct UpgradeWords<'a> {
+    /// The database's path.
+    pub db: &'a str,
 }

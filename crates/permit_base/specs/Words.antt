@@ -57,6 +57,7 @@ step_word step.Slab = codes "slab"
 step_word step.Frame = codes "frame"
 step_word step.Lath = codes "lath"
 step_word step.Final = codes "final"
+step_word step.Energy = codes "energy"
 
 -- the spelling of a stage
 abbrev pub stage_word : Stage → List ℕ
@@ -182,7 +183,7 @@ all_kinds =
 -- each step once
 abbrev pub all_steps : List Step
 all_steps =
-    step.Footing ∷ step.Slab ∷ step.Frame ∷ step.Lath ∷ step.Final ∷ []
+    step.Footing ∷ step.Slab ∷ step.Frame ∷ step.Lath ∷ step.Final ∷ step.Energy ∷ []
 
 -- each stage once
 abbrev pub all_stages : List Stage

@@ -142,7 +142,18 @@ impl Word for Kind {
     ghost is_read = { Prim.search rules };
 }
 
-/// An inspection, in the order in which they are passed, after IBC 2018 section 110.3.
+/// Which list of inspections a file keeps to.
+///
+/// Files that were filed before the inspection of energy was adopted keep the first one for good.
+#[derive(Clone, Copy, PartialEq, Eq)]
+pub enum Edition {
+    /// Without the inspection of energy.
+    First,
+    /// With it, between frame and lath, where the work is construct, enlarge or alter.
+    Second,
+}
+
+/// An inspection, after IBC 2018 section 110.3. Their order is that of the steps which a kind of work requires.
 #[derive(Clone, Copy, PartialEq, Eq)]
 pub enum Step {
     /// Footing and foundation, 110.3.1.
@@ -155,6 +166,8 @@ pub enum Step {
     Lath,
     /// The final inspection, after all work is done.
     Final,
+    /// Energy efficiency, 110.3.7. It stands last, since a stored word is its place.
+    Energy,
 }
 
 impl Word for Step {
@@ -172,6 +185,7 @@ impl Word for Step {
             Step::Frame => "frame",
             Step::Lath => "lath",
             Step::Final => "final",
+            Step::Energy => "energy",
         }
     }
 
@@ -182,6 +196,7 @@ impl Word for Step {
             Step::Frame,
             Step::Lath,
             Step::Final,
+            Step::Energy,
         ]
     }
 

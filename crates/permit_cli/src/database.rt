@@ -3,6 +3,16 @@
 //! What works on a database is generic over its store, and the file is named in two functions alone: each call of a
 //! generic function at the file's store costs the prover half a minute.
 
+ghost use Rattle.std.specs.Prelude.{◌≡◌, IfOk, IfErr};
+ghost use Rattle.sqlite.specs.State.{HasCleanDisk};
+ghost use Rattle.sqlite.specs.Held.{state};
+ghost use Rattle.permit_base.specs.declared.words.Edition.TheVariants.{First};
+ghost use Rattle.permit_model.specs.History.{History, upgraded};
+ghost use Rattle.permit_model.specs.Machine.{IsHistory};
+ghost use Rattle.permit_model.specs.Tables.{tables};
+ghost use Rattle.permit_store.specs.Founding.{founding};
+ghost use Rattle.permit_sql_rows.specs.Kept.{Keeps, KeepsUnder, IsFine};
+
 use permit_args::plan::ServeWords;
 use permit_base::request::Filter;
 use permit_base::values::{Day, Token};
@@ -32,6 +42,8 @@ use std::thread::Threads;
 pub enum Work<'a> {
     /// An office is founded in it.
     Found(Founder),
+    /// It is made one of this version of the tables.
+    Upgrade,
     /// The office in it is asked.
     Ask {
         policy: Policy,
@@ -70,6 +82,8 @@ pub enum Question<'a> {
 pub enum Done {
     /// The office stands, with its first party.
     Founded,
+    /// The database is of this version, with this many files that keep their list of inspections.
+    Upgraded(u32),
     /// The answer's bytes.
     Served(Vec<u8>),
     /// The files that may be listed.
@@ -95,10 +109,30 @@ fn found_in<S: Alter + Drop>(
     alloc: Global,
     conn: Connection<S>,
     founder: &Founder,
-) -> (Connection<S>, Result<Done, Failure>) {
+) -> (Connection<S>, Result<Done, Failure>)
+    ensures founded { IfOk result.1 (λ _. HasCleanDisk (state S.Store result.0)
+        → Keeps (tables (founding founder.now.name founder.now.digest founder.now.day)) (state S.Store result.0).now) }
+    ensures same { IfErr result.1 (λ _. IsFine (state S.Store result.0) → (state S.Store result.0).now ≡ (state S.Store conn).now) }
+{
     match SqlStore::create(alloc, conn, founder) {
         Ok(store) => (store.into_connection(), Ok(Done::Founded)),
         Err((conn, why)) => (conn, Err(Failure::Database(why))),
+    }
+}
+
+/// Makes of a database of the version before one of this version.
+fn upgrade_in<S: Alter + Drop>(
+    alloc: Global,
+    conn: Connection<S>,
+) -> (Connection<S>, Result<Done, Failure>)
+    ensures made { IfOk result.1 (λ _. HasCleanDisk (state S.Store result.0) → (h : History) → IsHistory h
+        → KeepsUnder First (tables h) (state S.Store conn).now → Keeps (tables (upgraded h)) (state S.Store result.0).now) }
+    ensures same { IfErr result.1 (λ _. IsFine (state S.Store result.0) → (state S.Store result.0).now ≡ (state S.Store conn).now) }
+{
+    let mut conn = conn;
+    match SqlStore::upgrade(alloc, &mut conn) {
+        Ok(files) => (conn, Ok(Done::Upgraded(files))),
+        Err(why) => (conn, Err(Failure::Database(why))),
     }
 }
 
@@ -160,7 +194,7 @@ where
 {
     match office_in(rt.alloc(), conn, policy) {
         Ok(office) => {
-            let (office, served) = serve(rt, workers, office, words, &|| days.today(rt), out);
+            let (office, served) = serve(rt, workers, office, words, &mut || days.today(rt), out);
             (office.into_store().into_connection(), served)
         }
         Err((conn, why)) => (conn, Err(Failure::Database(why))),
@@ -195,6 +229,7 @@ fn work_in<S: Alter + Drop, O: Write>(
 ) -> (Connection<S>, Result<Done, Failure>) {
     match work {
         Work::Found(founder) => found_in(alloc, conn, &founder),
+        Work::Upgrade => upgrade_in(alloc, conn),
         Work::Ask {
             policy,
             day,

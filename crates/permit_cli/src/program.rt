@@ -11,7 +11,7 @@ use permit_args::checking::{dead_text, explained_text, rules_text};
 use permit_args::facts::read_facts;
 use permit_args::plan::{
     ActWords, Check, CheckPolicyWords, ImportWords, InitWords, ListWords, OfficeWords, Plan,
-    PlanFault, RegisterWords, ServeWords,
+    PlanFault, RegisterWords, ServeWords, UpgradeWords,
 };
 use permit_args::words::{plan, words_given};
 use permit_base::request::Filter;
@@ -213,6 +213,16 @@ where
     Ok(Outcome::Ended)
 }
 
+/// Makes of the database that the words name one of this version of the tables. None is made where there is none.
+fn upgrade<O: Write>(
+    rt: &HostRuntime,
+    words: &UpgradeWords<'_>,
+    out: &mut O,
+) -> Result<Outcome, Failure> {
+    found_at(rt, words.db)?;
+    Ok(Outcome::Worked(work_at(rt, words.db, Work::Upgrade, out)?))
+}
+
 /// Does what a plan asks for. The database is closed before anything else is printed than a register, the lines of an
 /// import or the address that is listened on, so that what is printed stands.
 fn carry_out<R, O>(
@@ -234,6 +244,7 @@ where
         Plan::Register(words) => register(rt, words, out),
         Plan::Import(words) => import(rt, words, out),
         Plan::Serve(words) => serve(rt, workers, words, out),
+        Plan::Upgrade(words) => upgrade(rt, words, out),
     }
 }
 
@@ -254,6 +265,10 @@ fn tell<O: Write>(alloc: Global, outcome: &Outcome, out: &mut O) -> Result<u8, F
         Outcome::Name => print(out, "permit")?,
         Outcome::Checked(text) => print_text(out, text.as_str())?,
         Outcome::Worked(Done::Founded) => print(out, "party 1")?,
+        Outcome::Worked(Done::Upgraded(files)) => print_text(
+            out,
+            format!(in alloc; "upgraded files {files}\n")?.as_str(),
+        )?,
         Outcome::Worked(Done::Served(answer)) => show(answer.as_slice(), out)?,
         Outcome::Worked(Done::Listed(listing)) => print_text(
             out,

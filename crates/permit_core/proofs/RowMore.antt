@@ -12,7 +12,7 @@ use Rattle.permit_base.specs.declared.request.Command.TheVariants.{ApproveStep, 
 use Rattle.permit_base.specs.declared.request.Request.TheVariants.{File, OnFile}
 use Rattle.permit_model.specs.Search.{add_last, has_number}
 use Rattle.permit_model.specs.Effects.{effects}
-use Rattle.permit_model.specs.History.{Entry, History, last_day}
+use Rattle.permit_model.specs.History.{Entry, History, last_day, edition}
 use Rattle.permit_model.specs.Files.{Filing, Act, CaseFile, act_of, acts_on, filings, case_file, case_numbered}
 use Rattle.permit_model.specs.Work.{approved_steps, pending_step, requested_day, pending_ask, open_notices, is_stopped, makes_paper, paper_count}
 use Rattle.permit_model.specs.Deadline.{deadline}
@@ -125,17 +125,18 @@ notices_more filing caller day command number before w all =
 -- ---- the whole row
 
 same_row : (a b : State) → a.parcel ≡ b.parcel → a.applicant ≡ b.applicant → a.contractor ≡ b.contractor → a.reviewer ≡ b.reviewer → a.inspector ≡ b.inspector →
-    a.kind ≡ b.kind → a.filed ≡ b.filed → a.stage ≡ b.stage → a.deadline ≡ b.deadline →
+    a.kind ≡ b.kind → a.edition ≡ b.edition → a.filed ≡ b.filed → a.stage ≡ b.stage → a.deadline ≡ b.deadline →
     a.done ≡ b.done → a.request ≡ b.request → a.requested ≡ b.requested → a.ask ≡ b.ask → a.stopped ≡ b.stopped → a.notices ≡ b.notices → a.papers ≡ b.papers →
     a.temporary ≡ b.temporary → a ≡ b
-same_row a b e1 e2 e3 e4 e5 e6 e7 e8 e9 e10 e11 e12 e13 e14 e15 e16 e17 =
+same_row a b e0 e1 e2 e3 e4 e5 e6 e7 e8 e9 e10 e11 e12 e13 e14 e15 e16 e17 =
     λ i. record {
-      parcel = e1 i;
-      applicant = e2 i;
-      contractor = e3 i;
-      reviewer = e4 i;
-      inspector = e5 i;
-      kind = e6 i;
+      parcel = e0 i;
+      applicant = e1 i;
+      contractor = e2 i;
+      reviewer = e3 i;
+      inspector = e4 i;
+      kind = e5 i;
+      edition = e6 i;
       filed = e7 i;
       stage = e8 i;
       deadline = e9 i;
@@ -154,7 +155,7 @@ row_of_act : (filing : Filing) (caller day : ℕ) (command : Command) (number : 
     state_of (case_of filing (act_by caller day command number ∷ before)) ≡ row_after day command (state_of (case_of filing before))
 row_of_act filing caller day command number before w all =
     same_row (state_of (case_of filing (act_by caller day command number ∷ before))) (row_after day command (state_of (case_of filing before)))
-    refl refl refl refl refl refl refl
+    refl refl refl refl refl refl refl refl
     (base_stage-more (act_by caller day command number) before)
     (deadline_more filing caller day command number before w (unanchored filing before all)
     ∙ same_deadline command day (pending_ask before) (deadline (case_of filing before)))
@@ -217,10 +218,10 @@ recorded h id day caller file after command there is = recorded_by h id day call
 -- the new file is found by the next number, and nothing was done to it
 pub filing_recorded : (h : History) (day caller parcel : ℕ) (kind : Kind) (valuation : ℕ) (description : List ℕ) → IsHistory h →
     case_numbered (entry_of h day caller (File parcel kind valuation description) ∷ h) (length (filings h) + 1)
-    ≡ Some (filed_by caller parcel kind day (length (filings h) + 1) valuation description)
+    ≡ Some (filed_by caller parcel kind (edition h) day (length (filings h) + 1) valuation description)
 filing_recorded h day caller parcel kind valuation description is =
     let n : ℕ = length (filings h) + 1 in
-    let new : Filing = (filed_by caller parcel kind day n valuation description).filing in
+    let new : Filing = (filed_by caller parcel kind (edition h) day n valuation description).filing in
     let none : filing_numbered (filings h) n ≡ None = files_below h is n (omega arith) in
     ap (option_map (case_file (entry_of h day caller (File parcel kind valuation description) ∷ h)))
     (find_last (filings h) new n None none ∙ ap (λ (b : Bool). if b then Some new else None) (eq-eqb n n refl))

@@ -2,8 +2,10 @@
 use Rattle.std.proofs.Common.{◌≡◌, ◌≤◌, ◌<◌, ℕ, ◌+◌, Bool, true, false, not, ◌==◌, [], ◌∷◌, length, refl, sym, ◌∙◌, ap, subst, arith, lit≤}
 use Rattle.std.specs.Prelude.{Option, None, Some, option_map, is_some, is_none, ◌&&◌, ◌||◌, nat_lt, nat_le, if◌then◌else◌, slice_get, unwrap_or}
 use Rattle.std.proofs.Math.Bool.{or-true}
-use Rattle.std.proofs.lemmas.Bool.{le-leb, leb-true, leb-false, eq-eqb, ltb-false as not_below}
+use Rattle.std.proofs.lemmas.Bool.{eqb-true, le-leb, leb-true, leb-false, eq-eqb, ltb-false as not_below}
 use Rattle.std.proofs.lemmas.Option.{slice_get_within}
+use Rattle.permit_base.specs.declared.words.Edition.{Edition}
+use Rattle.permit_base.specs.declared.words.Edition.TheVariants as edition
 use Rattle.permit_base.specs.declared.words.Kind.{Kind}
 use Rattle.permit_base.specs.declared.words.Kind.TheVariants.{Construct, Enlarge, Alter, Repair, Move, Demolish, Occupancy}
 use Rattle.permit_base.specs.declared.words.Step.{Step}
@@ -35,7 +37,7 @@ use Rattle.permit_core.specs.RowAfter.{row_after, notices_after, FitsGrant, Fits
 -- the facts of a sound row, one by one
 pub record Sound (s : State) : Type 0 where
   pub stored : is_stored s.stage ≡ true
-  pub few : nat_le s.done (length (required_steps s.kind)) ≡ true
+  pub few : nat_le s.done (length (required_steps s.edition s.kind)) ≡ true
   pub stands : deadline_stands s ≡ true
   pub request : is_for s.request (next_in_row s) ≡ true
   pub dated : request_dated s ≡ true
@@ -48,16 +50,31 @@ parts false b e = cc
 
 pub sound_facts : (s : State) → IsSoundState s → Sound s
 sound_facts s h =
-    let free = parts (is_stored s.stage && nat_le s.done (length (required_steps s.kind)) && deadline_stands s && is_for s.request (next_in_row s)
+    let free = parts (is_stored s.stage && nat_le s.done (length (required_steps s.edition s.kind)) && deadline_stands s && is_for s.request (next_in_row s)
     && request_dated s && (not (is_completed s.stage) || is_finished s)) (not (is_certified s.stage) || not s.stopped) h in
-    let over = parts (is_stored s.stage && nat_le s.done (length (required_steps s.kind)) && deadline_stands s && is_for s.request (next_in_row s)
+    let over = parts (is_stored s.stage && nat_le s.done (length (required_steps s.edition s.kind)) && deadline_stands s && is_for s.request (next_in_row s)
     && request_dated s) (not (is_completed s.stage) || is_finished s) free.0 in
-    let dated = parts (is_stored s.stage && nat_le s.done (length (required_steps s.kind)) && deadline_stands s && is_for s.request (next_in_row s))
+    let dated = parts (is_stored s.stage && nat_le s.done (length (required_steps s.edition s.kind)) && deadline_stands s && is_for s.request (next_in_row s))
     (request_dated s) over.0 in
-    let request = parts (is_stored s.stage && nat_le s.done (length (required_steps s.kind)) && deadline_stands s) (is_for s.request (next_in_row s)) dated.0 in
-    let stands = parts (is_stored s.stage && nat_le s.done (length (required_steps s.kind))) (deadline_stands s) request.0 in
-    let few = parts (is_stored s.stage) (nat_le s.done (length (required_steps s.kind))) stands.0 in
+    let request = parts (is_stored s.stage && nat_le s.done (length (required_steps s.edition s.kind)) && deadline_stands s)
+    (is_for s.request (next_in_row s)) dated.0 in
+    let stands = parts (is_stored s.stage && nat_le s.done (length (required_steps s.edition s.kind))) (deadline_stands s) request.0 in
+    let few = parts (is_stored s.stage) (nat_le s.done (length (required_steps s.edition s.kind))) stands.0 in
     record { stored = few.0; few = few.1; stands = stands.1; request = request.1; dated = dated.1; over = over.1; free = free.1 }
+
+not_stopped : (b : Bool) → not b ≡ true → b ≡ false
+not_stopped true e = cc
+not_stopped false e = refl
+
+-- a certified file has every step approved, no open notice and no standing stop work order
+pub certified_facts : (s : State) → IsSoundState s → s.stage ≡ stage.Certified → (s.done ≡ length (required_steps s.edition s.kind)) × (s.notices ≡ 0)
+    × (s.stopped ≡ false)
+certified_facts s sound at =
+    let f : Sound s = sound_facts s sound in
+    let over : is_finished s ≡ true = subst (λ x. (not (is_completed x) || is_finished s) ≡ true) at f.over in
+    let free : not s.stopped ≡ true = subst (λ x. (not (is_certified x) || not s.stopped) ≡ true) at f.free in
+    let done = parts (s.done == length (required_steps s.edition s.kind)) (s.notices == 0) over in
+    (eqb-true s.done (length (required_steps s.edition s.kind)) done.0, eqb-true s.notices 0 done.1, not_stopped s.stopped free)
 
 pub sound_whole : (s : State) → Sound s → IsSoundState s
 sound_whole s f = rw (f.stored, f.few, f.stands, f.request, f.dated, f.over, f.free) refl
@@ -107,11 +124,14 @@ both a b e f = rw (e, f) refl
 requested_next : (s : State) (step : Step) → Sound s → s.request ≡ Some step → next_in_row s ≡ Some step
 requested_next s step f e = let h : is_for (Some step) (next_in_row s) ≡ true = rw e at f.request in for_step step (next_in_row s) h
 
-one_more : (kind : Kind) (done : ℕ) (step : Step) → slice_get (required_steps kind) done ≡ Some step → nat_le (done + 1) (length (required_steps kind)) ≡ true
-one_more kind done step next = le-leb (done + 1) (length (required_steps kind)) (omega (arith, slice_get_within (required_steps kind) done step next))
+one_more : (edition : Edition) (kind : Kind) (done : ℕ) (step : Step) → slice_get (required_steps edition kind) done ≡ Some step →
+    nat_le (done + 1) (length (required_steps edition kind)) ≡ true
+one_more edition kind done step next = le-leb (done + 1) (length (required_steps edition kind))
+    (omega (arith, slice_get_within (required_steps edition kind) done step next))
 
-all_done : (kind : Kind) (done : ℕ) → slice_get (required_steps kind) done ≡ Some Final → (done + 1 == length (required_steps kind)) ≡ true
-all_done kind done next = eq-eqb (done + 1) (length (required_steps kind)) (omega (arith, final_last kind done next))
+all_done : (edition : Edition) (kind : Kind) (done : ℕ) → slice_get (required_steps edition kind) done ≡ Some Final →
+    (done + 1 == length (required_steps edition kind)) ≡ true
+all_done edition kind done next = eq-eqb (done + 1) (length (required_steps edition kind)) (omega (arith, final_last edition kind done next))
 
 none_open : (notices : ℕ) → nat_lt 0 notices ≡ false → (notices == 0) ≡ true
 none_open notices h = eq-eqb notices 0 (omega (arith, not_below 0 notices h))
@@ -187,11 +207,12 @@ sound_more day (ApproveStep Final) s people f p =
     let next : next_in_row s ≡ Some Final = requested_next s Final f (is_it s.request Final p.1.1.1.0) in
     record {
       stored = refl;
-      few = one_more s.kind s.done Final next;
+      few = one_more s.edition s.kind s.done Final next;
       stands = refl;
       request = refl;
       dated = refl;
-      over = both (s.done + 1 == length (required_steps s.kind)) (s.notices == 0) (all_done s.kind s.done next) (none_open s.notices p.1.1.1.1.0);
+      over = both (s.done + 1 == length (required_steps s.edition s.kind)) (s.notices == 0) (all_done s.edition s.kind s.done next)
+          (none_open s.notices p.1.1.1.1.0);
       free = refl;
     }
 sound_more day (ApproveStep step) s people f p =
@@ -199,7 +220,7 @@ sound_more day (ApproveStep step) s people f p =
     let was : s.stage ≡ stage.Working = row_was_in day s stage.Working refl p.0 in
     record {
       stored = f.stored;
-      few = one_more s.kind s.done step next;
+      few = one_more s.edition s.kind s.done step next;
       stands = stands_active s.stage stage.Working day was refl;
       request = refl;
       dated = refl;
@@ -293,17 +314,20 @@ sound_after day command s notices papers sound admitted h =
 
 -- ---- the numbers of the row after
 
-few_steps : (kind : Kind) → length (required_steps kind) ≤ 5
-few_steps Construct = lit≤ tt
-few_steps Enlarge = lit≤ tt
-few_steps Alter = lit≤ tt
-few_steps Repair = lit≤ tt
-few_steps Move = lit≤ tt
-few_steps Demolish = lit≤ tt
-few_steps Occupancy = lit≤ tt
+few_steps : (edition : Edition) (kind : Kind) → length (required_steps edition kind) ≤ 6
+few_steps edition.First Construct = lit≤ tt
+few_steps edition.First Enlarge = lit≤ tt
+few_steps edition.First Alter = lit≤ tt
+few_steps edition.Second Construct = lit≤ tt
+few_steps edition.Second Enlarge = lit≤ tt
+few_steps edition.Second Alter = lit≤ tt
+few_steps edition Repair = lit≤ tt
+few_steps edition Move = lit≤ tt
+few_steps edition Demolish = lit≤ tt
+few_steps edition Occupancy = lit≤ tt
 
 pub few_done : (s : State) → IsSoundState s → s.done < 255
-few_done s sound = omega (arith, few_steps s.kind, leb-true s.done (length (required_steps s.kind)) (sound_facts s sound).few)
+few_done s sound = omega (arith, few_steps s.edition s.kind, leb-true s.done (length (required_steps s.edition s.kind)) (sound_facts s sound).few)
 
 fits_grant : (day : ℕ) (command : Command) (s : State) (people : People) → AllPass (row_tests day s people command) →
     FitsGrant (effects command).grants s.ask s.deadline

@@ -1,5 +1,6 @@
 -- What a file's row says on a day and to a caller.
 use Rattle.std.specs.Prelude.{ℕ, Bool, if◌then◌else◌, ◌==◌, List, [], Option}
+use Rattle.permit_base.specs.declared.words.Edition.{Edition}
 use Rattle.permit_base.specs.declared.words.Kind.{Kind}
 use Rattle.permit_base.specs.declared.words.Stage.{Stage}
 use Rattle.permit_base.specs.declared.words.Timing.{Timing}
@@ -11,9 +12,18 @@ use Rattle.permit_model.specs.Facts.{past_stage}
 use Rattle.permit_model.specs.Tables.{State}
 
 -- a file as it is filed: nothing was done to it
-abbrev pub filed_by : ℕ → ℕ → Kind → ℕ → ℕ → ℕ → List ℕ → CaseFile
-filed_by applicant parcel kind day id valuation description = record {
-  filing = record { id = id; parcel = parcel; applicant = applicant; kind = kind; valuation = valuation; description = description; filed = day };
+abbrev pub filed_by : ℕ → ℕ → Kind → Edition → ℕ → ℕ → ℕ → List ℕ → CaseFile
+filed_by applicant parcel kind edition day id valuation description = record {
+  filing = record {
+    id = id;
+    parcel = parcel;
+    applicant = applicant;
+    kind = kind;
+    edition = edition;
+    valuation = valuation;
+    description = description;
+    filed = day;
+  };
   acts = [];
 }
 

@@ -8,7 +8,7 @@ ghost use Rattle.permit_model.specs.SoundState.{IsSoundState};
 use crate::state::FileState;
 use crate::steps::{required_steps, step_at};
 use permit_base::values::{Day, Days, ParcelId, PartyId};
-use permit_base::words::{Kind, Stage, Step};
+use permit_base::words::{Edition, Kind, Stage, Step};
 use std::marker::Model;
 
 /// The fields of a file's row, whatever they say together.
@@ -26,6 +26,8 @@ pub struct StateFields {
     pub inspector: Option<PartyId>,
     /// The kind of work.
     pub kind: Kind,
+    /// The edition of the inspections that the file keeps to.
+    pub edition: Edition,
     /// The day of the filing.
     pub filed: Day,
     /// The stored stage.
@@ -55,9 +57,9 @@ impl Model for StateFields {
 
     ghost Value = { State };
 
-    ghost view = { λ s. record { parcel = s.parcel; applicant = s.applicant; contractor = s.contractor; reviewer = s.reviewer; inspector = s.inspector; kind = s.kind; filed = s.filed; stage = s.stage; deadline = s.deadline; done = s.done; request = s.request; requested = s.requested; ask = s.ask; stopped = s.stopped; notices = s.notices; papers = s.papers; temporary = s.temporary } };
+    ghost view = { λ s. record { parcel = s.parcel; applicant = s.applicant; contractor = s.contractor; reviewer = s.reviewer; inspector = s.inspector; kind = s.kind; edition = s.edition; filed = s.filed; stage = s.stage; deadline = s.deadline; done = s.done; request = s.request; requested = s.requested; ask = s.ask; stopped = s.stopped; notices = s.notices; papers = s.papers; temporary = s.temporary } };
 
-    ghost inverse = { λ s. record { parcel = s.parcel; applicant = s.applicant; contractor = s.contractor; reviewer = s.reviewer; inspector = s.inspector; kind = s.kind; filed = s.filed; stage = s.stage; deadline = s.deadline; done = s.done; request = s.request; requested = s.requested; ask = s.ask; stopped = s.stopped; notices = s.notices; papers = s.papers; temporary = s.temporary } };
+    ghost inverse = { λ s. record { parcel = s.parcel; applicant = s.applicant; contractor = s.contractor; reviewer = s.reviewer; inspector = s.inspector; kind = s.kind; edition = s.edition; filed = s.filed; stage = s.stage; deadline = s.deadline; done = s.done; request = s.request; requested = s.requested; ask = s.ask; stopped = s.stopped; notices = s.notices; papers = s.papers; temporary = s.temporary } };
 }
 
 /// Whether the stage may stand in a row: it is none of abandoned, lapsed, new and office.
@@ -145,7 +147,7 @@ impl StateFields {
     fn is_finished(&self) -> bool
         ensures { result ≡ SoundState.is_finished self.now }
     {
-        self.done as usize == required_steps(self.kind).len() && self.notices == 0
+        self.done as usize == required_steps(self.edition, self.kind).len() && self.notices == 0
     }
 
     /// Whether the fields keep to the facts of [`FileState`].
@@ -153,9 +155,9 @@ impl StateFields {
         ensures { result ≡ SoundState.is_sound_state self.now }
     {
         is_stored(self.stage)
-            && self.done as usize <= required_steps(self.kind).len()
+            && self.done as usize <= required_steps(self.edition, self.kind).len()
             && self.deadline_stands()
-            && is_for(self.request, step_at(self.kind, self.done))
+            && is_for(self.request, step_at(self.edition, self.kind, self.done))
             && self.request.is_some() == self.requested.is_some()
             && (!is_completed(self.stage) || self.is_finished())
             && (self.stage != Stage::Certified || !self.stopped)

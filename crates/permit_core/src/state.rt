@@ -1,7 +1,7 @@
 //! The state of a file.
 
 ghost use Rattle.std.specs.Prelude.{◌≡◌, ◌+◌, ◌∷◌, ℕ, List, [], Option, Some, option_map, false, IsTrue, length};
-ghost use Rattle.permit_model.specs.History.{History};
+ghost use Rattle.permit_model.specs.History.{History, edition as edition_in};
 ghost use Rattle.permit_base.specs.declared.request.Request.TheVariants.{File};
 ghost use Rattle.permit_model.specs.Machine.{IsHistory, entry_of};
 ghost use Rattle.permit_model.specs.Files.{CaseFile, filings, case_numbered};
@@ -20,7 +20,7 @@ use crate::restore::StateFields;
 use crate::steps::step_at;
 use permit_base::limits::{NEAR_DAYS, TERM};
 use permit_base::values::{Day, Days, ParcelId, PartyId};
-use permit_base::words::{Kind, Relations, Stage, Step, Timing};
+use permit_base::words::{Edition, Kind, Relations, Stage, Step, Timing};
 use std::marker::Model;
 
 /// The row of a file without its number, valuation and description.
@@ -65,10 +65,16 @@ fn past_stage(stage: Stage) -> Stage
 
 impl FileState {
     /// The state of an application filed on a day: its deadline is 180 days later (IBC 2018, section 105.3.2). It is
-    /// that of the new file in the history with the filing added.
-    pub fn file(applicant: PartyId, parcel: ParcelId, kind: Kind, day: Day) -> FileState
-        ensures row { (id valuation : ℕ) (description : List ℕ) → result ≡ state_of (filed_by applicant parcel kind day id valuation description) }
-        ensures recorded { (h : History) (valuation : ℕ) (description : List ℕ) → IsHistory h
+    /// that of the new file in the history with the filing added, where the edition is the one in force.
+    pub fn file(
+        applicant: PartyId,
+        parcel: ParcelId,
+        kind: Kind,
+        edition: Edition,
+        day: Day,
+    ) -> FileState
+        ensures row { (id valuation : ℕ) (description : List ℕ) → result ≡ state_of (filed_by applicant parcel kind edition day id valuation description) }
+        ensures recorded { (h : History) (valuation : ℕ) (description : List ℕ) → IsHistory h → edition_in h ≡ edition
             → option_map state_of (case_numbered (entry_of h day applicant (File parcel kind valuation description) ∷ h) (length (filings h) + 1)) ≡ Some result }
     {
         FileState(StateFields {
@@ -78,6 +84,7 @@ impl FileState {
             reviewer: None,
             inspector: None,
             kind,
+            edition,
             filed: day,
             stage: Stage::Filed,
             deadline: Some(day.get() + TERM),
@@ -135,18 +142,18 @@ impl FileState {
         ensures row { result ≡ next_in_row self.now }
         ensures model { (h : History) (id : ℕ) (file : CaseFile) → IsHistory h → case_numbered h id ≡ Some file → self.now ≡ state_of file → result ≡ next_of file }
     {
-        step_at(self.0.kind, self.0.done)
+        step_at(self.0.edition, self.0.kind, self.0.done)
     }
 
     /// Whether the certificate of occupancy was given (IBC 2018, section 111): then every required step is approved in
     /// order, no notice is open and no stop work order stands.
     pub fn is_certified(&self) -> bool
         ensures stage { result ≡ SoundState.is_certified self.now.stage }
-        ensures steps { IsTrue result → self.now.done ≡ length (required_steps self.now.kind) }
+        ensures steps { IsTrue result → self.now.done ≡ length (required_steps self.now.edition self.now.kind) }
         ensures notices { IsTrue result → self.now.notices ≡ 0 }
         ensures stopped { IsTrue result → self.now.stopped ≡ false }
         ensures model { (h : History) (id : ℕ) (file : CaseFile) → IsHistory h → case_numbered h id ≡ Some file → self.now ≡ state_of file
-            → IsTrue result → (approved_steps file.acts ≡ required_steps file.filing.kind) × (open_notices file.acts ≡ []) × (is_stopped file.acts ≡ false) }
+            → IsTrue result → (approved_steps file.acts ≡ required_steps file.filing.edition file.filing.kind) × (open_notices file.acts ≡ []) × (is_stopped file.acts ≡ false) }
     {
         self.0.stage == Stage::Certified
     }
@@ -208,6 +215,13 @@ impl FileState {
         ensures { result ≡ self.now.kind }
     {
         self.0.kind
+    }
+
+    /// The edition of the inspections that the file keeps to.
+    pub fn edition(&self) -> Edition
+        ensures { result ≡ self.now.edition }
+    {
+        self.0.edition
     }
 
     /// The day of the filing.

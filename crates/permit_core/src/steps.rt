@@ -3,30 +3,39 @@
 ghost use Rattle.std.specs.Prelude.{◌≡◌, slice_get};
 ghost use Rattle.permit_model.specs.Steps;
 
-use permit_base::words::{Kind, Step};
+use permit_base::words::{Edition, Kind, Step};
 
-/// The steps that the kind requires, in the order in which they are approved.
-pub fn required_steps(kind: Kind) -> &'static [Step]
-    ensures { result.now ≡ Steps.required_steps kind }
+/// The steps that the kind requires of a file of the edition, in the order in which they are approved.
+pub fn required_steps(edition: Edition, kind: Kind) -> &'static [Step]
+    ensures { result.now ≡ Steps.required_steps edition kind }
 {
-    match kind {
-        Kind::Construct | Kind::Enlarge => &[
+    match (edition, kind) {
+        (Edition::First, Kind::Construct | Kind::Enlarge) => &[
             Step::Footing,
             Step::Slab,
             Step::Frame,
             Step::Lath,
             Step::Final,
         ],
-        Kind::Alter => &[Step::Frame, Step::Lath, Step::Final],
-        Kind::Repair => &[Step::Frame, Step::Final],
-        Kind::Move => &[Step::Footing, Step::Frame, Step::Final],
-        Kind::Demolish | Kind::Occupancy => &[Step::Final],
+        (Edition::Second, Kind::Construct | Kind::Enlarge) => &[
+            Step::Footing,
+            Step::Slab,
+            Step::Frame,
+            Step::Energy,
+            Step::Lath,
+            Step::Final,
+        ],
+        (Edition::First, Kind::Alter) => &[Step::Frame, Step::Lath, Step::Final],
+        (Edition::Second, Kind::Alter) => &[Step::Frame, Step::Energy, Step::Lath, Step::Final],
+        (_, Kind::Repair) => &[Step::Frame, Step::Final],
+        (_, Kind::Move) => &[Step::Footing, Step::Frame, Step::Final],
+        (_, Kind::Demolish | Kind::Occupancy) => &[Step::Final],
     }
 }
 
-/// The step at a place among those that the kind requires, if there are so many.
-pub fn step_at(kind: Kind, place: u8) -> Option<Step>
-    ensures { result ≡ slice_get (Steps.required_steps kind) place }
+/// The step at a place among those that the kind requires of a file of the edition, if there are so many.
+pub fn step_at(edition: Edition, kind: Kind, place: u8) -> Option<Step>
+    ensures { result ≡ slice_get (Steps.required_steps edition kind) place }
 {
-    required_steps(kind).get(place as usize).copied()
+    required_steps(edition, kind).get(place as usize).copied()
 }

@@ -1,6 +1,6 @@
 //! Rows of files that are restored. What is done to a file is in the scenarios.
 
-use permit_base::words::{Kind, Stage, Step};
+use permit_base::words::{Edition, Kind, Stage, Step};
 use permit_core::restore::StateFields;
 use permit_core::state::FileState;
 use permit_samples::makers::{day, parcel, party};
@@ -10,7 +10,14 @@ use std::test::Fail;
 #[test]
 fn rows_are_restored(rt: HostRuntime) -> Result<(), Fail> {
     let filed = day(19723)?;
-    let fields = FileState::file(party(5)?, parcel(1)?, Kind::Construct, filed).fields();
+    let fields = FileState::file(
+        party(5)?,
+        parcel(1)?,
+        Kind::Construct,
+        Edition::Second,
+        filed,
+    )
+    .fields();
     let certified = StateFields {
         stage: Stage::Certified,
         ..fields

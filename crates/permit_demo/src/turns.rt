@@ -21,7 +21,7 @@ const INSPECTOR: &str = "inspector4inspector4";
 const PUBLIC: &str = "public5public5public5";
 
 /// One file from its filing to its certificate.
-pub const TURNS: [Turn; 25] = [
+pub const TURNS: [Turn; 27] = [
     Turn {
         day: 19700,
         token: OFFICIAL,
@@ -154,6 +154,20 @@ pub const TURNS: [Turn; 25] = [
         method: "POST",
         path: "/files/1/approve-step",
         body: "{\"step\":\"frame\"}",
+    },
+    Turn {
+        day: 19933,
+        token: PUBLIC,
+        method: "POST",
+        path: "/files/1/request-inspection",
+        body: "{\"step\":\"energy\"}",
+    },
+    Turn {
+        day: 19934,
+        token: INSPECTOR,
+        method: "POST",
+        path: "/files/1/approve-step",
+        body: "{\"step\":\"energy\"}",
     },
     Turn {
         day: 19935,

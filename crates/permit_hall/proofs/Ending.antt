@@ -82,17 +82,18 @@ module _ {A Y : Type 0} where
       subst (λ (x : List A × List Y). did task x.0 x.1 v) (λ i. (put i, got i)) h.4
 
   -- the whole theorem, of what the owner's loop and the closing left
-  pub all_served : {S O T : Type 0} (step : S → A → ℕ → Y → S → Type 0) (is_day : ℕ → Type 0) (did : T → List A → List Y → O → Type 0) (n : ℕ) (tasks : List T)
+  pub all_served : {S O T C : Type 0} (step : S → A → ℕ → Y → S → Type 0) (tick : C → ℕ → C → Type 0) (did : T → List A → List Y → O → Type 0) (n : ℕ) (tasks : List T)
       (workers : List (Worker A Y O T)) (lanes : List (Outlet Y)) (known : List (List A)) (outs : List (Option O))
-      (got queued : List (Envelope A)) (s t : S) (served : List (Entry A Y))
-      → Serves step is_day n got s t served → n ≡ length tasks → map (λ w. w.task.value) workers ≡ tasks → length lanes ≡ length tasks → Sent served lanes
+      (got queued : List (Envelope A)) (s t : S) (c d : C) (served : List (Entry A Y))
+      → Serves step tick n got s t c d served → n ≡ length tasks → map (λ w. w.task.value) workers ≡ tasks → length lanes ≡ length tasks → Sent served lanes
       → length outs ≡ length workers → AreClosed did known lanes workers outs
       → ((k : ℕ) → k < length known → slice_index_or known k [] ≡ requests_in k (got ++ queued))
-      → AreServed step is_day did tasks outs s t served
-  all_served {O = O} {T = T} step is_day did n tasks workers lanes known outs got queued s t served h count same many_lanes sent many closed compared =
+      → AreServed step tick did tasks outs s t c d served
+  all_served {O = O} {T = T} step tick did n tasks workers lanes known outs got queued s t c d served h count same many_lanes sent many closed compared =
       let len : length workers ≡ length tasks = sym (length-map workers (λ (w : Worker A Y O T). w.task.value)) ∙ ap length same in record {
         runs = h.runs;
-        each = subst (λ m. All (λ (e : Entry A Y). (e.from < m) × is_day e.day) served) count h.each;
+        days = h.days;
+        each = subst (λ m. All (λ (e : Entry A Y). e.from < m) served) count h.each;
         len = many ∙ len;
         right = λ k l a low.
             let worker : Worker A Y O T = element_of workers (omega arith) in let lane : Outlet Y = element_of lanes (omega arith) in
@@ -106,7 +107,7 @@ module _ {A Y : Type 0} where
             (closed.1 k lane worker a (omega arith)));
       }
 
-module _ {S A Y O T U : Type 0} (step : S → A → ℕ → Y → S → Type 0) (is_day : ℕ → Type 0) (did : T → List A → List Y → O → Type 0)
+module _ {S A Y O T U C : Type 0} (step : S → A → ℕ → Y → S → Type 0) (tick : C → ℕ → C → Type 0) (did : T → List A → List Y → O → Type 0)
     (done : U → List A → List Y → O → Type 0) (f : T → U)
     (same_did : (t : T) (put : List A) (got : List Y) (x : O) → did t put got x → done (f t) put got x) where
   answers_as : (served : List (Entry A Y)) (k : ℕ) (t : T) (o : Option O) → AreAnswers did served k t o → AreAnswers done served k (f t) o
@@ -114,12 +115,13 @@ module _ {S A Y O T U : Type 0} (step : S → A → ℕ → Y → S → Type 0) 
   answers_as served k t (Some x) h = same_did t _ _ x h
 
   -- the same theorem, of what the tasks were made of
-  pub served_as : (tasks : List T) (sources : List U) (outs : List (Option O)) (s t : S) (served : List (Entry A Y)) → map f tasks ≡ sources →
-      AreServed step is_day did tasks outs s t served → AreServed step is_day done sources outs s t served
-  served_as tasks sources outs s t served same h =
+  pub served_as : (tasks : List T) (sources : List U) (outs : List (Option O)) (s t : S) (c d : C) (served : List (Entry A Y)) → map f tasks ≡ sources →
+      AreServed step tick did tasks outs s t c d served → AreServed step tick done sources outs s t c d served
+  served_as tasks sources outs s t c d served same h =
       let len : length tasks ≡ length sources = sym (length-map tasks f) ∙ ap length same in record {
         runs = h.runs;
-        each = subst (λ m. All (λ (e : Entry A Y). (e.from < m) × is_day e.day) served) len h.each;
+        days = h.days;
+        each = subst (λ m. All (λ (e : Entry A Y). e.from < m) served) len h.each;
         len = h.len ∙ len;
         right = λ k l a low.
             let task : T = element_of tasks (omega arith) in let there : k < length tasks = omega arith in

@@ -24,24 +24,25 @@ use Rattle.permit_hall.proofs.Ending.{served_as, element_of}
 abbrev list_done : Vec Asked Global → List Asked → List Dated → Vec Reply Global → Type 0
 list_done list put got answers = (put ≡ list.items) × (map (λ d. d.reply) got ≡ answers.items)
 
-module _ {S : Type 0} (view : S → StoreView) (is_day : ℕ → Type 0) where
+module _ {S C : Type 0} (view : S → StoreView) (tick : C → ℕ → C → Type 0) where
   -- the entries are a run of the office
-  one_history : {O T : Type 0} (did : T → List Asked → List Dated → O → Type 0) (tasks : List T) (outs : List (Option O)) (old new : OfficeView S)
+  one_history : {O T : Type 0} (did : T → List Asked → List Dated → O → Type 0) (tasks : List T) (outs : List (Option O)) (old new : OfficeView S) (c d : C)
       (served : List (Entry Asked Dated))
-      → AreServed (StepOn view) is_day did tasks outs old new served → OneHistory view is_day (length tasks) old new served
-  one_history did tasks outs old new served h = record {
+      → AreServed (StepOn view) tick did tasks outs old new c d served → OneHistory view tick (length tasks) old new c d served
+  one_history did tasks outs old new c d served h = record {
     run = is_run view (λ d. d.reply) (StepOn view) (λ o a d y p s. s.0) old served new h.runs;
+    days = h.days;
     each = h.each;
   }
 
-  pub lists_served : (tasks : List ListTask) (lists : List (Vec Asked Global)) (outs : List (Option (Vec Reply Global))) (old new : OfficeView S)
+  pub lists_served : (tasks : List ListTask) (lists : List (Vec Asked Global)) (outs : List (Option (Vec Reply Global))) (old new : OfficeView S) (c d : C)
       (served : List (Entry Asked Dated))
-      → map (λ t. t.list) tasks ≡ lists → AreServed (StepOn view) is_day (λ t put got answers. list_done t.list put got answers) tasks outs old new served
-      → OneHistory view is_day (length lists) old new served × AreListsServed lists outs served
-  lists_served tasks lists outs old new served same h =
-      let by_list = served_as (StepOn view) is_day (λ (t : ListTask) put got answers. list_done t.list put got answers) list_done (λ t. t.list)
-      (λ t put got x d. d) tasks lists outs old new served same h in (
-        one_history list_done lists outs old new served by_list,
+      → map (λ t. t.list) tasks ≡ lists → AreServed (StepOn view) tick (λ t put got answers. list_done t.list put got answers) tasks outs old new c d served
+      → OneHistory view tick (length lists) old new c d served × AreListsServed lists outs served
+  lists_served tasks lists outs old new c d served same h =
+      let by_list = served_as (StepOn view) tick (λ (t : ListTask) put got answers. list_done t.list put got answers) list_done (λ t. t.list)
+      (λ t put got x d. d) tasks lists outs old new c d served same h in (
+        one_history list_done lists outs old new c d served by_list,
         record {
           count = by_list.len;
           each = λ k list out at at'.
@@ -59,15 +60,15 @@ module _ {S : Type 0} (view : S → StoreView) (is_day : ℕ → Type 0) where
     flat_done put got nothing (Some end) h = h
 
     pub doors_served : (tasks : List (DoorTask D)) (doors : List D) (outs : List (Option (Option (DoorEnd D)))) (ends : List (Option (DoorEnd D)))
-        (old new : OfficeView S) (served : List (Entry Asked Dated))
+        (old new : OfficeView S) (c d : C) (served : List (Entry Asked Dated))
         → map (λ t. t.door) tasks ≡ doors → ends ≡ map option_flatten outs →
-        AreServed (StepOn view) is_day (λ (t : DoorTask D) put got end. IsDoorDone spent put got end) tasks outs old new served
-        → OneHistory view is_day (length doors) old new served × AreDoorsServed spent (length doors) ends served
-    doors_served tasks doors outs ends old new served same flat h =
+        AreServed (StepOn view) tick (λ (t : DoorTask D) put got end. IsDoorDone spent put got end) tasks outs old new c d served
+        → OneHistory view tick (length doors) old new c d served × AreDoorsServed spent (length doors) ends served
+    doors_served tasks doors outs ends old new c d served same flat h =
         let len : length tasks ≡ length doors = sym (length-map tasks (λ (t : DoorTask D). t.door)) ∙ ap length same in
         let many : length ends ≡ length outs = ap length flat ∙ length-map outs (λ (o : Option (Option (DoorEnd D))). option_flatten o) in (
-          subst (λ n. OneHistory view is_day n old new served) len (one_history
-              (λ (t : DoorTask D) put got end. IsDoorDone spent put got end) tasks outs old new served h),
+          subst (λ n. OneHistory view tick n old new c d served) len (one_history
+              (λ (t : DoorTask D) put got end. IsDoorDone spent put got end) tasks outs old new c d served h),
           record {
             count = many ∙ h.len ∙ len;
             each = λ k end at.

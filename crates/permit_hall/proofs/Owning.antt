@@ -1,11 +1,11 @@
 -- What was served, one request later.
 use Rattle.std.proofs.Common.{◌≡◌, ◌≢◌, ℕ, zero, suc, ◌<◌, ◌≤◌, Bool, true, false, List, [], ◌∷◌, ◌++◌, length, set, get_or, sym, refl, ap, ◌∙◌, subst, arith}
 use Rattle.std.specs.Prelude.{slice_index_or, slice_set, All, Some, None}
-use Rattle.std.proofs.lemmas.List.{get_or-set_same, get_or-set_other, length-set, append-nil}
+use Rattle.std.proofs.lemmas.List.{get_or-set_same, get_or-set_other, length-set, append-nil, map-append}
 use Rattle.std.proofs.lemmas.List.Elements.{All-append}
 use Rattle.crossbeam_channel.specs.Claims.{view}
-use Rattle.permit_hall.specs.Runs.{Entry, Runs, requests_of, replies_of}
-use Rattle.permit_hall.proofs.Entries.{runs_more, requests_here, requests_away, replies_here, replies_away}
+use Rattle.permit_hall.specs.Runs.{Entry, Runs, Gives, days_of, requests_of, replies_of}
+use Rattle.permit_hall.proofs.Entries.{runs_more, gives_more, requests_here, requests_away, replies_here, replies_away}
 use Rattle.permit_hall.specs.declared.intake.Envelope.{Envelope}
 use Rattle.permit_hall.specs.declared.intake.IntakeNote.{IntakeNote}
 use Rattle.permit_hall.specs.declared.owner.Outlet.{Outlet}
@@ -35,33 +35,35 @@ first : {X : Type 0} (k : ℕ) (d : X) → k < 1 → (e : X) → e ≡ slice_ind
 first zero d low e = refl
 first (suc k) d low e = absurd (omega arith)
 
-module _ {S A Y : Type 0} (step : S → A → ℕ → Y → S → Type 0) (is_day : ℕ → Type 0) (n : ℕ) where
-  pub serves_none : (s : S) → Serves step is_day n [] s s []
-  serves_none s = record { runs = refl; each = (λ k d low. absurd (omega arith)); requests = (λ p low. refl) }
+module _ {S A Y C : Type 0} (step : S → A → ℕ → Y → S → Type 0) (tick : C → ℕ → C → Type 0) (n : ℕ) where
+  pub serves_none : (s : S) (c : C) → Serves step tick n [] s s c c []
+  serves_none s c = record { runs = refl; days = refl; each = (λ k d low. absurd (omega arith)); requests = (λ p low. refl) }
 
-  pub serves_as : (got more : List (Envelope A)) (s t : S) (served : List (Entry A Y)) → got ≡ more → Serves step is_day n got s t served →
-      Serves step is_day n more s t served
-  serves_as got more s t served is h = subst (λ l. Serves step is_day n l s t served) is h
+  pub serves_as : (got more : List (Envelope A)) (s t : S) (c d : C) (served : List (Entry A Y)) → got ≡ more → Serves step tick n got s t c d served →
+      Serves step tick n more s t c d served
+  serves_as got more s t c d served is h = subst (λ l. Serves step tick n l s t c d served) is h
 
-  pub serves_ask : (got : List (Envelope A)) (s t u : S) (served : List (Entry A Y)) (m : Envelope A) (a : A) (day : ℕ) (reply : Y) → m.from < n →
-      m.request ≡ Some a → is_day day → step t a day reply u
-      → Serves step is_day n got s t served → Serves step is_day n (got ++ m ∷ []) s u
+  pub serves_ask : (got : List (Envelope A)) (s t u : S) (c d f : C) (served : List (Entry A Y)) (m : Envelope A) (a : A) (day : ℕ) (reply : Y) →
+      m.from < n → m.request ≡ Some a → tick d day f → step t a day reply u
+      → Serves step tick n got s t c d served → Serves step tick n (got ++ m ∷ []) s u c f
       (served ++ record { from = m.from; request = a; day = day; reply = reply } ∷ [])
-  serves_ask got s t u served m a day reply inside is today go h = let e : Entry A Y =
+  serves_ask got s t u c d f served m a day reply inside is today go h = let e : Entry A Y =
       record { from = m.from; request = a; day = day; reply = reply } in record {
         runs = runs_more step s t u served e h.runs go;
-        each = All-append (λ (x : Entry A Y). (x.from < n) × is_day x.day) served (e ∷ []) h.each
-            (λ k d low. subst (λ (x : Entry A Y). (x.from < n) × is_day x.day) (first k d low e) (inside, today));
+        days = subst (λ l. Gives tick c l f) (sym (map-append (λ (x : Entry A Y). x.day) served (e ∷ [])))
+            (gives_more tick c d f (days_of served) day h.days today);
+        each = All-append (λ (x : Entry A Y). x.from < n) served (e ∷ []) h.each
+            (λ k d low. subst (λ (x : Entry A Y). x.from < n) (first k d low e) inside);
         requests = λ p low. by_number m.from p
             (λ same. requests_here p served e same ∙ ap (λ l. l ++ a ∷ []) (h.requests p low) ∙ ap (λ o. requests_in p got ++ said o) (sym is)
             ∙ sym (requests_same p got m same))
             (λ other. requests_away p served e other ∙ h.requests p low ∙ sym (requests_else p got m other));
       }
 
-  pub serves_skip : (got : List (Envelope A)) (s t : S) (served : List (Entry A Y)) (m : Envelope A) →
+  pub serves_skip : (got : List (Envelope A)) (s t : S) (c d : C) (served : List (Entry A Y)) (m : Envelope A) →
       ((p : ℕ) → p < n → requests_in p (got ++ m ∷ []) ≡ requests_in p got)
-      → Serves step is_day n got s t served → Serves step is_day n (got ++ m ∷ []) s t served
-  serves_skip got s t served m same h = record { runs = h.runs; each = h.each; requests = λ p low. h.requests p low ∙ sym (same p low) }
+      → Serves step tick n got s t c d served → Serves step tick n (got ++ m ∷ []) s t c d served
+  serves_skip got s t c d served m same h = record { runs = h.runs; days = h.days; each = h.each; requests = λ p low. h.requests p low ∙ sym (same p low) }
 
 module _ {A : Type 0} where
   pub mark_says_nothing : (p : ℕ) (got : List (Envelope A)) (m : Envelope A) → m.request ≡ None → requests_in p (got ++ m ∷ []) ≡ requests_in p got

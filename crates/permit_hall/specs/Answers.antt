@@ -1,7 +1,7 @@
 -- What the workers give back, beside what was served.
 use Rattle.std.specs.Prelude.{◌≡◌, ◌<◌, ℕ, List, [], length, slice_index_or, Option, MatchOption, All, Vec}
 use Rattle.std.specs.Global.{Global}
-use Rattle.permit_hall.specs.Runs.{Entry, Runs, requests_of, replies_of}
+use Rattle.permit_hall.specs.Runs.{Entry, Runs, Gives, days_of, requests_of, replies_of}
 
 -- With something given back: the task was done with the session's requests among the served ones and the machine's
 -- replies at their places. Else no request of it was served.
@@ -9,11 +9,12 @@ abbrev pub AreAnswers : {A Y O T : Type 0} → (T → List A → List Y → O �
 AreAnswers did served session task out =
     MatchOption out (requests_of session served ≡ []) (λ x. did task (requests_of session served) (replies_of session served) x)
 
--- The list of served requests takes the machine from s to t, and its days are the clock's. Each entry is of one of the
--- tasks, and what each task gave back is right.
-pub record AreServed {S A Y O T : Type 0} (step : S → A → ℕ → Y → S → Type 0) (is_day : ℕ → Type 0) (did : T → List A → List Y → O → Type 0)
-    (tasks : List T) (outs : List (Option O)) (s t : S) (served : List (Entry A Y)) : Type 0 where
+-- The list of served requests takes the machine from s to t and the clock from c to d, which is asked once for each.
+-- Each entry is of one of the tasks, and what each task gave back is right.
+pub record AreServed {S A Y O T C : Type 0} (step : S → A → ℕ → Y → S → Type 0) (tick : C → ℕ → C → Type 0)
+    (did : T → List A → List Y → O → Type 0) (tasks : List T) (outs : List (Option O)) (s t : S) (c d : C) (served : List (Entry A Y)) : Type 0 where
   pub runs : Runs step s served t
-  pub each : All (λ e. (e.from < length tasks) × is_day e.day) served
+  pub days : Gives tick c (days_of served) d
+  pub each : All (λ e. e.from < length tasks) served
   pub len : length outs ≡ length tasks
   pub right : (k : ℕ) (l : T) (a : Option O) → k < length tasks → AreAnswers did served k (slice_index_or tasks k l) (slice_index_or outs k a)

@@ -7,7 +7,7 @@ use Rattle.permit_office.specs.declared.reply.Reply.{Reply}
 use Rattle.permit_office.specs.Office.{OfficeView}
 use Rattle.permit_hall.specs.declared.dated.Dated.{Dated}
 use Rattle.permit_hall.specs.OfficeSteps.{StepFor, IsRun}
-use Rattle.permit_hall.specs.Runs.{Entry, requests_of, replies_of}
+use Rattle.permit_hall.specs.Runs.{Entry, Gives, days_of, requests_of, replies_of}
 
 -- the office made one step, and the reply has the day of it
 abbrev pub StepOn : {S : Type 0} → (S → StoreView) → OfficeView S → Asked → ℕ → Dated → OfficeView S → Type 0
@@ -21,11 +21,13 @@ requests_on served = map (λ e. (e.request, e.day)) served
 abbrev pub replies_in : List (Entry Asked Dated) → List Reply
 replies_in served = map (λ e. e.reply.reply) served
 
--- the requests served, each of one of the sessions and on a day of the clock, are one run of the office
-pub record OneHistory {S : Type 0} (view : S → StoreView) (is_day : ℕ → Type 0) (sessions : ℕ)
-    (old new : OfficeView S) (served : List (Entry Asked Dated)) : Type 0 where
+-- The requests served, each of one of the sessions, are one run of the office. The clock is asked once for each, as it is
+-- taken, and goes from c to d.
+pub record OneHistory {S C : Type 0} (view : S → StoreView) (tick : C → ℕ → C → Type 0) (sessions : ℕ)
+    (old new : OfficeView S) (c d : C) (served : List (Entry Asked Dated)) : Type 0 where
   pub run : IsRun view (requests_on served) (replies_in served) old new
-  pub each : All (λ e. (e.from < sessions) × is_day e.day) served
+  pub days : Gives tick c (days_of served) d
+  pub each : All (λ e. e.from < sessions) served
 
 -- The list was served whole, in its order, and its answers are the office's replies at their places. Of a list whose
 -- worker couldn't be started nothing was served.

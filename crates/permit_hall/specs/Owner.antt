@@ -2,18 +2,19 @@
 use Rattle.std.specs.Prelude.{◌≡◌, ℕ, ◌<◌, true, false, List, [], ◌∷◌, ◌++◌, length, slice_index_or, All}
 use Rattle.crossbeam_channel.specs.Claims.{view, IsSeatAt}
 use Rattle.crossbeam_channel.specs.Ends.{sends_on, receives_on}
-use Rattle.permit_hall.specs.Runs.{Entry, Runs, requests_of, replies_of}
+use Rattle.permit_hall.specs.Runs.{Entry, Runs, Gives, days_of, requests_of, replies_of}
 use Rattle.permit_hall.specs.declared.intake.Envelope.{Envelope}
 use Rattle.permit_hall.specs.declared.owner.Outlet.{Outlet}
 use Rattle.permit_hall.specs.Intake.{requests_in}
 use Rattle.permit_hall.specs.Lane.{lane_note}
 
--- The entries take the machine from s to t, each is of one of n sessions and on a day of the clock, and those of a
--- session are the requests that were taken of it.
-pub record Serves {S A Y : Type 0} (step : S → A → ℕ → Y → S → Type 0) (is_day : ℕ → Type 0) (n : ℕ)
-    (got : List (Envelope A)) (s t : S) (served : List (Entry A Y)) : Type 0 where
+-- The entries take the machine from s to t and the clock from c to d, which is asked once for each. Each is of one of n
+-- sessions, and those of a session are the requests that were taken of it.
+pub record Serves {S A Y C : Type 0} (step : S → A → ℕ → Y → S → Type 0) (tick : C → ℕ → C → Type 0) (n : ℕ)
+    (got : List (Envelope A)) (s t : S) (c d : C) (served : List (Entry A Y)) : Type 0 where
   pub runs : Runs step s served t
-  pub each : All (λ e. (e.from < n) × is_day e.day) served
+  pub days : Gives tick c (days_of served) d
+  pub each : All (λ e. e.from < n) served
   pub requests : (p : ℕ) → p < n → requests_of p served ≡ requests_in p got
 
 module _ {Y : Type 0} where

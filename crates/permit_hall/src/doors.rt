@@ -182,22 +182,22 @@ pub struct HallEnd<S: Store + Drop, D: Drop> {
 pub fn run_hall<
     S: Store + Drop,
     D,
-    C: Fn() -> Day,
+    C: FnMut() -> Day,
     R: Threads + Wait + Copy + Drop + Send + 'static,
 >(
     rt: R,
     alloc: Global,
     office: Office<S>,
     doors: Vec<D>,
-    clock: &C,
+    clock: &mut C,
 ) -> Result<HallEnd<S, D>, (Office<S>, HallError)>
 where
     D: Door + Drop + Send + 'static,
     D::In: Drop + Send + 'static,
     D::Out: Drop + Send + 'static,
-    requires { C.IsAlwaysCallable clock.now }
+    requires { C.IsAlwaysCallable clock.old }
     ensures history { IfOk result (λ end. (served : List (Entry Asked Dated))
-        × OneHistory S.view (C.post clock.now) (length doors.items) office end.office served
+        × OneHistory S.view C.step (length doors.items) office end.office clock.old clock.new served
         × AreDoorsServed D.spent (length doors.items) end.doors.items served) }
     ensures opens { IfOk result (λ end. is_count (length doors.items) ≡ true) }
     ensures back { IfErr result (λ back. back.0 ≡ office) }

@@ -75,16 +75,16 @@ pub struct ListsEnd<S: Store + Drop> {
 /// office serves them one at a time, in one order for all lists, each on a day that the clock gives as it is taken. A
 /// request that is refused for the store has its refusal at its place, and has changed nothing. With an error the
 /// office comes back as it was.
-pub fn run_lists<S: Store + Drop, C: Fn() -> Day, R: Threads + Wait + Copy + Drop + Send + 'static>(
+pub fn run_lists<S: Store + Drop, C: FnMut() -> Day, R: Threads + Wait + Copy + Drop + Send + 'static>(
     rt: R,
     alloc: Global,
     office: Office<S>,
     lists: Vec<Vec<Asked>>,
-    clock: &C,
+    clock: &mut C,
 ) -> Result<ListsEnd<S>, (Office<S>, HallError)>
-    requires { C.IsAlwaysCallable clock.now }
+    requires { C.IsAlwaysCallable clock.old }
     ensures history { IfOk result (λ end. (served : List (Entry Asked Dated))
-        × OneHistory S.view (C.post clock.now) (length lists.items) office end.office served
+        × OneHistory S.view C.step (length lists.items) office end.office clock.old clock.new served
         × AreListsServed lists.items end.answers.items served) }
     ensures opens { IfOk result (λ end. is_count (length lists.items) ≡ true) }
     ensures back { IfErr result (λ back. back.0 ≡ office) }

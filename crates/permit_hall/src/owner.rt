@@ -46,20 +46,21 @@ impl<Y: Drop> Outlet<Y> {
 }
 
 // Serves a request of one of the sessions.
-fn answer<M: Machine, C: Fn() -> Day, R: Wait>(
+fn answer<M: Machine, C: FnMut() -> Day, R: Wait>(
     rt: &R,
     machine: &mut M,
     outlets: &mut Vec<Outlet<M::Reply>>,
-    clock: &C,
+    clock: &mut C,
     from: usize,
     request: M::Request,
 )
-    requires clock { C.IsAlwaysCallable clock.now }
+    requires clock { C.IsAlwaysCallable clock.old }
     requires from { from < length outlets.old.items }
     requires sent { (served : List (Entry M.Request M.Reply)) × Sent served outlets.old.items }
+    ensures clock { C.IsAlwaysCallable clock.new }
     ensures lanes { SameLanes outlets.old.items outlets.new.items }
     ensures served { (served : List (Entry M.Request M.Reply)) → Sent served outlets.old.items
-        → (day : ℕ) × (reply : M.Reply) × C.post clock.now day × M.step machine.old request day reply machine.new
+        → (day : ℕ) × (reply : M.Reply) × C.step clock.old day clock.new × M.step machine.old request day reply machine.new
         × Sent (served ++ record { from = from; request = request; day = day; reply = reply } ∷ []) outlets.new.items }
 {
     let day = clock();
@@ -68,21 +69,22 @@ fn answer<M: Machine, C: Fn() -> Day, R: Wait>(
 }
 
 // Takes an envelope, and says whether it was an end mark.
-fn take_one<M: Machine, C: Fn() -> Day, R: Wait>(
+fn take_one<M: Machine, C: FnMut() -> Day, R: Wait>(
     rt: &R,
     machine: &mut M,
     outlets: &mut Vec<Outlet<M::Reply>>,
-    clock: &C,
+    clock: &mut C,
     envelope: Envelope<M::Request>,
 ) -> bool
-    requires clock { C.IsAlwaysCallable clock.now }
+    requires clock { C.IsAlwaysCallable clock.old }
     requires sent { (served : List (Entry M.Request M.Reply)) × Sent served outlets.old.items }
+    ensures clock { C.IsAlwaysCallable clock.new }
     ensures lanes { SameLanes outlets.old.items outlets.new.items }
-    ensures served { (n : ℕ) (got : List (Envelope M.Request)) (start : M) (served : List (Entry M.Request M.Reply))
+    ensures served { (n : ℕ) (got : List (Envelope M.Request)) (start : M) (first : C) (served : List (Entry M.Request M.Reply))
         → n ≡ length outlets.old.items
-        → Serves M.step (C.post clock.now) n got start machine.old served → Sent served outlets.old.items
+        → Serves M.step C.step n got start machine.old first clock.old served → Sent served outlets.old.items
         → (next : List (Entry M.Request M.Reply))
-        × Serves M.step (C.post clock.now) n (got ++ envelope ∷ []) start machine.new next × Sent next outlets.new.items }
+        × Serves M.step C.step n (got ++ envelope ∷ []) start machine.new first clock.new next × Sent next outlets.new.items }
 {
     let Envelope { from, request } = envelope;
     let Some(request) = request else {
@@ -96,22 +98,22 @@ fn take_one<M: Machine, C: Fn() -> Day, R: Wait>(
 }
 
 /// Serves what is put, until as many end marks were taken.
-pub fn serve_all<M: Machine, C: Fn() -> Day, R: Wait>(
+pub fn serve_all<M: Machine, C: FnMut() -> Day, R: Wait>(
     rt: &R,
     machine: &mut M,
     intake: &IntakeReceiver<M::Request>,
     pass: &mut IntakePass<M::Request>,
     outlets: &mut Vec<Outlet<M::Reply>>,
-    clock: &C,
+    clock: &mut C,
     marks: usize,
 )
-    requires clock { C.IsAlwaysCallable clock.now }
+    requires clock { C.IsAlwaysCallable clock.old }
     requires pass { IsSeatAt (receives_on intake.now) pass.old × (view pass.old ≡ owner (view pass.old).made [] []) }
     requires sent { Sent {A = M.Request} [] outlets.old.items }
     ensures pass { IsSeatAt (receives_on intake.now) pass.new × (view pass.new ≡ owner (view pass.old).made (view pass.new).got []) }
     ensures lanes { SameLanes outlets.old.items outlets.new.items }
     ensures served { (served : List (Entry M.Request M.Reply))
-        × Serves M.step (C.post clock.now) (length outlets.old.items) (view pass.new).got machine.old machine.new served
+        × Serves M.step C.step (length outlets.old.items) (view pass.new).got machine.old machine.new clock.old clock.new served
         × Sent served outlets.new.items }
 {
     let mut left = marks;

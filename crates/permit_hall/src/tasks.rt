@@ -175,23 +175,23 @@ pub fn run_tasks<
     M,
     O: Drop + Send + 'static,
     T,
-    C: Fn() -> Day,
+    C: FnMut() -> Day,
     R: Threads + Wait + Copy + Drop + Send + 'static,
 >(
     rt: R,
     alloc: Global,
     machine: M,
     tasks: Vec<T>,
-    clock: &C,
+    clock: &mut C,
 ) -> Result<TasksEnd<M, O>, (M, HallError)>
 where
     M: Machine,
     M::Request: Send + 'static,
     M::Reply: Send + 'static,
     T: Task<M::Request, M::Reply, O> + Send + 'static,
-    requires { C.IsAlwaysCallable clock.now }
+    requires { C.IsAlwaysCallable clock.old }
     ensures served { IfOk result (λ end. (served : List (Entry M.Request M.Reply))
-        × AreServed M.step (C.post clock.now) T.did tasks.items end.outs.items machine end.machine served) }
+        × AreServed M.step C.step T.did tasks.items end.outs.items machine end.machine clock.old clock.new served) }
     ensures back { IfErr result (λ back. back.0 ≡ machine) }
     ensures error { IfErr result (λ back. FitsCount back.1 true) }
 {

@@ -5,7 +5,7 @@ use Rattle.std.proofs.lemmas.Bool.{leb-false as not_above}
 use Rattle.std.proofs.lemmas.List.{length-map}
 use Rattle.permit_base.specs.Limits.{most_records}
 use Rattle.permit_base.specs.declared.request.Request.TheVariants.{File}
-use Rattle.permit_model.specs.History.{Deed, Founding, Accepted, History}
+use Rattle.permit_model.specs.History.{Deed, Founding, Upgrade, Accepted, History, edition}
 use Rattle.permit_model.specs.Files.{Filing, filings, case_file, case_files}
 use Rattle.permit_model.specs.Admission.{tests}
 use Rattle.permit_model.specs.Machine.{MayFollow, IsFounding, IsHistory}
@@ -20,6 +20,7 @@ filings_deed : (h : History) (caller day : ℕ) (deed : Deed) (number : Option �
     MayFollow h (record { caller = caller; day = day; deed = deed; number = number }) deed →
     length (filings h) ≤ most_records → length (filings (record { caller = caller; day = day; deed = deed; number = number } ∷ h)) ≤ most_records
 filings_deed h caller day (Founding name digest) number may ih = absurd may
+filings_deed h caller day Upgrade number may ih = ih
 filings_deed h caller day (Accepted (File parcel kind valuation description)) None may ih = ih
 filings_deed h caller day (Accepted (File parcel kind valuation description)) (Some n) may ih =
     filing_more (filings h) (Some (record {
@@ -27,6 +28,7 @@ filings_deed h caller day (Accepted (File parcel kind valuation description)) (S
       parcel = parcel;
       applicant = caller;
       kind = kind;
+      edition = edition h;
       valuation = valuation;
       description = description;
       filed = day;
@@ -37,6 +39,7 @@ filings_deed h caller day (Accepted request) number may ih = ih
 filings_first : (caller day : ℕ) (deed : Deed) (number : Option ℕ) → IsFounding (record { caller = caller; day = day; deed = deed; number = number }) deed →
     length (filings (record { caller = caller; day = day; deed = deed; number = number } ∷ [])) ≤ most_records
 filings_first caller day (Founding name digest) number is = omega arith
+filings_first caller day Upgrade number is = absurd is
 filings_first caller day (Accepted request) number is = absurd is
 
 few_filings : (h : History) → IsHistory h → length (filings h) ≤ most_records

@@ -29,14 +29,15 @@ next_step_at_count h id file is there = sym (next_at_count file.filing file.acts
 pub requested_step_next : OfEachFile (λ h file. (step : Step) → pending_step file.acts ≡ Some step → next_of file ≡ Some step)
 requested_step_next h id file is there = (fronts file.filing file.acts (done_to h id file is there).admitted).pending
 
-pub steps_within : OfEachFile (λ h file. length (approved_steps file.acts) ≤ length (required_steps file.filing.kind))
-steps_within h id file is there = front_length file.filing.kind (approved_steps file.acts)
+pub steps_within : OfEachFile (λ h file. length (approved_steps file.acts) ≤ length (required_steps file.filing.edition file.filing.kind))
+steps_within h id file is there = front_length file.filing.edition file.filing.kind (approved_steps file.acts)
     (fronts file.filing file.acts (done_to h id file is there).admitted).front
 
-pub steps_front : OfEachFile (λ h file. approved_steps file.acts ≡ take (length (approved_steps file.acts)) (required_steps file.filing.kind))
+pub steps_front : OfEachFile (λ h file. approved_steps file.acts ≡ take (length (approved_steps file.acts))
+    (required_steps file.filing.edition file.filing.kind))
 steps_front h id file is there =
     let f : Fronts file.filing file.acts = fronts file.filing file.acts (done_to h id file is there).admitted in
-    f.front.1 ∙ ap (λ n. take n (required_steps file.filing.kind)) (sym f.front.3)
+    f.front.1 ∙ ap (λ n. take n (required_steps file.filing.edition file.filing.kind)) (sym f.front.3)
 
 -- ---- finaled and certified files
 
@@ -46,19 +47,20 @@ none_left (n ∷ ns) e = absurd (omega (arith, e))
 
 -- a file whose work is over has all its steps approved in order, and no open notice
 work_over : (h : History) (id : ℕ) (file : CaseFile) → IsHistory h → case_numbered h id ≡ Some file → is_completed (base_stage file.acts) ≡ true →
-    (approved_steps file.acts ≡ required_steps file.filing.kind) × (open_notices file.acts ≡ [])
+    (approved_steps file.acts ≡ required_steps file.filing.edition file.filing.kind) × (open_notices file.acts ≡ [])
 work_over h id file is there over =
     let done : IsFinishedWork file.filing file.acts = finished file.filing file.acts (done_to h id file is there).admitted over in (
-      steps_front h id file is there ∙ take_all (length (approved_steps file.acts)) (required_steps file.filing.kind) (omega (arith, done.0)),
+      steps_front h id file is there ∙ take_all (length (approved_steps file.acts)) (required_steps file.filing.edition file.filing.kind)
+          (omega (arith, done.0)),
       none_left (open_notices file.acts) done.1,
     )
 
-pub finaled_finished : OfEachFile (λ h file. base_stage file.acts ≡ stage.Finaled → (approved_steps file.acts ≡ required_steps file.filing.kind)
-    × (open_notices file.acts ≡ []))
+pub finaled_finished : OfEachFile (λ h file. base_stage file.acts ≡ stage.Finaled →
+    (approved_steps file.acts ≡ required_steps file.filing.edition file.filing.kind) × (open_notices file.acts ≡ []))
 finaled_finished h id file is there e = work_over h id file is there (ap is_completed e)
 
-pub certified_finished : OfEachFile (λ h file. base_stage file.acts ≡ stage.Certified → (approved_steps file.acts ≡ required_steps file.filing.kind)
-    × (open_notices file.acts ≡ []) × (is_stopped file.acts ≡ false))
+pub certified_finished : OfEachFile (λ h file. base_stage file.acts ≡ stage.Certified →
+    (approved_steps file.acts ≡ required_steps file.filing.edition file.filing.kind) × (open_notices file.acts ≡ []) × (is_stopped file.acts ≡ false))
 certified_finished h id file is there e =
     let over = work_over h id file is there (ap is_completed e) in
     (over.0, over.1, unstopped file.filing file.acts (done_to h id file is there).admitted (ap is_certified e))

@@ -6,7 +6,7 @@ use Rattle.std.proofs.lemmas.List.{length-map}
 use Rattle.std.proofs.lemmas.Bool.Decides.{nat_tests}
 use Rattle.permit_base.specs.declared.request.Request.TheVariants.{AddParty, AddParcel, Transfer, File}
 use Rattle.permit_model.specs.Search.{in_order, add_last, latest, when, has_number}
-use Rattle.permit_model.specs.History.{Deed, Founding, Accepted, Entry, History}
+use Rattle.permit_model.specs.History.{Deed, Founding, Upgrade, Accepted, Entry, History, edition}
 use Rattle.permit_model.specs.Parcels.{Parcel, parcel_added, parcel_now, parcels, parcel_numbered, receiver_by}
 use Rattle.permit_model.specs.Files.{Filing, filings}
 use Rattle.permit_model.specs.Machine.{MayFollow, IsFounding, IsHistory}
@@ -40,7 +40,7 @@ find_none_front p (x ∷ xs) ys none = find_none_by x (find p (xs ++ ys)) (find 
 other_number : (n id : ℕ) → n < id → (n == id) ≡ false
 other_number n id below = grind (arith, nat_tests)
 
-number_is : (n m : ℕ) → Some n ≡ Some m → n ≡ m
+pub number_is : (n m : ℕ) → Some n ≡ Some m → n ≡ m
 number_is n m e = cc
 
 -- ---- parcels
@@ -62,6 +62,7 @@ below_deed : (h : History) (id caller day : ℕ) (deed : Deed) (number : Option 
     ((k : ℕ) → length (in_order parcel_added h) < k → find (λ (p : Parcel). p.id == k) (in_order parcel_added h) ≡ None) →
     find (λ (p : Parcel). p.id == id) (in_order parcel_added (record { caller = caller; day = day; deed = deed; number = number } ∷ h)) ≡ None
 below_deed h id caller day (Founding name digest) number may above ih = absurd may
+below_deed h id caller day Upgrade number may above ih = ih id above
 below_deed h id caller day (Accepted (AddParcel lot address owner)) None may above ih = ih id above
 below_deed h id caller day (Accepted (AddParcel lot address owner)) (Some n) may above ih =
     below_parcel h id (Some n) (λ k. record { id = k; lot = lot; address = address; owner = owner }) (λ k. refl) may.numbered above ih
@@ -70,6 +71,7 @@ below_deed h id caller day (Accepted request) number may above ih = ih id above
 below_first : (id caller day : ℕ) (deed : Deed) (number : Option ℕ) → IsFounding (record { caller = caller; day = day; deed = deed; number = number }) deed →
     find (λ (p : Parcel). p.id == id) (in_order parcel_added (record { caller = caller; day = day; deed = deed; number = number } ∷ [])) ≡ None
 below_first id caller day (Founding name digest) number is = refl
+below_first id caller day Upgrade number is = absurd is
 below_first id caller day (Accepted request) number is = absurd is
 
 -- no parcel has a number above their count
@@ -107,6 +109,7 @@ transfers_deed : (h : History) (id caller day : ℕ) (deed : Deed) (number : Opt
     (find (λ (p : Parcel). p.id == id) (in_order parcel_added h) ≡ None → latest (λ (e : Entry). receiver_by id e.deed) h ≡ None) →
     latest (λ (e : Entry). receiver_by id e.deed) (record { caller = caller; day = day; deed = deed; number = number } ∷ h) ≡ None
 transfers_deed h id caller day (Founding name digest) number may none ih = absurd may
+transfers_deed h id caller day Upgrade number may none ih = ih none
 transfers_deed h id caller day (Accepted (Transfer parcel to)) number may none ih =
     transfer_none h id parcel to (parcel == id) refl none may.record_there (ih none)
 transfers_deed h id caller day (Accepted (AddParcel lot address owner)) None may none ih = ih none
@@ -118,6 +121,7 @@ transfers_first : (id caller day : ℕ) (deed : Deed) (number : Option ℕ) →
     IsFounding (record { caller = caller; day = day; deed = deed; number = number }) deed →
     latest (λ (e : Entry). receiver_by id e.deed) (record { caller = caller; day = day; deed = deed; number = number } ∷ []) ≡ None
 transfers_first id caller day (Founding name digest) number is = refl
+transfers_first id caller day Upgrade number is = absurd is
 transfers_first id caller day (Accepted request) number is = absurd is
 
 -- a parcel that isn't there wasn't transferred
@@ -145,6 +149,7 @@ below_file : (h : History) (id caller day : ℕ) (deed : Deed) (number : Option 
     ((k : ℕ) → length (filings h) < k → find (λ (f : Filing). f.id == k) (filings h) ≡ None) →
     find (λ (f : Filing). f.id == id) (filings (record { caller = caller; day = day; deed = deed; number = number } ∷ h)) ≡ None
 below_file h id caller day (Founding name digest) number may above ih = absurd may
+below_file h id caller day Upgrade number may above ih = ih id above
 below_file h id caller day (Accepted (File parcel kind valuation description)) None may above ih = ih id above
 below_file h id caller day (Accepted (File parcel kind valuation description)) (Some n) may above ih =
     below_filing h id n (record {
@@ -152,6 +157,7 @@ below_file h id caller day (Accepted (File parcel kind valuation description)) (
       parcel = parcel;
       applicant = caller;
       kind = kind;
+      edition = edition h;
       valuation = valuation;
       description = description;
       filed = day;
@@ -161,6 +167,7 @@ below_file h id caller day (Accepted request) number may above ih = ih id above
 file_first : (id caller day : ℕ) (deed : Deed) (number : Option ℕ) → IsFounding (record { caller = caller; day = day; deed = deed; number = number }) deed →
     find (λ (f : Filing). f.id == id) (filings (record { caller = caller; day = day; deed = deed; number = number } ∷ [])) ≡ None
 file_first id caller day (Founding name digest) number is = refl
+file_first id caller day Upgrade number is = absurd is
 file_first id caller day (Accepted request) number is = absurd is
 
 -- no file has a number above their count
@@ -184,6 +191,7 @@ parcels_deed : (h : History) (caller day : ℕ) (deed : Deed) (number : Option �
     IsNumbered (λ (p : Parcel). p.id) (in_order parcel_added h) → IsNumbered (λ (p : Parcel). p.id)
     (in_order parcel_added (record { caller = caller; day = day; deed = deed; number = number } ∷ h))
 parcels_deed h caller day (Founding name digest) number may ih = absurd may
+parcels_deed h caller day Upgrade number may ih = ih
 parcels_deed h caller day (Accepted (AddParcel lot address owner)) None may ih = ih
 parcels_deed h caller day (Accepted (AddParcel lot address owner)) (Some n) may ih =
     numbered_parcel h (Some n) (λ k. record { id = k; lot = lot; address = address; owner = owner }) (λ k. refl) may.numbered ih
@@ -192,6 +200,7 @@ parcels_deed h caller day (Accepted request) number may ih = ih
 parcels_first : (caller day : ℕ) (deed : Deed) (number : Option ℕ) → IsFounding (record { caller = caller; day = day; deed = deed; number = number }) deed →
     IsNumbered (λ (p : Parcel). p.id) (in_order parcel_added (record { caller = caller; day = day; deed = deed; number = number } ∷ []))
 parcels_first caller day (Founding name digest) number is = tt
+parcels_first caller day Upgrade number is = absurd is
 parcels_first caller day (Accepted request) number is = absurd is
 
 added_numbered : (h : History) → IsHistory h → IsNumbered (λ (p : Parcel). p.id) (in_order parcel_added h)
@@ -210,6 +219,7 @@ filings_deed : (h : History) (caller day : ℕ) (deed : Deed) (number : Option �
     IsNumbered (λ (f : Filing). f.id) (filings h) → IsNumbered (λ (f : Filing). f.id)
     (filings (record { caller = caller; day = day; deed = deed; number = number } ∷ h))
 filings_deed h caller day (Founding name digest) number may ih = absurd may
+filings_deed h caller day Upgrade number may ih = ih
 filings_deed h caller day (Accepted (File parcel kind valuation description)) None may ih = ih
 filings_deed h caller day (Accepted (File parcel kind valuation description)) (Some n) may ih =
     numbered_last (λ (f : Filing). f.id) 1 (filings h) (record {
@@ -217,6 +227,7 @@ filings_deed h caller day (Accepted (File parcel kind valuation description)) (S
       parcel = parcel;
       applicant = caller;
       kind = kind;
+      edition = edition h;
       valuation = valuation;
       description = description;
       filed = day;
@@ -226,6 +237,7 @@ filings_deed h caller day (Accepted request) number may ih = ih
 filings_first : (caller day : ℕ) (deed : Deed) (number : Option ℕ) → IsFounding (record { caller = caller; day = day; deed = deed; number = number }) deed →
     IsNumbered (λ (f : Filing). f.id) (filings (record { caller = caller; day = day; deed = deed; number = number } ∷ []))
 filings_first caller day (Founding name digest) number is = tt
+filings_first caller day Upgrade number is = absurd is
 filings_first caller day (Accepted request) number is = absurd is
 
 -- the filings are numbered from 1
@@ -245,6 +257,7 @@ parties_deed : (h : History) (caller day : ℕ) (deed : Deed) (number : Option �
     IsNumbered (λ (p : Party). p.id) (parties h) → IsNumbered (λ (p : Party). p.id)
     (parties (record { caller = caller; day = day; deed = deed; number = number } ∷ h))
 parties_deed h caller day (Founding name digest) number may ih = absurd may
+parties_deed h caller day Upgrade number may ih = ih
 parties_deed h caller day (Accepted (AddParty name role token)) None may ih = ih
 parties_deed h caller day (Accepted (AddParty name role token)) (Some n) may ih =
     numbered_last (λ (p : Party). p.id) 1 (parties h) (record { id = n; name = name; role = role; digest = digest_of token }) ih
@@ -254,6 +267,7 @@ parties_deed h caller day (Accepted request) number may ih = ih
 parties_first : (caller day : ℕ) (deed : Deed) (number : Option ℕ) → IsFounding (record { caller = caller; day = day; deed = deed; number = number }) deed →
     IsNumbered (λ (p : Party). p.id) (parties (record { caller = caller; day = day; deed = deed; number = number } ∷ []))
 parties_first caller day (Founding name digest) None is = tt
+parties_first caller day Upgrade number is = absurd is
 parties_first caller day (Founding name digest) (Some n) is = (number_is n 1 is.1, tt)
 parties_first caller day (Accepted request) number is = absurd is
 

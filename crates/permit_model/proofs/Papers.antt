@@ -74,7 +74,7 @@ papers_by_file : (file : ℕ) (now before : History) → of_file file (papers_ma
 papers_by_file file now [] = refl
 papers_by_file file now (entry ∷ before) = deed_more file now entry.caller entry.day entry.deed entry.number before (papers_by_file file now before)
 
-found_by : (h : History) (file : CaseFile) (o : Option Filing) → option_map (case_file h) o ≡ Some file → case_file h file.filing ≡ file
+pub found_by : (h : History) (file : CaseFile) (o : Option Filing) → option_map (case_file h) o ≡ Some file → case_file h file.filing ≡ file
 found_by h file None there = cc
 found_by h file (Some filing) there =
     let same : case_file h filing ≡ file = ap (λ o. unwrap_or o (case_file h filing)) there in

@@ -3,6 +3,8 @@ use Rattle.std.proofs.Common.{◌≡◌, ◌≤◌, ℕ, zero, suc, ◌+◌, Boo
 use Rattle.std.specs.Prelude.{Option, None, Some, option_map, is_some, is_none, ◌==◌, ◌&&◌, ◌||◌, nat_le, if◌then◌else◌, slice_get, unwrap_or}
 use Rattle.std.proofs.lemmas.Bool.{le-leb, eq-eqb, ltb-false as not_below}
 use Rattle.std.proofs.lemmas.List.{length-take}
+use Rattle.permit_base.specs.declared.words.Edition.{Edition}
+use Rattle.permit_base.specs.declared.words.Edition.TheVariants as edition
 use Rattle.permit_base.specs.declared.words.Kind.{Kind}
 use Rattle.permit_base.specs.declared.words.Kind.TheVariants.{Construct, Enlarge, Alter, Repair, Move, Demolish, Occupancy}
 use Rattle.permit_base.specs.declared.words.Step.{Step}
@@ -103,55 +105,75 @@ stands_in _ filed acts late = refl
 pub same_as_itself : (step : Step) → is_step step step ≡ true
 same_as_itself step = eq-eqb (step_code step) (step_code step) refl
 
-for_next : (request next : Option Step) → ((step : Step) → request ≡ Some step → next ≡ Some step) → is_for request next ≡ true
+pub for_next : (request next : Option Step) → ((step : Step) → request ≡ Some step → next ≡ Some step) → is_for request next ≡ true
 for_next None next pending = refl
 for_next (Some step) next pending = rw (pending step refl) (same_as_itself step)
 
-dated : (o : Option Inspection) → (if is_some (option_map (λ (i : Inspection). i.step) o) then is_some (option_map (λ (i : Inspection). i.day) o) else is_none
-    (option_map (λ (i : Inspection). i.day) o)) ≡ true
+pub dated : (o : Option Inspection) → (if is_some (option_map (λ (i : Inspection). i.step) o) then is_some (option_map (λ (i : Inspection). i.day) o)
+    else is_none (option_map (λ (i : Inspection). i.day) o)) ≡ true
 dated None = refl
 dated (Some inspection) = refl
 
-pub front_length : (kind : Kind) (steps : List Step) → IsFront kind steps → length steps ≤ length (required_steps kind)
-front_length kind steps front =
-    let same : length steps ≡ length (take front.0 (required_steps kind)) = ap length front.1 in
-    omega (arith, same, length-take front.0 (required_steps kind))
+pub front_length : (edition : Edition) (kind : Kind) (steps : List Step) → IsFront edition kind steps → length steps ≤ length (required_steps edition kind)
+front_length edition kind steps front =
+    let same : length steps ≡ length (take front.0 (required_steps edition kind)) = ap length front.1 in
+    omega (arith, same, length-take front.0 (required_steps edition kind))
 
 -- ---- finaled and certified files
 
 -- the step final is the last
-pub final_last : (kind : Kind) (n : ℕ) → slice_get (required_steps kind) n ≡ Some Final → suc n ≡ length (required_steps kind)
-final_last Construct zero e = cc
-final_last Construct (suc zero) e = cc
-final_last Construct (suc (suc zero)) e = cc
-final_last Construct (suc (suc (suc zero))) e = cc
-final_last Construct (suc (suc (suc (suc zero)))) e = refl
-final_last Construct (suc (suc (suc (suc (suc m))))) e = cc
-final_last Enlarge zero e = cc
-final_last Enlarge (suc zero) e = cc
-final_last Enlarge (suc (suc zero)) e = cc
-final_last Enlarge (suc (suc (suc zero))) e = cc
-final_last Enlarge (suc (suc (suc (suc zero)))) e = refl
-final_last Enlarge (suc (suc (suc (suc (suc m))))) e = cc
-final_last Alter zero e = cc
-final_last Alter (suc zero) e = cc
-final_last Alter (suc (suc zero)) e = refl
-final_last Alter (suc (suc (suc m))) e = cc
-final_last Repair zero e = cc
-final_last Repair (suc zero) e = refl
-final_last Repair (suc (suc m)) e = cc
-final_last Move zero e = cc
-final_last Move (suc zero) e = cc
-final_last Move (suc (suc zero)) e = refl
-final_last Move (suc (suc (suc m))) e = cc
-final_last Demolish zero e = refl
-final_last Demolish (suc m) e = cc
-final_last Occupancy zero e = refl
-final_last Occupancy (suc m) e = cc
+pub final_last : (edition : Edition) (kind : Kind) (n : ℕ) → slice_get (required_steps edition kind) n ≡ Some Final →
+    suc n ≡ length (required_steps edition kind)
+final_last edition.First Construct zero e = cc
+final_last edition.First Construct (suc zero) e = cc
+final_last edition.First Construct (suc (suc zero)) e = cc
+final_last edition.First Construct (suc (suc (suc zero))) e = cc
+final_last edition.First Construct (suc (suc (suc (suc zero)))) e = refl
+final_last edition.First Construct (suc (suc (suc (suc (suc m))))) e = cc
+final_last edition.First Enlarge zero e = cc
+final_last edition.First Enlarge (suc zero) e = cc
+final_last edition.First Enlarge (suc (suc zero)) e = cc
+final_last edition.First Enlarge (suc (suc (suc zero))) e = cc
+final_last edition.First Enlarge (suc (suc (suc (suc zero)))) e = refl
+final_last edition.First Enlarge (suc (suc (suc (suc (suc m))))) e = cc
+final_last edition.First Alter zero e = cc
+final_last edition.First Alter (suc zero) e = cc
+final_last edition.First Alter (suc (suc zero)) e = refl
+final_last edition.First Alter (suc (suc (suc m))) e = cc
+final_last edition.Second Construct zero e = cc
+final_last edition.Second Construct (suc zero) e = cc
+final_last edition.Second Construct (suc (suc zero)) e = cc
+final_last edition.Second Construct (suc (suc (suc zero))) e = cc
+final_last edition.Second Construct (suc (suc (suc (suc zero)))) e = cc
+final_last edition.Second Construct (suc (suc (suc (suc (suc zero))))) e = refl
+final_last edition.Second Construct (suc (suc (suc (suc (suc (suc m)))))) e = cc
+final_last edition.Second Enlarge zero e = cc
+final_last edition.Second Enlarge (suc zero) e = cc
+final_last edition.Second Enlarge (suc (suc zero)) e = cc
+final_last edition.Second Enlarge (suc (suc (suc zero))) e = cc
+final_last edition.Second Enlarge (suc (suc (suc (suc zero)))) e = cc
+final_last edition.Second Enlarge (suc (suc (suc (suc (suc zero))))) e = refl
+final_last edition.Second Enlarge (suc (suc (suc (suc (suc (suc m)))))) e = cc
+final_last edition.Second Alter zero e = cc
+final_last edition.Second Alter (suc zero) e = cc
+final_last edition.Second Alter (suc (suc zero)) e = cc
+final_last edition.Second Alter (suc (suc (suc zero))) e = refl
+final_last edition.Second Alter (suc (suc (suc (suc m)))) e = cc
+final_last edition Repair zero e = cc
+final_last edition Repair (suc zero) e = refl
+final_last edition Repair (suc (suc m)) e = cc
+final_last edition Move zero e = cc
+final_last edition Move (suc zero) e = cc
+final_last edition Move (suc (suc zero)) e = refl
+final_last edition Move (suc (suc (suc m))) e = cc
+final_last edition Demolish zero e = refl
+final_last edition Demolish (suc m) e = cc
+final_last edition Occupancy zero e = refl
+final_last edition Occupancy (suc m) e = cc
 
 -- every required step is approved, and no notice is open
 abbrev pub IsFinishedWork : Filing → List Act → Type 0
-IsFinishedWork filing acts = (length (approved_steps acts) ≡ length (required_steps filing.kind)) × (length (open_notices acts) ≡ 0)
+IsFinishedWork filing acts = (length (approved_steps acts) ≡ length (required_steps filing.edition filing.kind)) × (length (open_notices acts) ≡ 0)
 
 abbrev pub FinishedWhenCompleted : Filing → List Act → Type 0
 FinishedWhenCompleted filing acts = is_completed (base_stage acts) ≡ true → IsFinishedWork filing acts
@@ -160,10 +182,10 @@ not_completed : (before : List Act) → base_stage before ≡ stage.Working → 
 not_completed before was e = sym (ap is_completed was) ∙ e
 
 final_approved : (filing : Filing) (before : List Act) → Fronts filing before → pending_step before ≡ Some Final → length (open_notices before) ≤ 0 →
-    (length (approved_steps before ++ Final ∷ []) ≡ length (required_steps filing.kind)) × (length (open_notices before) ≡ 0)
+    (length (approved_steps before ++ Final ∷ []) ≡ length (required_steps filing.edition filing.kind)) × (length (open_notices before) ≡ 0)
 final_approved filing before f pending few =
-    let next : next_step filing.kind (approved_steps before) ≡ Some Final = f.pending Final pending in
-    let last : suc f.front.0 ≡ length (required_steps filing.kind) = final_last filing.kind f.front.0 (sym f.front.2 ∙ next) in
+    let next : next_step filing.edition filing.kind (approved_steps before) ≡ Some Final = f.pending Final pending in
+    let last : suc f.front.0 ≡ length (required_steps filing.edition filing.kind) = final_last filing.edition filing.kind f.front.0 (sym f.front.2 ∙ next) in
     let long : length (approved_steps before ++ Final ∷ []) ≡ length (approved_steps before) + 1 = length-append (approved_steps before) (Final ∷ []) in
     (omega (arith, f.front.3, last, long), omega (arith, few))
 
@@ -255,19 +277,22 @@ both a b e f = rw (e, f) refl
 pub sound_acts : (filing : Filing) (acts : List Act) → WereAdmitted filing acts → IsSoundState (state_of (case_of filing acts))
 sound_acts filing acts w =
     let f : Fronts filing acts = fronts filing acts w in
-    let next : next_step filing.kind (approved_steps acts) ≡ slice_get (required_steps filing.kind) (length (approved_steps acts)) =
-    next_at_count filing acts w in
+    let next : next_step filing.edition filing.kind (approved_steps acts)
+    ≡ slice_get (required_steps filing.edition filing.kind) (length (approved_steps acts)) = next_at_count filing acts w in
     let stored : is_stored (base_stage acts) ≡ true = base_stored acts in
-    let few : nat_le (length (approved_steps acts)) (length (required_steps filing.kind)) ≡ true =
-    le-leb (length (approved_steps acts)) (length (required_steps filing.kind)) (front_length filing.kind (approved_steps acts) f.front) in
+    let few : nat_le (length (approved_steps acts)) (length (required_steps filing.edition filing.kind)) ≡ true =
+    le-leb (length (approved_steps acts)) (length (required_steps filing.edition filing.kind))
+    (front_length filing.edition filing.kind (approved_steps acts) f.front) in
     let stands = stands_in (base_stage acts) filing.filed acts (anchored acts) in
-    let request : is_for (pending_step acts) (slice_get (required_steps filing.kind) (length (approved_steps acts))) ≡ true =
-    for_next (pending_step acts) (slice_get (required_steps filing.kind) (length (approved_steps acts))) (λ step e. sym next ∙ f.pending step e) in
-    let over : (not (is_completed (base_stage acts)) || ((length (approved_steps acts) == length (required_steps filing.kind))
+    let request : is_for (pending_step acts) (slice_get (required_steps filing.edition filing.kind) (length (approved_steps acts))) ≡ true =
+    for_next (pending_step acts) (slice_get (required_steps filing.edition filing.kind) (length (approved_steps acts)))
+    (λ step e. sym next ∙ f.pending step e) in
+    let over : (not (is_completed (base_stage acts)) || ((length (approved_steps acts) == length (required_steps filing.edition filing.kind))
     && (length (open_notices acts) == 0))) ≡ true =
-    only_where (is_completed (base_stage acts)) ((length (approved_steps acts) == length (required_steps filing.kind)) && (length (open_notices acts) == 0))
-    (λ e. both (length (approved_steps acts) == length (required_steps filing.kind)) (length (open_notices acts) == 0)
-    (eq-eqb (length (approved_steps acts)) (length (required_steps filing.kind)) (finished filing acts w e).0)
+    only_where (is_completed (base_stage acts)) ((length (approved_steps acts) == length (required_steps filing.edition filing.kind))
+    && (length (open_notices acts) == 0))
+    (λ e. both (length (approved_steps acts) == length (required_steps filing.edition filing.kind)) (length (open_notices acts) == 0)
+    (eq-eqb (length (approved_steps acts)) (length (required_steps filing.edition filing.kind)) (finished filing acts w e).0)
     (eq-eqb (length (open_notices acts)) 0 (finished filing acts w e).1)) in
     let free : (not (is_certified (base_stage acts)) || not (is_stopped acts)) ≡ true =
     only_where (is_certified (base_stage acts)) (not (is_stopped acts)) (λ e. ap not (unstopped filing acts w e)) in

@@ -1,5 +1,5 @@
 -- The deadline of a file: the greatest day to which an anchor reaches.
-use Rattle.std.specs.Prelude.{ℕ, ◌+◌, Bool, true, false, if◌then◌else◌, List, [], ◌∷◌, Option, None, Some, unwrap_or, map}
+use Rattle.std.specs.Prelude.{ℕ, ◌+◌, if◌then◌else◌, List, [], ◌∷◌, Option, None, Some, unwrap_or, map}
 use Rattle.permit_base.specs.declared.words.Stage.{Stage}
 use Rattle.permit_base.specs.declared.request.Command.{Command}
 use Rattle.permit_model.specs.Codes.{is_stage_among}

@@ -1,7 +1,7 @@
 -- What each command does to its file, one line a command: the department's table of effects.
 use Rattle.std.specs.Prelude.{ℕ, Bool, true, false, List, [], Option, None, Some}
 use Rattle.permit_base.specs.declared.words.Step.{Step}
-use Rattle.permit_base.specs.declared.words.Step.TheVariants.{Footing, Slab, Frame, Lath, Final}
+use Rattle.permit_base.specs.declared.words.Step.TheVariants.{Footing, Slab, Frame, Lath, Final, Energy}
 use Rattle.permit_base.specs.declared.words.Stage.{Stage}
 use Rattle.permit_base.specs.declared.words.Stage.TheVariants as stage
 use Rattle.permit_base.specs.declared.words.PaperSort.{PaperSort}
@@ -64,6 +64,7 @@ stage_of_step Footing = None
 stage_of_step Slab = None
 stage_of_step Frame = None
 stage_of_step Lath = None
+stage_of_step Energy = None
 stage_of_step Final = Some stage.Finaled
 
 -- what each command does

@@ -2,6 +2,7 @@
 use Rattle.std.specs.Prelude.{ℕ, false, List, [], ◌∷◌, ◌++◌, map, length, Option, None, Some, codes}
 use Rattle.permit_base.specs.declared.words.Role.TheVariants.{Public, Clerk, Reviewer, Inspector}
 use Rattle.permit_base.specs.declared.words.Role.{Role}
+use Rattle.permit_base.specs.declared.words.Edition.TheVariants.{First}
 use Rattle.permit_base.specs.declared.words.Kind.TheVariants.{Construct, Alter, Repair}
 use Rattle.permit_base.specs.declared.words.Step.TheVariants.{Footing, Slab, Frame, Lath, Final}
 use Rattle.permit_base.specs.declared.words.Stage.TheVariants as stage
@@ -196,6 +197,7 @@ house_state = record {
   reviewer = None;
   inspector = None;
   kind = Construct;
+  edition = First;
   filed = 19723;
   stage = stage.Filed;
   deadline = Some 19903;

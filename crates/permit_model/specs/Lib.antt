@@ -17,6 +17,8 @@ pub mod Admission
 pub mod Numbering
 pub mod Tables
 pub mod SoundState
+pub mod Sound
+pub mod Within
 pub mod Listing
 pub mod Opened
 pub mod Routes
@@ -26,3 +28,4 @@ pub mod Register
 pub mod HallRun
 pub mod Laws
 pub mod Examples
+pub mod Damage

@@ -1,6 +1,7 @@
 -- The office as a machine: one step for a request on a day, and whole runs.
 use Rattle.std.specs.Prelude.{◌≡◌, ◌≤◌, ◌<◌, ℕ, ◌+◌, Bool, true, false, nat_lt, if◌then◌else◌, IsTrue, List, [], ◌∷◌, length, Option, None, Some, option_map}
 use Rattle.std.specs.Prelude.{is_some}
+use Rattle.permit_base.specs.declared.words.Edition.TheVariants.{First}
 use Rattle.permit_base.specs.declared.words.Stage.{Stage}
 use Rattle.permit_base.specs.declared.words.Stage.TheVariants.{New, Office}
 use Rattle.permit_base.specs.declared.words.Action.{Action}
@@ -16,7 +17,7 @@ use Rattle.permit_base.specs.declared.request.Asked.{Asked}
 use Rattle.permit_base.specs.Actions.{action_of}
 use Rattle.permit_base.specs.Digests.{digest_of}
 use Rattle.permit_model.specs.Search.{when}
-use Rattle.permit_model.specs.History.{Deed, Founding, Accepted, Entry, History, last_day}
+use Rattle.permit_model.specs.History.{Deed, Founding, Upgrade, Accepted, Entry, History, edition, last_day}
 use Rattle.permit_model.specs.Caller.{Party, parties, who, is_party}
 use Rattle.permit_model.specs.Parcels.{Parcel, parcels, parcel_numbered}
 use Rattle.permit_model.specs.Files.{CaseFile, filings, case_numbered}
@@ -221,17 +222,26 @@ pub record IsAccepted (before : History) (entry : Entry) (request : Request) : T
   pub admitted : reason_against before entry.day entry.caller request ≡ None
   pub numbered : entry.number ≡ number_made before request
 
+-- the upgrade: nobody's, without a number, on the day of the entry before it, and once
+pub record IsUpgrade (before : History) (entry : Entry) : Type 0 where
+  pub nobody : entry.caller ≡ 0
+  pub same_day : entry.day ≡ last_day before
+  pub numberless : entry.number ≡ None
+  pub once : edition before ≡ First
+
 -- the deed may stand behind the entries before it
 abbrev pub MayFollow : History → Entry → Deed → Type 0
 MayFollow before entry (Founding name digest) = ⊥
+MayFollow before entry Upgrade = IsUpgrade before entry
 MayFollow before entry (Accepted request) = IsAccepted before entry request
 
 -- the founding makes party 1
 abbrev pub IsFounding : Entry → Deed → Type 0
 IsFounding entry (Founding name digest) = (0 < entry.day) × (entry.number ≡ Some 1)
+IsFounding entry Upgrade = ⊥
 IsFounding entry (Accepted request) = ⊥
 
--- the founding, and then accepted commands alone
+-- the founding, and then the upgrade and accepted commands alone
 abbrev pub IsHistory : History → Type 0
 IsHistory [] = ⊥
 IsHistory (entry ∷ []) = IsFounding entry entry.deed

@@ -79,13 +79,13 @@ request_dated s = if is_some s.request then is_some s.requested else is_none s.r
 
 -- every required step is approved, and no notice is open
 abbrev pub is_finished : State → Bool
-is_finished s = (s.done == length (required_steps s.kind)) && (s.notices == 0)
+is_finished s = (s.done == length (required_steps s.edition s.kind)) && (s.notices == 0)
 
 -- a stored stage; no more steps done than required; the deadline where one stands; a request for the next step alone;
 -- a finaled or certified file is finished, and a certified one isn't stopped
 abbrev pub is_sound_state : State → Bool
 is_sound_state s =
-    is_stored s.stage && nat_le s.done (length (required_steps s.kind)) && deadline_stands s
+    is_stored s.stage && nat_le s.done (length (required_steps s.edition s.kind)) && deadline_stands s
     && is_for s.request (next_in_row s) && request_dated s
     && (not (is_completed s.stage) || is_finished s) && (not (is_certified s.stage) || not s.stopped)
 

@@ -1,6 +1,8 @@
 -- The rows that the tables keep, read off the history.
-use Rattle.std.specs.Prelude.{ℕ, Bool, true, false, ◌&&◌, List, [], ◌∷◌, map, filter, ◌==◌, length, Option, None, option_map, unwrap_or, slice_get}
-use Rattle.std.specs.Prelude.{if◌then◌else◌}
+use Rattle.std.specs.Prelude.{ℕ, Bool, true, false, ◌&&◌, List, [], ◌∷◌, map, filter, ◌==◌, nat_le, length, Option, None, Some, option_map, unwrap_or}
+use Rattle.std.specs.Prelude.{slice_get, if◌then◌else◌}
+use Rattle.permit_base.specs.declared.words.Edition.{Edition}
+use Rattle.permit_base.specs.declared.words.Edition.TheVariants as edition_word
 use Rattle.permit_base.specs.declared.words.Kind.{Kind}
 use Rattle.permit_base.specs.declared.words.Step.{Step}
 use Rattle.permit_base.specs.declared.words.Stage.{Stage}
@@ -12,11 +14,11 @@ use Rattle.permit_base.specs.declared.request.Request.TheVariants.{AddParty, Add
 use Rattle.permit_base.specs.declared.request.Request.TheVariants.{OnFile}
 use Rattle.permit_model.specs.Search.{add_last, has_number}
 use Rattle.permit_model.specs.Steps.{required_steps}
-use Rattle.permit_model.specs.History.{Deed, Founding, Accepted, Entry, History, last_day}
+use Rattle.permit_model.specs.History.{Deed, Founding, Upgrade, Accepted, Entry, History, edition, last_day}
 use Rattle.permit_model.specs.Caller.{Party, parties}
 use Rattle.permit_model.specs.Parcels.{Parcel, parcels, Interest, interests}
 use Rattle.permit_model.specs.Effects.{effects}
-use Rattle.permit_model.specs.Files.{Act, act_of, acts_on, CaseFile, case_files}
+use Rattle.permit_model.specs.Files.{Act, act_of, acts_on, CaseFile, filings, case_files}
 use Rattle.permit_model.specs.People.{contractor, reviewer, inspector}
 use Rattle.permit_model.specs.Work.{approved_steps, pending_step, requested_day, pending_ask, open_notices, is_stopped, temporary_until, paper_sort}
 use Rattle.permit_model.specs.Work.{paper_count}
@@ -34,6 +36,7 @@ pub record State : Type 0 where
   pub reviewer : Option ℕ
   pub inspector : Option ℕ
   pub kind : Kind
+  pub edition : Edition
   pub filed : ℕ
   pub stage : Stage
   pub deadline : Option ℕ
@@ -55,7 +58,7 @@ pub record FileRow : Type 0 where
 
 -- the next step of a row, by the count of those that are done
 abbrev pub next_in_row : State → Option Step
-next_in_row state = slice_get (required_steps state.kind) state.done
+next_in_row state = slice_get (required_steps state.edition state.kind) state.done
 
 -- the row of a file, without its number, valuation and description, read off what was done to it
 abbrev pub state_of : CaseFile → State
@@ -66,6 +69,7 @@ state_of file = record {
   reviewer = reviewer file.acts;
   inspector = inspector file.acts;
   kind = file.filing.kind;
+  edition = file.filing.edition;
   filed = file.filing.filed;
   stage = base_stage file.acts;
   deadline = deadline file;
@@ -154,6 +158,7 @@ paper_by file open_now act before =
 abbrev pub paper_of_deed : History → Entry → Deed → History → Option Paper
 paper_of_deed now entry (Accepted (OnFile file command)) before = paper_by file (open_notices (acts_on file now)) (act_of entry command) (acts_on file before)
 paper_of_deed now entry (Founding name digest) before = None
+paper_of_deed now entry Upgrade before = None
 paper_of_deed now entry (Accepted (AddParty name role token)) before = None
 paper_of_deed now entry (Accepted (AddParcel lot address owner)) before = None
 paper_of_deed now entry (Accepted (Transfer parcel to)) before = None
@@ -175,33 +180,66 @@ papers_of h id = filter (λ p. p.file == id) (papers_made h h)
 
 -- ---- all tables
 
--- the last day and the counts
+-- the version of the tables under an edition
+abbrev pub version_of : Edition → ℕ
+version_of edition_word.First = 1
+version_of edition_word.Second = 2
+
+-- the edition in force, by the count of files at the upgrade
+abbrev pub edition_by : Option ℕ → Edition
+edition_by None = edition_word.First
+edition_by (Some count) = edition_word.Second
+
+-- how many files there were at the upgrade once the deed is done, with the files then and the count before it
+abbrev pub files_at : Deed → ℕ → Option ℕ → Option ℕ
+files_at Upgrade files before = Some files
+files_at (Founding name digest) files before = before
+files_at (Accepted request) files before = before
+
+-- how many files there were at the upgrade, if there was one
+abbrev pub files_at_upgrade : History → Option ℕ
+files_at_upgrade [] = None
+files_at_upgrade (entry ∷ before) = files_at entry.deed (length (filings before)) (files_at_upgrade before)
+
+-- the edition of a file by its number: the first one up to the count at the upgrade, or where there was none
+abbrev pub edition_numbered : Option ℕ → ℕ → Edition
+edition_numbered None id = edition_word.First
+edition_numbered (Some count) id = if nat_le id count then edition_word.First else edition_word.Second
+
+-- the edition of the inspections that is in force, the last day and the counts
 pub record Desk : Type 0 where
+  pub edition : Edition
   pub last : ℕ
   pub parties : ℕ
   pub parcels : ℕ
   pub files : ℕ
 
--- the six tables
+-- the tables; that of the upgrade has the count of files then, where there was one
 pub record Tables : Type 0 where
   pub desk : Desk
+  pub upgrade : Option ℕ
   pub parties : List Party
   pub parcels : List Parcel
   pub interests : List Interest
   pub files : List FileRow
   pub papers : List Paper
 
--- the last day and the counts after a history
+-- the desk after a history
 abbrev pub desk_of : History → Desk
-desk_of h = record { last = last_day h; parties = length (parties h); parcels = length (parcels h); files = length (case_files h) }
+desk_of h = record { edition = edition h; last = last_day h; parties = length (parties h); parcels = length (parcels h); files = length (case_files h) }
 
 -- the tables after a history; interests and papers stand in the order in which they were made
 abbrev pub tables : History → Tables
 tables h = record {
   desk = desk_of h;
+  upgrade = files_at_upgrade h;
   parties = parties h;
   parcels = parcels h;
   interests = interests h;
   files = map file_row (case_files h);
   papers = papers_made h h;
 }
+
+-- the tables after the upgrade
+abbrev pub with_upgrade : Tables → Tables
+with_upgrade t = record t { desk = record t.desk { edition = edition_word.Second }; upgrade = Some t.desk.files }

@@ -1,6 +1,7 @@
 //! Worked examples of applications: filing, review, extensions and issuance.
 
 ghost use Rattle.std.specs.Prelude.{◌≡◌, ◌∷◌, [], ◌++◌, None, Some, codes, false, option_map};
+ghost use Rattle.permit_base.specs.declared.words.Edition.TheVariants.{First};
 ghost use Rattle.permit_base.specs.declared.words.Kind.TheVariants.{Construct};
 ghost use Rattle.permit_base.specs.declared.words.Step.TheVariants.{Footing};
 ghost use Rattle.permit_base.specs.declared.words.Stage.TheVariants as stage;
@@ -29,7 +30,7 @@ pub fn extension_before_the_deadline()
     ensures replies { replies extended_house opening ≡ made 1 ∷ not_admitted reason.Days ∷ made 1 ∷ made 2 ∷ [] }
     ensures deadline { read_after extended_house 19903 ≡ Some (stage.Filed, timing.Ahead, Some 19993) }
     ensures none_pending { option_map (λ (s : State). s.ask) (state_after extended_house 19903) ≡ Some None }
-    ensures desk { (tables (after extended_house opening)).desk ≡ record { last = 19903; parties = 7; parcels = 2; files = 1 } }
+    ensures desk { (tables (after extended_house opening)).desk ≡ record { edition = First; last = 19903; parties = 7; parcels = 2; files = 1 } }
     ensures papers { (tables (after extended_house opening)).papers ≡
         record { file = 1; number = 1; day = 19903; author = 5; sort = sort.Asked; days = 90; text = codes "Ill"; terms = []; is_open = false }
         ∷ record { file = 1; number = 2; day = 19903; author = 1; sort = sort.Granted; days = 90; text = []; terms = []; is_open = false }

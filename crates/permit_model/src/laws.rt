@@ -1,7 +1,8 @@
 //! The laws that hold of every history, and of every policy.
 
-ghost use Rattle.std.specs.Prelude.{◌≡◌, ◌≤◌, ◌+◌, ◌++◌, ℕ, List, [], length, take, Some, is_some, true, false};
+ghost use Rattle.std.specs.Prelude.{◌≡◌, ◌≤◌, ◌+◌, ◌++◌, ℕ, List, [], length, take, Some, is_some, true, false, IsTrue};
 ghost use Rattle.permit_base.specs.Limits.{latest_day, latest_deadline};
+ghost use Rattle.permit_base.specs.declared.words.Edition.TheVariants.{First};
 ghost use Rattle.permit_base.specs.declared.words.Step.{Step};
 ghost use Rattle.permit_base.specs.declared.words.Stage.TheVariants as stage;
 ghost use Rattle.permit_base.specs.declared.words.Relations.{Relations};
@@ -9,7 +10,7 @@ ghost use Rattle.permit_base.specs.declared.request.Asked.{Asked};
 ghost use Rattle.permit_base.specs.declared.request.Request.{Request};
 ghost use Rattle.permit_model.specs.Days.{term};
 ghost use Rattle.permit_model.specs.Steps.{required_steps};
-ghost use Rattle.permit_model.specs.History.{History, last_day};
+ghost use Rattle.permit_model.specs.History.{History, edition, last_day, upgraded};
 ghost use Rattle.permit_model.specs.Caller.{Party, parties};
 ghost use Rattle.permit_model.specs.Parcels.{Parcel, parcels};
 ghost use Rattle.permit_model.specs.Files.{CaseFile, case_files};
@@ -19,8 +20,10 @@ ghost use Rattle.permit_model.specs.Deadline.{deadline};
 ghost use Rattle.permit_model.specs.Facts.{Facts};
 ghost use Rattle.permit_model.specs.Policy.{Policy, allows};
 ghost use Rattle.permit_model.specs.Numbering.{IsNumbered};
-ghost use Rattle.permit_model.specs.Tables.{Paper, papers_of, state_of, next_in_row, tables};
+ghost use Rattle.permit_model.specs.Tables.{Paper, papers_of, state_of, next_in_row, files_at_upgrade, edition_numbered, tables, with_upgrade};
 ghost use Rattle.permit_model.specs.SoundState.{is_timed, IsSoundState};
+ghost use Rattle.permit_model.specs.Sound.{is_sound_desk, are_numbered, are_sound_parties, are_sound_parcels, are_sound_filings, are_sound_stages, is_sound_work, are_sound_papers, IsSoundTables};
+ghost use Rattle.permit_model.specs.Within.{AreWithinLimits};
 ghost use Rattle.permit_model.specs.Machine.{IsHistory, step_as, step, history_after};
 ghost use Rattle.permit_model.specs.Laws.{OfEachFile, with_relations, Narrowed, Wanted, parcels_asked};
 
@@ -41,8 +44,19 @@ pub fn allowed_to_two_relations()
 pub fn steps_are_approved_in_order()
     ensures next { OfEachFile (λ h file. next_in_row (state_of file) ≡ next_of file) }
     ensures pending { OfEachFile (λ h file. (step : Step) → pending_step file.acts ≡ Some step → next_of file ≡ Some step) }
-    ensures count { OfEachFile (λ h file. length (approved_steps file.acts) ≤ length (required_steps file.filing.kind)) }
-    ensures front { OfEachFile (λ h file. approved_steps file.acts ≡ take (length (approved_steps file.acts)) (required_steps file.filing.kind)) }
+    ensures count { OfEachFile (λ h file. length (approved_steps file.acts) ≤ length (required_steps file.filing.edition file.filing.kind)) }
+    ensures front { OfEachFile (λ h file. approved_steps file.acts ≡ take (length (approved_steps file.acts)) (required_steps file.filing.edition file.filing.kind)) }
+{}
+
+/// A file keeps the list of steps that was in force when it was filed, which its number tells: the first edition up to the
+/// count of files at the upgrade. The upgrade may follow whatever was accepted before, once, and changes of the tables
+/// the edition in force and the count of files at the upgrade alone.
+pub fn editions_are_told_by_number()
+    ensures numbered { OfEachFile (λ h file. file.filing.edition ≡ edition_numbered (files_at_upgrade h) file.filing.id) }
+    ensures next { (h : History) → edition h ≡ edition_numbered (files_at_upgrade h) (length (case_files h) + 1) }
+    ensures follows { (h : History) → IsHistory h → edition h ≡ First → IsHistory (upgraded h) }
+    ensures once { (h : History) → IsHistory (upgraded h) → edition h ≡ First }
+    ensures made { (h : History) → tables (upgraded h) ≡ with_upgrade (tables h) }
 {}
 
 /// Parties, parcels and files are numbered from 1 in order of acceptance, and so are the papers of each file.
@@ -56,8 +70,8 @@ pub fn records_are_numbered()
 /// A finaled or certified file has every required step approved, in order, and no open notice; on a certified file no
 /// stop work order stands.
 pub fn certified_files_are_finished()
-    ensures finaled { OfEachFile (λ h file. base_stage file.acts ≡ stage.Finaled → (approved_steps file.acts ≡ required_steps file.filing.kind) × (open_notices file.acts ≡ [])) }
-    ensures certified { OfEachFile (λ h file. base_stage file.acts ≡ stage.Certified → (approved_steps file.acts ≡ required_steps file.filing.kind) × (open_notices file.acts ≡ []) × (is_stopped file.acts ≡ false)) }
+    ensures finaled { OfEachFile (λ h file. base_stage file.acts ≡ stage.Finaled → (approved_steps file.acts ≡ required_steps file.filing.edition file.filing.kind) × (open_notices file.acts ≡ [])) }
+    ensures certified { OfEachFile (λ h file. base_stage file.acts ≡ stage.Certified → (approved_steps file.acts ≡ required_steps file.filing.edition file.filing.kind) × (open_notices file.acts ≡ []) × (is_stopped file.acts ≡ false)) }
 {}
 
 /// A deadline stands in the six stages from filed to working but rejected, and in no other. It is never before the
@@ -74,6 +88,20 @@ pub fn deadlines_stand_in_bounds()
 /// work is over, and no stop work order on a certified file.
 pub fn rows_are_sound()
     ensures sound { OfEachFile (λ h file. IsSoundState (state_of file)) }
+{}
+
+/// The tables of every history are sound. What the model doesn't bound itself is a premise: for the desk and the deadlines
+/// that the last day is one that the office takes, and for what was written that it is within the limits of its type.
+pub fn tables_of_histories_are_sound()
+    ensures desk { (h : History) → IsHistory h → last_day h ≤ latest_day → IsTrue (is_sound_desk (tables h)) }
+    ensures numbering { (h : History) → IsHistory h → IsTrue (are_numbered (tables h)) }
+    ensures parties { (h : History) → IsHistory h → AreWithinLimits h → IsTrue (are_sound_parties (tables h)) }
+    ensures parcels { (h : History) → IsHistory h → AreWithinLimits h → IsTrue (are_sound_parcels (tables h)) }
+    ensures filings { (h : History) → IsHistory h → AreWithinLimits h → IsTrue (are_sound_filings (tables h)) }
+    ensures stages { (h : History) → IsHistory h → last_day h ≤ latest_day → IsTrue (are_sound_stages (tables h)) }
+    ensures work { (h : History) → IsHistory h → AreWithinLimits h → IsTrue (is_sound_work (tables h)) }
+    ensures papers { (h : History) → IsHistory h → AreWithinLimits h → IsTrue (are_sound_papers (tables h)) }
+    ensures sound { (h : History) → IsHistory h → last_day h ≤ latest_day → AreWithinLimits h → IsSoundTables (tables h) }
 {}
 
 /// A list of requests for parcels that runs twice over, on one day by one caller, leaves the history of once, and so its

@@ -10,7 +10,10 @@ use Rattle.permit_base.specs.declared.request.Request.{Request}
 use Rattle.permit_base.specs.declared.request.Request.TheVariants.{AddParty, AddParcel, File, Declare, Transfer}
 use Rattle.permit_base.specs.Digests.{digest_of}
 use Rattle.permit_base.specs.Limits.{most_records}
-use Rattle.permit_model.specs.History.{History}
+use Rattle.permit_base.specs.declared.words.Edition.{Edition}
+use Rattle.permit_base.specs.declared.words.Edition.TheVariants.{First, Second}
+use Rattle.permit_model.specs.Codes.{is_edition}
+use Rattle.permit_model.specs.History.{History, edition}
 use Rattle.permit_model.specs.Caller.{Party, parties, is_party}
 use Rattle.permit_model.specs.Parcels.{Parcel, parcels, parcel_numbered, has_interest}
 use Rattle.permit_model.specs.Files.{filings, case_file, case_files}
@@ -106,14 +109,23 @@ pub number_is : (r : Result (Option ℕ) Reason) (number same : Option ℕ) → 
 number_is (Ok n) number same is e = cc
 number_is (Err why) number same is e = cc
 
+pub both : (a b : Bool) → IsTrue a → IsTrue b → IsTrue (a && b)
+both true b one two = two
+both false b one two = absurd cc
+
+-- an edition is itself
+pub edition_itself : (e : Edition) → IsTrue (is_edition e e)
+edition_itself First = refl
+edition_itself Second = refl
+
 -- an admitted file suits the tables
 pub file_suits : (h : History) (day caller parcel : ℕ) (kind : Kind) (valuation : ℕ) (description : List ℕ) (land : Parcel) →
     parcel_numbered h parcel ≡ Some land → IsTrue (is_party h caller) → reason_against h day caller (File parcel kind valuation description) ≡ None →
-    IsTrue (nat_lt (length (case_files h)) most_records && is_some (parcel_numbered h parcel) && is_party h caller)
+    IsTrue (nat_lt (length (case_files h)) most_records && is_edition (edition h) (edition h) && is_some (parcel_numbered h parcel) && is_party h caller)
 file_suits h day caller parcel kind valuation description land there party e =
     let c : nat_le most_records (length (filings h)) ≡ false = one_pass (nat_le most_records (length (filings h))) _ e in
     let s : nat_le most_records (length (case_files h)) ≡ false = ap (λ n. nat_le most_records n) (length-map (filings h) (case_file h)) ∙ c in
-    all_three _ _ _ (room _ _ s) (ap (λ o. is_some o) there) party
+    all_three _ _ _ (both _ _ (room _ _ s) (edition_itself (edition h))) (ap (λ o. is_some o) there) party
 
 first_two : (a b : Bool) (r s : Reason) → first_failing ((not a, r) ∷ (b, s) ∷ []) ≡ None → a ≡ true
 first_two true b r s e = refl

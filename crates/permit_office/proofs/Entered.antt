@@ -1,6 +1,6 @@
 -- The tables after a command on a file.
 use Rattle.std.proofs.Common.{◌≡◌, ◌<◌, ◌+◌, ℕ, ◌==◌, Bool, true, false, cond, List, ◌∷◌, length, refl, sym, ◌∙◌, ap, subst, map, arith}
-use Rattle.std.specs.Prelude.{Option, None, Some, find, filter, option_map, unwrap_or, is_some, if◌then◌else◌, IsTrue, nat_le, nat_lt}
+use Rattle.std.specs.Prelude.{Option, None, Some, find, filter, option_map, unwrap_or, is_some, ◌&&◌, if◌then◌else◌, IsTrue, nat_le, nat_lt}
 use Rattle.std.proofs.lemmas.Bool.Decides.{nat_tests}
 use Rattle.std.proofs.lemmas.List.{length-map}
 use Rattle.std.proofs.lemmas.Bool.{eq-eqb, eqb-true}
@@ -11,6 +11,8 @@ use Rattle.permit_base.specs.declared.request.Command.TheVariants.{Return, Resub
 use Rattle.permit_base.specs.declared.request.Command.TheVariants.{ClearNotice, Stop, Lift, Revoke, Temporary, Certify}
 use Rattle.permit_base.specs.declared.request.Request.TheVariants.{OnFile}
 use Rattle.permit_base.specs.Limits.{most_papers}
+use Rattle.permit_model.specs.Codes.{is_edition}
+use Rattle.permit_office.proofs.Deciding.{both, edition_itself}
 use Rattle.permit_model.specs.Search.{add_last, when}
 use Rattle.permit_model.specs.History.{History}
 use Rattle.permit_model.specs.Files.{Filing, Act, acts_on, filings, CaseFile, case_file, case_files, case_numbered}
@@ -201,15 +203,17 @@ command_more h day caller id command one is there state s papers e =
 
 -- ---- the change suits the tables
 
--- a file's row that is there may have a new state of the same parcel and applicant
+-- a file's row that is there may have a new state of the same parcel, applicant and edition
 pub row_suits : (h : History) (id : ℕ) (one : CaseFile) (after : State) (effect : RowEffect) → case_numbered h id ≡ Some one →
-    after.parcel ≡ one.filing.parcel → after.applicant ≡ one.filing.applicant →
+    after.parcel ≡ one.filing.parcel → after.applicant ≡ one.filing.applicant → after.edition ≡ one.filing.edition →
     IsTrue (suits_effect (tables h) (state_of one) after effect) → IsTrue
     (suits_row (tables h) (find (λ (r : FileRow). r.id == id) (tables h).files) after effect)
-row_suits h id one after effect there parcel applicant suits =
+row_suits h id one after effect there parcel applicant edition suits =
     subst (λ (o : Option FileRow). IsTrue (suits_row (tables h) o after effect)) (sym (rows_found h id ∙ ap (option_map file_row) there))
-    (all_three (after.parcel == one.filing.parcel) (after.applicant == one.filing.applicant) (suits_effect (tables h) (state_of one) after effect)
-    (eq-eqb after.parcel one.filing.parcel parcel) (eq-eqb after.applicant one.filing.applicant applicant) suits)
+    (all_three ((after.parcel == one.filing.parcel) && (after.applicant == one.filing.applicant)) (is_edition after.edition one.filing.edition)
+    (suits_effect (tables h) (state_of one) after effect)
+    (both _ _ (eq-eqb after.parcel one.filing.parcel parcel) (eq-eqb after.applicant one.filing.applicant applicant))
+    (subst (λ e. IsTrue (is_edition e one.filing.edition)) (sym edition) (edition_itself one.filing.edition)) suits)
 
 -- the count of papers after a command
 pub papers_counted : (act : Act) (before : List Act) → paper_count (act ∷ before) ≡ papers_after act.command (paper_count before)

@@ -9,7 +9,7 @@ use Rattle.permit_base.specs.declared.words.PaperSort.{PaperSort}
 use Rattle.permit_base.specs.declared.request.Command.{Command}
 use Rattle.permit_base.specs.declared.request.Request.TheVariants.{OnFile}
 use Rattle.permit_model.specs.Search.{add_last, has_number, when}
-use Rattle.permit_model.specs.History.{Deed, Founding, Accepted, Entry, History}
+use Rattle.permit_model.specs.History.{Deed, Founding, Upgrade, Accepted, Entry, History}
 use Rattle.permit_model.specs.Files.{Filing, Act, act_of, acts_on, filings, case_file, case_numbered}
 use Rattle.permit_model.specs.Work.{open_notices, paper_sort, makes_paper, paper_count}
 use Rattle.permit_model.specs.Tables.{Paper, paper_by, paper_of_deed, papers_made, paper_days, paper_text, paper_terms, is_notice}
@@ -95,6 +95,7 @@ below_deed : (h : History) (id caller day bound : ℕ) (deed : Deed) (number : O
     paper_count (acts_on id (record { caller = caller; day = day; deed = deed; number = number } ∷ h)) < bound → IsBelow id bound deed number
     × (paper_count (acts_on id h) < bound)
 below_deed h id caller day bound (Founding name digest) number may small = absurd may
+below_deed h id caller day bound Upgrade number may small = (tt, small)
 below_deed h id caller day bound (Accepted (OnFile g command)) number may small =
     below_command h id g caller day bound command number (g == id) refl may.numbered may.record_there small
 below_deed h id caller day bound (Accepted request) number may small = (tt, small)
@@ -102,6 +103,7 @@ below_deed h id caller day bound (Accepted request) number may small = (tt, smal
 below_first : (id caller day bound : ℕ) (deed : Deed) (number : Option ℕ) →
     IsFounding (record { caller = caller; day = day; deed = deed; number = number }) deed → IsBelow id bound deed number
 below_first id caller day bound (Founding name digest) number is = tt
+below_first id caller day bound Upgrade number is = absurd is
 below_first id caller day bound (Accepted request) number is = absurd is
 
 -- a file's papers have numbers below any bound above their count

@@ -10,7 +10,7 @@ use Rattle.permit_model.specs.Search.{in_order, add_last, latest}
 use Rattle.std.specs.Option.{option_or}
 use Rattle.permit_store.specs.Changes.{given_to}
 use Rattle.std.proofs.lemmas.Bool.Decides.{nat_tests}
-use Rattle.permit_model.specs.History.{Deed, Accepted, Entry, History}
+use Rattle.permit_model.specs.History.{Deed, Accepted, Entry, History, edition}
 use Rattle.permit_model.specs.Caller.{Party, parties}
 use Rattle.permit_model.specs.Parcels.{Parcel, parcel_added, parcel_now, parcels, receiver_by, interests}
 use Rattle.permit_model.specs.Files.{Filing, act_of, acts_on, filings, CaseFile, case_file, case_files}
@@ -105,6 +105,7 @@ files_more : (h : History) (day caller parcel : ℕ) (kind : Kind) (valuation : 
       parcel = parcel;
       applicant = caller;
       kind = kind;
+      edition = edition h;
       valuation = valuation;
       description = description;
       filed = day;
@@ -120,6 +121,7 @@ files_more h day caller parcel kind valuation description is filing e =
       parcel = parcel;
       applicant = caller;
       kind = kind;
+      edition = edition h;
       valuation = valuation;
       description = description;
       filed = day;
@@ -137,6 +139,7 @@ pub file_more : (h : History) (day caller parcel : ℕ) (kind : Kind) (valuation
             parcel = parcel;
             applicant = caller;
             kind = kind;
+            edition = edition h;
             valuation = valuation;
             description = description;
             filed = day;
@@ -154,6 +157,7 @@ file_more h day caller parcel kind valuation description is =
       parcel = parcel;
       applicant = caller;
       kind = kind;
+      edition = edition h;
       valuation = valuation;
       description = description;
       filed = day;

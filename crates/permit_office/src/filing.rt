@@ -49,7 +49,7 @@ pub(crate) fn file<S: Store>(
         return Ok(Reply::Refused(Refusal::Denied(name)));
     }
     let admitted = next_number(desk.files);
-    let state = FileState::file(caller.id, parcel, kind, day);
+    let state = FileState::file(caller.id, parcel, kind, desk.edition, day);
     carry_out(
         store,
         admitted,

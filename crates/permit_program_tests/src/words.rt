@@ -16,7 +16,7 @@ const TWO: &str =
 fn without_words(rt: HostRuntime) -> Result<(), Fail> {
     let (status, out, err) = run(&rt, rt, &[])?;
     assert_eq!(rt; (status, out.as_str(), err.as_str()), (0, "permit\n", ""));
-    Ok(())
+    told(&rt, rt, &["--version"], 0, "permit 2.0 (schema 2)\n", "")
 }
 
 #[test]
@@ -72,7 +72,8 @@ fn a_founding(rt: HostRuntime) -> Result<(), Fail> {
         (status, out.as_str(), err.as_str()),
         (2, "", "database: exists\n")
     );
-    Ok(())
+    let words = ["upgrade", "--db", "office.db"];
+    told(&rt, rt, &words, 2, "", "database: version\n")
 }
 
 #[test]
@@ -88,6 +89,8 @@ fn a_founding_that_is_refused(rt: HostRuntime) -> Result<(), Fail> {
         let (is, out, err) = run(&rt, rt, &words)?;
         assert_eq!(rt; (is, out.as_str(), err.as_str()), (status, "", line));
     }
+    let words = ["upgrade", "--db", "none.db"];
+    told(&rt, rt, &words, 2, "", "database: store\n")?;
     assert!(rt; !fs::exists(&rt, "none.db")?);
     Ok(())
 }

@@ -6,7 +6,7 @@ use crate::ask::TOKENS;
 use crate::makers::{day, digest_of, lot, parcel, party, text};
 use permit_base::route::{By, Route};
 use permit_base::values::Cents;
-use permit_base::words::{Kind, Role, Stage, Timing};
+use permit_base::words::{Edition, Kind, Role, Stage, Timing};
 use permit_core::state::FileState;
 use permit_core::taker::Taker;
 use permit_store::rows::{Change, Found};
@@ -78,7 +78,13 @@ fn add_file<S: Store>(
 ) -> Result<(), Fail> {
     let description = text(alloc, "House")?;
     let change = Change::NewFile {
-        state: FileState::file(party(applicant)?, parcel(on)?, Kind::Construct, day(filed)?),
+        state: FileState::file(
+            party(applicant)?,
+            parcel(on)?,
+            Kind::Construct,
+            Edition::Second,
+            day(filed)?,
+        ),
         valuation: Cents::new(25_000_000).ok_or("an amount")?,
         description: &description,
     };

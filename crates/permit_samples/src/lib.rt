@@ -16,4 +16,5 @@ pub mod scenarios;
 pub mod script;
 pub mod standard;
 mod unknown_and_missing;
+pub mod upgrade;
 mod work;

@@ -40,6 +40,7 @@ const INSPECTIONS: &[Scenario] = &[
     work::CONFLICT,
     work::STEPS_OF_CONSTRUCTION,
     work::STEPS_OF_ALTERATION,
+    work::ENERGY_AFTER_FRAME,
     work::NOTICE,
 ];
 

@@ -74,6 +74,14 @@ const FRAME: &str = r#"
 < 200 OK {"day":19820,"done":"approve-step","number":null}
 "#;
 
+/// The step `energy`, requested by the contractor and approved by the inspector.
+const ENERGY: &str = r#"
+> 6 19820 POST /files/1/request-inspection {"step":"energy"}
+< 200 OK {"day":19820,"done":"request-inspection","number":null}
+> 4 19820 POST /files/1/approve-step {"step":"energy"}
+< 200 OK {"day":19820,"done":"approve-step","number":null}
+"#;
+
 /// The step `lath`, requested by the contractor and approved by the inspector.
 const LATH: &str = r#"
 > 6 19820 POST /files/1/request-inspection {"step":"lath"}
@@ -133,8 +141,32 @@ pub(crate) const STEPS_OF_ALTERATION: &[&str] = &[
     APPROVED,
     ISSUED,
     BEGUN,
+    FRAME,
     r#"
-> 6 19820 POST /files/1/request-inspection {"step":"frame"}
+> 1 19820 GET /files/1
+~ "next":"energy",
+"#,
+];
+
+/// A construction with its frame approved.
+pub(crate) const FRAME_APPROVED: &[&str] = &[CONSTRUCT, APPROVED, ISSUED, BEGUN, FOOTING, SLAB, FRAME];
+
+/// The inspection of energy, which stands between frame and lath.
+pub(crate) const ENERGY_AFTER_FRAME: &[&str] = &[
+    CONSTRUCT,
+    APPROVED,
+    ISSUED,
+    BEGUN,
+    FOOTING,
+    SLAB,
+    FRAME,
+    r#"
+> 6 19820 POST /files/1/request-inspection {"step":"lath"}
+< 409 Conflict {"reason":"step","refused":"not-admitted"}
+> 1 19820 GET /registers/inspections
+~     1 energy  -                  4       0
+~ files 1
+> 6 19820 POST /files/1/request-inspection {"step":"energy"}
 < 200 OK {"day":19820,"done":"request-inspection","number":null}
 "#,
 ];
@@ -211,12 +243,14 @@ pub(crate) const CERTIFICATE: &[&str] = &[
     FOOTING,
     SLAB,
     FRAME,
+    ENERGY,
     LATH,
     FINAL,
     r#"
 > 1 19820 GET /files/1
 ~ "stage":"finaled",
 ~ "next":null,
+~ "done":["footing","slab","frame","energy","lath","final"],
 > 1 19830 POST /files/1/certify
 < 200 OK {"day":19830,"done":"certify","number":2}
 > 1 19830 GET /files/1

@@ -59,23 +59,23 @@ fn listen<O: Write>(
     Ok(doors)
 }
 
-/// Serves an office until its workers have ended, on the days that a clock gives, and gives it back: what its clients
-/// asked is one history of it. With a failure it is as it was.
+/// Serves an office until its workers have ended, on the days of a clock that is asked once for each request as it is
+/// taken, and gives it back: what its clients asked is one history of it. With a failure it is as it was.
 pub fn serve<S, T, R, O>(
     rt: &HostRuntime,
     workers: R,
     office: Office<S>,
     words: &ServeWords<'_>,
-    today: &T,
+    today: &mut T,
     out: &mut O,
 ) -> (Office<S>, Result<(), Failure>)
 where
     S: Store + Drop,
-    T: Fn() -> Day,
+    T: FnMut() -> Day,
     R: Threads + Wait + Copy + Drop + Send + 'static,
     O: Write,
-    requires { T.IsAlwaysCallable today.now }
-    ensures run { IfOk result.1 (λ _. (served : List (Entry Asked Dated)) × OneHistory S.view (T.post today.now) words.now.workers office result.0 served) }
+    requires { T.IsAlwaysCallable today.old }
+    ensures run { IfOk result.1 (λ _. (served : List (Entry Asked Dated)) × OneHistory S.view T.step words.now.workers office result.0 today.old today.new served) }
     ensures same { OnErr result.1 (result.0 ≡ office) }
 {
     let doors = match listen(rt, words, out) {

@@ -23,9 +23,10 @@ use Rattle.sqlite_schema.specs.Rules.{Keeps as KeepsRule}
 use Rattle.sqlite.specs.Effect.{Database}
 use Rattle.sqlite.specs.Held.{Held, state}
 use Rattle.sqlite.proofs.Callers.{reads_as}
+use Rattle.permit_base.specs.declared.words.Edition.{Edition}
 use Rattle.permit_model.specs.Parcels.{Interest}
 use Rattle.permit_model.specs.Tables.{FileRow, Paper}
-use Rattle.permit_sql_rows.specs.Schema.{office_schema, key_column, file_table, interest_table, paper_table}
+use Rattle.permit_sql_rows.specs.Schema.{schema_of, key_column, file_table, interest_table, paper_table}
 use Rattle.permit_sql_rows.specs.Rows.{file_row, shown_file, shown_interest, shown_paper}
 use Rattle.permit_sql_rows.specs.Typed.{firsts, IsInterest, IsPaper}
 use Rattle.permit_sql.specs.Taken.{TookAll}
@@ -55,22 +56,23 @@ took_interests [] a b h = ([], tt, refl)
 took_interests (r ∷ rows) a b h = let more = took_interests rows h.0 b h.2 in (h.1.0 ∷ more.0, (h.1.1, more.1), ap₂ ◌∷◌ h.1.2 more.2)
 
 abbrev pub file_took : Files → Row → Files → Bool → Type 0
-file_took a row b good = MatchBool good (TakesFile a.counts.items row b.counts.items) (RefusesFile a.counts.items row b.lacks_memory)
+file_took a row b good = MatchBool good (TakesFile a.upgrade a.counts.items row b.counts.items × (b.upgrade ≡ a.upgrade))
+    (RefusesFile a.upgrade a.counts.items row b.lacks_memory)
 
 long_more : (xs : List ℕ) (x : ℕ) → length (xs ++ x ∷ []) ≡ suc (length xs)
 long_more [] x = refl
 long_more (y ∷ xs) x = ap suc (long_more xs x)
 
 took_files : (rows : List Row) (a b : Files) → TookAll file_took rows a b
-    → (xs : List FileRow) × AllByRecursion IsGoodFile xs × IsNumbered (λ f. f.id) (suc (length a.counts.items)) xs
+    → (xs : List FileRow) × AllByRecursion (IsGoodFile a.upgrade) xs × IsNumbered (λ f. f.id) (suc (length a.counts.items)) xs
     × (b.counts.items ≡ a.counts.items ++ map (λ f. f.state.papers) xs) × (map (firsts 20 0) rows ≡ map shown_file xs)
 took_files [] a b h = ([], tt, tt, ap (λ (t : Files). t.counts.items) h ∙ sym (append-nil a.counts.items), refl)
 took_files (r ∷ rows) a b h =
-    let it = h.1 in
+    let it = h.1.0 in
     let more = took_files rows h.0 b h.2 in
     let next : length h.0.counts.items ≡ suc (length a.counts.items) = ap length it.4 ∙ long_more a.counts.items it.0.state.papers in (
       it.0 ∷ more.0,
-      (it.1, more.1),
+      (it.1, subst (λ u. AllByRecursion (IsGoodFile u) more.0) h.1.1 more.1),
       (it.3, subst (λ n. IsNumbered (λ (f : FileRow). f.id) (suc n) more.0) next more.2),
       more.3 ∙ ap (λ l. l ++ map (λ (f : FileRow). f.state.papers) more.0) it.4
           ∙ append_assoc a.counts.items (it.0.state.papers ∷ []) (map (λ (f : FileRow). f.state.papers) more.0),
@@ -151,23 +153,23 @@ long_map f (x ∷ xs) = ap suc (long_map f xs)
 abbrev file_columns : List Column
 file_columns = drop 1 file_table.columns
 
-module _ {S : Type 0} (g : Ghosts S) (old new : Held S) (schema : (state g old).now.schema ≡ office_schema) where
+module _ (edition : Edition) {S : Type 0} (g : Ghosts S) (old new : Held S) (schema : (state g old).now.schema ≡ (schema_of edition)) where
   rule : (sound : Rattle.sqlite.specs.Effect.IsDatabase (state g old).now) (c : Rattle.sqlite_schema.specs.declared.schema.Constraint.Constraint) →
-      KeepsRule c office_schema (state g old).now.trees
+      KeepsRule c (schema_of edition) (state g old).now.trees
   rule sound c = subst (λ s. KeepsRule c s (state g old).now.trees) schema (sound.obeys.rules c)
 
   pub interests_are : (a b : Interests) → TookTable interest_took g EACH_INTEREST.now old new a b → HasInterests ((state g old).now.trees 5)
   interests_are a b took =
       let was = state g took.1 in
       let now = (state g old).now in
-      let read = reads_as EACH_INTEREST.now [] was (state g new) office_schema
-      (ap (λ (d : Database). d.schema) took.2 ∙ schema) _ each_interest_is each_interest_plain each_interest_unlisted took.0 took.4 in
+      let read = reads_as EACH_INTEREST.now [] was (state g new) (schema_of edition)
+      (ap (λ (d : Database). d.schema) took.2 ∙ schema) _ (each_interest_is edition) (each_interest_plain edition) (each_interest_unlisted edition) took.0 took.4 in
       let seen = whole_shown 5 each_interest_query.project each_interest_query.order (overlay was.now.trees []) took.0 (read.answer Null) in
       let here = subst (λ (d : Database). IsPermutation (map (λ r. firsts 2 1 r) (d.trees 5)) took.0) took.2 seen in
       let taken = took_interests took.0 a b took.5 in
-      let typed : KeepsRule Datatype office_schema now.trees = rule took.3 Datatype in
-      let there : KeepsRule NotNull office_schema now.trees = rule took.3 NotNull in
-      let whole = paired_rows office_schema now.trees interest_table interest_table.columns refl refl (refl, (refl, tt)) (omega arith)
+      let typed : KeepsRule Datatype (schema_of edition) now.trees = rule took.3 Datatype in
+      let there : KeepsRule NotNull (schema_of edition) now.trees = rule took.3 NotNull in
+      let whole = paired_rows (schema_of edition) now.trees interest_table interest_table.columns refl refl (refl, (refl, tt)) (omega arith)
       (now.trees 5) typed.1.1.1.0 there.1.1.1.0 in
       record {
         all = taken.0;
@@ -176,18 +178,18 @@ module _ {S : Type 0} (g : Ghosts S) (old new : Held S) (schema : (state g old).
             (now.trees 5) took.0 taken.0 here taken.2 whole;
       }
 
-  pub files_are : (a b : Files) → a.counts.items ≡ [] → TookTable file_took g EACH_FILE.now old new a b → HasFiles b.counts.items ((state g old).now.trees 7)
+  pub files_are : (a b : Files) → a.counts.items ≡ [] → TookTable file_took g EACH_FILE.now old new a b → HasFiles a.upgrade b.counts.items ((state g old).now.trees 7)
   files_are a b none took =
       let was = state g took.1 in
       let now = (state g old).now in
-      let read = reads_as EACH_FILE.now [] was (state g new) office_schema
-      (ap (λ (d : Database). d.schema) took.2 ∙ schema) _ each_file_is each_file_plain each_file_unlisted took.0 took.4 in
+      let read = reads_as EACH_FILE.now [] was (state g new) (schema_of edition)
+      (ap (λ (d : Database). d.schema) took.2 ∙ schema) _ (each_file_is edition) (each_file_plain edition) (each_file_unlisted edition) took.0 took.4 in
       let seen = whole_shown 7 each_file_query.project each_file_query.order (overlay was.now.trees []) took.0 (read.answer Null) in
       let here = subst (λ (d : Database). IsPermutation (map (λ r. column r 0 ∷ firsts 19 2 r) (d.trees 7)) took.0) took.2 seen in
       let taken = took_files took.0 a b took.5 in
-      let typed : KeepsRule Datatype office_schema now.trees = rule took.3 Datatype in
-      let there : KeepsRule NotNull office_schema now.trees = rule took.3 NotNull in
-      let whole = keyed_rows office_schema now.trees file_table key_column file_columns refl refl
+      let typed : KeepsRule Datatype (schema_of edition) now.trees = rule took.3 Datatype in
+      let there : KeepsRule NotNull (schema_of edition) now.trees = rule took.3 NotNull in
+      let whole = keyed_rows (schema_of edition) now.trees file_table key_column file_columns refl refl
       (refl, (refl, (refl, (refl, (refl, (refl, (refl, (refl, (refl, (refl, (refl, (refl, (refl, (refl, (refl, (refl, (refl, (refl, (refl, tt)))))))))))))))))))
       (omega arith) (now.trees 7) typed.1.1.1.1.0 there.1.1.1.1.0 in
       let inside = in_tree 20 shown_file file_row (λ r. column r 0 ∷ firsts 19 2 r) with_null (λ r. r) (λ r. refl) (λ p. refl)
@@ -205,14 +207,14 @@ module _ {S : Type 0} (g : Ghosts S) (old new : Held S) (schema : (state g old).
   papers_are a b no_file no_number counts has took =
       let was = state g took.1 in
       let now = (state g old).now in
-      let read = reads_as EACH_PAPER.now [] was (state g new) office_schema
-      (ap (λ (d : Database). d.schema) took.2 ∙ schema) _ each_paper_is each_paper_plain each_paper_unlisted took.0 took.4 in
+      let read = reads_as EACH_PAPER.now [] was (state g new) (schema_of edition)
+      (ap (λ (d : Database). d.schema) took.2 ∙ schema) _ (each_paper_is edition) (each_paper_plain edition) (each_paper_unlisted edition) took.0 took.4 in
       let seen = whole_shown 8 each_paper_query.project each_paper_query.order (overlay was.now.trees []) took.0 (read.answer Null) in
       let here = subst (λ (d : Database). IsPermutation (map (λ r. firsts 9 1 r) (d.trees 8)) took.0) took.2 seen in
       let taken = took_papers took.0 a b counts has took.5 in
-      let typed : KeepsRule Datatype office_schema now.trees = rule took.3 Datatype in
-      let there : KeepsRule NotNull office_schema now.trees = rule took.3 NotNull in
-      let whole = paired_rows office_schema now.trees paper_table paper_table.columns refl refl
+      let typed : KeepsRule Datatype (schema_of edition) now.trees = rule took.3 Datatype in
+      let there : KeepsRule NotNull (schema_of edition) now.trees = rule took.3 NotNull in
+      let whole = paired_rows (schema_of edition) now.trees paper_table paper_table.columns refl refl
       (refl, (refl, (refl, (refl, (refl, (refl, (refl, (refl, (refl, tt))))))))) (omega arith) (now.trees 8) typed.1.1.1.1.1.0 there.1.1.1.1.1.0 in
       record {
         all = taken.0;
@@ -226,8 +228,8 @@ module _ {S : Type 0} (g : Ghosts S) (old new : Held S) (schema : (state g old).
   rowids_are a b took = λ id.
       let was = state g took.1 in
       let now = (state g old).now in
-      let read = reads_as EACH_ROWID.now [] was (state g new) office_schema
-      (ap (λ (d : Database). d.schema) took.2 ∙ schema) _ each_rowid_is each_rowid_plain each_rowid_unlisted took.0 took.4 in
+      let read = reads_as EACH_ROWID.now [] was (state g new) (schema_of edition)
+      (ap (λ (d : Database). d.schema) took.2 ∙ schema) _ (each_rowid_is edition) (each_rowid_plain edition) (each_rowid_unlisted edition) took.0 took.4 in
       let seen = whole_shown 8 each_rowid_query.project each_rowid_query.order (overlay was.now.trees []) took.0 (read.answer Null) in
       let here = subst (λ (d : Database). IsPermutation (map (λ r. column r 0 ∷ []) (d.trees 8)) took.0) took.2 seen in
       let once = once_above id a.last took.0 (took_rowids took.0 a b took.5) in

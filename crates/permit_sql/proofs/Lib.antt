@@ -1,5 +1,6 @@
 pub mod Wholes
 pub mod Version
+pub mod Upgrades
 pub mod Reopening
 pub mod WholeMeanings
 pub mod Shaped

@@ -6,12 +6,13 @@ use Rattle.std.proofs.lemmas.Bool.{cases_Bool, eqb-true}
 use Rattle.std.proofs.lemmas.Bool.Decides.{nat_tests}
 use Rattle.sqlite_trees.specs.Tree.{IsAscending}
 use Rattle.sqlite.specs.Effect.{Database}
+use Rattle.permit_base.specs.declared.words.Edition.{Edition}
 use Rattle.permit_model.specs.Tables.{Tables, Desk, FileRow, Paper}
-use Rattle.permit_sql_rows.specs.Schema.{office_schema}
+use Rattle.permit_sql_rows.specs.Schema.{schema_of}
 use Rattle.permit_sql_rows.specs.Kept.{IsNamed, AreKeyed, AreInTrees, papers_counted}
 use Rattle.permit_sql_rows.specs.Typed.{IsFile, IsPaper}
-use Rattle.permit_sql.specs.Found.{IsNumbered, IsLater, IsRising, IsGoodFile, IsApart, counted_in, HasDesk, HasParties, HasParcels, HasFiles, HasInterests}
-use Rattle.permit_sql.specs.Found.{HasPapers, AreTyped, KeepsTyped}
+use Rattle.permit_sql.specs.Found.{IsNumbered, IsLater, IsRising, IsGoodFile, IsApart, counted_in, HasDesk, HasUpgrade, HasParties, HasParcels, HasFiles, HasInterests}
+use Rattle.permit_sql.specs.Found.{HasPapers, AreTyped, HasSound}
 
 all_of : {A : Type 0} {P Q : A → Type 0} → ((x : A) → P x → Q x) → (xs : List A) → AllByRecursion P xs → AllByRecursion Q xs
 all_of f [] h = tt
@@ -102,20 +103,21 @@ rise_in f n (p ∷ ps) up file = go (eqb p.file file) refl (rise_in p.file p.num
     go true e more = (all_passing (λ (q : Paper). eqb q.file file) (past (eqb-true p.file file e)) ps (rising_from p.file p.number ps up.1), more)
     go false e more = more
 
--- ---- all six together
+-- ---- all together
 
-pub tables_found : (db : Database) (d : Desk) (counts : List ℕ) → db.schema ≡ office_schema → HasDesk d (db.trees 0) → HasParties d.parties (db.trees 1) →
+pub tables_found : (edition : Edition) (db : Database) (d : Desk) (upgrade : Option ℕ) (counts : List ℕ) → db.schema ≡ schema_of edition →
+    d.edition ≡ edition → HasDesk d (db.trees 0) → HasUpgrade edition d.files upgrade db.trees → HasParties d.parties (db.trees 1) →
     HasParcels d.parcels (db.trees 3) → HasInterests (db.trees 5)
-    → HasFiles counts (db.trees 7) → length counts ≡ d.files → HasPapers counts (db.trees 8) → IsApart (db.trees 8) → KeepsTyped db
-tables_found db d counts schema desk parties parcels interests files long papers apart =
-    let t : Tables = record { desk = d; parties = parties.all; parcels = parcels.all; interests = interests.all; files = files.all; papers = papers.all } in
+    → HasFiles upgrade counts (db.trees 7) → length counts ≡ d.files → HasPapers counts (db.trees 8) → IsApart (db.trees 8) → HasSound edition db d.files upgrade
+tables_found edition db d upgrade counts schema now desk upgraded parties parcels interests files long papers apart =
+    let t : Tables = record { desk = d; upgrade = upgrade; parties = parties.all; parcels = parcels.all; interests = interests.all; files = files.all; papers = papers.all } in
     let many : length files.all ≡ d.files = sym (long_map (λ (f : FileRow). f.state.papers) files.all) ∙ ap length files.counted ∙ long in
     let typed : AreTyped t = record {
       desk = desk.good;
       parties = parties.good;
       parcels = parcels.good;
       interests = interests.good;
-      files = all_of {P = IsGoodFile} {Q = IsFile} (λ f h. h.0) files.all files.good;
+      files = all_of {P = IsGoodFile upgrade} {Q = IsFile} (λ f h. h.0) files.all files.good;
       papers = papers.good;
       party_numbers = parties.numbered;
       parcel_numbers = parcels.numbered;
@@ -125,17 +127,20 @@ tables_found db d counts schema desk parties parcels interests files long papers
       file_count = many;
     } in
     let keyed : AreKeyed t = record {
+      upgraded = upgraded.within;
+      edition = now ∙ upgraded.told;
       parties = once_numbered (λ p. p.id) 1 parties.all parties.numbered;
       digests = parties.digests;
       parcels = once_numbered (λ p. p.id) 1 parcels.all parcels.numbered;
       lots = parcels.lots;
       files = once_numbered (λ f. f.id) 1 files.all files.numbered;
-      named = all_of {P = IsGoodFile} {Q = λ f. IsNamed f.state} (λ f h. h.1) files.all files.good;
+      named = all_of {P = IsGoodFile upgrade} {Q = λ f. IsNamed upgrade f.id f.state} (λ f h. h.1) files.all files.good;
       papers = rise_in 0 0 papers.all papers.rising;
       counted = λ file. all_passing (λ (p : Paper). eqb p.file file) (counted_at file) papers.all (both papers.all papers.good papers.counted);
     } in
     let rows : AreInTrees t db.trees = record {
       desk = desk.here;
+      upgrade = upgraded.here;
       parties = parties.here;
       parcels = parcels.here;
       interests = interests.here;
@@ -143,7 +148,7 @@ tables_found db d counts schema desk parties parcels interests files long papers
       papers = papers.here;
       apart = apart;
     } in
-    (t, typed, record { schema = schema; keyed = keyed; rows = rows })
+    (t, typed, record { schema = schema; now = now; keyed = keyed; rows = rows }, refl, refl)
   where
     long_map : {A B : Type 0} (f : A → B) (xs : List A) → length (map f xs) ≡ length xs
     long_map f [] = refl

@@ -16,12 +16,13 @@ use Rattle.sqlite.specs.Clock.{timed}
 use Rattle.sqlite.specs.State.{State, IsUnchanged, Shown, Begins}
 use Rattle.sqlite.specs.Held.{Held, state}
 use Rattle.sqlite.proofs.Callers.{command_of, EndsIn, begins_shown}
+use Rattle.permit_base.specs.declared.words.Edition.{Edition}
 use Rattle.permit_model.specs.Caller.{Party}
 use Rattle.permit_model.specs.Parcels.{Parcel}
 use Rattle.permit_model.specs.Tables.{Tables, FileRow, Paper}
-use Rattle.permit_sql_rows.specs.Schema.{office_schema}
+use Rattle.permit_sql_rows.specs.Schema.{schema_of}
 use Rattle.permit_sql_rows.specs.Rows.{int, shown_party, shown_parcel, shown_file, shown_interest, shown_paper}
-use Rattle.permit_sql_rows.specs.Kept.{Keeps, IsNamed}
+use Rattle.permit_sql_rows.specs.Kept.{KeepsUnder, IsNamed}
 use Rattle.permit_sql_rows.specs.Typed.{IsParty, IsParcel, IsInterest, IsFile, IsPaper}
 use Rattle.permit_sql.specs.Taken.{TookAll, TookRows}
 use Rattle.permit_sql.specs.Found.{IsNumbered, IsRising, IsGoodFile, counted_in, AreTyped}
@@ -66,11 +67,11 @@ module _ {X T : Type 0} (shown : X → Row) (took : T → Row → T → Bool →
 stays : (s : State) → IsTrue s.is_open → IsUnchanged s s
 stays s up = (record { was_open = up; is_open = up; now_is = refl; committed_is = refl; mode = refl }, record { changes = refl; last_rowid = refl }, refl)
 
-whole_answer : (sql : List ℕ) (s : State) (q : Query) → s.now.schema ≡ office_schema →
-    command_of (understood office_schema sql) ≡ Select (alone q) (names_of (command_of (understood office_schema sql))) → IsTrue s.is_open → (rows : List Row) →
+whole_answer : (edition : Edition) (sql : List ℕ) (s : State) (q : Query) → s.now.schema ≡ (schema_of edition) →
+    command_of (understood (schema_of edition) sql) ≡ Select (alone q) (names_of (command_of (understood (schema_of edition) sql))) → IsTrue s.is_open → (rows : List Row) →
     Begins sql [] s rows
     → (rest : List Row) × Shown sql [] s s (rows ++ rest)
-whole_answer sql s q schema means up rows h =
+whole_answer edition sql s q schema means up rows h =
     begins_shown sql [] s s rows h (stays s up) (λ c db it source. subst (λ k. EndsIn k db (timed [] c.formats it.now))
     (sym (ap command_of (sym it.is ∙ ap (λ x. understood x sql) schema) ∙ means)) tt)
 
@@ -78,21 +79,21 @@ append_more : (given : List Row) (last : Row) (rest : List Row) → (given ++ la
 append_more given last rest = append_assoc given (last ∷ []) rest
 
 -- where the whole answer is that of some values, a taker took them all or is excused
-module _ {S X T : Type 0} (g : Ghosts S) (old new : Held S) (t : Tables) (k : Keeps t (state g old).now) (sql : List ℕ) (q : Query)
-    (means : command_of (understood office_schema sql) ≡ Select (alone q) (names_of (command_of (understood office_schema sql))))
+module _ (edition : Edition) {S X T : Type 0} (g : Ghosts S) (old new : Held S) (t : Tables) (k : KeepsUnder edition t (state g old).now) (sql : List ℕ) (q : Query)
+    (means : command_of (understood (schema_of edition) sql) ≡ Select (alone q) (names_of (command_of (understood (schema_of edition) sql))))
     (shown : X → Row) (took : T → Row → T → Bool → Type 0) (Fits : T → List X → Type 0) (IsExcused : T → Type 0)
     (next : (a b : T) (x : X) (xs : List X) → Fits a (x ∷ xs) → took a (shown x) b true → Fits b xs)
     (stop : (a b : T) (x : X) (xs : List X) → Fits a (x ∷ xs) → took a (shown x) b false → IsExcused b) where
-  pub all_or_excused : (a b : T) (all : Bool) → ((was late : State) → Keeps t was.now → (rows : List Row) → Shown sql [] was late rows → (xs : List X)
+  pub all_or_excused : (a b : T) (all : Bool) → ((was late : State) → KeepsUnder edition t was.now → (rows : List Row) → Shown sql [] was late rows → (xs : List X)
       × (rows ≡ map shown xs) × Fits a xs)
       → TookRows took g sql [] old new a b all → (IsTrue all × Fits b []) ⊎ IsExcused b
   all_or_excused a b true answer h =
-      let kept = subst (λ (db : Database). Keeps t db) (sym h.2.0.now_is) k in
+      let kept = subst (λ (db : Database). KeepsUnder edition t db) (sym h.2.0.now_is) k in
       let it = answer (state g h.1) (state g new) kept h.0 h.3 in
       inl (refl, took_on shown took Fits IsExcused next it.0 a b it.2 (subst (λ rows. TookAll took rows a b) it.1 h.4))
   all_or_excused a b false answer h =
-      let kept = subst (λ (db : Database). Keeps t db) (sym h.3.0.now_is) k in
-      let whole = whole_answer sql (state g h.2) q kept.schema means h.3.0.is_open (h.0 ++ h.1 ∷ []) h.4 in
+      let kept = subst (λ (db : Database). KeepsUnder edition t db) (sym h.3.0.now_is) k in
+      let whole = whole_answer edition sql (state g h.2) q kept.schema means h.3.0.is_open (h.0 ++ h.1 ∷ []) h.4 in
       let it = answer (state g h.2) (state g h.2) kept ((h.0 ++ h.1 ∷ []) ++ whole.0) whole.1 in
       inr (stopped_in shown took Fits IsExcused next stop it.0 h.0 h.1 whole.0 a h.5.0 b (sym it.1 ∙ append_more h.0 h.1 whole.0) it.2 h.5.1 h.5.2)
 
@@ -108,11 +109,11 @@ took_with (inr lacks) none = absurd (true≢false (sym lacks ∙ none))
 
 -- ---- the six tables
 
-module _ {S : Type 0} (g : Ghosts S) (old new : Held S) (t : Tables) (typed : AreTyped t) (k : Keeps t (state g old).now) where
+module _ (edition : Edition) {S : Type 0} (g : Ghosts S) (old new : Held S) (t : Tables) (typed : AreTyped t) (k : KeepsUnder edition t (state g old).now) where
   pub parties_taken : (a b : Parties) (all : Bool) → a.count ≡ 0 → TookRows party_took g EACH_PARTY.now [] old new a b all →
       (IsTrue all × (b.count ≡ t.desk.parties)) ⊎ IsTrue b.lacks_memory
   parties_taken a b all none h =
-      after (all_or_excused g old new t k EACH_PARTY.now _ each_party_is shown_party party_took Fits (λ d. IsTrue d.lacks_memory) next
+      after (all_or_excused edition g old new t k EACH_PARTY.now _ (each_party_is edition) shown_party party_took Fits (λ d. IsTrue d.lacks_memory) next
       (λ a b p ps fits refuses. refuses p fits.0.0 refl fits.1.0) a b all answer h)
     where
       Fits : Parties → List Party → Type 0
@@ -124,12 +125,12 @@ module _ {S : Type 0} (g : Ghosts S) (old new : Held S) (t : Tables) (typed : Ar
           let total : a.count + suc (length ps) ≡ t.desk.parties = fits.2 in
           (fits.0.1, subst (λ n. IsNumbered (λ (p : Party). p.id) (suc n) ps) (sym counted) fits.1.1, omega (arith, counted, total))
 
-      answer : (was late : State) → Keeps t was.now → (rows : List Row) → Shown EACH_PARTY.now [] was late rows → (ps : List Party)
+      answer : (was late : State) → KeepsUnder edition t was.now → (rows : List Row) → Shown EACH_PARTY.now [] was late rows → (ps : List Party)
           × (rows ≡ map shown_party ps) × Fits a ps
       answer was late kept rows h =
           let count = typed.party_count in (
             t.parties,
-            parties_shown was late t typed kept rows h,
+            parties_shown edition was late t typed kept rows h,
             (
               typed.parties,
               subst (λ n. IsNumbered (λ (p : Party). p.id) (suc n) t.parties) (sym none) typed.party_numbers,
@@ -144,7 +145,7 @@ module _ {S : Type 0} (g : Ghosts S) (old new : Held S) (t : Tables) (typed : Ar
   pub parcels_taken : (a b : Parcels) (all : Bool) → a.count ≡ 0 → TookRows parcel_took g EACH_PARCEL.now [] old new a b all →
       (IsTrue all × (b.count ≡ t.desk.parcels)) ⊎ IsTrue b.lacks_memory
   parcels_taken a b all none h =
-      after (all_or_excused g old new t k EACH_PARCEL.now _ each_parcel_is shown_parcel parcel_took Fits (λ d. IsTrue d.lacks_memory) next
+      after (all_or_excused edition g old new t k EACH_PARCEL.now _ (each_parcel_is edition) shown_parcel parcel_took Fits (λ d. IsTrue d.lacks_memory) next
       (λ a b p ps fits refuses. refuses p fits.0.0 refl fits.1.0) a b all answer h)
     where
       Fits : Parcels → List Parcel → Type 0
@@ -156,12 +157,12 @@ module _ {S : Type 0} (g : Ghosts S) (old new : Held S) (t : Tables) (typed : Ar
           let total : a.count + suc (length ps) ≡ t.desk.parcels = fits.2 in
           (fits.0.1, subst (λ n. IsNumbered (λ (p : Parcel). p.id) (suc n) ps) (sym counted) fits.1.1, omega (arith, counted, total))
 
-      answer : (was late : State) → Keeps t was.now → (rows : List Row) → Shown EACH_PARCEL.now [] was late rows → (ps : List Parcel)
+      answer : (was late : State) → KeepsUnder edition t was.now → (rows : List Row) → Shown EACH_PARCEL.now [] was late rows → (ps : List Parcel)
           × (rows ≡ map shown_parcel ps) × Fits a ps
       answer was late kept rows h =
           let count = typed.parcel_count in (
             t.parcels,
-            parcels_shown was late t typed kept rows h,
+            parcels_shown edition was late t typed kept rows h,
             (
               typed.parcels,
               subst (λ n. IsNumbered (λ (p : Parcel). p.id) (suc n) t.parcels) (sym none) typed.parcel_numbers,
@@ -175,9 +176,9 @@ module _ {S : Type 0} (g : Ghosts S) (old new : Held S) (t : Tables) (typed : Ar
 
   pub interests_taken : (a b : Interests) (all : Bool) → TookRows interest_took g EACH_INTEREST.now [] old new a b all → IsTrue all
   interests_taken a b all h =
-      after (all_or_excused g old new t k EACH_INTEREST.now _ each_interest_is shown_interest interest_took (λ d is. AllByRecursion IsInterest is) (λ d. ⊥)
+      after (all_or_excused edition g old new t k EACH_INTEREST.now _ (each_interest_is edition) shown_interest interest_took (λ d is. AllByRecursion IsInterest is) (λ d. ⊥)
       (λ a b i is fits h. fits.1) (λ a b i is fits refuses. refuses i fits.0 refl) a b all
-      (λ was late kept rows h. interests_shown was late t typed kept rows h) h)
+      (λ was late kept rows h. interests_shown edition was late t typed kept rows h) h)
     where
       after : (IsTrue all × AllByRecursion IsInterest []) ⊎ ⊥ → IsTrue all
       after (inl it) = it.0
@@ -186,21 +187,23 @@ module _ {S : Type 0} (g : Ghosts S) (old new : Held S) (t : Tables) (typed : Ar
   abbrev papers_of : List FileRow → List ℕ
   papers_of = map (λ f. f.state.papers)
 
-  pub files_taken : (a b : Files) (all : Bool) → a.counts.items ≡ [] → TookRows file_took g EACH_FILE.now [] old new a b all →
+  pub files_taken : (a b : Files) (all : Bool) → a.counts.items ≡ [] → a.upgrade ≡ t.upgrade → TookRows file_took g EACH_FILE.now [] old new a b all →
       (IsTrue all × (b.counts.items ≡ papers_of t.files)) ⊎ IsTrue b.lacks_memory
-  files_taken a b all none h =
-      after (all_or_excused g old new t k EACH_FILE.now _ each_file_is shown_file file_took Fits (λ d. IsTrue d.lacks_memory) next
-      (λ a b f fs fits refuses. refuses f fits.0.0 refl fits.1.0) a b all answer h)
+  files_taken a b all none same h =
+      after (all_or_excused edition g old new t k EACH_FILE.now _ (each_file_is edition) shown_file file_took Fits (λ d. IsTrue d.lacks_memory) next
+      (λ a b f fs fits refuses. refuses f (subst (λ u. IsGoodFile u f) (sym fits.3) fits.0.0) refl fits.1.0) a b all answer h)
     where
       Fits : Files → List FileRow → Type 0
-      Fits d fs = AllByRecursion IsGoodFile fs × IsNumbered (λ f. f.id) (suc (length d.counts.items)) fs × (d.counts.items ++ papers_of fs ≡ papers_of t.files)
+      Fits d fs = AllByRecursion (IsGoodFile t.upgrade) fs × IsNumbered (λ f. f.id) (suc (length d.counts.items)) fs × (d.counts.items ++ papers_of fs ≡ papers_of t.files)
+          × (d.upgrade ≡ t.upgrade)
 
       long_more : (xs : List ℕ) (x : ℕ) → length (xs ++ x ∷ []) ≡ suc (length xs)
       long_more [] x = refl
       long_more (y ∷ xs) x = ap suc (long_more xs x)
 
       next : (a b : Files) (f : FileRow) (fs : List FileRow) → Fits a (f ∷ fs) → file_took a (shown_file f) b true → Fits b fs
-      next a b f fs fits h =
+      next a b f fs fits step =
+          let h = step.0 in
           let seen : int f.state.papers ≡ int h.0.state.papers = ap (λ r. column r 18) h.2 in
           let same : h.0.state.papers ≡ f.state.papers = cc in
           let more : b.counts.items ≡ a.counts.items ++ f.state.papers ∷ [] = h.4 ∙ ap (λ n. a.counts.items ++ n ∷ []) same in
@@ -208,21 +211,23 @@ module _ {S : Type 0} (g : Ghosts S) (old new : Held S) (t : Tables) (typed : Ar
             fits.0.1,
             subst (λ n. IsNumbered (λ (f : FileRow). f.id) (suc n) fs) (sym long) fits.1.1,
             ap (λ l. l ++ papers_of fs) more ∙ append_assoc a.counts.items (f.state.papers ∷ []) (papers_of fs) ∙ fits.2,
+            step.1 ∙ fits.3,
           )
 
-      good : (fs : List FileRow) → AllByRecursion (λ f. IsFile f) fs → AllByRecursion (λ f. IsNamed f.state) fs → AllByRecursion IsGoodFile fs
+      good : (fs : List FileRow) → AllByRecursion (λ f. IsFile f) fs → AllByRecursion (λ f. IsNamed t.upgrade f.id f.state) fs → AllByRecursion (IsGoodFile t.upgrade) fs
       good [] p q = tt
       good (f ∷ fs) p q = ((p.0, q.0), good fs p.1 q.1)
 
-      answer : (was late : State) → Keeps t was.now → (rows : List Row) → Shown EACH_FILE.now [] was late rows → (fs : List FileRow)
+      answer : (was late : State) → KeepsUnder edition t was.now → (rows : List Row) → Shown EACH_FILE.now [] was late rows → (fs : List FileRow)
           × (rows ≡ map shown_file fs) × Fits a fs
       answer was late kept rows h = (
         t.files,
-        files_shown was late t typed kept rows h,
+        files_shown edition was late t typed kept rows h,
         (
           good t.files typed.files k.keyed.named,
           subst (λ l. IsNumbered (λ (f : FileRow). f.id) (suc (length l)) t.files) (sym none) typed.file_numbers,
           ap (λ l. l ++ papers_of t.files) none,
+          same,
         ),
       )
 
@@ -233,7 +238,7 @@ module _ {S : Type 0} (g : Ghosts S) (old new : Held S) (t : Tables) (typed : Ar
   pub papers_taken : (a b : Papers) (all : Bool) → a.file ≡ 0 → a.number ≡ 0 → a.counts.items ≡ papers_of t.files →
       TookRows paper_took g EACH_PAPER.now [] old new a b all → IsTrue all ⊎ IsTrue b.lacks_memory
   papers_taken a b all no_file no_number has h =
-      after (all_or_excused g old new t k EACH_PAPER.now _ each_paper_is shown_paper paper_took Fits (λ d. IsTrue d.lacks_memory) next stop a b all answer h)
+      after (all_or_excused edition g old new t k EACH_PAPER.now _ (each_paper_is edition) shown_paper paper_took Fits (λ d. IsTrue d.lacks_memory) next stop a b all answer h)
     where
       Fits : Papers → List Paper → Type 0
       Fits d ps = AllByRecursion IsPaper ps × IsRising d.file d.number ps × AllByRecursion (λ p. p.number ≤ counted_in (papers_of t.files) p.file) ps
@@ -251,10 +256,10 @@ module _ {S : Type 0} (g : Ghosts S) (old new : Held S) (t : Tables) (typed : Ar
       stop : (a b : Papers) (p : Paper) (ps : List Paper) → Fits a (p ∷ ps) → paper_took a (shown_paper p) b false → IsTrue b.lacks_memory
       stop a b p ps fits refuses = refuses p fits.0.0 refl fits.1.0 (subst (λ c. p.number ≤ counted_in c p.file) (sym fits.3) fits.2.0)
 
-      answer : (was late : State) → Keeps t was.now → (rows : List Row) → Shown EACH_PAPER.now [] was late rows → (ps : List Paper)
+      answer : (was late : State) → KeepsUnder edition t was.now → (rows : List Row) → Shown EACH_PAPER.now [] was late rows → (ps : List Paper)
           × (rows ≡ map shown_paper ps) × Fits a ps
       answer was late kept rows h =
-          let it = papers_shown was late t typed kept rows h in
+          let it = papers_shown edition was late t typed kept rows h in
           (it.0, it.1, (it.2, subst (λ n. IsRising a.file n it.0) (sym no_number) (subst (λ f. IsRising f 0 it.0) (sym no_file) it.3), it.4, has))
 
       after : (IsTrue all × Fits b []) ⊎ IsTrue b.lacks_memory → IsTrue all ⊎ IsTrue b.lacks_memory
@@ -263,7 +268,7 @@ module _ {S : Type 0} (g : Ghosts S) (old new : Held S) (t : Tables) (typed : Ar
 
   pub rowids_taken : (a b : Rowids) (all : Bool) → a.last ≡ None → TookRows rowid_took g EACH_ROWID.now [] old new a b all → IsTrue all ⊎ IsTrue b.is_strange
   rowids_taken a b all none h =
-      after (all_or_excused g old new t k EACH_ROWID.now _ each_rowid_is (λ v. v ∷ []) rowid_took Fits (λ d. IsTrue d.is_strange) next stop a b all answer h)
+      after (all_or_excused edition g old new t k EACH_ROWID.now _ (each_rowid_is edition) (λ v. v ∷ []) rowid_took Fits (λ d. IsTrue d.is_strange) next stop a b all answer h)
     where
       Fits : Rowids → List Value → Type 0
       Fits d vs = First (λ v. (l : ℤ) → d.last ≡ Some l → AreUp (Int l) v) vs × Adjacent AreUp vs
@@ -280,10 +285,10 @@ module _ {S : Type 0} (g : Ghosts S) (old new : Held S) (t : Tables) (typed : Ar
       stop a b v vs fits (inl strange) = strange
       stop a b v vs fits (inr h) = clash_ℤ (fits.0 h.1 h.3 h.1 h.0 refl h.2) h.4
 
-      answer : (was late : State) → Keeps t was.now → (rows : List Row) → Shown EACH_ROWID.now [] was late rows → (vs : List Value)
+      answer : (was late : State) → KeepsUnder edition t was.now → (rows : List Row) → Shown EACH_ROWID.now [] was late rows → (vs : List Value)
           × (rows ≡ map (λ v. v ∷ []) vs) × Fits a vs
       answer was late kept rows h =
-          let it = rowids_shown was late t typed kept rows h in
+          let it = rowids_shown edition was late t typed kept rows h in
           (it.0, it.1, (start it.0, it.2))
         where
           start : (vs : List Value) → First (λ v. (l : ℤ) → a.last ≡ Some l → AreUp (Int l) v) vs

@@ -17,6 +17,7 @@ keeps_by_trees a b t k was is same =
     record {
       schema = lists_once (a.trees catalog_tree) b.schema a.schema one was.lists
           ∙ k.schema;
+      now = k.now;
       keyed = k.keyed;
       rows = subst (AreInTrees t) (sym same) k.rows;
     }

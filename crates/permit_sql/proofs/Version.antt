@@ -19,11 +19,12 @@ use Rattle.std.proofs.Common.{codes}
 use Rattle.sqlite_schema.specs.declared.schema.Column.{Column}
 use Rattle.sqlite_schema.specs.declared.schema.Constraint.TheVariants.{Datatype, NotNull}
 use Rattle.sqlite_schema.specs.Rules.{Keeps as KeepsRule}
+use Rattle.permit_base.specs.declared.words.Edition.{Edition}
 use Rattle.permit_model.specs.Tables.{Desk, Tables}
-use Rattle.permit_sql_rows.specs.Schema.{desk_table, office_schema, key_column, int_column}
+use Rattle.permit_sql_rows.specs.Schema.{desk_table, schema_of, key_column, int_column}
 use Rattle.permit_sql_rows.specs.Rows.{shown_desk, desk_row}
 use Rattle.permit_sql_rows.specs.Typed.{firsts, IsDesk}
-use Rattle.permit_sql_rows.specs.Kept.{Keeps}
+use Rattle.permit_sql_rows.specs.Kept.{KeepsUnder}
 use Rattle.permit_sql.specs.Found.{HasDesk}
 use Rattle.permit_sql.proofs.Shaped.{keyed_rows, IsKeyedRow}
 use Rattle.permit_sql.proofs.Checks.{with_null}
@@ -71,7 +72,7 @@ desk_rows_seen old new rows first h =
     whole_shown 0 read_desk_query.project read_desk_query.order (overlay old.now.trees []) rows (read.answer Null)
 
 -- where one row is shown, the tree has one
-only_one : {A B : Type 0} (f : A → B) (xs : List A) (y : B) → map f xs ≡ y ∷ [] → (x : A) × (xs ≡ x ∷ []) × (f x ≡ y)
+pub only_one : {A B : Type 0} (f : A → B) (xs : List A) (y : B) → map f xs ≡ y ∷ [] → (x : A) × (xs ≡ x ∷ []) × (f x ≡ y)
 only_one f [] y h = absurd (let e = h in cc)
 only_one f (x ∷ []) y h = (x, refl, cc)
 only_one f (x ∷ z ∷ xs) y h = absurd (let e = ap length h in omega (arith, e))
@@ -81,21 +82,21 @@ first_alone [] q d low high is = absurd (omega (arith, low))
 first_alone (r ∷ []) q d low high is = ap (λ x. x ∷ []) (sym is)
 first_alone (r ∷ s ∷ rows) q d low high is = absurd (omega (arith, high))
 
-pub other_version : (db : Database) (rows : List Row) (q d : Row) → slice_get db.schema.tables 0 ≡ Some desk_table →
+pub other_version : (edition : Edition) (db : Database) (rows : List Row) (q d : Row) → slice_get db.schema.tables 0 ≡ Some desk_table →
     IsPermutation (map seen_desk (db.trees 0)) rows → 1 ≤ length rows → length rows < 2 → q ≡ get_or rows 0 d
-    → IsOther (column q 1) → HasOtherVersion db
-other_version db rows q d first same low high is other =
+    → IsOther edition (column q 1) → HasOtherVersion edition db
+other_version edition db rows q d first same low high is other =
     let alone = first_alone rows q d low high is in
     let it = only_one seen_desk (db.trees 0) q (one_permutation q _ (IsPermutation-sym _ _ (subst (IsPermutation (map seen_desk (db.trees 0))) alone same))) in
-    record { desk = first; row = it.0; only = it.1; other = subst (λ r. IsOther (column r 1)) (sym it.2) other }
+    record { desk = first; row = it.0; only = it.1; other = subst (λ r. IsOther edition (column r 1)) (sym it.2) other }
 
 -- the desk's row is then the answer
-pub told_rows : (db : Database) (rows : List Row) (h : HasOtherVersion db) → IsPermutation (map seen_desk (db.trees 0)) rows → rows ≡ seen_desk h.row ∷ []
-told_rows db rows h same = one_permutation (seen_desk h.row) rows (subst (λ l. IsPermutation (map seen_desk l) rows) h.only same)
+pub told_rows : (edition : Edition) (db : Database) (rows : List Row) (h : HasOtherVersion edition db) → IsPermutation (map seen_desk (db.trees 0)) rows → rows ≡ seen_desk h.row ∷ []
+told_rows edition db rows h same = one_permutation (seen_desk h.row) rows (subst (λ l. IsPermutation (map seen_desk l) rows) h.only same)
 
-pub told_other : (db : Database) (rows : List Row) (q d : Row) → HasOtherVersion db → IsPermutation (map seen_desk (db.trees 0)) rows → q ≡ get_or rows 0 d →
-    IsOther (column q 1)
-told_other db rows q d h same is = subst (λ r. IsOther (column r 1)) (sym (is ∙ ap (λ l. get_or l 0 d) (told_rows db rows h same))) h.other
+pub told_other : (edition : Edition) (db : Database) (rows : List Row) (q d : Row) → HasOtherVersion edition db → IsPermutation (map seen_desk (db.trees 0)) rows → q ≡ get_or rows 0 d →
+    IsOther edition (column q 1)
+told_other edition db rows q d h same is = subst (λ r. IsOther edition (column r 1)) (sym (is ∙ ap (λ l. get_or l 0 d) (told_rows edition db rows h same))) h.other
 
 -- ---- the desk of the office's schema
 
@@ -103,27 +104,27 @@ abbrev desk_columns : List Column
 desk_columns = int_column (codes "version") ∷ int_column (codes "last") ∷ int_column (codes "parties") ∷ int_column (codes "parcels")
     ∷ int_column (codes "files") ∷ []
 
-pub desk_found : (db : Database) (rows : List Row) (q e : Row) (d : Desk) → db.schema ≡ office_schema → IsDatabase db →
+pub desk_found : (edition : Edition) (db : Database) (rows : List Row) (q e : Row) (d : Desk) → db.schema ≡ (schema_of edition) → IsDatabase db →
     IsPermutation (map seen_desk (db.trees 0)) rows → 1 ≤ length rows → length rows < 2 → q ≡ get_or rows 0 e
     → firsts 6 0 q ≡ shown_desk d → IsDesk d → HasDesk d (db.trees 0)
-desk_found db rows q e d schema sound same low high is shown good =
+desk_found edition db rows q e d schema sound same low high is shown good =
     let alone = first_alone rows q e low high is in
     let it = only_one seen_desk (db.trees 0) q (one_permutation q _ (IsPermutation-sym _ _ (subst (IsPermutation (map seen_desk (db.trees 0))) alone same))) in
-    let typed : KeepsRule Datatype office_schema db.trees = subst (λ s. KeepsRule Datatype s db.trees) schema (sound.obeys.rules Datatype) in
-    let there : KeepsRule NotNull office_schema db.trees = subst (λ s. KeepsRule NotNull s db.trees) schema (sound.obeys.rules NotNull) in
-    let whole = keyed_rows office_schema db.trees desk_table key_column desk_columns refl refl (refl, (refl, (refl, (refl, (refl, tt))))) (omega arith)
+    let typed : KeepsRule Datatype (schema_of edition) db.trees = subst (λ s. KeepsRule Datatype s db.trees) schema (sound.obeys.rules Datatype) in
+    let there : KeepsRule NotNull (schema_of edition) db.trees = subst (λ s. KeepsRule NotNull s db.trees) schema (sound.obeys.rules NotNull) in
+    let whole = keyed_rows (schema_of edition) db.trees desk_table key_column desk_columns refl refl (refl, (refl, (refl, (refl, (refl, tt))))) (omega arith)
     (db.trees 0) typed.0 there.0 in
     let row = (subst (AllByRecursion (IsKeyedRow 5)) it.1 whole).0 in
     let says : seen_desk it.0 ≡ shown_desk d = subst (λ r. firsts 6 0 r ≡ shown_desk d) (sym it.2) shown in
     let is_row : it.0 ≡ desk_row d = sym row ∙ ap with_null says in
     record { good = good; here = it.1 ∙ ap (λ r. r ∷ []) is_row }
 
-pub only_found : (db : Database) (rows : List Row) (q : Row) (d : Desk) → db.schema ≡ office_schema → IsDatabase db →
+pub only_found : (edition : Edition) (db : Database) (rows : List Row) (q : Row) (d : Desk) → db.schema ≡ (schema_of edition) → IsDatabase db →
     IsPermutation (map seen_desk (db.trees 0)) rows → rows ≡ q ∷ [] → firsts 6 0 q ≡ shown_desk d → IsDesk d → HasDesk d (db.trees 0)
-only_found db rows q d schema sound same alone shown good =
+only_found edition db rows q d schema sound same alone shown good =
     let one : length rows ≡ 1 = ap length alone in
-    desk_found db rows q q d schema sound same (omega (arith, one)) (omega (arith, one)) (ap (λ l. get_or l 0 q) (sym alone)) shown good
+    desk_found edition db rows q q d schema sound same (omega (arith, one)) (omega (arith, one)) (ap (λ l. get_or l 0 q) (sym alone)) shown good
 
 -- the desk of tables that the database keeps is the answer
-pub kept_desk : (t : Tables) (db : Database) (rows : List Row) → Keeps t db → IsPermutation (map seen_desk (db.trees 0)) rows → rows ≡ shown_desk t.desk ∷ []
-kept_desk t db rows k same = one_permutation (shown_desk t.desk) rows (subst (λ l. IsPermutation (map seen_desk l) rows) k.rows.desk same)
+pub kept_desk : (edition : Edition) (t : Tables) (db : Database) (rows : List Row) → KeepsUnder edition t db → IsPermutation (map seen_desk (db.trees 0)) rows → rows ≡ shown_desk t.desk ∷ []
+kept_desk edition t db rows k same = one_permutation (shown_desk t.desk) rows (subst (λ l. IsPermutation (map seen_desk l) rows) k.rows.desk same)

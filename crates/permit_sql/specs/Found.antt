@@ -11,9 +11,11 @@ use Rattle.sqlite.specs.State.{Shown}
 use Rattle.sqlite.specs.Held.{Held, state}
 use Rattle.permit_model.specs.Caller.{Party}
 use Rattle.permit_model.specs.Parcels.{Parcel, Interest}
-use Rattle.permit_model.specs.Tables.{Tables, Desk, FileRow, Paper}
-use Rattle.permit_sql_rows.specs.Rows.{desk_row, party_row, parcel_row, file_row, shown_party, shown_parcel, shown_file, shown_interest, shown_paper}
-use Rattle.permit_sql_rows.specs.Kept.{IsNamed, Keeps}
+use Rattle.permit_base.specs.declared.words.Edition.{Edition}
+use Rattle.permit_base.specs.declared.words.Edition.TheVariants.{Second}
+use Rattle.permit_model.specs.Tables.{Tables, Desk, FileRow, Paper, edition_by}
+use Rattle.permit_sql_rows.specs.Rows.{desk_row, upgrade_row, party_row, parcel_row, file_row, shown_party, shown_parcel, shown_file, shown_interest, shown_paper}
+use Rattle.permit_sql_rows.specs.Kept.{IsNamed, KeepsUnder}
 use Rattle.permit_sql.specs.Taken.{TookAll}
 use Rattle.permit_sql_rows.specs.Typed.{firsts, IsDesk, IsParty, IsParcel, IsInterest, IsFile, IsPaper}
 
@@ -36,12 +38,13 @@ TakesParty before row after = (p : Party) × IsParty p × (firsts 4 0 row ≡ sh
 abbrev pub TakesParcel : ℕ → Row → ℕ → Type 0
 TakesParcel before row after = (p : Parcel) × IsParcel p × (firsts 4 0 row ≡ shown_parcel p) × (p.id ≡ suc before) × (after ≡ suc before)
 
-abbrev pub IsGoodFile : FileRow → Type 0
-IsGoodFile f = IsFile f × IsNamed f.state
+-- a file within its limits, whose edition is that of its number where there were so many files at the upgrade
+abbrev pub IsGoodFile : Option ℕ → FileRow → Type 0
+IsGoodFile upgrade f = IsFile f × IsNamed upgrade f.id f.state
 
 -- a file, with the counts of papers so far
-abbrev pub TakesFile : List ℕ → Row → List ℕ → Type 0
-TakesFile before row after = (f : FileRow) × IsGoodFile f × (firsts 20 0 row ≡ shown_file f) × (f.id ≡ suc (length before))
+abbrev pub TakesFile : Option ℕ → List ℕ → Row → List ℕ → Type 0
+TakesFile upgrade before row after = (f : FileRow) × IsGoodFile upgrade f × (firsts 20 0 row ≡ shown_file f) × (f.id ≡ suc (length before))
     × (after ≡ before ++ f.state.papers ∷ [])
 
 abbrev pub TakesInterest : Row → Type 0
@@ -68,8 +71,8 @@ RefusesParty before row lacks_memory = (p : Party) → IsParty p → row ≡ sho
 abbrev pub RefusesParcel : ℕ → Row → Bool → Type 0
 RefusesParcel before row lacks_memory = (p : Parcel) → IsParcel p → row ≡ shown_parcel p → p.id ≡ suc before → IsTrue lacks_memory
 
-abbrev pub RefusesFile : List ℕ → Row → Bool → Type 0
-RefusesFile before row lacks_memory = (f : FileRow) → IsGoodFile f → row ≡ shown_file f → f.id ≡ suc (length before) → IsTrue lacks_memory
+abbrev pub RefusesFile : Option ℕ → List ℕ → Row → Bool → Type 0
+RefusesFile upgrade before row lacks_memory = (f : FileRow) → IsGoodFile upgrade f → row ≡ shown_file f → f.id ≡ suc (length before) → IsTrue lacks_memory
 
 abbrev pub RefusesInterest : Row → Type 0
 RefusesInterest row = (i : Interest) → IsInterest i → row ≢ shown_interest i
@@ -96,9 +99,9 @@ pub record HasParcels (count : ℕ) (tree : List Row) : Type 0 where
   pub here : IsPermutation (map parcel_row all) tree
   pub lots : (lot : List ℕ) → length (filter (λ p. bytes_eq p.lot lot) all) ≤ 1
 
-pub record HasFiles (counts : List ℕ) (tree : List Row) : Type 0 where
+pub record HasFiles (upgrade : Option ℕ) (counts : List ℕ) (tree : List Row) : Type 0 where
   pub all : List FileRow
-  pub good : AllByRecursion IsGoodFile all
+  pub good : AllByRecursion (IsGoodFile upgrade) all
   pub numbered : IsNumbered (λ f. f.id) 1 all
   pub counted : map (λ f. f.state.papers) all ≡ counts
   pub here : IsPermutation (map file_row all) tree
@@ -136,6 +139,12 @@ pub record HasDesk (d : Desk) (tree : List Row) : Type 0 where
   pub good : IsDesk d
   pub here : tree ≡ desk_row d ∷ []
 
+-- no row under the first edition; one under the second, with the count of files then, which is at most that of today
+pub record HasUpgrade (edition : Edition) (files : ℕ) (upgrade : Option ℕ) (trees : Trees) : Type 0 where
+  pub told : edition ≡ edition_by upgrade
+  pub within : IfSome upgrade (λ then_files. then_files ≤ files)
+  pub here : IfSome upgrade (λ then_files. trees 18 ≡ upgrade_row then_files ∷ [])
+
 -- the parties, parcels and interests, as the desk counts them
 pub record HasObjects (d : Desk) (trees : Trees) : Type 0 where
   pub parties : HasParties d.parties (trees 1)
@@ -143,9 +152,9 @@ pub record HasObjects (d : Desk) (trees : Trees) : Type 0 where
   pub interests : HasInterests (trees 5)
 
 -- the files and papers, as the desk counts the files
-pub record HasCases (d : Desk) (trees : Trees) : Type 0 where
+pub record HasCases (d : Desk) (upgrade : Option ℕ) (trees : Trees) : Type 0 where
   pub counts : List ℕ
-  pub files : HasFiles counts (trees 7)
+  pub files : HasFiles upgrade counts (trees 7)
   pub counted : length counts ≡ d.files
   pub papers : HasPapers counts (trees 8)
   pub apart : IsApart (trees 8)
@@ -165,6 +174,14 @@ pub record AreTyped (t : Tables) : Type 0 where
   pub parcel_count : length t.parcels ≡ t.desk.parcels
   pub file_count : length t.files ≡ t.desk.files
 
+-- typed tables that the database keeps under the edition
+abbrev pub KeepsTypedUnder : Edition → Database → Type 0
+KeepsTypedUnder edition db = (t : Tables) × AreTyped t × KeepsUnder edition t db
+
 -- typed tables that the database keeps
 abbrev pub KeepsTyped : Database → Type 0
-KeepsTyped db = (t : Tables) × AreTyped t × Keeps t db
+KeepsTyped db = KeepsTypedUnder Second db
+
+-- these are typed tables that the database keeps under the edition, with so many files, and so many at the upgrade
+abbrev pub HasSound : Edition → Database → ℕ → Option ℕ → Type 0
+HasSound edition db files upgrade = (t : Tables) × AreTyped t × KeepsUnder edition t db × (t.desk.files ≡ files) × (t.upgrade ≡ upgrade)

@@ -3,14 +3,15 @@ use Rattle.std.specs.Prelude.{◌≡◌}
 use Rattle.sqlite_trees.specs.declared.store.Store.{Ghosts}
 use Rattle.sqlite.specs.State.{Survives}
 use Rattle.sqlite.specs.Held.{Held, state}
+use Rattle.permit_base.specs.declared.words.Edition.{Edition}
 use Rattle.permit_model.specs.Tables.{Tables}
-use Rattle.permit_sql_rows.specs.Kept.{IsFine, Keeps}
+use Rattle.permit_sql_rows.specs.Kept.{IsFine, KeepsUnder}
 use Rattle.permit_sql.specs.Found.{AreTyped}
 
 module _ {S : Type 0} (g : Ghosts S) where
-  -- Said of all typed tables that the connection showed before.
-  abbrev pub OverTyped : Held S → (Tables → Type 0) → Type 0
-  OverTyped old said = (t : Tables) → AreTyped t → Keeps t (state g old).now → said t
+  -- Said of all typed tables that the connection showed before under the edition.
+  abbrev pub OverTyped : Edition → Held S → (Tables → Type 0) → Type 0
+  OverTyped edition old said = (t : Tables) → AreTyped t → KeepsUnder edition t (state g old).now → said t
 
   -- A connection that is well afterwards was so before, and shows the same.
   abbrev pub LeavesRows : Held S → Held S → Type 0

@@ -1,5 +1,5 @@
 -- What contracts see of a store over SQLite.
-use Rattle.std.specs.Prelude.{◌≡◌, ℕ}
+use Rattle.std.specs.Prelude.{◌≡◌, ℕ, Option}
 use Rattle.sqlite_trees.specs.View.{doubt}
 use Rattle.sqlite_trees.specs.Tree.{Trees}
 use Rattle.sqlite.specs.Effect.{Database}
@@ -8,10 +8,11 @@ use Rattle.permit_model.specs.Tables.{Tables}
 use Rattle.permit_store.specs.Frames.{StoreView}
 use Rattle.permit_sql_rows.specs.Kept.{Keeps, Shows}
 
--- It holds the tables that its connection shows, where the disk has given back what was written; its doubt is the disk's.
-abbrev pub seen : State → (handed failed commits : ℕ) → StoreView
-seen s handed failed commits = record {
-  holds = λ t. HasCleanDisk s → Shows t s;
+-- It holds the tables that its connection shows and that had so many files at the upgrade, where the disk has given back
+-- what was written; its doubt is the disk's.
+abbrev pub seen : State → Option ℕ → (handed failed commits : ℕ) → StoreView
+seen s upgrade handed failed commits = record {
+  holds = λ t. HasCleanDisk s → (t.upgrade ≡ upgrade) × Shows t s;
   doubt = doubt s.is_clean;
   handed = handed;
   failed = failed;

@@ -5,7 +5,7 @@ ghost use Rattle.sqlite.specs.Given.{IsPlain};
 ghost use Rattle.sqlite.specs.Listing.{understood};
 ghost use Rattle.sqlite.specs.State.{HasCleanDisk};
 ghost use Rattle.sqlite.specs.Held.{state};
-ghost use Rattle.permit_sql_rows.specs.Schema.{office_schema};
+ghost use Rattle.permit_sql_rows.specs.Schema.{schema_of};
 ghost use Rattle.permit_sql.specs.Taken.{TookRows};
 ghost use Rattle.permit_sql.specs.Found.{TookTable, TakesParty, TakesParcel, TakesInterest};
 ghost use Rattle.permit_sql.specs.Found.{RefusesParty, RefusesParcel, RefusesInterest, HasParties, HasParcels, HasInterests};
@@ -13,23 +13,25 @@ ghost use Rattle.permit_sql.specs.Frames.{OverTyped, LeavesRows, LeavesOverCrash
 
 use crate::each::{Taker, each_row};
 use crate::texts::{EACH_INTEREST, EACH_PARCEL, EACH_PARTY};
+use permit_base::words::Edition;
 use permit_sql_rows::decode::{interest_in, parcel_of, party_of};
 use permit_sql_rows::fields::RowFault;
 use permit_sql_rows::schema::is_office;
 use permit_store::store::{Got, StoreError};
 use sqlite::{Alter, Connection, Row};
 
-/// Whether the taker takes all rows of an answer, in a database of the office's schema; with another it fails. The
+/// Whether the taker takes all rows of an answer, in a database of the edition's schema; with another it fails. The
 /// database stays as it is.
 pub(crate) fn takes_all<S: Alter, T: Taker>(
     conn: &mut Connection<S>,
+    edition: Edition,
     sql: &str,
     taker: &mut T,
 ) -> Got<bool>
     requires not_in_transaction { conn.old.in_transaction ≡ false }
-    requires plain { IsPlain (understood office_schema sql.now) }
+    requires plain { IsPlain (understood (schema_of edition) sql.now) }
     ensures all { HasCleanDisk (state S.Store conn.new)
-        → IfOk result (λ all. IsTrue all → ((state S.Store conn.old).now.schema ≡ office_schema)
+        → IfOk result (λ all. IsTrue all → ((state S.Store conn.old).now.schema ≡ schema_of edition)
         × TookTable T.Taker.took S.Store sql.now conn.old conn.new taker.old taker.new) }
     ensures handed { HasCleanDisk (state S.Store conn.new)
         → IfOk result (λ all. TookRows T.Taker.took S.Store sql.now [] conn.old conn.new taker.old taker.new all) }
@@ -37,7 +39,7 @@ pub(crate) fn takes_all<S: Alter, T: Taker>(
     ensures crash { LeavesOverCrash S.Store conn.old conn.new }
     ensures not_in_transaction { conn.new.in_transaction ≡ false }
 {
-    if !is_office(conn.schema()) {
+    if !is_office(edition, conn.schema()) {
         return Err(StoreError);
     }
     match each_row(conn, sql, &[], taker) {
@@ -77,12 +79,16 @@ impl Taker for Parties {
 }
 
 /// Whether there are so many parties, numbered from 1, each within its limits.
-pub(crate) fn check_parties<S: Alter>(conn: &mut Connection<S>, count: u32) -> Got<bool>
+pub(crate) fn check_parties<S: Alter>(
+    conn: &mut Connection<S>,
+    edition: Edition,
+    count: u32,
+) -> Got<bool>
     requires not_in_transaction { conn.old.in_transaction ≡ false }
     ensures good { HasCleanDisk (state S.Store conn.new)
         → IfOk result (λ good. IsTrue good → HasParties count ((state S.Store conn.old).now.trees 1)) }
     ensures kept { HasCleanDisk (state S.Store conn.new)
-        → OverTyped S.Store conn.old (λ t. count ≡ t.desk.parties → IfOk result IsTrue) }
+        → OverTyped S.Store edition conn.old (λ t. count ≡ t.desk.parties → IfOk result IsTrue) }
     ensures left { LeavesRows S.Store conn.old conn.new }
     ensures crash { LeavesOverCrash S.Store conn.old conn.new }
     ensures not_in_transaction { conn.new.in_transaction ≡ false }
@@ -91,7 +97,7 @@ pub(crate) fn check_parties<S: Alter>(conn: &mut Connection<S>, count: u32) -> G
         count: 0,
         lacks_memory: false,
     };
-    let all = takes_all(conn, EACH_PARTY, &mut parties)?;
+    let all = takes_all(conn, edition, EACH_PARTY, &mut parties)?;
     if parties.lacks_memory {
         return Err(StoreError);
     }
@@ -129,12 +135,16 @@ impl Taker for Parcels {
 }
 
 /// Whether there are so many parcels, numbered from 1, each within its limits.
-pub(crate) fn check_parcels<S: Alter>(conn: &mut Connection<S>, count: u32) -> Got<bool>
+pub(crate) fn check_parcels<S: Alter>(
+    conn: &mut Connection<S>,
+    edition: Edition,
+    count: u32,
+) -> Got<bool>
     requires not_in_transaction { conn.old.in_transaction ≡ false }
     ensures good { HasCleanDisk (state S.Store conn.new)
         → IfOk result (λ good. IsTrue good → HasParcels count ((state S.Store conn.old).now.trees 3)) }
     ensures kept { HasCleanDisk (state S.Store conn.new)
-        → OverTyped S.Store conn.old (λ t. count ≡ t.desk.parcels → IfOk result IsTrue) }
+        → OverTyped S.Store edition conn.old (λ t. count ≡ t.desk.parcels → IfOk result IsTrue) }
     ensures left { LeavesRows S.Store conn.old conn.new }
     ensures crash { LeavesOverCrash S.Store conn.old conn.new }
     ensures not_in_transaction { conn.new.in_transaction ≡ false }
@@ -143,7 +153,7 @@ pub(crate) fn check_parcels<S: Alter>(conn: &mut Connection<S>, count: u32) -> G
         count: 0,
         lacks_memory: false,
     };
-    let all = takes_all(conn, EACH_PARCEL, &mut parcels)?;
+    let all = takes_all(conn, edition, EACH_PARCEL, &mut parcels)?;
     if parcels.lacks_memory {
         return Err(StoreError);
     }
@@ -175,14 +185,14 @@ impl Taker for Interests {
 }
 
 /// Whether each interest is of numbers within their limits.
-pub(crate) fn check_interests<S: Alter>(conn: &mut Connection<S>) -> Got<bool>
+pub(crate) fn check_interests<S: Alter>(conn: &mut Connection<S>, edition: Edition) -> Got<bool>
     requires not_in_transaction { conn.old.in_transaction ≡ false }
     ensures good { HasCleanDisk (state S.Store conn.new)
         → IfOk result (λ good. IsTrue good → HasInterests ((state S.Store conn.old).now.trees 5)) }
-    ensures kept { HasCleanDisk (state S.Store conn.new) → OverTyped S.Store conn.old (λ t. IfOk result IsTrue) }
+    ensures kept { HasCleanDisk (state S.Store conn.new) → OverTyped S.Store edition conn.old (λ t. IfOk result IsTrue) }
     ensures left { LeavesRows S.Store conn.old conn.new }
     ensures crash { LeavesOverCrash S.Store conn.old conn.new }
     ensures not_in_transaction { conn.new.in_transaction ≡ false }
 {
-    takes_all(conn, EACH_INTEREST, &mut Interests)
+    takes_all(conn, edition, EACH_INTEREST, &mut Interests)
 }

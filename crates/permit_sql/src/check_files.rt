@@ -10,24 +10,28 @@ ghost use Rattle.permit_sql.specs.Frames.{OverTyped, LeavesRows, LeavesOverCrash
 use crate::check::takes_all;
 use crate::each::Taker;
 use crate::texts::{EACH_FILE, EACH_PAPER, EACH_ROWID};
+use permit_base::words::Edition;
 use permit_sql_rows::decode::{file_of, paper_of};
 use permit_sql_rows::fields::{RowFault, whole_number};
 use permit_store::store::{Got, StoreError};
 use sqlite::{Alter, Connection, Row};
 use std::alloc::Global;
 
-/// The counts of papers of the files that were read, each with the next number.
+/// The count of files at the upgrade, and the counts of papers of the files that were read, each with the next number.
 #[derive(Drop)]
 struct Files {
+    upgrade: Option<u32>,
     counts: Vec<u16>,
     lacks_memory: bool,
 }
 
 impl Taker for Files {
-    ghost took = { λ a row b good. MatchBool good (TakesFile a.counts.items row b.counts.items) (RefusesFile a.counts.items row b.lacks_memory) };
+    ghost took = { λ a row b good. MatchBool good
+        (TakesFile a.upgrade a.counts.items row b.counts.items × (b.upgrade ≡ a.upgrade))
+        (RefusesFile a.upgrade a.counts.items row b.lacks_memory) };
 
     fn take(&mut self, row: &Row) -> bool {
-        let file = match file_of(row) {
+        let file = match file_of(row, self.upgrade) {
             Ok(file) => file,
             Err(RowFault::NoMemory) => {
                 self.lacks_memory = true;
@@ -52,23 +56,26 @@ impl Taker for Files {
 pub(crate) fn check_files<S: Alter>(
     conn: &mut Connection<S>,
     alloc: Global,
+    edition: Edition,
+    upgrade: Option<u32>,
     count: u32,
 ) -> Got<Option<Vec<u16>>>
     requires not_in_transaction { conn.old.in_transaction ≡ false }
     ensures good { HasCleanDisk (state S.Store conn.new)
-        → IfOk result (λ o. IfSome o (λ counts. HasFiles counts.items ((state S.Store conn.old).now.trees 7))) }
+        → IfOk result (λ o. IfSome o (λ counts. HasFiles upgrade counts.items ((state S.Store conn.old).now.trees 7))) }
     ensures counted { IfOk result (λ o. IfSome o (λ counts. length counts.items ≡ count)) }
     ensures kept { HasCleanDisk (state S.Store conn.new)
-        → OverTyped S.Store conn.old (λ t. count ≡ t.desk.files → IfOk result (λ o. IsSomeAnd o (λ counts. counts.items ≡ map (λ f. f.state.papers) t.files))) }
+        → OverTyped S.Store edition conn.old (λ t. count ≡ t.desk.files → t.upgrade ≡ upgrade → IfOk result (λ o. IsSomeAnd o (λ counts. counts.items ≡ map (λ f. f.state.papers) t.files))) }
     ensures left { LeavesRows S.Store conn.old conn.new }
     ensures crash { LeavesOverCrash S.Store conn.old conn.new }
     ensures not_in_transaction { conn.new.in_transaction ≡ false }
 {
     let mut files = Files {
+        upgrade,
         counts: Vec::new(alloc),
         lacks_memory: false,
     };
-    let all = takes_all(conn, EACH_FILE, &mut files)?;
+    let all = takes_all(conn, edition, EACH_FILE, &mut files)?;
     if files.lacks_memory {
         return Err(StoreError);
     }
@@ -135,12 +142,16 @@ impl Taker for Papers {
 
 /// Whether each paper is within its limits, and each file's papers have numbers of their own, none above the file's
 /// count.
-pub(crate) fn check_papers<S: Alter>(conn: &mut Connection<S>, counts: Vec<u16>) -> Got<bool>
+pub(crate) fn check_papers<S: Alter>(
+    conn: &mut Connection<S>,
+    edition: Edition,
+    counts: Vec<u16>,
+) -> Got<bool>
     requires not_in_transaction { conn.old.in_transaction ≡ false }
     ensures good { HasCleanDisk (state S.Store conn.new)
         → IfOk result (λ good. IsTrue good → HasPapers counts.items ((state S.Store conn.old).now.trees 8)) }
     ensures kept { HasCleanDisk (state S.Store conn.new)
-        → OverTyped S.Store conn.old (λ t. counts.items ≡ map (λ f. f.state.papers) t.files → IfOk result IsTrue) }
+        → OverTyped S.Store edition conn.old (λ t. counts.items ≡ map (λ f. f.state.papers) t.files → IfOk result IsTrue) }
     ensures left { LeavesRows S.Store conn.old conn.new }
     ensures crash { LeavesOverCrash S.Store conn.old conn.new }
     ensures not_in_transaction { conn.new.in_transaction ≡ false }
@@ -151,7 +162,7 @@ pub(crate) fn check_papers<S: Alter>(conn: &mut Connection<S>, counts: Vec<u16>)
         counts,
         lacks_memory: false,
     };
-    let all = takes_all(conn, EACH_PAPER, &mut papers)?;
+    let all = takes_all(conn, edition, EACH_PAPER, &mut papers)?;
     if papers.lacks_memory {
         return Err(StoreError);
     }
@@ -184,11 +195,12 @@ impl Taker for Rowids {
 }
 
 /// Whether no rowid of a paper comes twice.
-pub(crate) fn check_rowids<S: Alter>(conn: &mut Connection<S>) -> Got<bool>
+pub(crate) fn check_rowids<S: Alter>(conn: &mut Connection<S>, edition: Edition) -> Got<bool>
     requires not_in_transaction { conn.old.in_transaction ≡ false }
     ensures good { HasCleanDisk (state S.Store conn.new)
         → IfOk result (λ good. IsTrue good → IsApart ((state S.Store conn.old).now.trees 8)) }
-    ensures kept { HasCleanDisk (state S.Store conn.new) → OverTyped S.Store conn.old (λ t. IfOk result IsTrue) }
+    ensures kept { HasCleanDisk (state S.Store conn.new) → OverTyped S.Store edition conn.old (λ t. IfOk result IsTrue) }
+    ensures open { HasCleanDisk (state S.Store conn.new) → IfOk result (λ good. IsTrue good → IsTrue (state S.Store conn.new).is_open) }
     ensures left { LeavesRows S.Store conn.old conn.new }
     ensures crash { LeavesOverCrash S.Store conn.old conn.new }
     ensures not_in_transaction { conn.new.in_transaction ≡ false }
@@ -197,7 +209,7 @@ pub(crate) fn check_rowids<S: Alter>(conn: &mut Connection<S>) -> Got<bool>
         last: None,
         is_strange: false,
     };
-    let all = takes_all(conn, EACH_ROWID, &mut rowids)?;
+    let all = takes_all(conn, edition, EACH_ROWID, &mut rowids)?;
     if rowids.is_strange {
         return Err(StoreError);
     }

@@ -1,38 +1,40 @@
 //! Whether a database is the office's.
 
-ghost use Rattle.std.specs.Prelude.{◌≡◌, ◌⊎◌, false, IsTrue, IfOk, IfErr, IfSome, OnOk, IsPermutation, map, slice_get, Some, [], ◌∷◌};
+ghost use Rattle.std.specs.Prelude.{◌≡◌, ◌≤◌, ◌⊎◌, ℕ, false, IsTrue, IsSome, IfOk, IfErr, IfSome, OnOk, IsPermutation, map, slice_get, Some, [], ◌∷◌};
 ghost use Rattle.sqlite_value.specs.Order.{column};
 ghost use Rattle.sqlite.specs.Held.{state};
 ghost use Rattle.sqlite.specs.State.{HasCleanDisk};
 ghost use Rattle.permit_store.specs.declared.store.OpenError.TheVariants as open_error;
-ghost use Rattle.permit_sql_rows.specs.Schema.{desk_table, office_schema};
+ghost use Rattle.permit_sql_rows.specs.Schema.{desk_table, schema_of};
+ghost use Rattle.permit_base.specs.declared.words.Edition.TheVariants.{Second};
 ghost use Rattle.permit_model.specs.Tables.{Desk as TheDesk};
-ghost use Rattle.permit_sql_rows.specs.Rows.{shown_desk};
+ghost use Rattle.permit_sql_rows.specs.Rows.{shown_desk, shown_upgrade};
 ghost use Rattle.permit_sql_rows.specs.Typed.{firsts, IsDesk};
 ghost use Rattle.permit_sql_rows.specs.Kept.{IsFine};
-ghost use Rattle.permit_sql.specs.Opening.{seen_desk, IsOther, HasOtherVersion};
-ghost use Rattle.permit_sql.specs.Found.{HasDesk, HasObjects, HasCases, KeepsTyped};
+ghost use Rattle.permit_sql.specs.Opening.{seen_desk, seen_upgrade, IsOther, HasOtherVersion};
+ghost use Rattle.permit_sql.specs.Found.{HasDesk, HasUpgrade, HasObjects, HasCases, HasSound, KeepsTypedUnder};
 ghost use Rattle.permit_sql.specs.Frames.{OverTyped, LeavesRows, LeavesOverCrash};
 
 use crate::check::{check_interests, check_parcels, check_parties};
 use crate::check_files::{check_files, check_papers, check_rowids};
-use permit_sql_rows::decode::desk_in;
+use permit_base::words::Edition;
+use permit_sql_rows::decode::{desk_in, upgrade_in};
 use permit_sql_rows::fields::whole_number;
-use permit_sql_rows::schema::{VERSION, has_desk, is_office};
+use permit_sql_rows::schema::{has_desk, is_office, version_of};
 use permit_sql_statements::query::read_all;
-use permit_sql_statements::texts::READ_DESK;
+use permit_sql_statements::texts::{READ_DESK, READ_UPGRADE};
 use permit_store::rows::Desk;
 use permit_store::store::{Got, OpenError, StoreError};
 use sqlite::{Alter, Connection, Row};
 use std::alloc::Global;
 
-/// Whether a field is a number, and another than the version.
-fn is_other(row: &Row, at: usize) -> bool
-    ensures other { IsTrue result → IsOther (column row.now at) }
-    ensures told { IsOther (column row.now at) → IsTrue result }
+/// Whether a field is a number, and another than the version of the tables under the edition.
+fn is_other(edition: Edition, row: &Row, at: usize) -> bool
+    ensures other { IsTrue result → IsOther edition (column row.now at) }
+    ensures told { IsOther edition (column row.now at) → IsTrue result }
 {
     match whole_number(row, at) {
-        Some(number) => number != i64::from(VERSION),
+        Some(number) => number != i64::from(version_of(edition)),
         None => false,
     }
 }
@@ -54,13 +56,13 @@ fn desk_seen<S: Alter>(conn: &mut Connection<S>) -> Got<Vec<Row>>
     }
 }
 
-/// Whether the desk's one row says another version than this one.
-fn has_other_version<S: Alter>(conn: &mut Connection<S>) -> Got<bool>
+/// Whether the desk's one row says another version than that of the tables under the edition.
+fn has_other_version<S: Alter>(conn: &mut Connection<S>, edition: Edition) -> Got<bool>
     requires not_in_transaction { conn.old.in_transaction ≡ false }
     requires desk { slice_get (state S.Store conn.old).now.schema.tables 0 ≡ Some desk_table }
     ensures other { HasCleanDisk (state S.Store conn.new)
-        → IfOk result (λ is. IsTrue is → HasOtherVersion (state S.Store conn.old).now) }
-    ensures told { HasCleanDisk (state S.Store conn.new) → HasOtherVersion (state S.Store conn.old).now
+        → IfOk result (λ is. IsTrue is → HasOtherVersion edition (state S.Store conn.old).now) }
+    ensures told { HasCleanDisk (state S.Store conn.new) → HasOtherVersion edition (state S.Store conn.old).now
         → IfOk result (λ is. IsTrue is) }
     ensures fine { IsFine (state S.Store conn.new) → IsFine (state S.Store conn.old) }
     ensures same { IsFine (state S.Store conn.new) → (state S.Store conn.new).now ≡ (state S.Store conn.old).now }
@@ -69,31 +71,48 @@ fn has_other_version<S: Alter>(conn: &mut Connection<S>) -> Got<bool>
 {
     let rows = desk_seen(conn)?;
     match rows.as_slice() {
-        [row] => Ok(is_other(row, 1)),
+        [row] => Ok(is_other(edition, row, 1)),
         _ => Ok(false),
     }
 }
 
-/// The desk of an answer of one row, of number 1 and this version, within its limits.
-fn only_desk(rows: &[Row]) -> Option<Desk>
+/// The desk in a row of number 1 and the edition's version, within its limits.
+fn desk_under(edition: Edition, row: &Row) -> Option<Desk>
+    ensures back { IfSome result (λ d. firsts 6 0 row.now ≡ shown_desk d) }
+    ensures typed { IfSome result IsDesk }
+    ensures now { IfSome result (λ d. d.edition ≡ edition) }
+    ensures some { (is : TheDesk) → IsDesk is → is.edition ≡ edition → row.now ≡ shown_desk is → result ≡ Some is }
+{
+    let desk = desk_in(row)?;
+    if desk.edition == edition {
+        Some(desk)
+    } else {
+        None
+    }
+}
+
+/// The desk of an answer of one row, of number 1 and the edition's version, within its limits.
+fn only_desk(edition: Edition, rows: &[Row]) -> Option<Desk>
     ensures back { IfSome result (λ d. (q : _) × (rows.now ≡ q ∷ []) × (firsts 6 0 q ≡ shown_desk d)) }
     ensures typed { IfSome result IsDesk }
-    ensures some { (is : TheDesk) → IsDesk is → rows.now ≡ shown_desk is ∷ [] → result ≡ Some is }
+    ensures now { IfSome result (λ d. d.edition ≡ edition) }
+    ensures some { (is : TheDesk) → IsDesk is → is.edition ≡ edition → rows.now ≡ shown_desk is ∷ [] → result ≡ Some is }
 {
     match rows {
-        [row] => desk_in(row),
+        [row] => desk_under(edition, row),
         _ => None,
     }
 }
 
-/// The desk, where it has one row, of number 1 and this version, within its limits.
-fn find_desk<S: Alter>(conn: &mut Connection<S>) -> Got<Option<Desk>>
+/// The desk, where it has one row, of number 1 and the edition's version, within its limits.
+fn find_desk<S: Alter>(conn: &mut Connection<S>, edition: Edition) -> Got<Option<Desk>>
     requires not_in_transaction { conn.old.in_transaction ≡ false }
     requires desk { slice_get (state S.Store conn.old).now.schema.tables 0 ≡ Some desk_table }
-    ensures good { IsFine (state S.Store conn.new) → (state S.Store conn.old).now.schema ≡ office_schema
+    ensures good { IsFine (state S.Store conn.new) → (state S.Store conn.old).now.schema ≡ schema_of edition
         → IfOk result (λ o. IfSome o (λ d. HasDesk d ((state S.Store conn.old).now.trees 0))) }
+    ensures now { IfOk result (λ o. IfSome o (λ d. d.edition ≡ edition)) }
     ensures kept { IsFine (state S.Store conn.new)
-        → OverTyped S.Store conn.old (λ t. IfOk result (λ o. o ≡ Some t.desk)) }
+        → OverTyped S.Store edition conn.old (λ t. IfOk result (λ o. o ≡ Some t.desk)) }
     ensures left { LeavesRows S.Store conn.old conn.new }
     ensures crash { LeavesOverCrash S.Store conn.old conn.new }
     ensures not_in_transaction { conn.new.in_transaction ≡ false }
@@ -101,126 +120,242 @@ fn find_desk<S: Alter>(conn: &mut Connection<S>) -> Got<Option<Desk>>
     // Its contract says that the database obeys the schema.
     let _schema = conn.schema();
     let rows = desk_seen(conn)?;
-    Ok(only_desk(rows.as_slice()))
+    Ok(only_desk(edition, rows.as_slice()))
+}
+
+/// The rows of the upgrade's table.
+fn upgrade_seen<S: Alter>(conn: &mut Connection<S>) -> Got<Vec<Row>>
+    requires not_in_transaction { conn.old.in_transaction ≡ false }
+    requires office { (state S.Store conn.old).now.schema ≡ schema_of Second }
+    ensures rows { HasCleanDisk (state S.Store conn.new)
+        → IfOk result (λ rows. IsPermutation (map seen_upgrade ((state S.Store conn.old).now.trees 18)) rows.items) }
+    ensures left { LeavesRows S.Store conn.old conn.new }
+    ensures crash { LeavesOverCrash S.Store conn.old conn.new }
+    ensures not_in_transaction { conn.new.in_transaction ≡ false }
+{
+    match read_all(conn, READ_UPGRADE, &[]) {
+        Ok(rows) => Ok(rows),
+        Err(_) => Err(StoreError),
+    }
+}
+
+/// The count of files in an answer of one row, of number 1, where it is at most that of today.
+fn only_upgrade(rows: &[Row], files: u32) -> Option<u32>
+    ensures back { IfSome result (λ n. (q : _) × (rows.now ≡ q ∷ []) × (firsts 2 0 q ≡ shown_upgrade n)) }
+    ensures within { IfSome result (λ n. n ≤ files) }
+    ensures some { (is : ℕ) → is ≤ files → rows.now ≡ shown_upgrade is ∷ [] → result ≡ Some is }
+{
+    match rows {
+        [row] => upgrade_within(row, files),
+        _ => None,
+    }
+}
+
+/// The count of files in an upgrade's row, where it is at most that of today.
+fn upgrade_within(row: &Row, files: u32) -> Option<u32>
+    ensures back { IfSome result (λ n. firsts 2 0 row.now ≡ shown_upgrade n) }
+    ensures within { IfSome result (λ n. n ≤ files) }
+    ensures some { (is : ℕ) → is ≤ files → row.now ≡ shown_upgrade is → result ≡ Some is }
+{
+    let count = upgrade_in(row)?;
+    if count <= files { Some(count) } else { None }
+}
+
+/// The count of files at the upgrade, which the tables have under the second edition, where the table of the upgrade is
+/// sound.
+fn find_upgrade<S: Alter>(
+    conn: &mut Connection<S>,
+    edition: Edition,
+    files: u32,
+) -> Got<Option<Option<u32>>>
+    requires not_in_transaction { conn.old.in_transaction ≡ false }
+    ensures good { IsFine (state S.Store conn.new)
+        → IfOk result (λ o. IfSome o (λ upgrade. HasUpgrade edition files upgrade (state S.Store conn.old).now.trees)) }
+    ensures kept { IsFine (state S.Store conn.new)
+        → OverTyped S.Store edition conn.old (λ t. files ≡ t.desk.files → IfOk result (λ o. o ≡ Some t.upgrade)) }
+    ensures left { LeavesRows S.Store conn.old conn.new }
+    ensures crash { LeavesOverCrash S.Store conn.old conn.new }
+    ensures not_in_transaction { conn.new.in_transaction ≡ false }
+{
+    match edition {
+        Edition::First => Ok(Some(None)),
+        Edition::Second => {
+            if !is_office(Edition::Second, conn.schema()) {
+                return Err(StoreError);
+            }
+            let rows = upgrade_seen(conn)?;
+            match only_upgrade(rows.as_slice(), files) {
+                Some(count) => Ok(Some(Some(count))),
+                None => Ok(None),
+            }
+        }
+    }
 }
 
 /// Whether the parties and parcels are as the desk counts them, and they and the interests within their limits.
-fn has_sound_objects<S: Alter>(conn: &mut Connection<S>, desk: Desk) -> Got<bool>
+fn has_sound_objects<S: Alter>(conn: &mut Connection<S>, edition: Edition, desk: Desk) -> Got<bool>
     requires not_in_transaction { conn.old.in_transaction ≡ false }
     ensures good { IsFine (state S.Store conn.new)
         → IfOk result (λ good. IsTrue good → HasObjects desk (state S.Store conn.old).now.trees) }
     ensures kept { IsFine (state S.Store conn.new)
-        → OverTyped S.Store conn.old (λ t. desk ≡ t.desk → IfOk result IsTrue) }
+        → OverTyped S.Store edition conn.old (λ t. desk ≡ t.desk → IfOk result IsTrue) }
     ensures left { LeavesRows S.Store conn.old conn.new }
     ensures crash { LeavesOverCrash S.Store conn.old conn.new }
     ensures not_in_transaction { conn.new.in_transaction ≡ false }
 {
-    if !check_parties(conn, desk.parties)? {
+    if !check_parties(conn, edition, desk.parties)? {
         return Ok(false);
     }
-    if !check_parcels(conn, desk.parcels)? {
+    if !check_parcels(conn, edition, desk.parcels)? {
         return Ok(false);
     }
-    check_interests(conn)
+    check_interests(conn, edition)
 }
 
 /// Whether the files are as the desk counts them, and they and their papers within their limits.
-fn has_sound_files<S: Alter>(conn: &mut Connection<S>, alloc: Global, desk: Desk) -> Got<bool>
+fn has_sound_files<S: Alter>(
+    conn: &mut Connection<S>,
+    alloc: Global,
+    edition: Edition,
+    desk: Desk,
+    upgrade: Option<u32>,
+) -> Got<bool>
     requires not_in_transaction { conn.old.in_transaction ≡ false }
     ensures good { IsFine (state S.Store conn.new)
-        → IfOk result (λ good. IsTrue good → HasCases desk (state S.Store conn.old).now.trees) }
+        → IfOk result (λ good. IsTrue good → HasCases desk upgrade (state S.Store conn.old).now.trees) }
     ensures kept { IsFine (state S.Store conn.new)
-        → OverTyped S.Store conn.old (λ t. desk ≡ t.desk → IfOk result IsTrue) }
+        → OverTyped S.Store edition conn.old (λ t. desk ≡ t.desk → t.upgrade ≡ upgrade → IfOk result IsTrue) }
+    ensures open { HasCleanDisk (state S.Store conn.new) → IfOk result (λ good. IsTrue good → IsTrue (state S.Store conn.new).is_open) }
     ensures left { LeavesRows S.Store conn.old conn.new }
     ensures crash { LeavesOverCrash S.Store conn.old conn.new }
     ensures not_in_transaction { conn.new.in_transaction ≡ false }
 {
-    let Some(counts) = check_files(conn, alloc, desk.files)? else {
+    let Some(counts) = check_files(conn, alloc, edition, upgrade, desk.files)? else {
         return Ok(false);
     };
-    if !check_papers(conn, counts)? {
+    if !check_papers(conn, edition, counts)? {
         return Ok(false);
     }
-    check_rowids(conn)
+    check_rowids(conn, edition)
 }
 
-/// Whether the rows are typed tables.
-fn has_sound_rows<S: Alter>(conn: &mut Connection<S>, alloc: Global) -> Got<bool>
+/// What an open learns of sound tables.
+#[derive(Clone, Copy)]
+pub(crate) struct Sound {
+    /// How many files there are.
+    pub(crate) files: u32,
+    /// How many there were at the upgrade, if there was one.
+    pub(crate) upgrade: Option<u32>,
+}
+
+/// What the rows tell, where they are typed tables.
+fn find_sound<S: Alter>(
+    conn: &mut Connection<S>,
+    alloc: Global,
+    edition: Edition,
+) -> Got<Option<Sound>>
     requires not_in_transaction { conn.old.in_transaction ≡ false }
     requires desk { slice_get (state S.Store conn.old).now.schema.tables 0 ≡ Some desk_table }
-    ensures good { IsFine (state S.Store conn.new) → (state S.Store conn.old).now.schema ≡ office_schema
-        → IfOk result (λ good. IsTrue good → KeepsTyped (state S.Store conn.old).now) }
-    ensures kept { IsFine (state S.Store conn.new) → KeepsTyped (state S.Store conn.old).now → IfOk result IsTrue }
+    ensures good { IsFine (state S.Store conn.new) → (state S.Store conn.old).now.schema ≡ schema_of edition
+        → IfOk result (λ o. IfSome o (λ s. HasSound edition (state S.Store conn.old).now s.files s.upgrade)) }
+    ensures kept { IsFine (state S.Store conn.new) → KeepsTypedUnder edition (state S.Store conn.old).now → IfOk result (λ o. IsSome o) }
+    ensures open { HasCleanDisk (state S.Store conn.new) → IfOk result (λ o. IsSome o → IsTrue (state S.Store conn.new).is_open) }
     ensures left { LeavesRows S.Store conn.old conn.new }
     ensures crash { LeavesOverCrash S.Store conn.old conn.new }
     ensures not_in_transaction { conn.new.in_transaction ≡ false }
 {
-    let Some(desk) = find_desk(conn)? else {
-        return Ok(false);
+    let Some(desk) = find_desk(conn, edition)? else {
+        return Ok(None);
     };
-    if !has_sound_objects(conn, desk)? {
-        return Ok(false);
+    let Some(upgrade) = find_upgrade(conn, edition, desk.files)? else {
+        return Ok(None);
+    };
+    if !has_sound_objects(conn, edition, desk)? {
+        return Ok(None);
     }
-    has_sound_files(conn, alloc, desk)
+    if !has_sound_files(conn, alloc, edition, desk, upgrade)? {
+        return Ok(None);
+    }
+    Ok(Some(Sound {
+        files: desk.files,
+        upgrade,
+    }))
 }
 
-/// Whether the schema is the office's and the rows are typed tables; with another schema the refusal is `Store`.
-fn check_tables<S: Alter>(conn: &mut Connection<S>, alloc: Global) -> Result<(), OpenError>
+/// What the tables tell, where the schema is the edition's and the rows are typed tables; with another schema the
+/// refusal is `Store`.
+fn check_tables<S: Alter>(
+    conn: &mut Connection<S>,
+    alloc: Global,
+    edition: Edition,
+) -> Result<Sound, OpenError>
     requires not_in_transaction { conn.old.in_transaction ≡ false }
-    ensures typed { IsFine (state S.Store conn.new) → OnOk result (KeepsTyped (state S.Store conn.new).now) }
+    ensures sound { IsFine (state S.Store conn.new) → IfOk result (λ s. HasSound edition (state S.Store conn.new).now s.files s.upgrade) }
     ensures damaged { IsFine (state S.Store conn.new)
-        → IfErr result (λ e. e ≡ open_error.Damaged → ¬ KeepsTyped (state S.Store conn.old).now) }
+        → IfErr result (λ e. e ≡ open_error.Damaged → ¬ KeepsTypedUnder edition (state S.Store conn.old).now) }
+    ensures open { HasCleanDisk (state S.Store conn.new) → OnOk result (IsTrue (state S.Store conn.new).is_open) }
     ensures left { LeavesRows S.Store conn.old conn.new }
     ensures refusal { IfErr result (λ e. (e ≡ open_error.Damaged) ⊎ (e ≡ open_error.Store)) }
     ensures crash { LeavesOverCrash S.Store conn.old conn.new }
     ensures not_in_transaction { conn.new.in_transaction ≡ false }
 {
-    if !is_office(conn.schema()) {
+    if !is_office(edition, conn.schema()) {
         return Err(OpenError::Store);
     }
-    match has_sound_rows(conn, alloc) {
-        Ok(true) => Ok(()),
-        Ok(false) => Err(OpenError::Damaged),
+    match find_sound(conn, alloc, edition) {
+        Ok(Some(sound)) => Ok(sound),
+        Ok(None) => Err(OpenError::Damaged),
         Err(StoreError) => Err(OpenError::Store),
     }
 }
 
 /// The tests of a connection with no transaction, whose first table is the desk's.
-fn check_versioned<S: Alter>(conn: &mut Connection<S>, alloc: Global) -> Result<(), OpenError>
+fn check_versioned<S: Alter>(
+    conn: &mut Connection<S>,
+    alloc: Global,
+    edition: Edition,
+) -> Result<Sound, OpenError>
     requires not_in_transaction { conn.old.in_transaction ≡ false }
     requires desk { slice_get (state S.Store conn.old).now.schema.tables 0 ≡ Some desk_table }
-    ensures typed { IsFine (state S.Store conn.new) → OnOk result (KeepsTyped (state S.Store conn.new).now) }
+    ensures sound { IsFine (state S.Store conn.new) → IfOk result (λ s. HasSound edition (state S.Store conn.new).now s.files s.upgrade) }
     ensures damaged { IsFine (state S.Store conn.new)
-        → IfErr result (λ e. e ≡ open_error.Damaged → ¬ KeepsTyped (state S.Store conn.old).now) }
+        → IfErr result (λ e. e ≡ open_error.Damaged → ¬ KeepsTypedUnder edition (state S.Store conn.old).now) }
     ensures version { HasCleanDisk (state S.Store conn.new)
-        → IfErr result (λ e. e ≡ open_error.Version → HasOtherVersion (state S.Store conn.old).now) }
-    ensures told { HasCleanDisk (state S.Store conn.new) → HasOtherVersion (state S.Store conn.old).now
+        → IfErr result (λ e. e ≡ open_error.Version → HasOtherVersion edition (state S.Store conn.old).now) }
+    ensures told { HasCleanDisk (state S.Store conn.new) → HasOtherVersion edition (state S.Store conn.old).now
         → (result ≡ Err open_error.Version) ⊎ (result ≡ Err open_error.Store) }
+    ensures open { HasCleanDisk (state S.Store conn.new) → OnOk result (IsTrue (state S.Store conn.new).is_open) }
     ensures left { LeavesRows S.Store conn.old conn.new }
     ensures refusal { IfErr result (λ e. (e ≡ open_error.Damaged) ⊎ ((e ≡ open_error.Version) ⊎ (e ≡ open_error.Store))) }
     ensures crash { LeavesOverCrash S.Store conn.old conn.new }
     ensures not_in_transaction { conn.new.in_transaction ≡ false }
 {
-    match has_other_version(conn) {
-        Ok(false) => check_tables(conn, alloc),
+    match has_other_version(conn, edition) {
+        Ok(false) => check_tables(conn, alloc, edition),
         Ok(true) => Err(OpenError::Version),
         Err(StoreError) => Err(OpenError::Store),
     }
 }
 
-/// Finds the office's tables in the database, which it leaves as it is.
-pub(crate) fn check<S: Alter>(conn: &mut Connection<S>, alloc: Global) -> Result<(), OpenError>
-    ensures typed { IsFine (state S.Store conn.new) → OnOk result (KeepsTyped (state S.Store conn.new).now) }
+/// Finds the office's tables under the edition in the database, which it leaves as it is.
+pub(crate) fn check<S: Alter>(
+    conn: &mut Connection<S>,
+    alloc: Global,
+    edition: Edition,
+) -> Result<Sound, OpenError>
+    ensures sound { IsFine (state S.Store conn.new) → IfOk result (λ s. HasSound edition (state S.Store conn.new).now s.files s.upgrade) }
     ensures damaged { IsFine (state S.Store conn.new)
-        → IfErr result (λ e. e ≡ open_error.Damaged → ¬ KeepsTyped (state S.Store conn.old).now) }
+        → IfErr result (λ e. e ≡ open_error.Damaged → ¬ KeepsTypedUnder edition (state S.Store conn.old).now) }
     ensures version { HasCleanDisk (state S.Store conn.new)
-        → IfErr result (λ e. e ≡ open_error.Version → HasOtherVersion (state S.Store conn.old).now) }
-    ensures told { HasCleanDisk (state S.Store conn.new) → HasOtherVersion (state S.Store conn.old).now
+        → IfErr result (λ e. e ≡ open_error.Version → HasOtherVersion edition (state S.Store conn.old).now) }
+    ensures told { HasCleanDisk (state S.Store conn.new) → HasOtherVersion edition (state S.Store conn.old).now
         → (result ≡ Err open_error.Version) ⊎ (result ≡ Err open_error.Store) }
+    ensures open { HasCleanDisk (state S.Store conn.new) → OnOk result (IsTrue (state S.Store conn.new).is_open) }
     ensures left { LeavesRows S.Store conn.old conn.new }
     ensures refusal { IfErr result (λ e. (e ≡ open_error.Damaged) ⊎ ((e ≡ open_error.Version) ⊎ (e ≡ open_error.Store))) }
     ensures crash { LeavesOverCrash S.Store conn.old conn.new }
     ensures not_in_transaction { OnOk result (conn.new.in_transaction ≡ false) }
+    ensures transaction { conn.new.in_transaction ≡ conn.old.in_transaction }
 {
     if !conn.is_autocommit() {
         return Err(OpenError::Store);
@@ -228,5 +363,5 @@ pub(crate) fn check<S: Alter>(conn: &mut Connection<S>, alloc: Global) -> Result
     if !has_desk(conn.schema()) {
         return Err(OpenError::Store);
     }
-    check_versioned(conn, alloc)
+    check_versioned(conn, alloc, edition)
 }

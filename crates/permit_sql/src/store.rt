@@ -1,27 +1,32 @@
 //! The store over SQL.
 
-ghost use Rattle.std.specs.Prelude.{◌≡◌, ◌==◌, ◌≢◌, ◌⊎◌, false, IsTrue, IfOk, IfErr, IsErr};
+ghost use Rattle.std.specs.Prelude.{◌≡◌, ◌==◌, ◌≢◌, ◌⊎◌, false, IsTrue, IfOk, IfErr, IsErr, OnOk, OnErr, Err, length};
 ghost use Rattle.sqlite_trees.specs.View.{doubt};
 ghost use Rattle.sqlite.specs.State.{HasCleanDisk, Survives};
 ghost use Rattle.sqlite.specs.Held.{state};
-ghost use Rattle.permit_model.specs.Tables.{Tables, tables};
+ghost use Rattle.permit_base.specs.declared.words.Edition.TheVariants.{First, Second};
+ghost use Rattle.permit_model.specs.History.{History, upgraded};
+ghost use Rattle.permit_model.specs.Machine.{IsHistory};
+ghost use Rattle.permit_model.specs.Files.{case_files};
+ghost use Rattle.permit_model.specs.Tables.{Tables, tables, with_upgrade};
 ghost use Rattle.permit_store.specs.Founding.{founding};
 ghost use Rattle.permit_store.specs.Counts.{next_count};
 ghost use Rattle.permit_store.specs.declared.store.OpenError.TheVariants as open_error;
 ghost use Rattle.permit_sql_rows.specs.Schema.{empty_schema};
-ghost use Rattle.permit_sql_rows.specs.Kept.{Keeps, Shows, IsFine};
+ghost use Rattle.permit_sql_rows.specs.Kept.{KeepsUnder, Keeps, Shows, IsFine};
 ghost use Rattle.permit_sql.specs.Seen.{Lasts};
 ghost use Rattle.permit_sql.specs.Opening.{HasOtherVersion};
-ghost use Rattle.permit_sql.specs.Found.{KeepsTyped};
+ghost use Rattle.permit_sql.specs.Found.{KeepsTyped, KeepsTypedUnder};
+ghost use Rattle.permit_sql_statements.specs.Founding.{AreCounted};
 
 use crate::open::check;
 use permit_base::route::Route;
 use permit_base::values::{Day, Digest, FileId, Lot, PaperNumber, ParcelId, PartyId};
-use permit_base::words::Role;
+use permit_base::words::{Edition, Role};
 use permit_core::state::FileState;
 use permit_core::taker::Taker;
 use permit_sql_statements::commit::commit_in;
-use permit_sql_statements::create::create_in;
+use permit_sql_statements::create::{create_in, upgrade_in};
 use permit_sql_statements::read::{
     find_parcel, find_party, has_interest, has_open_notice, read_desk, read_file, read_owner,
     read_papers, read_parcel, read_party, read_role, read_state,
@@ -38,6 +43,8 @@ use std::alloc::Global;
 pub struct SqlStore<S: Alter> {
     alloc: Global,
     conn: Connection<S>,
+    /// How many files there were at the upgrade.
+    upgrade: Option<u32>,
     handed: u64,
     failed: u64,
     commits: u64,
@@ -64,7 +71,7 @@ impl<S: Alter> SqlStore<S> {
     fn fail<T>(&mut self) -> Got<T>
         ensures error { IsErr result }
         ensures counted { self.new.failed ≡ next_count self.old.failed }
-        ensures others { (self.new.handed ≡ self.old.handed) × (self.new.commits ≡ self.old.commits) }
+        ensures others { (self.new.handed ≡ self.old.handed) × (self.new.commits ≡ self.old.commits) × (self.new.upgrade ≡ self.old.upgrade) }
         ensures conn { self.new.conn ≡ self.old.conn }
     {
         self.failed = self.failed.wrapping_add(1);
@@ -74,7 +81,7 @@ impl<S: Alter> SqlStore<S> {
     /// Makes the tables in an empty database, with one party, number 1, an official, on the founding day, all in
     /// one transaction. It refuses as `Store` where a call failed or a transaction is open, and else as `Exists` exactly
     /// where the database has a table, an index or a view; with a refusal the connection comes back, its database as
-    /// before. A crash inside leaves what was there, or the founding alone.
+    /// before. A crash inside leaves what was there, or the founding with its upgrade alone.
     pub fn create(
         alloc: Global,
         conn: Connection<S>,
@@ -109,6 +116,7 @@ impl<S: Alter> SqlStore<S> {
             Ok(()) => Ok(SqlStore {
                 alloc,
                 conn,
+                upgrade: Some(0),
                 handed: 0,
                 failed: 0,
                 commits: 0,
@@ -118,7 +126,7 @@ impl<S: Alter> SqlStore<S> {
     }
 
     /// Opens the database that holds the office's tables, which it reads and leaves as they are. It refuses as
-    /// `Version` where the desk's row says another version than 1, which is tested first; as `Damaged` only where the
+    /// `Version` where the desk's row says another version than 2, which is tested first; as `Damaged` only where the
     /// rows are out of their limits, or aren't numbered and counted as the desk says; and as `Store` where a call failed
     /// or gave a rowid that is no number, memory was refused, a transaction is open, or the database has another schema
     /// than `create` makes. With a refusal the connection comes back, its database as before.
@@ -126,7 +134,9 @@ impl<S: Alter> SqlStore<S> {
         alloc: Global,
         conn: Connection<S>,
     ) -> Result<SqlStore<S>, (Connection<S>, OpenError)>
-        ensures held { IfOk result (λ s. (t : Tables) → HasCleanDisk (state S.Store s.conn) → Shows t (state S.Store conn) → Shows t (state S.Store s.conn)) }
+        ensures held { IfOk result (λ s. (t : Tables) → (HasCleanDisk (state S.Store s.conn) → Shows t (state S.Store conn))
+            → (⟦<SqlStore<S> as Store>⟧.view s).holds t) }
+        ensures opened { IfOk result (λ s. HasCleanDisk (state S.Store s.conn) → IsTrue (state S.Store s.conn).is_open) }
         ensures typed { IfOk result (λ s. HasCleanDisk (state S.Store s.conn)
             → IsTrue (state S.Store s.conn).is_open → KeepsTyped (state S.Store s.conn).now) }
         ensures doubt { IfOk result (λ s. (⟦<SqlStore<S> as Store>⟧.view s).doubt ≡ doubt (state S.Store s.conn).is_clean) }
@@ -134,23 +144,58 @@ impl<S: Alter> SqlStore<S> {
         ensures crash { IfOk result (λ s. Survives (state S.Store conn) (state S.Store s.conn) (λ _. ⊥)) }
         ensures same { IfErr result (λ e. IsFine (state S.Store e.0) → (state S.Store e.0).now ≡ (state S.Store conn).now) }
         ensures kept { IfErr result (λ e. Survives (state S.Store conn) (state S.Store e.0) (λ _. ⊥)) }
-        ensures version { IfErr result (λ e. e.1 ≡ open_error.Version → HasCleanDisk (state S.Store e.0) → HasOtherVersion (state S.Store conn).now) }
-        ensures told { IfErr result (λ e. HasCleanDisk (state S.Store e.0) → HasOtherVersion (state S.Store conn).now
+        ensures version { IfErr result (λ e. e.1 ≡ open_error.Version → HasCleanDisk (state S.Store e.0) → HasOtherVersion Second (state S.Store conn).now) }
+        ensures told { IfErr result (λ e. HasCleanDisk (state S.Store e.0) → HasOtherVersion Second (state S.Store conn).now
             → (e.1 ≡ open_error.Version) ⊎ (e.1 ≡ open_error.Store)) }
-        ensures first { IfOk result (λ s. HasCleanDisk (state S.Store s.conn) → ¬ HasOtherVersion (state S.Store conn).now) }
+        ensures first { IfOk result (λ s. HasCleanDisk (state S.Store s.conn) → ¬ HasOtherVersion Second (state S.Store conn).now) }
         ensures damaged { IfErr result (λ e. e.1 ≡ open_error.Damaged → IsFine (state S.Store e.0) → ¬ KeepsTyped (state S.Store conn).now) }
         ensures refusal { IfErr result (λ e. (e.1 ≡ open_error.Damaged) ⊎ ((e.1 ≡ open_error.Version) ⊎ (e.1 ≡ open_error.Store))) }
     {
         let mut conn = conn;
-        match check(&mut conn, alloc) {
-            Ok(()) => Ok(SqlStore {
+        match check(&mut conn, alloc, Edition::Second) {
+            Ok(sound) => Ok(SqlStore {
                 alloc,
                 conn,
+                upgrade: sound.upgrade,
                 handed: 0,
                 failed: 0,
                 commits: 0,
             }),
             Err(why) => Err((conn, why)),
+        }
+    }
+
+    /// Makes of a database of version 1 one of version 2, all in one transaction: the tables of the same history with the
+    /// entry of the upgrade. It gives the count of files, which keep to the first edition of the inspections for good. It
+    /// refuses as `Version` where the desk's row says another version than 1, which is tested first; as `Damaged` only
+    /// where the rows are out of their limits, or aren't numbered and counted as the desk says; and as `Store` where a
+    /// call failed, memory was refused, a transaction is open, or the database has another schema than that version's.
+    /// With a refusal the database is as before. A crash inside leaves what was there, or the tables after the upgrade
+    /// whole.
+    pub fn upgrade(alloc: Global, conn: &mut Connection<S>) -> Result<u32, OpenError>
+        ensures made { HasCleanDisk (state S.Store conn.new) → (t : Tables) → AreCounted t → KeepsUnder First t (state S.Store conn.old).now
+            → IfOk result (λ n. (n ≡ t.desk.files) × Keeps (with_upgrade t) (state S.Store conn.new).now) }
+        ensures history { HasCleanDisk (state S.Store conn.new) → (h : History) → IsHistory h → KeepsUnder First (tables h) (state S.Store conn.old).now
+            → IfOk result (λ n. (n ≡ length (case_files h)) × Keeps (tables (upgraded h)) (state S.Store conn.new).now) }
+        ensures typed { HasCleanDisk (state S.Store conn.new) → OnOk result (KeepsTyped (state S.Store conn.new).now) }
+        ensures opened { HasCleanDisk (state S.Store conn.new) → OnOk result (IsTrue (state S.Store conn.new).is_open) }
+        ensures same { IsFine (state S.Store conn.new) → OnErr result ((state S.Store conn.new).now ≡ (state S.Store conn.old).now) }
+        ensures version { HasCleanDisk (state S.Store conn.new)
+            → IfErr result (λ e. e ≡ open_error.Version → HasOtherVersion First (state S.Store conn.old).now) }
+        ensures told { HasCleanDisk (state S.Store conn.new) → HasOtherVersion First (state S.Store conn.old).now
+            → (result ≡ Err open_error.Version) ⊎ (result ≡ Err open_error.Store) }
+        ensures damaged { IsFine (state S.Store conn.new)
+            → IfErr result (λ e. e ≡ open_error.Damaged → ¬ KeepsTypedUnder First (state S.Store conn.old).now) }
+        ensures refusal { IfErr result (λ e. (e ≡ open_error.Damaged) ⊎ ((e ≡ open_error.Version) ⊎ (e ≡ open_error.Store))) }
+        ensures crash { Survives (state S.Store conn.old) (state S.Store conn.new)
+            (λ trees. (t : Tables) → AreCounted t → KeepsUnder First t (state S.Store conn.old).now
+            → (db : _) × Keeps (with_upgrade t) db × (trees ≡ db.trees)) }
+        ensures transaction { conn.new.in_transaction ≡ conn.old.in_transaction }
+    {
+        let sound = check(conn, alloc, Edition::First)?;
+        match upgrade_in(conn, sound.files) {
+            Ok(()) => Ok(sound.files),
+            Err(_) => Err(OpenError::Store),
         }
     }
 
@@ -164,6 +209,7 @@ impl<S: Alter> SqlStore<S> {
         let SqlStore {
             alloc: _,
             conn,
+            upgrade: _,
             handed: _,
             failed: _,
             commits: _,
@@ -177,7 +223,7 @@ impl<S: Alter> Store for SqlStore<S> {
     ghost use Rattle.sqlite.specs.Held.{state};
     ghost use Rattle.permit_sql.specs.Seen.{seen, Outlasts};
 
-    ghost view = { λ s. seen (state S.Store s.conn) s.handed s.failed s.commits };
+    ghost view = { λ s. seen (state S.Store s.conn) s.upgrade s.handed s.failed s.commits };
 
     ghost crash = { λ old new t made. Outlasts (state S.Store old.conn) (state S.Store new.conn) t made };
 
@@ -238,7 +284,7 @@ impl<S: Alter> Store for SqlStore<S> {
     }
 
     fn file(&mut self, file: FileId) -> Got<Option<FileRow>> {
-        match read_file(&mut self.conn, file) {
+        match read_file(&mut self.conn, file, self.upgrade) {
             Ok(Some(row)) => {
                 self.handed = self.handed.wrapping_add(1);
                 Ok(Some(row))
@@ -249,7 +295,7 @@ impl<S: Alter> Store for SqlStore<S> {
     }
 
     fn state(&mut self, file: FileId) -> Got<Option<FileState>> {
-        match read_state(&mut self.conn, file) {
+        match read_state(&mut self.conn, file, self.upgrade) {
             Ok(Some(state)) => {
                 self.handed = self.handed.wrapping_add(1);
                 Ok(Some(state))
@@ -274,7 +320,7 @@ impl<S: Alter> Store for SqlStore<S> {
     }
 
     fn select(&mut self, route: &Route, caller: PartyId, day: Day) -> Got<Vec<Found>> {
-        match select_found(&mut self.conn, route, caller, day, self.alloc) {
+        match select_found(&mut self.conn, route, caller, day, self.upgrade, self.alloc) {
             Ok(rows) => {
                 self.handed = self.handed.wrapping_add(rows.len() as u64);
                 Ok(rows)
@@ -290,7 +336,15 @@ impl<S: Alter> Store for SqlStore<S> {
         day: Day,
         taker: &mut T,
     ) -> Got<bool> {
-        match each_found(&mut self.conn, route, caller, day, &mut self.handed, taker) {
+        match each_found(
+            &mut self.conn,
+            route,
+            caller,
+            day,
+            self.upgrade,
+            &mut self.handed,
+            taker,
+        ) {
             Ok(all) => Ok(all),
             Err(why) => {
                 self.failed = self.failed.wrapping_add(1);
@@ -306,7 +360,15 @@ impl<S: Alter> Store for SqlStore<S> {
         day: Day,
         taker: &mut T,
     ) -> Got<bool> {
-        match each_of_any_found(&mut self.conn, routes, caller, day, &mut self.handed, taker) {
+        match each_of_any_found(
+            &mut self.conn,
+            routes,
+            caller,
+            day,
+            self.upgrade,
+            &mut self.handed,
+            taker,
+        ) {
             Ok(took_all) => Ok(took_all),
             Err(why) => {
                 self.failed = self.failed.wrapping_add(1);

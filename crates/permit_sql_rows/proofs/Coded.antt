@@ -66,6 +66,7 @@ step_back step.Slab = refl
 step_back step.Frame = refl
 step_back step.Lath = refl
 step_back step.Final = refl
+step_back step.Energy = refl
 
 -- ---- and the word at a code has that code
 
@@ -126,4 +127,5 @@ step_code_of (suc zero) w h = let e : step.Slab ≡ w = cc in ap step_code e
 step_code_of (suc (suc zero)) w h = let e : step.Frame ≡ w = cc in ap step_code e
 step_code_of (suc (suc (suc zero))) w h = let e : step.Lath ≡ w = cc in ap step_code e
 step_code_of (suc (suc (suc (suc zero)))) w h = let e : step.Final ≡ w = cc in ap step_code e
-step_code_of (suc (suc (suc (suc (suc more))))) w h = absurd (let e = h in cc)
+step_code_of (suc (suc (suc (suc (suc zero))))) w h = let e : step.Energy ≡ w = cc in ap step_code e
+step_code_of (suc (suc (suc (suc (suc (suc more)))))) w h = absurd (let e = h in cc)

@@ -7,7 +7,7 @@ use Rattle.permit_base.specs.declared.words.Step.{Step}
 use Rattle.permit_model.specs.Codes.{role_code, kind_code, step_code, stage_code, sort_code}
 use Rattle.permit_model.specs.Caller.{Party}
 use Rattle.permit_model.specs.Parcels.{Parcel, Interest}
-use Rattle.permit_model.specs.Tables.{Desk, FileRow, Paper, State as FileState}
+use Rattle.permit_model.specs.Tables.{Desk, FileRow, Paper, State as FileState, version_of}
 use Rattle.permit_model.specs.Routes.{Found}
 
 -- ---- values
@@ -72,13 +72,13 @@ shown_paper p = int p.file ∷ int p.number ∷ int p.day ∷ int p.author ∷ i
 abbrev pub shown_interest : Interest → Row
 shown_interest i = int i.parcel ∷ int i.party ∷ []
 
--- the version of the schema
-abbrev pub version : ℕ
-version = 1
-
 -- of the desk, which keeps the version
 abbrev pub shown_desk : Desk → Row
-shown_desk d = int 1 ∷ int version ∷ int d.last ∷ int d.parties ∷ int d.parcels ∷ int d.files ∷ []
+shown_desk d = int 1 ∷ int (version_of d.edition) ∷ int d.last ∷ int d.parties ∷ int d.parcels ∷ int d.files ∷ []
+
+-- of the upgrade, by the count of files then
+abbrev pub shown_upgrade : ℕ → Row
+shown_upgrade files = int 1 ∷ int files ∷ []
 
 -- what sets a file's row: its number, and what may change in it
 abbrev pub row_params : ℕ → FileState → Row
@@ -91,7 +91,11 @@ row_params id s =
 
 -- the desk's one row
 abbrev pub desk_row : Desk → Row
-desk_row d = int 1 ∷ Null ∷ int version ∷ int d.last ∷ int d.parties ∷ int d.parcels ∷ int d.files ∷ []
+desk_row d = int 1 ∷ Null ∷ int (version_of d.edition) ∷ int d.last ∷ int d.parties ∷ int d.parcels ∷ int d.files ∷ []
+
+-- the one row of the upgrade
+abbrev pub upgrade_row : ℕ → Row
+upgrade_row files = int 1 ∷ Null ∷ int files ∷ []
 
 -- the row of a party
 abbrev pub party_row : Party → Row

@@ -1,5 +1,7 @@
 -- The tables of the office as the kit understands their texts.
 use Rattle.std.specs.Prelude.{true, false, [], ◌∷◌, ◌++◌, Some, None, codes, List, ℕ}
+use Rattle.permit_base.specs.declared.words.Edition.{Edition}
+use Rattle.permit_base.specs.declared.words.Edition.TheVariants.{First, Second}
 use Rattle.sqlite.specs.declared.types.Value.TheVariants.{Null}
 use Rattle.sqlite_value.specs.declared.keys.Collation.TheVariants.{Binary}
 use Rattle.sqlite_value.specs.Keys.{plain}
@@ -119,8 +121,13 @@ owner_index = plain_index (codes "parcel_owner") 16 3 (4 ∷ [])
 abbrev pub interested_index : Index
 interested_index = plain_index (codes "interest_party") 17 5 (2 ∷ [])
 
-abbrev pub all_tables : List Table
-all_tables = desk_table ∷ party_table ∷ parcel_table ∷ interest_table ∷ file_table ∷ paper_table ∷ []
+-- how many files there were at the upgrade, in one row
+abbrev pub upgrade_table : Table
+upgrade_table = keyed 18 (codes "upgrade") (int_column (codes "files") ∷ []) [] []
+
+-- the tables of version 1
+abbrev pub first_tables : List Table
+first_tables = desk_table ∷ party_table ∷ parcel_table ∷ interest_table ∷ file_table ∷ paper_table ∷ []
 
 abbrev pub key_indexes : List Index
 key_indexes = automatic (codes "sqlite_autoindex_party_1") 2 1 (4 ∷ []) ∷ automatic (codes "sqlite_autoindex_parcel_1") 4 3 (2 ∷ [])
@@ -131,14 +138,27 @@ key_indexes = automatic (codes "sqlite_autoindex_party_1") 2 1 (4 ∷ []) ∷ au
 abbrev pub search_indexes : List Index
 search_indexes = cell_index ∷ applicant_index ∷ contractor_index ∷ reviewer_index ∷ inspector_index ∷ parcel_index ∷ owner_index ∷ interested_index ∷ []
 
+-- the tables that an edition of the inspections adds, which were made behind all indexes
+abbrev pub more_tables : Edition → List Table
+more_tables First = []
+more_tables Second = upgrade_table ∷ []
+
+-- the schema of the tables under an edition: version 1 under the first, version 2 under the second
+abbrev pub schema_of : Edition → Schema
+schema_of edition = record { tables = first_tables ++ more_tables edition; indexes = key_indexes ++ search_indexes; views = [] }
+
+-- the schema of version 1
+abbrev pub first_schema : Schema
+first_schema = schema_of First
+
 -- the schema of the office
 abbrev pub office_schema : Schema
-office_schema = record { tables = all_tables; indexes = key_indexes ++ search_indexes; views = [] }
+office_schema = schema_of Second
 
 -- the schema of an empty database
 abbrev pub empty_schema : Schema
 empty_schema = record { tables = []; indexes = []; views = [] }
 
--- the six tables alone
+-- the tables of version 1 alone
 abbrev pub table_schema : Schema
-table_schema = record { tables = all_tables; indexes = key_indexes; views = [] }
+table_schema = record { tables = first_tables; indexes = key_indexes; views = [] }

@@ -1,17 +1,18 @@
 //! A row that a query shows as a typed value.
 
-ghost use Rattle.std.specs.Prelude.{◌≡◌, Bool, [], ◌∷◌, ◌++◌, List, map, Option, option_map, slice_get, IfOk, IfErr, IfSome, IsSome};
+ghost use Rattle.std.specs.Prelude.{◌≡◌, Bool, ℕ, [], ◌∷◌, ◌++◌, List, map, Option, Some, option_map, slice_get, IfOk, IfErr, IfSome, IsSome};
 ghost use Rattle.permit_model.specs.Caller.{Party as TheParty};
 ghost use Rattle.permit_model.specs.Parcels.{Parcel as TheParcel, Interest as TheInterest};
-ghost use Rattle.permit_model.specs.Tables.{Desk as TheDesk, FileRow as TheRow, State as TheState, Paper as ThePaper};
+ghost use Rattle.permit_model.specs.Tables.{Desk as TheDesk, FileRow as TheRow, State as TheState, Paper as ThePaper, version_of, edition_numbered as edition_by_number};
+ghost use Rattle.permit_base.specs.declared.words.Edition.{Edition as TheEdition};
 ghost use Rattle.permit_model.specs.Routes.{Found as TheFound};
 ghost use Rattle.permit_model.specs.SoundState.{IsSoundState};
 ghost use Rattle.sqlite.specs.declared.types.Value.{Value};
 ghost use Rattle.sqlite_value.specs.Order.{column};
 ghost use Rattle.permit_model.specs.Codes.{role_code};
-ghost use Rattle.permit_sql_rows.specs.Rows.{int, flag, shown_desk, shown_party, shown_parcel, shown_file, shown_found, shown_interest, shown_paper};
+ghost use Rattle.permit_sql_rows.specs.Rows.{int, flag, shown_desk, shown_upgrade, shown_party, shown_parcel, shown_file, shown_found, shown_interest, shown_paper};
 ghost use Rattle.permit_sql_rows.specs.Kept.{IsNamed};
-ghost use Rattle.permit_sql_rows.specs.Typed.{firsts, IsObject, IsDesk, IsParty, IsParcel, IsInterest, IsPaper, IsState, IsFile, ShowsState};
+ghost use Rattle.permit_sql_rows.specs.Typed.{firsts, IsObject, IsDesk, IsParty, IsParcel, IsInterest, IsPaper, IsState, IsFile, IsCount, ShowsState};
 
 use crate::fields::{
     Read, RowFault, cents, day, day_or_minus_one, days_or_zero, digest, file_number, kind, lot,
@@ -19,15 +20,42 @@ use crate::fields::{
     party_or_zero, readable, role, short_number, small_number, sort, stage, step_or_minus_one,
     string, text, truth,
 };
-use crate::schema::VERSION;
-use permit_base::values::{ParcelId, PartyId};
-use permit_base::words::Role;
+use permit_base::values::{FileId, ParcelId, PartyId};
+use permit_base::words::{Edition, Role};
 use permit_core::restore::StateFields;
 use permit_core::state::FileState;
 use permit_store::rows::{Desk, FileRow, Found, Paper, Parcel, Party};
 use sqlite::Row;
 
-/// The desk's row, which is number 1 and of this version.
+/// The edition under which tables of the version stand.
+fn edition_of(version: u32) -> Option<Edition>
+    ensures read { (is : TheEdition) → version ≡ version_of is → result ≡ Some is }
+    ensures back { IfSome result (λ e. version ≡ version_of e) }
+{
+    match version {
+        1 => Some(Edition::First),
+        2 => Some(Edition::Second),
+        _ => None,
+    }
+}
+
+/// The edition of the file of the number, by the count of files at the upgrade, if there was one.
+fn edition_numbered(upgrade: Option<u32>, id: FileId) -> Edition
+    ensures { result ≡ edition_by_number upgrade id }
+{
+    match upgrade {
+        None => Edition::First,
+        Some(count) => {
+            if id.get() <= count {
+                Edition::First
+            } else {
+                Edition::Second
+            }
+        }
+    }
+}
+
+/// The desk's row, which is number 1 and of a version that there is.
 pub fn desk_in(row: &Row) -> Option<Desk>
     ensures read { (is : TheDesk) → row.now ≡ shown_desk is → IfSome result (λ d. d ≡ is) }
     ensures back { IfSome result (λ d. firsts 6 0 row.now ≡ shown_desk d) }
@@ -37,15 +65,25 @@ pub fn desk_in(row: &Row) -> Option<Desk>
     if number(row, 0)? != 1 {
         return None;
     }
-    if number(row, 1)? != VERSION {
-        return None;
-    }
+    let edition = edition_of(number(row, 1)?)?;
     Some(Desk {
+        edition,
         last: day(row, 2)?,
         parties: number(row, 3)?,
         parcels: number(row, 4)?,
         files: number(row, 5)?,
     })
+}
+
+/// The count of files in the upgrade's row, which is number 1.
+pub fn upgrade_in(row: &Row) -> Option<u32>
+    ensures back { IfSome result (λ n. (firsts 2 0 row.now ≡ shown_upgrade n) × IsCount n) }
+    ensures some { (is : ℕ) → IsCount is → row.now ≡ shown_upgrade is → result ≡ Some is }
+{
+    if number(row, 0)? != 1 {
+        return None;
+    }
+    number(row, 1)
 }
 
 /// A party's row.
@@ -157,11 +195,12 @@ pub fn paper_in(row: &Row) -> Option<Paper>
     paper_of(row).ok()
 }
 
-/// What of a file's row its state keeps.
-fn fields_in(row: &Row) -> Option<StateFields>
-    ensures read { (is : TheRow) (more : List Value) → IsNamed is.state → row.now ≡ shown_file is ++ more → IfSome result (λ f. f ≡ is.state) }
+/// What of a file's row its state keeps, of a file of the edition.
+fn fields_in(row: &Row, edition: Edition) -> Option<StateFields>
+    ensures read { (upgrade : Option ℕ) (is : TheRow) (more : List Value) → IsNamed upgrade is.id is.state → is.state.edition ≡ edition
+        → row.now ≡ shown_file is ++ more → IfSome result (λ f. f ≡ is.state) }
     ensures back { IfSome result (ShowsState row.now) }
-    ensures named { IfSome result IsNamed }
+    ensures named { (upgrade : Option ℕ) (id : ℕ) → edition ≡ edition_by_number upgrade id → IfSome result (IsNamed upgrade id) }
     ensures typed { IfSome result IsState }
     ensures some { (is : TheRow) → IsState is.state → row.now ≡ shown_file is → IsSome result }
 {
@@ -172,6 +211,7 @@ fn fields_in(row: &Row) -> Option<StateFields>
         reviewer: party_or_zero(row, 4)?,
         inspector: party_or_zero(row, 5)?,
         kind: kind(row, 6)?,
+        edition,
         filed: day(row, 9)?,
         stage: stage(row, 10)?,
         deadline: number_or_minus_one(row, 11)?,
@@ -186,47 +226,63 @@ fn fields_in(row: &Row) -> Option<StateFields>
     })
 }
 
-/// The state in a file's row.
-pub fn state_in(row: &Row) -> Option<FileState>
-    ensures read { (is : TheRow) (more : List Value) → IsNamed is.state → row.now ≡ shown_file is ++ more → IfSome result (λ s. s ≡ is.state) }
+/// The state in a file's row, of a file of the edition.
+fn state_under(row: &Row, edition: Edition) -> Option<FileState>
+    ensures read { (upgrade : Option ℕ) (is : TheRow) (more : List Value) → IsNamed upgrade is.id is.state → is.state.edition ≡ edition
+        → row.now ≡ shown_file is ++ more → IfSome result (λ s. s ≡ is.state) }
     ensures back { IfSome result (ShowsState row.now) }
-    ensures named { IfSome result IsNamed }
+    ensures named { (upgrade : Option ℕ) (id : ℕ) → edition ≡ edition_by_number upgrade id → IfSome result (IsNamed upgrade id) }
     ensures typed { IfSome result IsState }
     ensures sound { IfSome result IsSoundState }
-    ensures some { (is : TheRow) → IsFile is → IsNamed is.state → row.now ≡ shown_file is → IsSome result }
+    ensures some { (upgrade : Option ℕ) (is : TheRow) → IsFile is → IsNamed upgrade is.id is.state → is.state.edition ≡ edition
+        → row.now ≡ shown_file is → IsSome result }
 {
-    FileState::restore(fields_in(row)?)
+    FileState::restore(fields_in(row, edition)?)
 }
 
-/// A file's row, which may have further columns.
-pub fn file_of(row: &Row) -> Read<FileRow>
-    ensures read { (is : TheRow) (more : List Value) → IsNamed is.state → row.now ≡ shown_file is ++ more → IfOk result (λ f. f ≡ is) }
-    ensures back { IfOk result (λ f. firsts 20 0 row.now ≡ shown_file f) }
-    ensures named { IfOk result (λ f. IsNamed f.state) }
-    ensures typed { IfOk result IsFile }
-    ensures some { (is : TheRow) → IsFile is → IsNamed is.state → row.now ≡ shown_file is → IfErr result (λ e. e ≡ RowFault.NoMemory) }
+/// The state in a file's row, which may have further columns, where there were so many files at the upgrade.
+pub fn state_in(row: &Row, upgrade: Option<u32>) -> Option<FileState>
+    ensures read { (is : TheRow) (more : List Value) → IsNamed upgrade is.id is.state → row.now ≡ shown_file is ++ more → IfSome result (λ s. s ≡ is.state) }
+    ensures back { IfSome result (ShowsState row.now) }
+    ensures named { IfSome result (λ s. (id : ℕ) × ((column row.now 0 ≡ int id) × IsNamed upgrade id s)) }
+    ensures typed { IfSome result IsState }
+    ensures sound { IfSome result IsSoundState }
+    ensures some { (is : TheRow) → IsFile is → IsNamed upgrade is.id is.state → row.now ≡ shown_file is → IsSome result }
 {
+    let id = file_number(row, 0)?;
+    state_under(row, edition_numbered(upgrade, id))
+}
+
+/// A file's row, which may have further columns, where there were so many files at the upgrade.
+pub fn file_of(row: &Row, upgrade: Option<u32>) -> Read<FileRow>
+    ensures read { (is : TheRow) (more : List Value) → IsNamed upgrade is.id is.state → row.now ≡ shown_file is ++ more → IfOk result (λ f. f ≡ is) }
+    ensures back { IfOk result (λ f. firsts 20 0 row.now ≡ shown_file f) }
+    ensures named { IfOk result (λ f. IsNamed upgrade f.id f.state) }
+    ensures typed { IfOk result IsFile }
+    ensures some { (is : TheRow) → IsFile is → IsNamed upgrade is.id is.state → row.now ≡ shown_file is → IfErr result (λ e. e ≡ RowFault.NoMemory) }
+{
+    let id = readable(file_number(row, 0))?;
     Ok(FileRow {
-        id: readable(file_number(row, 0))?,
-        state: readable(state_in(row))?,
+        id,
+        state: readable(state_under(row, edition_numbered(upgrade, id)))?,
         valuation: readable(cents(row, 7))?,
         description: text(row, 8)?,
     })
 }
 
 /// The same, or none.
-pub fn file_in(row: &Row) -> Option<FileRow>
-    ensures { (is : TheRow) → IsNamed is.state → row.now ≡ shown_file is → IfSome result (λ f. f ≡ is) }
+pub fn file_in(row: &Row, upgrade: Option<u32>) -> Option<FileRow>
+    ensures { (is : TheRow) → IsNamed upgrade is.id is.state → row.now ≡ shown_file is → IfSome result (λ f. f ≡ is) }
 {
-    file_of(row).ok()
+    file_of(row, upgrade).ok()
 }
 
 /// A file's row as a selection shows it, with its parcel's owner and whether the caller has an interest in the parcel.
-pub fn found_in(row: &Row) -> Option<Found>
-    ensures { (is : TheFound) → IsNamed is.row.state → row.now ≡ shown_found is → IfSome result (λ f. f ≡ is) }
+pub fn found_in(row: &Row, upgrade: Option<u32>) -> Option<Found>
+    ensures { (is : TheFound) → IsNamed upgrade is.row.id is.row.state → row.now ≡ shown_found is → IfSome result (λ f. f ≡ is) }
 {
     Some(Found {
-        row: file_of(row).ok()?,
+        row: file_of(row, upgrade).ok()?,
         owner: party_or_null(row, 20)?,
         conflict: truth(row, 21)?,
     })

@@ -1,6 +1,6 @@
 //! Whether a schema is the office's.
 
-ghost use Rattle.std.specs.Prelude.{◌≡◌, ◌↔◌, ◌++◌, IsTrue, Some, map, slice_get, []};
+ghost use Rattle.std.specs.Prelude.{◌≡◌, ◌↔◌, ◌∷◌, ◌++◌, IsTrue, Some, map, slice_get, []};
 ghost use Rattle.sqlite_value.specs.declared.value.Value.TheVariants.{Null};
 ghost use Rattle.sqlite_value.specs.Keys.{plain};
 ghost use Rattle.permit_sql_rows.specs.Schema.{
@@ -14,21 +14,32 @@ ghost use Rattle.permit_sql_rows.specs.Schema.{
   interest_table,
   file_table,
   paper_table,
-  all_tables,
+  first_tables,
   key_indexes,
   search_indexes,
-  office_schema,
+  upgrade_table,
+  more_tables,
+  schema_of,
 };
+ghost use Rattle.permit_model.specs.Tables.{version_of as version_under};
 ghost use Rattle.permit_sql_rows.specs.Schema as spec;
 ghost use Rattle.permit_sql_rows.specs.Shape.{column_of, reference_of, keys_of, table_of, index_of};
 
+use permit_base::words::Edition;
 use sqlite_schema::code::Terms;
 use sqlite_schema::schema::{Action, Column, Index, Kind, Reference, Schema, Stamps, Table};
 use sqlite_value::keys::{Collation, Order};
 use sqlite_value::value::{Bytes, Value};
 
-/// The version of the schema, which the desk keeps.
-pub const VERSION: u32 = 1;
+/// The version of the tables under an edition, which the desk keeps.
+pub fn version_of(edition: Edition) -> u32
+    ensures { result ≡ version_under edition }
+{
+    match edition {
+        Edition::First => 1,
+        Edition::Second => 2,
+    }
+}
 
 /// A column: its name, its type, and whether it has to hold a value.
 #[derive(Clone, Copy)]
@@ -404,10 +415,28 @@ fn is_paper(table: &Table) -> bool
     )
 }
 
-/// Whether these are the six tables, made in their order.
+/// Whether the table is the upgrade's.
+fn is_upgrade(table: &Table) -> bool
+    ensures { IsTrue result → table.now ≡ upgrade_table }
+{
+    is_table(
+        table,
+        Shape {
+            tree: 18,
+            name: "upgrade",
+            fields: &[id(), number("files")],
+            key: Some(0),
+            primary: &[0],
+            unique: &[],
+            links: &[],
+        },
+    )
+}
+
+/// Whether these are the six tables of version 1, made in their order.
 #[tactic(auto, using(crate::proofs::Shapes::six_are))]
 fn are_tables(tables: &[Table]) -> bool
-    ensures { IsTrue result → tables.now ≡ all_tables }
+    ensures { IsTrue result → tables.now ≡ first_tables }
 {
     match tables {
         [desk, party, parcel, interest, file, paper] => {
@@ -471,11 +500,31 @@ pub fn has_desk(schema: &Schema) -> bool
     }
 }
 
-/// Whether the schema is the office's: its tables and indexes, made in their order, and nothing more.
-pub fn is_office(schema: &Schema) -> bool
-    ensures { IsTrue result → schema.now ≡ office_schema }
+/// Whether these are the tables of version 1 and behind them the upgrade's.
+fn are_all_tables(tables: &[Table]) -> bool
+    ensures { IsTrue result → tables.now ≡ first_tables ++ upgrade_table ∷ [] }
 {
-    are_tables(schema.tables.as_slice())
+    match tables {
+        [first @ .., last] => are_tables(first) && is_upgrade(last),
+        _ => false,
+    }
+}
+
+/// Whether the tables are those of an edition, made in their order.
+fn have_edition(edition: Edition, tables: &[Table]) -> bool
+    ensures { IsTrue result → tables.now ≡ first_tables ++ more_tables edition }
+{
+    match edition {
+        Edition::First => are_tables(tables),
+        Edition::Second => are_all_tables(tables),
+    }
+}
+
+/// Whether the schema is the office's under an edition: its tables and indexes, made in their order, and nothing more.
+pub fn is_office(edition: Edition, schema: &Schema) -> bool
+    ensures { IsTrue result → schema.now ≡ schema_of edition }
+{
+    have_edition(edition, schema.tables.as_slice())
         && are_indexes(schema.indexes.as_slice())
         && schema.views.is_empty()
 }

@@ -89,14 +89,14 @@ module _ (t : Tables) (caller : ℕ) (there : 0 < caller) (day : ℕ) (routes : 
   having r = filter (λ found. holds (relations_found caller found) r) (map (found_row t caller) t.files)
 
   has_shown : (r : Relation) (old new : State) → Keeps t old.now → (rows : List Row) → Shown (text_alone r) (int caller ∷ []) old new rows →
-      ShowWhere rows (λ given. IsPermutation given (having r))
+      ShowWhere t.upgrade rows (λ given. IsPermutation given (having r))
   has_shown r old new k rows h =
       let m = means_alone r in
       let read = reads_as (text_alone r) (int caller ∷ []) old new office_schema k.schema _ m.0 m.1 m.2 rows h in
       alone_shown caller there t (overlay old.now.trees []) k.keyed k.rows.parcels k.rows.interests k.rows.files r rows (read.answer Null)
 
   every_shown : (old new : State) → Keeps t old.now → (rows : List Row) → Shown EVERY.now (int caller ∷ []) old new rows →
-      ShowWhere rows (λ given. IsPermutation given (found_by Every caller day t))
+      ShowWhere t.upgrade rows (λ given. IsPermutation given (found_by Every caller day t))
   every_shown old new k rows h = let it = route_shown t caller there Every day old new k rows h in record {
     given = it.given;
     are = it.are.same;
@@ -106,7 +106,7 @@ module _ (t : Tables) (caller : ℕ) (there : 0 < caller) (day : ℕ) (routes : 
 
   -- what was handed out is among rows of which those that any of the selections finds are all that it finds
   pub handed_among : (text : List ℕ) → ShowsEach routes text → {E : Type 0} (result : Result Bool E) (old new : State) (given : List Found) → Shows t old →
-      Gave result text (int caller ∷ []) old new given
+      Gave t.upgrade result text (int caller ∷ []) old new given
       → (shown : List Found) × AreAmong result given shown × (filter (is_found_by_any routes caller day) shown ≡ found_by_any routes caller day t)
   handed_among text (inl is) result old new given shows gave = (
     found_by Every caller day t,
@@ -125,14 +125,14 @@ module _ (t : Tables) (caller : ℕ) (there : 0 < caller) (day : ℕ) (routes : 
   -- the same for a caller who has declared no interest
   module _ (none : list_any (λ i. eqb i.party caller) t.interests ≡ false) where
     has_shown_without : (r : Relation) (text : List ℕ) → text_without r ≡ Some text → (old new : State) → Keeps t old.now → (rows : List Row) →
-        Shown text (int caller ∷ int 0 ∷ []) old new rows → ShowWhere rows (λ given. IsPermutation given (having r))
+        Shown text (int caller ∷ int 0 ∷ []) old new rows → ShowWhere t.upgrade rows (λ given. IsPermutation given (having r))
     has_shown_without r text is old new k rows h =
         let m = means_without r text is in
         let read = reads_as text (int caller ∷ int 0 ∷ []) old new office_schema k.schema _ m.0 m.1 m.2 rows h in
         alone_without caller there t (overlay old.now.trees []) k.keyed k.rows.parcels k.rows.interests k.rows.files none r text is rows (read.answer Null)
 
     all_shown_without : (old new : State) → Keeps t old.now → (rows : List Row) → Shown EVERY_WITHOUT.now (int caller ∷ int 0 ∷ []) old new rows →
-        ShowWhere rows (λ given. IsPermutation given (found_by Every caller day t))
+        ShowWhere t.upgrade rows (λ given. IsPermutation given (found_by Every caller day t))
     all_shown_without old new k rows h = let it = every_without_shown t caller there none day old new k rows h in record {
       given = it.given;
       are = it.are.same;
@@ -141,7 +141,7 @@ module _ (t : Tables) (caller : ℕ) (there : 0 < caller) (day : ℕ) (routes : 
     }
 
     pub handed_among_without : (text : List ℕ) → ShowsEachWithout routes text → {E : Type 0} (result : Result Bool E) (old new : State) (given : List Found) →
-        Shows t old → Gave result text (int caller ∷ int 0 ∷ []) old new given
+        Shows t old → Gave t.upgrade result text (int caller ∷ int 0 ∷ []) old new given
         → (shown : List Found) × AreAmong result given shown × (filter (is_found_by_any routes caller day) shown ≡ found_by_any routes caller day t)
     handed_among_without text (inl is) result old new given shows gave = (
       found_by Every caller day t,

@@ -399,6 +399,7 @@ module _ (old new : State) (count : ℕ) (t : Tables) (k : Keeps t old.now) (fil
       let made = go it (filter (hits file number) tree) (filter (is_it file number) t.papers) refl found columns short in
       record {
         schema = made.0.schema;
+        now = k.now;
         keyed = keyed_closed t k.keyed file number;
         rows = keeps_papers old.now new.now t k.rows (map (closed_by file number) t.papers) made.0 made.1;
       }

@@ -13,6 +13,7 @@ use Rattle.sqlite_rules.specs.Edit.{next_rowid}
 use Rattle.sqlite.specs.Effect.{Database}
 use Rattle.sqlite.specs.State.{State, Executes}
 use Rattle.sqlite.specs.Held.{Held, state}
+use Rattle.permit_base.specs.declared.words.Edition.TheVariants.{Second}
 use Rattle.permit_model.specs.Caller.{Party}
 use Rattle.permit_model.specs.Parcels.{Parcel, Interest}
 use Rattle.permit_model.specs.Tables.{Desk, State as FileState, FileRow, Paper, Tables}
@@ -31,14 +32,15 @@ use Rattle.permit_sql_statements.proofs.Keeping.{keeps_interests, keeps_files, k
 use Rattle.permit_sql_statements.proofs.Keeping.{keyed_row}
 
 -- the desk is set last
-ended : (mid last : State) (count : ℕ) (t : Tables) (d : Desk) → mid.now.schema ≡ office_schema → AreInTrees t mid.now.trees → AreKeyed t →
+ended : (mid last : State) (count : ℕ) (t : Tables) (d : Desk) → t.desk.files ≤ d.files → d.edition ≡ t.desk.edition → t.desk.edition ≡ Second →
+    mid.now.schema ≡ office_schema → AreInTrees t mid.now.trees → AreKeyed t →
     Executes WRITE_DESK.now (int d.last ∷ int d.parties ∷ int d.parcels ∷ int d.files ∷ []) mid last (Ok count)
     → Keeps (record t { desk = d }) last.now
-ended mid last count t d schema rows keyed h =
-    let it = sets_desk mid last count schema t.desk d rows.desk h in
-    record { schema = it.0.schema; keyed = keyed_desk t keyed d; rows = keeps_desk mid.now last.now t rows d it.0 it.1 }
+ended mid last count t d more same now schema rows keyed h =
+    let it = sets_desk mid last count schema t.desk d same rows.desk h in
+    record { schema = it.0.schema; now = same ∙ now; keyed = keyed_desk t keyed d more same; rows = keeps_desk mid.now last.now t rows d it.0 it.1 }
 
-found_number : {X : Type 0} (key : X → ℕ) (id : ℕ) (xs : List X) (x : X) → find (λ y. eqb (key y) id) xs ≡ Some x → key x ≡ id
+pub found_number : {X : Type 0} (key : X → ℕ) (id : ℕ) (xs : List X) (x : X) → find (λ y. eqb (key y) id) xs ≡ Some x → key x ≡ id
 found_number key id [] x e = absurd cc
 found_number {X} key id (y ∷ ys) x e = go (eqb (key y) id) refl e (found_number key id ys x)
   where
@@ -53,9 +55,9 @@ found_number {X} key id (y ∷ ys) x e = go (eqb (key y) id) refl e (found_numbe
 -- a file's row is set
 pub row_set : (old new : State) (count : ℕ) (t : Tables) (k : Keeps t old.now) (id : ℕ) (s : FileState) (f : FileRow) →
     find (λ q. eqb q.id id) t.files ≡ Some f → s.parcel ≡ f.state.parcel → s.applicant ≡ f.state.applicant
-    → f.state.papers ≤ s.papers → IsNamed s → Executes WRITE_FILE.now (row_params id s) old new (Ok count) →
+    → f.state.papers ≤ s.papers → IsNamed t.upgrade id s → Executes WRITE_FILE.now (row_params id s) old new (Ok count) →
     Keeps (record t { files = map (with_state id s) t.files }) new.now
-row_set old new count t k id s f found parcel applicant more named h =
+row_set old new count t k id s f found parcel applicant kept named h =
     let only = only_found (λ (q : FileRow). eqb q.id id) t.files f found (k.keyed.files id) in
     let number = found_number (λ (q : FileRow). q.id) id t.files f found in
     let first = sets_file old new count k.schema t k id s f only number parcel applicant h in
@@ -64,7 +66,7 @@ row_set old new count t k id s f found parcel applicant more named h =
     let there = put_changed (λ (q : FileRow). q.id) file_row (λ q. refl) id (with_state id s) f t.files (old.now.trees 7)
     (λ y apart. ap (λ c. cond c (record y { state = s }) y) apart) (ap (λ (q : FileRow). q.id) here ∙ number) only k.rows.files in
     let row = subst (IsPermutation (map file_row xs)) (ap (λ q. put_row (file_row q) (without_rowid (pos id) (old.now.trees 7))) here ∙ sym first.1) there in
-    record { schema = first.0.schema; keyed = keyed_row t k.keyed id s f only more named; rows = keeps_files old.now new.now t k.rows xs first.0 row }
+    record { schema = first.0.schema; now = k.now; keyed = keyed_row t k.keyed id s f only kept named; rows = keeps_files old.now new.now t k.rows xs first.0 row }
   where
     set : f.id ≡ id → with_state id s f ≡ record f { state = s }
     set e = let is : eqb f.id id ≡ true = grind (arith, nat_tests) in ap (λ c. cond c (record f { state = s }) f) is
@@ -85,13 +87,14 @@ paper_added old new count t k p above low h =
       subst (λ r. IsPermutation (map shown_paper xs) (map (drop 1) r)) (sym first.row) there,
       subst Apart (sym first.row) (apart_put id (shown_paper p) (old.now.trees 8) first.fresh k.rows.apart),
     ) in
-    record { schema = first.leaves.schema; keyed = keyed_paper t k.keyed p above low; rows = rows }
+    record { schema = first.leaves.schema; now = k.now; keyed = keyed_paper t k.keyed p above low; rows = rows }
   where
     map_last : (xs : List Paper) → map shown_paper (xs ++ p ∷ []) ≡ map shown_paper xs ++ shown_paper p ∷ []
     map_last [] = refl
     map_last (x ∷ xs) = ap (λ l. shown_paper x ∷ l) (map_last xs)
 
-module _ {S : Type 0} (g : Ghosts S) (old : Held S) (db : Database) (t : Tables) (k : Keeps t (state g old).now) (d : Desk) where
+module _ {S : Type 0} (g : Ghosts S) (old : Held S) (db : Database) (t : Tables) (k : Keeps t (state g old).now) (d : Desk)
+    (more : t.desk.files ≤ d.files) (same_edition : d.edition ≡ t.desk.edition) where
   pub party_made : (p : Party) → find (λ q. bytes_eq q.digest p.digest) t.parties ≡ None →
       RanAll g ((ADD_PARTY.now, shown_party p) ∷ desk_statement d ∷ []) old db → Keeps (record t { desk = d; parties = t.parties ++ p ∷ [] }) db
   party_made p new ran =
@@ -107,7 +110,7 @@ module _ {S : Type 0} (g : Ghosts S) (old : Held S) (db : Database) (t : Tables)
       let rows = keeps_parties begun.now a.now t k.rows xs first.leaves there in
       let keyed = keyed_party t k.keyed p (key_free (λ (q : Party). q.id) party_row (λ q. refl) p t.parties (begun.now.trees 1) first.fresh k.rows.parties)
       (not_found _ t.parties new) in
-      let done = ended a b two.1 (record t { parties = xs }) d first.leaves.schema rows keyed two.2 in
+      let done = ended a b two.1 (record t { parties = xs }) d more same_edition k.now first.leaves.schema rows keyed two.2 in
       let same : db ≡ b.now = ran.is ∙ ap (λ (h : Held _). (state g h).now) two.3 in
       subst (Keeps (record t { desk = d; parties = xs })) (sym same) done
 
@@ -126,7 +129,7 @@ module _ {S : Type 0} (g : Ghosts S) (old : Held S) (db : Database) (t : Tables)
       let rows = keeps_parcels begun.now a.now t k.rows xs first.leaves there in
       let keyed = keyed_parcel t k.keyed p (key_free (λ (q : Parcel). q.id) parcel_row (λ q. refl) p t.parcels (begun.now.trees 3) first.fresh k.rows.parcels)
       (not_found _ t.parcels new) in
-      let done = ended a b two.1 (record t { parcels = xs }) d first.leaves.schema rows keyed two.2 in
+      let done = ended a b two.1 (record t { parcels = xs }) d more same_edition k.now first.leaves.schema rows keyed two.2 in
       let same : db ≡ b.now = ran.is ∙ ap (λ (h : Held _). (state g h).now) two.3 in
       subst (Keeps (record t { desk = d; parcels = xs })) (sym same) done
 
@@ -149,7 +152,7 @@ module _ {S : Type 0} (g : Ghosts S) (old : Held S) (db : Database) (t : Tables)
       let row = subst (IsPermutation (map parcel_row xs)) (ap (λ q. put_row (parcel_row q) (without_rowid (pos id) (begun.now.trees 3))) here
       ∙ sym first.1) there in
       let rows = keeps_parcels begun.now a.now t k.rows xs first.0 row in
-      let done = ended a b two.1 (record t { parcels = xs }) d first.0.schema rows (keyed_owner t k.keyed id owner) two.2 in
+      let done = ended a b two.1 (record t { parcels = xs }) d more same_edition k.now first.0.schema rows (keyed_owner t k.keyed id owner) two.2 in
       let same : db ≡ b.now = ran.is ∙ ap (λ (h : Held _). (state g h).now) two.3 in
       subst (Keeps (record t { desk = d; parcels = xs })) (sym same) done
     where
@@ -168,12 +171,12 @@ module _ {S : Type 0} (g : Ghosts S) (old : Held S) (db : Database) (t : Tables)
       let xs = t.interests ++ i ∷ [] in
       let made : Row = Int (next_rowid (begun.now.trees 5)) ∷ shown_interest i in
       let put = IsPermutation-map (drop 1) _ _ (put_fresh made (begun.now.trees 5) first.fresh) in
-      let more = append_any (map shown_interest t.interests) (shown_interest i) (map (drop 1) (begun.now.trees 5)) k.rows.interests in
+      let shown = append_any (map shown_interest t.interests) (shown_interest i) (map (drop 1) (begun.now.trees 5)) k.rows.interests in
       let there = subst (λ l. IsPermutation l (map (drop 1) (put_row made (begun.now.trees 5)))) (sym (map_last t.interests))
-      (IsPermutation-trans _ _ _ more put) in
+      (IsPermutation-trans _ _ _ shown put) in
       let rows = keeps_interests begun.now a.now t k.rows xs first.leaves
       (subst (λ r. IsPermutation (map shown_interest xs) (map (drop 1) r)) (sym first.row) there) in
-      let done = ended a b two.1 (record t { interests = xs }) d first.leaves.schema rows (keyed_interests t k.keyed xs) two.2 in
+      let done = ended a b two.1 (record t { interests = xs }) d more same_edition k.now first.leaves.schema rows (keyed_interests t k.keyed xs) two.2 in
       let same : db ≡ b.now = ran.is ∙ ap (λ (h : Held _). (state g h).now) two.3 in
       subst (Keeps (record t { desk = d; interests = xs })) (sym same) done
     where
@@ -181,7 +184,7 @@ module _ {S : Type 0} (g : Ghosts S) (old : Held S) (db : Database) (t : Tables)
       map_last [] = refl
       map_last (x ∷ xs) = ap (λ l. shown_interest x ∷ l) (map_last xs)
 
-  pub file_made : (f : FileRow) → IsNamed f.state → RanAll g ((ADD_FILE.now, shown_file f) ∷ desk_statement d ∷ []) old db →
+  pub file_made : (f : FileRow) → IsNamed t.upgrade f.id f.state → RanAll g ((ADD_FILE.now, shown_file f) ∷ desk_statement d ∷ []) old db →
       Keeps (record t { desk = d; files = t.files ++ f ∷ [] }) db
   file_made f named ran =
       let one = ran.ran in
@@ -195,31 +198,31 @@ module _ {S : Type 0} (g : Ghosts S) (old : Held S) (db : Database) (t : Tables)
       (put_more (λ (q : FileRow). q.id) file_row (λ q. refl) f t.files (begun.now.trees 7) first.fresh k.rows.files) in
       let rows = keeps_files begun.now a.now t k.rows xs first.leaves there in
       let keyed = keyed_file t k.keyed f (key_free (λ (q : FileRow). q.id) file_row (λ q. refl) f t.files (begun.now.trees 7) first.fresh k.rows.files) named in
-      let done = ended a b two.1 (record t { files = xs }) d first.leaves.schema rows keyed two.2 in
+      let done = ended a b two.1 (record t { files = xs }) d more same_edition k.now first.leaves.schema rows keyed two.2 in
       let same : db ≡ b.now = ran.is ∙ ap (λ (h : Held _). (state g h).now) two.3 in
       subst (Keeps (record t { desk = d; files = xs })) (sym same) done
 
   pub row_made : (id : ℕ) (s : FileState) (f : FileRow) → find (λ q. eqb q.id id) t.files ≡ Some f → s.parcel ≡ f.state.parcel →
-      s.applicant ≡ f.state.applicant → f.state.papers ≤ s.papers → IsNamed s
+      s.applicant ≡ f.state.applicant → f.state.papers ≤ s.papers → IsNamed t.upgrade id s
       → RanAll g ((WRITE_FILE.now, row_params id s) ∷ desk_statement d ∷ []) old db → Keeps (record t { desk = d; files = map (with_state id s) t.files }) db
-  row_made id s f found parcel applicant more named ran =
+  row_made id s f found parcel applicant kept named ran =
       let one = ran.ran in
       let two = one.3 in
       let begun = state g (record old { in_transaction = true }) in
       let a = state g one.0 in
       let b = state g two.0 in
-      let first = row_set begun a one.1 t k id s f found parcel applicant more named one.2 in
+      let first = row_set begun a one.1 t k id s f found parcel applicant kept named one.2 in
       let xs = map (with_state id s) t.files in
-      let done = ended a b two.1 (record t { files = xs }) d first.schema first.rows first.keyed two.2 in
+      let done = ended a b two.1 (record t { files = xs }) d more same_edition k.now first.schema first.rows first.keyed two.2 in
       let same : db ≡ b.now = ran.is ∙ ap (λ (h : Held _). (state g h).now) two.3 in
       subst (Keeps (record t { desk = d; files = xs })) (sym same) done
 
   pub paper_made : (id : ℕ) (s : FileState) (f : FileRow) (p : Paper) → find (λ q. eqb q.id id) t.files ≡ Some f → s.parcel ≡ f.state.parcel →
-      s.applicant ≡ f.state.applicant → s.papers ≡ f.state.papers + 1 → IsNamed s
+      s.applicant ≡ f.state.applicant → s.papers ≡ f.state.papers + 1 → IsNamed t.upgrade id s
       → p.file ≡ id → p.number ≡ s.papers
       → RanAll g ((WRITE_FILE.now, row_params id s) ∷ (ADD_PAPER.now, shown_paper p) ∷ desk_statement d ∷ []) old db →
       Keeps (record t { desk = d; files = map (with_state id s) t.files; papers = t.papers ++ p ∷ [] }) db
-  paper_made id s f p found parcel applicant more named file number ran =
+  paper_made id s f p found parcel applicant kept named file number ran =
       let one = ran.ran in
       let two = one.3 in
       let three = two.3 in
@@ -229,23 +232,23 @@ module _ {S : Type 0} (g : Ghosts S) (old : Held S) (db : Database) (t : Tables)
       let c = state g three.0 in
       let fs = map (with_state id s) t.files in
       let t1 = record t { files = fs } in
-      let first = row_set begun a one.1 t k id s f found parcel applicant (omega (arith, more)) named one.2 in
+      let first = row_set begun a one.1 t k id s f found parcel applicant (omega (arith, kept)) named one.2 in
       let count : papers_counted id t.files ≡ f.state.papers = ap (λ o. unwrap_or (option_map (λ (r : FileRow). r.state.papers) o) 0) found in
       let below = subst (λ n. AllByRecursion (λ (x : Paper). x.number ≤ n) (filter (λ (x : Paper). eqb x.file id) t.papers)) count (k.keyed.counted id) in
       let above = subst (λ n. AllByRecursion (λ (x : Paper). x.number < p.number) (filter (λ (x : Paper). eqb x.file n) t.papers)) (sym file)
-      (lower f.state.papers p.number _ (omega (arith, more, number)) below) in
+      (lower f.state.papers p.number _ (omega (arith, kept, number)) below) in
       let now : papers_counted p.file fs ≡ s.papers = ap (λ n. papers_counted n fs) file ∙ counted_here id s f t.files found in
       let second = paper_added a b two.1 t1 first p above (omega (arith, number, now)) two.2 in
       let pp = t.papers ++ p ∷ [] in
-      let done = ended b c three.1 (record t { files = fs; papers = pp }) d second.schema second.rows second.keyed three.2 in
+      let done = ended b c three.1 (record t { files = fs; papers = pp }) d more same_edition k.now second.schema second.rows second.keyed three.2 in
       let same : db ≡ c.now = ran.is ∙ ap (λ (h : Held _). (state g h).now) three.3 in
       subst (Keeps (record t { desk = d; files = fs; papers = pp })) (sym same) done
 
   pub notice_closed : (id number : ℕ) (s : FileState) (f : FileRow) → find (λ q. eqb q.id id) t.files ≡ Some f → s.parcel ≡ f.state.parcel →
-      s.applicant ≡ f.state.applicant → f.state.papers ≤ s.papers → IsNamed s
+      s.applicant ≡ f.state.applicant → f.state.papers ≤ s.papers → IsNamed t.upgrade id s
       → RanAll g ((WRITE_FILE.now, row_params id s) ∷ (CLOSE_NOTICE.now, int id ∷ int number ∷ []) ∷ desk_statement d ∷ []) old db →
       Keeps (record t { desk = d; files = map (with_state id s) t.files; papers = map (closed_by id number) t.papers }) db
-  notice_closed id number s f found parcel applicant more named ran =
+  notice_closed id number s f found parcel applicant kept named ran =
       let one = ran.ran in
       let two = one.3 in
       let three = two.3 in
@@ -254,9 +257,9 @@ module _ {S : Type 0} (g : Ghosts S) (old : Held S) (db : Database) (t : Tables)
       let b = state g two.0 in
       let c = state g three.0 in
       let fs = map (with_state id s) t.files in
-      let first = row_set begun a one.1 t k id s f found parcel applicant more named one.2 in
+      let first = row_set begun a one.1 t k id s f found parcel applicant kept named one.2 in
       let second = notice_set a b two.1 (record t { files = fs }) first id number two.2 in
       let pp = map (closed_by id number) t.papers in
-      let done = ended b c three.1 (record t { files = fs; papers = pp }) d second.schema second.rows second.keyed three.2 in
+      let done = ended b c three.1 (record t { files = fs; papers = pp }) d more same_edition k.now second.schema second.rows second.keyed three.2 in
       let same : db ≡ c.now = ran.is ∙ ap (λ (h : Held _). (state g h).now) three.3 in
       subst (Keeps (record t { desk = d; files = fs; papers = pp })) (sym same) done

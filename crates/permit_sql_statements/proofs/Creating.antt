@@ -1,5 +1,5 @@
 -- What the statements of a creation make of an empty database.
-use Rattle.std.proofs.Common.{◌≡◌, ℕ, arith, IsPermutation, true, false, List, [], ◌∷◌, ◌++◌, map, drop, take, slice_get, Some, None, Ok, Result, refl, sym, ap}
+use Rattle.std.proofs.Common.{◌≡◌, ℕ, ◌≤◌, Option, arith, IsPermutation, true, false, List, [], ◌∷◌, ◌++◌, map, drop, take, slice_get, Some, None, Ok, Result, refl, sym, ap}
 use Rattle.std.proofs.Common.{subst, ◌∙◌}
 use Rattle.sqlite_tied.specs.Compute.{everything}
 use Rattle.sqlite.specs.Listing.{understood}
@@ -9,6 +9,7 @@ use Rattle.sqlite_schema.specs.declared.schema.Table.{Table}
 use Rattle.sqlite_schema.specs.declared.schema.Schema.{Schema}
 use Rattle.sqlite_schema.specs.declared.schema.Index.{Index}
 use Rattle.sqlite_schema.specs.declared.command.Command.TheVariants.{CreateTable, CreateIndex}
+use Rattle.std.specs.Prelude.{IfSome}
 use Rattle.std.specs.List.{AllByRecursion}
 use Rattle.sqlite_trees.specs.Tree.{Trees, put_row}
 use Rattle.sqlite_trees.specs.declared.store.Store.{Ghosts}
@@ -19,20 +20,22 @@ use Rattle.sqlite.specs.State.{State, Writes, Executes, mode_of}
 use Rattle.sqlite.specs.Held.{Held, state}
 use Rattle.sqlite.proofs.Callers.{runs_as, command_of, statement_of, IsPlain}
 use Rattle.permit_model.specs.Caller.{Party}
-use Rattle.permit_model.specs.Tables.{Desk, Tables}
-use Rattle.permit_sql_rows.specs.Schema.{desk_table, party_table, parcel_table, interest_table, file_table, paper_table, all_tables, key_indexes}
+use Rattle.permit_base.specs.declared.words.Edition.TheVariants.{First, Second}
+use Rattle.permit_model.specs.Tables.{Desk, FileRow, Tables, edition_by, with_upgrade}
+use Rattle.permit_model.proofs.Editions.{first_upto}
+use Rattle.permit_sql_rows.specs.Schema.{desk_table, party_table, parcel_table, interest_table, file_table, paper_table, upgrade_table, first_tables, key_indexes}
 use Rattle.permit_sql_rows.specs.Schema.{search_indexes, cell_index, applicant_index, contractor_index, reviewer_index, inspector_index, parcel_index}
-use Rattle.permit_sql_rows.specs.Schema.{owner_index, interested_index, office_schema, empty_schema, table_schema}
-use Rattle.permit_sql_rows.specs.Rows.{int, desk_row, party_row, shown_party}
-use Rattle.permit_sql_rows.specs.Kept.{AreKeyed, AreInTrees, Keeps}
+use Rattle.permit_sql_rows.specs.Schema.{owner_index, interested_index, first_schema, office_schema, empty_schema, table_schema}
+use Rattle.permit_sql_rows.specs.Rows.{int, desk_row, upgrade_row, party_row, parcel_row, file_row, shown_party, shown_interest, shown_paper}
+use Rattle.permit_sql_rows.specs.Kept.{IsNamed, AreKeyed, AreInTrees, KeepsUnder, Keeps}
 use Rattle.permit_sql_statements.specs.Statements.{RanAll}
-use Rattle.permit_sql_statements.specs.Founding.{founding_statements}
+use Rattle.permit_sql_statements.specs.Founding.{founding_statements, upgrade_statements}
 use Rattle.permit_sql_statements.specs.declared.texts.TheConstants.{CREATE_DESK, CREATE_PARTY, CREATE_PARCEL, CREATE_INTEREST, CREATE_FILE, CREATE_PAPER}
 use Rattle.permit_sql_statements.specs.declared.texts.TheConstants.{INDEX_CELL, INDEX_APPLICANT, INDEX_CONTRACTOR, INDEX_REVIEWER, INDEX_INSPECTOR}
-use Rattle.permit_sql_statements.specs.declared.texts.TheConstants.{INDEX_PARCEL, INDEX_OWNER, INDEX_INTERESTED}
+use Rattle.permit_sql_statements.specs.declared.texts.TheConstants.{INDEX_PARCEL, INDEX_OWNER, INDEX_INTERESTED, CREATE_UPGRADE}
 use Rattle.permit_sql_statements.proofs.Permuted.{put_more}
-use Rattle.permit_sql_statements.proofs.Writes.{founds_desk, adds_party}
-use Rattle.permit_sql_statements.proofs.Keeping.{Apart, keeps_parties, keyed_party}
+use Rattle.permit_sql_statements.proofs.Writes.{founds_desk, adds_party, adds_upgrade, sets_version}
+use Rattle.permit_sql_statements.proofs.Keeping.{Apart, keeps_desk, keeps_upgrade, keeps_parties, keyed_party}
 use Rattle.permit_sql_statements.proofs.WriteLemmas.{went, same_value}
 
 -- the text makes this table under this schema
@@ -167,9 +170,9 @@ indexed_more s text at table index made m old new count was h =
     } in
     subst (λ x. IsBlank x new.now) m.whole blank
 
--- the six tables with the first indexes of those that make the selections quick
+-- the tables of version 1 with the first indexes of those that make the selections quick
 abbrev with_first : ℕ → Schema
-with_first n = record { tables = all_tables; indexes = key_indexes ++ take n search_indexes; views = [] }
+with_first n = record { tables = first_tables; indexes = key_indexes ++ take n search_indexes; views = [] }
 
 indexes_cell : Indexes table_schema INDEX_CELL.now 4 file_table (record cell_index { tree = 0 }) (with_first 1)
 unfolding understood everything
@@ -199,17 +202,29 @@ indexes_owner : Indexes (with_first 6) INDEX_OWNER.now 2 parcel_table (record ow
 unfolding understood everything
 indexes_owner = record { there = refl; command = refl; statement = refl; plain = (refl, refl); defines = refl; whole = refl }
 
-indexes_interested : Indexes (with_first 7) INDEX_INTERESTED.now 3 interest_table (record interested_index { tree = 0 }) office_schema
+indexes_interested : Indexes (with_first 7) INDEX_INTERESTED.now 3 interest_table (record interested_index { tree = 0 }) first_schema
 unfolding understood everything
 indexes_interested = record { there = refl; command = refl; statement = refl; plain = (refl, refl); defines = refl; whole = refl }
+
+-- ---- the table of the upgrade
+
+makes_upgrade : Makes first_schema CREATE_UPGRADE.now (record upgrade_table { tree = 0 })
+unfolding understood everything
+makes_upgrade = record { command = refl; statement = refl; plain = (refl, refl); defines = refl; whole = refl }
+
+all_is : created first_schema (record upgrade_table { tree = 0 }) ≡ office_schema
+unfolding understood everything
+all_is = refl
 
 -- ---- the founding
 
 abbrev pub no_rows : Desk → Tables
-no_rows d = record { desk = d; parties = []; parcels = []; interests = []; files = []; papers = [] }
+no_rows d = record { desk = d; upgrade = Some 0; parties = []; parcels = []; interests = []; files = []; papers = [] }
 
-none_keyed : (d : Desk) → AreKeyed (no_rows d)
-none_keyed d = record {
+none_keyed : (d : Desk) → d.edition ≡ Second → AreKeyed (no_rows d)
+none_keyed d now = record {
+  upgraded = omega arith;
+  edition = now;
   parties = λ id. omega arith;
   digests = λ d. omega arith;
   parcels = λ id. omega arith;
@@ -220,9 +235,12 @@ none_keyed d = record {
   counted = λ f. tt;
 }
 
+abbrev founding_desk : ℕ → Desk
+founding_desk last = record { edition = Second; last = last; parties = 1; parcels = 0; files = 0 }
+
 desk_founded : (old new : State) (last count : ℕ) → IsBlank office_schema old.now →
     Executes Rattle.permit_sql_statements.specs.declared.texts.TheConstants.FOUND_DESK.now (int last ∷ []) old new (Ok count)
-    → (new.now.schema ≡ office_schema) × AreInTrees (no_rows (record { last = last; parties = 1; parcels = 0; files = 0 })) new.now.trees
+    → (new.now.schema ≡ office_schema) × AreInTrees (record (no_rows (founding_desk last)) { upgrade = None }) new.now.trees × (new.now.trees 18 ≡ [])
 desk_founded old new last count was h =
     let it = founds_desk old new count was.schema last h in
     let o = it.leaves.others in
@@ -234,7 +252,8 @@ desk_founded old new last count was h =
     let e8 : new.now.trees 8 ≡ [] = o.1.1.1.1.1.0 (λ e. absurd (omega (arith, e))) ∙ b.1.1.1.1.1.0 in (
       it.leaves.schema,
       record {
-        desk = it.row ∙ ap (put_row (desk_row (record { last = last; parties = 1; parcels = 0; files = 0 }))) b.0;
+        upgrade = tt;
+        desk = it.row ∙ ap (put_row (desk_row (founding_desk last))) b.0;
         parties = IsPermutation-same _ _ (sym e1);
         parcels = IsPermutation-same _ _ (sym e3);
         interests = IsPermutation-same _ _ (sym (ap (map (drop 1)) e5));
@@ -242,11 +261,12 @@ desk_founded old new last count was h =
         papers = IsPermutation-same _ _ (sym (ap (map (drop 1)) e8));
         apart = subst Apart (sym e8) (λ id. omega arith);
       },
+      o.1.1.1.1.1.1.0 (λ e. absurd (omega (arith, e))) ∙ b.1.1.1.1.1.1.0,
     )
 
 pub founding_made : {S : Type 0} (g : Ghosts S) (old : Held S) (db : Database) (last : ℕ) (p : Party) → (state g old).now.schema ≡ empty_schema
-    → RanAll g (founding_statements (int last ∷ []) (shown_party p)) old db →
-    Keeps (record (no_rows (record { last = last; parties = 1; parcels = 0; files = 0 })) { parties = p ∷ [] }) db
+    → RanAll g (founding_statements (int last ∷ []) (int 0 ∷ []) (shown_party p)) old db →
+    Keeps (record (no_rows (founding_desk last)) { parties = p ∷ [] }) db
 founding_made g old db last p none ran =
     let s0 = state g (record old { in_transaction = true }) in
     let r1 = ran.ran in
@@ -265,6 +285,8 @@ founding_made g old db last p none ran =
     let r14 = r13.3 in
     let r15 = r14.3 in
     let r16 = r15.3 in
+    let r17 = r16.3 in
+    let r18 = r17.3 in
     let b0 : IsBlank empty_schema s0.now = record { schema = none; blank = tt } in
     let b1 = more empty_schema CREATE_DESK.now desk_table makes_desk s0 (state g r1.0) r1.1 b0 r1.2 in
     let b2 = more made_1 CREATE_PARTY.now _ makes_party (state g r1.0) (state g r2.0) r2.1 b1 r2.2 in
@@ -287,17 +309,93 @@ founding_made g old db last p none ran =
     (state g r12.0) r12.1 c5 r12.2 in
     let c7 = indexed_more (with_first 6) INDEX_OWNER.now 2 parcel_table (record owner_index { tree = 0 }) (with_first 7) indexes_owner (state g r12.0)
     (state g r13.0) r13.1 c6 r13.2 in
-    let c8 = indexed_more (with_first 7) INDEX_INTERESTED.now 3 interest_table (record interested_index { tree = 0 }) office_schema indexes_interested
+    let c8 = indexed_more (with_first 7) INDEX_INTERESTED.now 3 interest_table (record interested_index { tree = 0 }) first_schema indexes_interested
     (state g r13.0) (state g r14.0) r14.1 c7 r14.2 in
-    let desk = desk_founded (state g r14.0) (state g r15.0) last r15.1 c8 r15.2 in
-    let t0 = no_rows (record { last = last; parties = 1; parcels = 0; files = 0 }) in
-    let party = adds_party (state g r15.0) (state g r16.0) r16.1 desk.0 p r16.2 in
+    let c9 : IsBlank office_schema (state g r15.0).now = subst (λ s. IsBlank s (state g r15.0).now) all_is
+    (more first_schema CREATE_UPGRADE.now _ makes_upgrade (state g r14.0) (state g r15.0) r15.1 c8 r15.2) in
+    let desk = desk_founded (state g r15.0) (state g r16.0) last r16.1 c9 r16.2 in
+    let t0 = no_rows (founding_desk last) in
+    let upgrade = adds_upgrade (state g r16.0) (state g r17.0) r17.1 desk.0 0 r17.2 in
+    let upgraded = keeps_upgrade (state g r16.0).now (state g r17.0).now _ desk.1 0 upgrade.leaves
+    (upgrade.row ∙ ap (put_row (upgrade_row 0)) desk.2) in
+    let party = adds_party (state g r17.0) (state g r18.0) r18.1 upgrade.leaves.schema p r18.2 in
     let there = subst (IsPermutation (map party_row (p ∷ []))) (sym party.row)
-    (put_more (λ (q : Party). q.id) party_row (λ q. refl) p [] ((state g r15.0).now.trees 1) party.fresh desk.1.parties) in
-    let k = keeps_parties (state g r15.0).now (state g r16.0).now t0 desk.1 (p ∷ []) party.leaves there in
-    let same : db ≡ (state g r16.0).now = ran.is ∙ ap (λ (h : Held _). (state g h).now) r16.3 in
+    (put_more (λ (q : Party). q.id) party_row (λ q. refl) p [] ((state g r17.0).now.trees 1) party.fresh upgraded.parties) in
+    let k = keeps_parties (state g r17.0).now (state g r18.0).now t0 upgraded (p ∷ []) party.leaves there in
+    let same : db ≡ (state g r18.0).now = ran.is ∙ ap (λ (h : Held _). (state g h).now) r18.3 in
     record {
       schema = ap (λ (x : Database). x.schema) same ∙ party.leaves.schema;
-      keyed = keyed_party t0 (none_keyed _) p refl refl;
+      now = refl;
+      keyed = keyed_party t0 (none_keyed _ refl) p refl refl;
       rows = subst (λ (x : Database). AreInTrees (record t0 { parties = p ∷ [] }) x.trees) (sym same) k;
+    }
+
+-- ---- the upgrade
+
+-- an edit that makes a table leaves the rows of the tables there
+in_trees_still : (t : Tables) (old new : Trees) → t.upgrade ≡ None → KeepsRows first_tables old new → AreInTrees t old → AreInTrees t new
+in_trees_still t old new none kept k = record {
+  desk = kept.0 ∙ k.desk;
+  upgrade = subst (λ o. IfSome o (λ files. new 18 ≡ upgrade_row files ∷ [])) (sym none) tt;
+  parties = subst (IsPermutation (map party_row t.parties)) (sym kept.1.0) k.parties;
+  parcels = subst (IsPermutation (map parcel_row t.parcels)) (sym kept.1.1.0) k.parcels;
+  interests = subst (λ r. IsPermutation (map shown_interest t.interests) (map (drop 1) r)) (sym kept.1.1.1.0) k.interests;
+  files = subst (IsPermutation (map file_row t.files)) (sym kept.1.1.1.1.0) k.files;
+  papers = subst (λ r. IsPermutation (map shown_paper t.papers) (map (drop 1) r)) (sym kept.1.1.1.1.1.0) k.papers;
+  apart = subst Apart (sym kept.1.1.1.1.1.0) k.apart;
+}
+
+no_upgrade : (o : Option ℕ) → First ≡ edition_by o → o ≡ None
+no_upgrade None e = refl
+no_upgrade (Some n) e = absurd cc
+
+-- the files up to the count keep the first edition
+still_first : (count : ℕ) (fs : List FileRow) → AllByRecursion (λ (f : FileRow). f.id ≤ count) fs → AllByRecursion (λ (f : FileRow). IsNamed None f.id f.state) fs →
+    AllByRecursion (λ (f : FileRow). IsNamed (Some count) f.id f.state) fs
+still_first count [] low named = tt
+still_first count (f ∷ fs) low named = (
+  record {
+    contractor = named.0.contractor;
+    reviewer = named.0.reviewer;
+    inspector = named.0.inspector;
+    ask = named.0.ask;
+    edition = named.0.edition ∙ sym (first_upto count f.id low.0);
+  },
+  still_first count fs low.1 named.1,
+)
+
+-- the statements of an upgrade make of tables of version 1, whose numbers are at most the count of files, those after it
+pub upgrade_made : {S : Type 0} (g : Ghosts S) (old : Held S) (db : Database) (t : Tables) → KeepsUnder First t (state g old).now →
+    AllByRecursion (λ (f : FileRow). f.id ≤ t.desk.files) t.files → RanAll g (upgrade_statements (int t.desk.files ∷ [])) old db → Keeps (with_upgrade t) db
+upgrade_made g old db t k low ran =
+    let s0 = state g (record old { in_transaction = true }) in
+    let r1 = ran.ran in
+    let r2 = r1.3 in
+    let r3 = r2.3 in
+    let none : t.upgrade ≡ None = no_upgrade t.upgrade (sym k.now ∙ k.keyed.edition) in
+    let made = makes first_schema CREATE_UPGRADE.now _ makes_upgrade s0 (state g r1.0) r1.1 k.schema r1.2 in
+    let here : (state g r1.0).now.schema ≡ office_schema = made.schema ∙ all_is in
+    let rows = in_trees_still t s0.now.trees (state g r1.0).now.trees none made.others k.rows in
+    let upgrade = adds_upgrade (state g r1.0) (state g r2.0) r2.1 here t.desk.files r2.2 in
+    let upgraded = keeps_upgrade (state g r1.0).now (state g r2.0).now t rows t.desk.files upgrade.leaves
+    (upgrade.row ∙ ap (put_row (upgrade_row t.desk.files)) made.empty) in
+    let version = sets_version (state g r2.0) (state g r3.0) r3.1 upgrade.leaves.schema t.desk upgraded.desk r3.2 in
+    let now = keeps_desk (state g r2.0).now (state g r3.0).now _ upgraded (record t.desk { edition = Second }) version.0 version.1 in
+    let same : db ≡ (state g r3.0).now = ran.is ∙ ap (λ (h : Held _). (state g h).now) r3.3 in
+    record {
+      schema = ap (λ (x : Database). x.schema) same ∙ version.0.schema;
+      now = refl;
+      keyed = record {
+        upgraded = omega arith;
+        edition = refl;
+        parties = k.keyed.parties;
+        digests = k.keyed.digests;
+        parcels = k.keyed.parcels;
+        lots = k.keyed.lots;
+        files = k.keyed.files;
+        named = still_first t.desk.files t.files low (subst (λ o. AllByRecursion (λ (f : FileRow). IsNamed o f.id f.state) t.files) none k.keyed.named);
+        papers = k.keyed.papers;
+        counted = k.keyed.counted;
+      };
+      rows = subst (λ (x : Database). AreInTrees (with_upgrade t) x.trees) (sym same) now;
     }

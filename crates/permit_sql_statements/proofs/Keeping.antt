@@ -1,11 +1,12 @@
 -- What is kept of the tables as one table turns into another.
-use Rattle.std.proofs.Common.{◌≡◌, ℕ, suc, ℤ, ◌<◌, ◌≤◌, Bool, true, false, cond, eqb, List, [], ◌∷◌, ◌++◌, map, filter, find, drop, length, Some, option_map}
+use Rattle.std.proofs.Common.{◌≡◌, ℕ, suc, ℤ, ◌<◌, ◌≤◌, Bool, true, false, cond, eqb, List, [], ◌∷◌, ◌++◌, map, filter, find, drop, length, Option, Some, None, option_map}
 use Rattle.std.proofs.Common.{unwrap_or, true≢false, refl, sym, ap, subst, ◌∙◌, arith, IsPermutation}
-use Rattle.std.specs.Prelude.{◌≢◌, ◌&&◌, bytes_eq}
+use Rattle.std.specs.Prelude.{◌≢◌, ◌&&◌, bytes_eq, IfSome}
 use Rattle.std.specs.List.{AllByRecursion}
 use Rattle.std.proofs.lemmas.Bool.Decides.{nat_tests}
 use Rattle.std.proofs.lemmas.Slice.Eq.{bytes_eq-Decides}
 use Rattle.sqlite_keyed.proofs.ListLemmas.{filter-map, filter_same, all_kept, ascending-map, ascending_weaker}
+use Rattle.sqlite_value.specs.Order.{Row}
 use Rattle.sqlite.specs.Effect.{Database}
 use Rattle.sqlite_trees.specs.Tree.{IsAscending, has_rowid}
 use Rattle.permit_model.specs.Caller.{Party}
@@ -13,8 +14,8 @@ use Rattle.permit_model.specs.Parcels.{Parcel, Interest}
 use Rattle.permit_model.specs.Tables.{Desk, State, FileRow, Paper, Tables}
 use Rattle.permit_store.specs.Changes.{given_to, with_state, closed_by}
 use Rattle.sqlite_schema.specs.declared.schema.Table.{Table}
-use Rattle.permit_sql_rows.specs.Schema.{desk_table, party_table, parcel_table, interest_table, file_table, paper_table}
-use Rattle.permit_sql_rows.specs.Rows.{desk_row, party_row, parcel_row, file_row, shown_interest, shown_paper}
+use Rattle.permit_sql_rows.specs.Schema.{desk_table, upgrade_table, party_table, parcel_table, interest_table, file_table, paper_table}
+use Rattle.permit_sql_rows.specs.Rows.{desk_row, upgrade_row, party_row, parcel_row, file_row, shown_interest, shown_paper}
 use Rattle.permit_sql_rows.specs.Kept.{papers_counted, IsNamed, AreKeyed, AreInTrees}
 use Rattle.permit_sql_statements.proofs.Permuted.{once_more}
 use Rattle.permit_sql_statements.proofs.Effects.{Leaves}
@@ -30,6 +31,10 @@ apart a b other same = absurd (true≢false (sym (itself b) ∙ ap (λ n. eqb n 
     itself : (n : ℕ) → eqb n n ≡ true
     itself n = grind (arith, nat_tests)
 
+some_still : (o : Option ℕ) {a b : List Row} → b ≡ a → IfSome o (λ files. a ≡ upgrade_row files ∷ []) → IfSome o (λ files. b ≡ upgrade_row files ∷ [])
+some_still None same was = tt
+some_still (Some files) same was = same ∙ was
+
 module _ (old new : Database) (t : Tables) (k : AreInTrees t old.trees) where
   -- what an edit of one table leaves of each other's tree
   module _ (table : Table) (leaves : Leaves old new table) where
@@ -38,6 +43,9 @@ module _ (old new : Database) (t : Tables) (k : AreInTrees t old.trees) where
 
     desk_stays : Other 0 → new.trees 0 ≡ desk_row t.desk ∷ []
     desk_stays other = leaves.others.0 (apart 0 table.tree other) ∙ k.desk
+
+    upgrade_stays : Other 18 → IfSome t.upgrade (λ files. new.trees 18 ≡ upgrade_row files ∷ [])
+    upgrade_stays other = some_still t.upgrade (leaves.others.1.1.1.1.1.1.0 (apart 18 table.tree other)) k.upgrade
 
     parties_stay : Other 1 → IsPermutation (map party_row t.parties) (new.trees 1)
     parties_stay other = subst (IsPermutation (map party_row t.parties)) (sym (leaves.others.1.0 (apart 1 table.tree other))) k.parties
@@ -60,6 +68,7 @@ module _ (old new : Database) (t : Tables) (k : AreInTrees t old.trees) where
   pub keeps_desk : (d : Desk) → Leaves old new desk_table → new.trees 0 ≡ desk_row d ∷ [] → AreInTrees (record t { desk = d }) new.trees
   keeps_desk d leaves now = record {
     desk = now;
+    upgrade = upgrade_stays desk_table leaves refl;
     parties = parties_stay desk_table leaves refl;
     parcels = parcels_stay desk_table leaves refl;
     interests = interests_stay desk_table leaves refl;
@@ -68,10 +77,24 @@ module _ (old new : Database) (t : Tables) (k : AreInTrees t old.trees) where
     apart = (papers_stay desk_table leaves refl).1;
   }
 
+  pub keeps_upgrade : (files : ℕ) → Leaves old new upgrade_table → new.trees 18 ≡ upgrade_row files ∷ [] →
+      AreInTrees (record t { upgrade = Some files }) new.trees
+  keeps_upgrade files leaves now = record {
+    desk = desk_stays upgrade_table leaves refl;
+    upgrade = now;
+    parties = parties_stay upgrade_table leaves refl;
+    parcels = parcels_stay upgrade_table leaves refl;
+    interests = interests_stay upgrade_table leaves refl;
+    files = files_stay upgrade_table leaves refl;
+    papers = (papers_stay upgrade_table leaves refl).0;
+    apart = (papers_stay upgrade_table leaves refl).1;
+  }
+
   pub keeps_parties : (xs : List Party) → Leaves old new party_table → IsPermutation (map party_row xs) (new.trees 1) →
       AreInTrees (record t { parties = xs }) new.trees
   keeps_parties xs leaves now = record {
     desk = desk_stays party_table leaves refl;
+    upgrade = upgrade_stays party_table leaves refl;
     parties = now;
     parcels = parcels_stay party_table leaves refl;
     interests = interests_stay party_table leaves refl;
@@ -84,6 +107,7 @@ module _ (old new : Database) (t : Tables) (k : AreInTrees t old.trees) where
       AreInTrees (record t { parcels = xs }) new.trees
   keeps_parcels xs leaves now = record {
     desk = desk_stays parcel_table leaves refl;
+    upgrade = upgrade_stays parcel_table leaves refl;
     parties = parties_stay parcel_table leaves refl;
     parcels = now;
     interests = interests_stay parcel_table leaves refl;
@@ -96,6 +120,7 @@ module _ (old new : Database) (t : Tables) (k : AreInTrees t old.trees) where
       AreInTrees (record t { interests = xs }) new.trees
   keeps_interests xs leaves now = record {
     desk = desk_stays interest_table leaves refl;
+    upgrade = upgrade_stays interest_table leaves refl;
     parties = parties_stay interest_table leaves refl;
     parcels = parcels_stay interest_table leaves refl;
     interests = now;
@@ -108,6 +133,7 @@ module _ (old new : Database) (t : Tables) (k : AreInTrees t old.trees) where
       AreInTrees (record t { files = xs }) new.trees
   keeps_files xs leaves now = record {
     desk = desk_stays file_table leaves refl;
+    upgrade = upgrade_stays file_table leaves refl;
     parties = parties_stay file_table leaves refl;
     parcels = parcels_stay file_table leaves refl;
     interests = interests_stay file_table leaves refl;
@@ -120,6 +146,7 @@ module _ (old new : Database) (t : Tables) (k : AreInTrees t old.trees) where
       AreInTrees (record t { papers = xs }) new.trees
   keeps_papers xs leaves now = record {
     desk = desk_stays paper_table leaves refl;
+    upgrade = upgrade_stays paper_table leaves refl;
     parties = parties_stay paper_table leaves refl;
     parcels = parcels_stay paper_table leaves refl;
     interests = interests_stay paper_table leaves refl;
@@ -145,9 +172,15 @@ as_many p f same xs short = subst (λ n. n ≤ 1) (sym (ap length (filter-map p 
     long g [] = refl
     long g (y ∷ ys) = ap suc (long g ys)
 
+few_still : (o : Option ℕ) {a b : ℕ} → a ≤ b → IfSome o (λ files. files ≤ a) → IfSome o (λ files. files ≤ b)
+few_still None more few = tt
+few_still (Some files) more few = omega (arith, more, few)
+
 module _ (t : Tables) (k : AreKeyed t) where
-  pub keyed_desk : (d : Desk) → AreKeyed (record t { desk = d })
-  keyed_desk d = record {
+  pub keyed_desk : (d : Desk) → t.desk.files ≤ d.files → d.edition ≡ t.desk.edition → AreKeyed (record t { desk = d })
+  keyed_desk d more now = record {
+    upgraded = few_still t.upgrade more k.upgraded;
+    edition = now ∙ k.edition;
     parties = k.parties;
     digests = k.digests;
     parcels = k.parcels;
@@ -160,6 +193,8 @@ module _ (t : Tables) (k : AreKeyed t) where
 
   pub keyed_interests : (is : List Interest) → AreKeyed (record t { interests = is })
   keyed_interests is = record {
+    upgraded = k.upgraded;
+    edition = k.edition;
     parties = k.parties;
     digests = k.digests;
     parcels = k.parcels;
@@ -173,6 +208,8 @@ module _ (t : Tables) (k : AreKeyed t) where
   pub keyed_party : (p : Party) → filter (λ q. eqb q.id p.id) t.parties ≡ [] → filter (λ q. bytes_eq q.digest p.digest) t.parties ≡ [] →
       AreKeyed (record t { parties = t.parties ++ p ∷ [] })
   keyed_party p free new = record {
+    upgraded = k.upgraded;
+    edition = k.edition;
     parties = λ id. once_more (λ q. eqb q.id id) t.parties p (k.parties id)
         (λ e. subst (λ n. filter (λ q. eqb q.id n) t.parties ≡ []) (same_number p.id id e) free);
     digests = λ d. once_more (λ q. bytes_eq q.digest d) t.parties p (k.digests d)
@@ -188,6 +225,8 @@ module _ (t : Tables) (k : AreKeyed t) where
   pub keyed_parcel : (p : Parcel) → filter (λ q. eqb q.id p.id) t.parcels ≡ [] → filter (λ q. bytes_eq q.lot p.lot) t.parcels ≡ [] →
       AreKeyed (record t { parcels = t.parcels ++ p ∷ [] })
   keyed_parcel p free new = record {
+    upgraded = k.upgraded;
+    edition = k.edition;
     parcels = λ id. once_more (λ q. eqb q.id id) t.parcels p (k.parcels id)
         (λ e. subst (λ n. filter (λ q. eqb q.id n) t.parcels ≡ []) (same_number p.id id e) free);
     lots = λ d. once_more (λ q. bytes_eq q.lot d) t.parcels p (k.lots d)
@@ -202,6 +241,8 @@ module _ (t : Tables) (k : AreKeyed t) where
 
   pub keyed_owner : (id owner : ℕ) → AreKeyed (record t { parcels = map (given_to id owner) t.parcels })
   keyed_owner id owner = record {
+    upgraded = k.upgraded;
+    edition = k.edition;
     parcels = λ n. as_many (λ q. eqb q.id n) (given_to id owner) (λ q. ap (λ m. eqb m n) (still q)) t.parcels (k.parcels n);
     lots = λ d. as_many (λ q. bytes_eq q.lot d) (given_to id owner) (λ q. ap (λ l. bytes_eq l d) (lot_still q)) t.parcels (k.lots d);
     parties = k.parties;
@@ -286,37 +327,41 @@ all_last : {X : Type 0} (P : X → Type 0) (xs : List X) (x : X) → AllByRecurs
 all_last P [] x all is = (is, tt)
 all_last P (y ∷ xs) x all is = (all.0, all_last P xs x all.1 is)
 
-named_set : (id : ℕ) (s : State) (fs : List FileRow) → IsNamed s → AllByRecursion (λ (f : FileRow). IsNamed f.state) fs →
-    AllByRecursion (λ (f : FileRow). IsNamed f.state) (map (with_state id s) fs)
-named_set id s [] is all = tt
-named_set id s (x ∷ fs) is all = (go (eqb x.id id), named_set id s fs is all.1)
+named_set : (upgrade : Option ℕ) (id : ℕ) (s : State) (fs : List FileRow) → IsNamed upgrade id s →
+    AllByRecursion (λ (f : FileRow). IsNamed upgrade f.id f.state) fs → AllByRecursion (λ (f : FileRow). IsNamed upgrade f.id f.state) (map (with_state id s) fs)
+named_set upgrade id s [] is all = tt
+named_set upgrade id s (x ∷ fs) is all = (go (eqb x.id id) refl, named_set upgrade id s fs is all.1)
   where
-    go : (b : Bool) → IsNamed (cond b (record x { state = s }) x).state
-    go true = is
-    go false = all.0
+    go : (b : Bool) → eqb x.id id ≡ b → IsNamed upgrade (cond b (record x { state = s }) x).id (cond b (record x { state = s }) x).state
+    go true e = subst (λ n. IsNamed upgrade n s) (sym (same_number x.id id e)) is
+    go false e = all.0
 
 module _ (t : Tables) (k : AreKeyed t) where
-  pub keyed_file : (f : FileRow) → filter (λ q. eqb q.id f.id) t.files ≡ [] → IsNamed f.state → AreKeyed (record t { files = t.files ++ f ∷ [] })
+  pub keyed_file : (f : FileRow) → filter (λ q. eqb q.id f.id) t.files ≡ [] → IsNamed t.upgrade f.id f.state → AreKeyed (record t { files = t.files ++ f ∷ [] })
   keyed_file f free is = record {
+    upgraded = k.upgraded;
+    edition = k.edition;
     parties = k.parties;
     digests = k.digests;
     parcels = k.parcels;
     lots = k.lots;
     files = λ id. once_more (λ q. eqb q.id id) t.files f (k.files id) (λ e. subst (λ n. filter (λ q. eqb q.id n) t.files ≡ []) (same_number f.id id e) free);
-    named = all_last (λ (x : FileRow). IsNamed x.state) t.files f k.named is;
+    named = all_last (λ (x : FileRow). IsNamed t.upgrade x.id x.state) t.files f k.named is;
     papers = k.papers;
     counted = λ file. raised (papers_counted file t.files) (papers_counted file (t.files ++ f ∷ [])) _ (counted_more file f t.files) (k.counted file);
   }
 
-  pub keyed_row : (id : ℕ) (s : State) (f : FileRow) → filter (λ q. eqb q.id id) t.files ≡ f ∷ [] → f.state.papers ≤ s.papers → IsNamed s →
+  pub keyed_row : (id : ℕ) (s : State) (f : FileRow) → filter (λ q. eqb q.id id) t.files ≡ f ∷ [] → f.state.papers ≤ s.papers → IsNamed t.upgrade id s →
       AreKeyed (record t { files = map (with_state id s) t.files })
   keyed_row id s f one low is = record {
+    upgraded = k.upgraded;
+    edition = k.edition;
     parties = k.parties;
     digests = k.digests;
     parcels = k.parcels;
     lots = k.lots;
     files = λ n. as_many (λ q. eqb q.id n) (with_state id s) (λ q. ap (λ m. eqb m n) (still_id id s q)) t.files (k.files n);
-    named = named_set id s t.files is k.named;
+    named = named_set t.upgrade id s t.files is k.named;
     papers = k.papers;
     counted = λ file. raised (papers_counted file t.files) (papers_counted file (map (with_state id s) t.files)) _
         (counted_set file id s t.files (all_kept (λ (x : FileRow). x.state.papers ≤ s.papers) (λ q. eqb q.id id) t.files
@@ -352,6 +397,8 @@ module _ (t : Tables) (k : AreKeyed t) where
   pub keyed_paper : (p : Paper) → AllByRecursion (λ (x : Paper). x.number < p.number) (filter (λ (x : Paper). eqb x.file p.file) t.papers) →
       p.number ≤ papers_counted p.file t.files → AreKeyed (record t { papers = t.papers ++ p ∷ [] })
   keyed_paper p above low = record {
+    upgraded = k.upgraded;
+    edition = k.edition;
     parties = k.parties;
     digests = k.digests;
     parcels = k.parcels;
@@ -396,6 +443,8 @@ module _ (t : Tables) (k : AreKeyed t) where
 
   pub keyed_closed : (file number : ℕ) → AreKeyed (record t { papers = map (closed_by file number) t.papers })
   keyed_closed file number = record {
+    upgraded = k.upgraded;
+    edition = k.edition;
     parties = k.parties;
     digests = k.digests;
     parcels = k.parcels;

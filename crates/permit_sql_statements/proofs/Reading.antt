@@ -1,5 +1,5 @@
 -- The rows of an answer as they were read and handed out.
-use Rattle.std.proofs.Common.{◌≡◌, ℕ, ◌+◌, ◌%◌, ◌^◌, ◌<◌, Bool, true, List, [], ◌∷◌, ◌++◌, length, Ok, refl, sym, ap, subst, ◌∙◌, arith}
+use Rattle.std.proofs.Common.{◌≡◌, Option, ℕ, ◌+◌, ◌%◌, ◌^◌, ◌<◌, Bool, true, List, [], ◌∷◌, ◌++◌, length, Ok, refl, sym, ap, subst, ◌∙◌, arith}
 use Rattle.std.proofs.Math.Nat.{add-mod, mod-eq_of_lt}
 use Rattle.std.proofs.lemmas.List.{length_push}
 use Rattle.sqlite_value.specs.Order.{Row}
@@ -15,12 +15,12 @@ use Rattle.permit_sql_rows.specs.Kept.{IsNamed}
 use Rattle.permit_sql_rows.specs.Rows.{shown_found}
 use Rattle.permit_sql_statements.specs.Gave.{AreReadAs}
 
-pub read_more : (rows : List Row) (given : List Found) (row : Row) (found : Found) → AreReadAs rows given →
-    ((is : Found) → IsNamed is.row.state → row ≡ shown_found is → found ≡ is) → AreReadAs (rows ++ row ∷ []) (given ++ found ∷ [])
-read_more [] [] row found are is = (is, tt)
-read_more [] (g ∷ given) row found are is = absurd are
-read_more (r ∷ rows) [] row found are is = absurd are
-read_more (r ∷ rows) (g ∷ given) row found are is = (are.0, read_more rows given row found are.1 is)
+pub read_more : (upgrade : Option ℕ) (rows : List Row) (given : List Found) (row : Row) (found : Found) → AreReadAs upgrade rows given →
+    ((is : Found) → IsNamed upgrade is.row.id is.row.state → row ≡ shown_found is → found ≡ is) → AreReadAs upgrade (rows ++ row ∷ []) (given ++ found ∷ [])
+read_more upgrade [] [] row found are is = (is, tt)
+read_more upgrade [] (g ∷ given) row found are is = absurd are
+read_more upgrade (r ∷ rows) [] row found are is = absurd are
+read_more upgrade (r ∷ rows) (g ∷ given) row found are is = (are.0, read_more upgrade rows given row found are.1 is)
 
 -- ---- an answer to the state in which it was asked for
 

@@ -1,5 +1,5 @@
 -- What the calls of a selection answer.
-use Rattle.std.proofs.Common.{◌≡◌, get_or, take, ℕ, zero, suc, ◌+◌, ◌<◌, false, eqb, List, [], ◌∷◌, ◌++◌, map, length, refl, ap, ap₂, subst, ◌∙◌, arith}
+use Rattle.std.proofs.Common.{◌≡◌, Option, get_or, take, ℕ, zero, suc, ◌+◌, ◌<◌, false, eqb, List, [], ◌∷◌, ◌++◌, map, length, refl, ap, ap₂, subst, ◌∙◌, arith}
 use Rattle.std.specs.List.{list_any}
 use Rattle.sqlite.specs.declared.types.Value.TheVariants.{Null}
 use Rattle.sqlite_value.specs.Order.{Row}
@@ -77,12 +77,12 @@ every_without_shown t caller there none day old new k rows h =
 
 -- ---- the rows that were read so far
 
-pub one_more : (given : List Found) (rows : List Row) (at : ℕ) (row : Row) (found : Found) → AreNamed given → rows ≡ map shown_found given → at < length rows →
+pub one_more : (upgrade : Option ℕ) (given : List Found) (rows : List Row) (at : ℕ) (row : Row) (found : Found) → AreNamed upgrade given → rows ≡ map shown_found given → at < length rows →
     row ≡ get_or rows at row
-    → ((is : Found) → IsNamed is.row.state → row ≡ shown_found is → found ≡ is) → take at given ++ found ∷ [] ≡ take (at + 1) given
-one_more given rows at row found named are low here is = go at given named (subst (λ l. at < length l) are low) (subst (λ l. row ≡ get_or l at row) are here)
+    → ((is : Found) → IsNamed upgrade is.row.id is.row.state → row ≡ shown_found is → found ≡ is) → take at given ++ found ∷ [] ≡ take (at + 1) given
+one_more upgrade given rows at row found named are low here is = go at given named (subst (λ l. at < length l) are low) (subst (λ l. row ≡ get_or l at row) are here)
   where
-    go : (n : ℕ) (gs : List Found) → AreNamed gs → n < length (map shown_found gs) → row ≡ get_or (map shown_found gs) n row →
+    go : (n : ℕ) (gs : List Found) → AreNamed upgrade gs → n < length (map shown_found gs) → row ≡ get_or (map shown_found gs) n row →
         take n gs ++ found ∷ [] ≡ take (n + 1) gs
     go n [] named low e = absurd (omega (arith, low))
     go zero (g ∷ gs) named low e = ap (λ x. x ∷ []) (is g named.0 e)

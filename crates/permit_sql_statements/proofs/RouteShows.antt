@@ -493,7 +493,7 @@ module _ (caller : ℕ) (there : 0 < caller) (t : Tables) (db : Trees) (keyed : 
   -- ---- by one relation alone
 
   abbrev ShowTested : (FileRow → Bool) → List Row → Type 0
-  ShowTested test rows = ShowWhere rows (λ given. IsPermutation given (map (found_row t caller) (filter test t.files)))
+  ShowTested test rows = ShowWhere t.upgrade rows (λ given. IsPermutation given (map (found_row t caller) (filter test t.files)))
 
   as_tested : (test : FileRow → Bool) (rows : List Row) → IsPut [] (map (unkeyed t caller) (filter test t.files)) rows → ShowTested test rows
   as_tested test rows it = shows_among t caller (unkeyed t caller) (plain_unkeyed t caller) test keyed.named it.ordered rows it.same it.shown
@@ -606,12 +606,12 @@ module _ (caller : ℕ) (there : 0 < caller) (t : Tables) (db : Trees) (keyed : 
 
     pub alone_without : (r : Relation) (text : List ℕ) → text_without r ≡ Some text → (rows : List Row) →
         IsAnswer (query_without r) db (params (int 0 ∷ [])) rows
-        → ShowWhere rows (λ given. IsPermutation given (filter (λ found. has (relations_found caller found) r) (map (found_row t caller) t.files)))
-    alone_without r text is rows a = subst (λ l. ShowWhere rows (λ given. IsPermutation given l))
+        → ShowWhere t.upgrade rows (λ given. IsPermutation given (filter (λ found. has (relations_found caller found) r) (map (found_row t caller) t.files)))
+    alone_without r text is rows a = subst (λ l. ShowWhere t.upgrade rows (λ given. IsPermutation given l))
         (sym (filter-map (λ found. has (relations_found caller found) r) (found_row t caller) t.files)) (tested_without r text is rows a)
 
   -- the answer to the text of a relation shows the rows to which the caller has it, in some order
   pub alone_shown : (r : Relation) (rows : List Row) → IsAnswer (query_alone r) db (params []) rows
-      → ShowWhere rows (λ given. IsPermutation given (filter (λ found. has (relations_found caller found) r) (map (found_row t caller) t.files)))
-  alone_shown r rows a = subst (λ l. ShowWhere rows (λ given. IsPermutation given l))
+      → ShowWhere t.upgrade rows (λ given. IsPermutation given (filter (λ found. has (relations_found caller found) r) (map (found_row t caller) t.files)))
+  alone_shown r rows a = subst (λ l. ShowWhere t.upgrade rows (λ given. IsPermutation given l))
       (sym (filter-map (λ found. has (relations_found caller found) r) (found_row t caller) t.files)) (tested_shown r rows a)

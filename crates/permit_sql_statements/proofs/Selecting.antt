@@ -252,21 +252,21 @@ module _ (t : Tables) (caller : ℕ) where
 
   -- rows in some order that show the files that pass a test
   module _ (puts : FileRow → Output) (plainly : (fs : List FileRow) → map (λ (o : Output). o.1) (map puts fs) ≡ map shown_found (map (found_row t caller) fs))
-      (test : FileRow → Bool) (named : AllByRecursion (λ f. IsNamed f.state) t.files) where
-    kept : AllByRecursion (λ f. IsNamed f.state) (filter test t.files)
-    kept = all-filter (λ f. IsNamed f.state) test t.files named
+      (test : FileRow → Bool) (named : AllByRecursion (λ f. IsNamed t.upgrade f.id f.state) t.files) where
+    kept : AllByRecursion (λ f. IsNamed t.upgrade f.id f.state) (filter test t.files)
+    kept = all-filter (λ f. IsNamed t.upgrade f.id f.state) test t.files named
 
     pub shows_among : (ordered : List Output) (rows : List Row) → IsPermutation (map puts (filter test t.files)) ordered →
         rows ≡ map (λ (o : Output). o.1) ordered
-        → ShowWhere rows (λ given. IsPermutation given (map (found_row t caller) (filter test t.files)))
+        → ShowWhere t.upgrade rows (λ given. IsPermutation given (map (found_row t caller) (filter test t.files)))
     shows_among ordered rows same shown =
         let it = unmapped puts (filter test t.files) ordered same in record {
           given = map (found_row t caller) it.0;
           are = IsPermutation-map (found_row t caller) _ _ (IsPermutation-sym _ _ it.1);
           shown = shown ∙ ap (map (λ (o : Output). o.1)) it.2 ∙ plainly it.0;
-          named = all_map (λ g. IsNamed g.row.state) (found_row t caller) it.0
-              (recursion_from_All (λ f. IsNamed f.state) it.0 (All-permutation (λ f. IsNamed f.state) (filter test t.files) it.0 it.1
-              (All-from_recursion (λ f. IsNamed f.state) (filter test t.files) kept)));
+          named = all_map (λ g. IsNamed t.upgrade g.row.id g.row.state) (found_row t caller) it.0
+              (recursion_from_All (λ f. IsNamed t.upgrade f.id f.state) it.0 (All-permutation (λ f. IsNamed t.upgrade f.id f.state) (filter test t.files) it.0 it.1
+              (All-from_recursion (λ f. IsNamed t.upgrade f.id f.state) (filter test t.files) kept)));
         }
 
   -- a row by no key
@@ -277,7 +277,7 @@ module _ (t : Tables) (caller : ℕ) where
   plain_unkeyed fs = map-map (λ (o : Output). o.1) unkeyed fs ∙ sym (map-map shown_found (found_row t caller) fs)
 
   -- rows in the order of their numbers that show the files that pass a test
-  pub shows_found : (test : FileRow → Bool) → AllByRecursion (λ f. IsNamed f.state) t.files → (ordered : List Output) (rows : List Row) →
+  pub shows_found : (test : FileRow → Bool) → AllByRecursion (λ f. IsNamed t.upgrade f.id f.state) t.files → (ordered : List Output) (rows : List Row) →
       IsPermutation (map out (filter test t.files)) ordered → IsSorted (output_cmp every_query) ordered
       → rows ≡ map (λ (o : Output). o.1) ordered → ShowFound t rows (map (found_row t caller) (filter test t.files))
   shows_found test named ordered rows same sorted shown = elim (rises_or_not t.files) [
@@ -293,7 +293,7 @@ module _ (t : Tables) (caller : ℕ) where
             are = record { same = IsPermutation-refl _; order = λ _. refl };
             shown = shown ∙ ap (map (λ (o : Output). o.1)) (sorted_unique (output_cmp every_query) (output_cmp_total every_query)
                 (map out (filter test t.files)) ordered strict same sorted) ∙ plain (filter test t.files);
-            named = all_map (λ g. IsNamed g.row.state) (found_row t caller) (filter test t.files) (kept out plain test named);
+            named = all_map (λ g. IsNamed t.upgrade g.row.id g.row.state) (found_row t caller) (filter test t.files) (kept out plain test named);
           }
 
       in_some_order : ¬ AreRising t.files → ShowFound t rows (map (found_row t caller) (filter test t.files))

@@ -10,7 +10,7 @@ use Rattle.sqlite_schema.specs.declared.command.Source.TheVariants.{Values}
 use Rattle.sqlite.proofs.Callers.{command_of, IsPlain}
 use Rattle.permit_sql_rows.specs.Schema.{office_schema}
 use Rattle.permit_sql_statements.specs.declared.texts.TheConstants.{ADD_PARTY, ADD_PARCEL, ADD_INTEREST, ADD_FILE, ADD_PAPER, FOUND_DESK, WRITE_DESK, SET_OWNER}
-use Rattle.permit_sql_statements.specs.declared.texts.TheConstants.{WRITE_FILE, CLOSE_NOTICE}
+use Rattle.permit_sql_statements.specs.declared.texts.TheConstants.{WRITE_FILE, CLOSE_NOTICE, ADD_UPGRADE, SET_VERSION}
 use Rattle.permit_sql_statements.proofs.Lookups.{plain_query, equals}
 use Rattle.permit_sql_statements.proofs.QueryTexts.{alone}
 
@@ -71,7 +71,7 @@ unfolding understood everything
 add_paper_plain = (refl, refl)
 
 abbrev pub found_desk_terms : List Term
-found_desk_terms = lit (Int (pos 1)) ∷ lit Null ∷ lit (Int (pos 1)) ∷ col 0 0 ∷ lit (Int (pos 1)) ∷ lit (Int (pos 0)) ∷ lit (Int (pos 0)) ∷ []
+found_desk_terms = lit (Int (pos 1)) ∷ lit Null ∷ lit (Int (pos 2)) ∷ col 0 0 ∷ lit (Int (pos 1)) ∷ lit (Int (pos 0)) ∷ lit (Int (pos 0)) ∷ []
 
 pub found_desk_is : command_of (understood office_schema FOUND_DESK.now) ≡ Insert 0 (Values found_desk_terms 7)
 unfolding understood everything
@@ -80,6 +80,29 @@ found_desk_is = refl
 pub found_desk_plain : IsPlain (understood office_schema FOUND_DESK.now)
 unfolding understood everything
 found_desk_plain = (refl, refl)
+
+abbrev pub add_upgrade_terms : List Term
+add_upgrade_terms = lit (Int (pos 1)) ∷ lit Null ∷ col 0 0 ∷ []
+
+pub add_upgrade_is : command_of (understood office_schema ADD_UPGRADE.now) ≡ Insert 6 (Values add_upgrade_terms 3)
+unfolding understood everything
+add_upgrade_is = refl
+
+pub add_upgrade_plain : IsPlain (understood office_schema ADD_UPGRADE.now)
+unfolding understood everything
+add_upgrade_plain = (refl, refl)
+
+abbrev pub set_version_query : Query
+set_version_query = plain_query (inner 0 end) (equals (col 1 0) (lit (Int (pos 1))) ∷ [])
+    (col 1 0 ∷ col 1 0 ∷ lit Null ∷ lit (Int (pos 2)) ∷ col 1 3 ∷ col 1 4 ∷ col 1 5 ∷ col 1 6 ∷ []) []
+
+pub set_version_is : command_of (understood office_schema SET_VERSION.now) ≡ Update 0 (alone set_version_query)
+unfolding understood everything
+set_version_is = refl
+
+pub set_version_plain : IsPlain (understood office_schema SET_VERSION.now)
+unfolding understood everything
+set_version_plain = (refl, refl)
 
 abbrev pub write_desk_query : Query
 write_desk_query = plain_query (inner 0 end) (equals (col 1 0) (lit (Int (pos 1))) ∷ [])

@@ -1,4 +1,4 @@
--- What each of the nine texts that write makes of the trees.
+-- What each text that writes makes of the trees.
 use Rattle.std.proofs.Common.{◌≡◌, ℕ, pos, true, eqb, [], ◌∷◌, map, filter, Ok, refl, sym, ap, ap₂, ◌∙◌, arith}
 use Rattle.sqlite.specs.declared.types.Value.TheVariants.{Null, Int}
 use Rattle.sqlite_value.specs.Order.{Row}
@@ -9,29 +9,34 @@ use Rattle.sqlite_rules.specs.Cast.{cast_row}
 use Rattle.sqlite_rules.specs.Edit.{with_rowid, next_rowid}
 use Rattle.sqlite_keyed.proofs.ListLemmas.{IsPermutation-same}
 use Rattle.sqlite.specs.State.{State, Executes}
+use Rattle.permit_base.specs.declared.words.Edition.TheVariants.{Second}
 use Rattle.permit_model.specs.Codes.{kind_code, stage_code}
 use Rattle.permit_model.specs.Caller.{Party}
 use Rattle.permit_model.specs.Parcels.{Parcel, Interest}
 use Rattle.permit_model.specs.Tables.{Desk, State as FileState, FileRow, Paper, Tables}
-use Rattle.permit_sql_rows.specs.Schema.{office_schema, desk_table, party_table, parcel_table, interest_table, file_table, paper_table}
-use Rattle.permit_sql_rows.specs.Rows.{int, or_zero, or_minus_one, step_value, flag, desk_row, party_row, parcel_row, file_row, shown_party, shown_parcel}
+use Rattle.permit_sql_rows.specs.Schema.{office_schema, desk_table, upgrade_table, party_table, parcel_table, interest_table, file_table, paper_table}
+use Rattle.permit_sql_rows.specs.Rows.{int, or_zero, or_minus_one, step_value, flag, desk_row, upgrade_row, party_row, parcel_row, file_row, shown_party, shown_parcel}
 use Rattle.permit_sql_rows.specs.Rows.{shown_file, shown_interest, shown_paper}
 use Rattle.permit_sql_rows.specs.Kept.{Keeps}
 use Rattle.permit_sql_statements.specs.declared.texts.TheConstants.{WRITE_DESK, ADD_PARTY, ADD_PARCEL, ADD_INTEREST, ADD_FILE, ADD_PAPER, SET_OWNER, WRITE_FILE}
-use Rattle.permit_sql_statements.specs.declared.texts.TheConstants.{FOUND_DESK}
+use Rattle.permit_sql_statements.specs.declared.texts.TheConstants.{FOUND_DESK, ADD_UPGRADE, SET_VERSION}
 use Rattle.permit_sql_statements.proofs.Permuted.{alone, has_is}
 use Rattle.permit_sql_statements.proofs.Lookups.{one_test, eq_is, finds_one}
 use Rattle.permit_sql_statements.proofs.WriteTexts.{write_desk_query, write_desk_is, write_desk_plain, add_party_terms, add_party_is, add_party_plain}
 use Rattle.permit_sql_statements.proofs.WriteTexts.{add_parcel_terms, add_parcel_is, add_parcel_plain, add_interest_terms, add_interest_is, add_interest_plain}
 use Rattle.permit_sql_statements.proofs.WriteTexts.{add_file_terms, add_file_is, add_file_plain, add_paper_terms, add_paper_is, add_paper_plain}
 use Rattle.permit_sql_statements.proofs.WriteTexts.{set_owner_query, set_owner_is, set_owner_plain, write_file_query, write_file_is, write_file_plain}
-use Rattle.permit_sql_statements.proofs.WriteTexts.{found_desk_terms, found_desk_is, found_desk_plain}
+use Rattle.permit_sql_statements.proofs.WriteTexts.{found_desk_terms, found_desk_is, found_desk_plain, add_upgrade_terms, add_upgrade_is, add_upgrade_plain}
+use Rattle.permit_sql_statements.proofs.WriteTexts.{set_version_query, set_version_is, set_version_plain}
 use Rattle.permit_sql_statements.proofs.Effects.{cast_int, cast_null, cast_or_zero, cast_or_minus_one, cast_step, cast_flag, Leaves, Adds, adds, sets}
 
 -- ---- the rows are stored as they are
 
 cast_desk : (d : Desk) → cast_row desk_table (desk_row d) ≡ desk_row d
 cast_desk d = simp (cast_int, cast_null)
+
+cast_upgrade : (files : ℕ) → cast_row upgrade_table (upgrade_row files) ≡ upgrade_row files
+cast_upgrade files = simp (cast_int, cast_null)
 
 cast_party : (p : Party) → cast_row party_table (party_row p) ≡ party_row p
 cast_party p = simp (cast_int, cast_null)
@@ -52,10 +57,15 @@ cast_paper p = simp (cast_int, cast_null, cast_flag)
 
 module _ (old new : State) (count : ℕ) (schema : old.now.schema ≡ office_schema) where
   pub founds_desk : (last : ℕ) → Executes FOUND_DESK.now (int last ∷ []) old new (Ok count) →
-      Adds old.now new.now desk_table (desk_row (record { last = last; parties = 1; parcels = 0; files = 0 }))
+      Adds old.now new.now desk_table (desk_row (record { edition = Second; last = last; parties = 1; parcels = 0; files = 0 }))
   founds_desk last h =
       adds FOUND_DESK.now 0 desk_table refl found_desk_terms 7 found_desk_is found_desk_plain (int last ∷ []) old new count schema _ (λ tally d. d)
-      (ap (λ r. with_rowid Chosen (old.now.trees 0) r ∷ []) (cast_desk (record { last = last; parties = 1; parcels = 0; files = 0 }))) h
+      (ap (λ r. with_rowid Chosen (old.now.trees 0) r ∷ []) (cast_desk (record { edition = Second; last = last; parties = 1; parcels = 0; files = 0 }))) h
+
+  pub adds_upgrade : (files : ℕ) → Executes ADD_UPGRADE.now (int files ∷ []) old new (Ok count) → Adds old.now new.now upgrade_table (upgrade_row files)
+  adds_upgrade files h =
+      adds ADD_UPGRADE.now 6 upgrade_table refl add_upgrade_terms 3 add_upgrade_is add_upgrade_plain (int files ∷ []) old new count schema _ (λ tally d. d)
+      (ap (λ r. with_rowid Chosen (old.now.trees 18) r ∷ []) (cast_upgrade files)) h
 
   pub adds_party : (p : Party) → Executes ADD_PARTY.now (shown_party p) old new (Ok count) → Adds old.now new.now party_table (party_row p)
   adds_party p h =
@@ -86,16 +96,32 @@ module _ (old new : State) (count : ℕ) (schema : old.now.schema ≡ office_sch
 
   -- ---- rows that are set
 
-  pub sets_desk : (was d : Desk) → old.now.trees 0 ≡ desk_row was ∷ [] →
-      Executes WRITE_DESK.now (int d.last ∷ int d.parties ∷ int d.parcels ∷ int d.files ∷ []) old new (Ok count)
-      → Leaves old.now new.now desk_table × (new.now.trees 0 ≡ desk_row d ∷ [])
-  sets_desk was d is h =
-      let params = int d.last ∷ int d.parties ∷ int d.parcels ∷ int d.files ∷ [] in
-      let it = sets WRITE_DESK.now 0 desk_table write_desk_query write_desk_is write_desk_plain params old new count schema refl (λ tally x. x) h in
-      let found = finds_one desk_row (λ x. int 1 ∷ desk_row d) 0 write_desk_query.filter write_desk_query.project (overlay old.now.trees []) params (was ∷ [])
+  pub sets_version : (was : Desk) → old.now.trees 0 ≡ desk_row was ∷ [] → Executes SET_VERSION.now [] old new (Ok count)
+      → Leaves old.now new.now desk_table × (new.now.trees 0 ≡ desk_row (record was { edition = Second }) ∷ [])
+  sets_version was is h =
+      let it = sets SET_VERSION.now 0 desk_table set_version_query set_version_is set_version_plain [] old new count schema refl (λ tally x. x) h in
+      let d : Desk = record was { edition = Second } in
+      let found = finds_one desk_row (λ x. int 1 ∷ desk_row (record x { edition = Second })) 0 set_version_query.filter set_version_query.project
+      (overlay old.now.trees []) [] (was ∷ [])
       (λ x. true) (λ x. one_test _ ∙ eq_is 1 1) (λ x. refl)
       (IsPermutation-same _ _ (sym is)) (omega arith) it.found (it.answer.answer Null) in
       let done = it.one (pos 1) (desk_row d) (cast_desk d) found in (
+        done.0,
+        done.1 ∙ ap (λ rows. put_row (desk_row d) (without_rowid (pos 1) rows)) is
+            ∙ ap (put_row (desk_row d)) (alone (pos 1) (desk_row was) (has_is 1 1)),
+      )
+
+  pub sets_desk : (was d : Desk) → d.edition ≡ was.edition → old.now.trees 0 ≡ desk_row was ∷ [] →
+      Executes WRITE_DESK.now (int d.last ∷ int d.parties ∷ int d.parcels ∷ int d.files ∷ []) old new (Ok count)
+      → Leaves old.now new.now desk_table × (new.now.trees 0 ≡ desk_row d ∷ [])
+  sets_desk was d now is h =
+      let params = int d.last ∷ int d.parties ∷ int d.parcels ∷ int d.files ∷ [] in
+      let it = sets WRITE_DESK.now 0 desk_table write_desk_query write_desk_is write_desk_plain params old new count schema refl (λ tally x. x) h in
+      let found = finds_one desk_row (λ x. int 1 ∷ desk_row (record d { edition = x.edition })) 0 write_desk_query.filter write_desk_query.project (overlay old.now.trees []) params (was ∷ [])
+      (λ x. true) (λ x. one_test _ ∙ eq_is 1 1) (λ x. refl)
+      (IsPermutation-same _ _ (sym is)) (omega arith) it.found (it.answer.answer Null) in
+      let same = ap (λ e. (int 1 ∷ desk_row (record d { edition = e })) ∷ []) (sym now) in
+      let done = it.one (pos 1) (desk_row d) (cast_desk d) (found ∙ same) in (
         done.0,
         done.1 ∙ ap (λ rows. put_row (desk_row d) (without_rowid (pos 1) rows)) is
             ∙ ap (put_row (desk_row d)) (alone (pos 1) (desk_row was) (has_is 1 1)),

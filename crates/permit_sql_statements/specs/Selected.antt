@@ -155,16 +155,17 @@ ShowsEachWithout routes text = (text ≡ EVERY_WITHOUT.now) ⊎ ((r : Relation) 
 
 -- ---- the answer
 
-abbrev pub AreNamed : List Found → Type 0
-AreNamed = AllByRecursion (λ g. IsNamed g.row.state)
+-- each is named, where there were so many files at the upgrade
+abbrev pub AreNamed : Option ℕ → List Found → Type 0
+AreNamed upgrade = AllByRecursion (λ g. IsNamed upgrade g.row.id g.row.state)
 
 -- These rows show rows of which this holds.
-pub record ShowWhere (rows : List Row) (Are : List Found → Type 0) : Type 0 where
+pub record ShowWhere (upgrade : Option ℕ) (rows : List Row) (Are : List Found → Type 0) : Type 0 where
   pub given : List Found
   pub are : Are given
   pub shown : rows ≡ map shown_found given
-  pub named : AreNamed given
+  pub named : AreNamed upgrade given
 
 -- These rows show those found, in some order, and where the numbers of the tables' rows rise, in that order.
 abbrev pub ShowFound : Tables → List Row → List Found → Type 0
-ShowFound t rows found = ShowWhere rows (λ given. AreFound t given found)
+ShowFound t rows found = ShowWhere t.upgrade rows (λ given. AreFound t given found)

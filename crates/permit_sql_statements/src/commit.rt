@@ -1,10 +1,10 @@
 //! The changes of the tables, each in one transaction. The desk that a change is given is the one after it.
 
-ghost use Rattle.std.specs.Prelude.{◌≡◌, ◌≢◌, ◌+◌, false, Some, OnOk, IfOk};
+ghost use Rattle.std.specs.Prelude.{◌≡◌, ◌≢◌, ◌+◌, ℕ, Option, false, Some, OnOk, IfOk};
 ghost use Rattle.sqlite.specs.Effect.{Database};
 ghost use Rattle.sqlite.specs.State.{Survives};
 ghost use Rattle.sqlite.specs.Held.{state};
-ghost use Rattle.permit_model.specs.Tables.{Tables};
+ghost use Rattle.permit_model.specs.Tables.{Tables, edition_numbered};
 ghost use Rattle.permit_store.specs.Changes.{changed, Fits};
 ghost use Rattle.permit_store.specs.declared.change.Change.TheVariants.{NewParty, NewParcel, NewOwner, NewInterest, NewFile, NewRow};
 ghost use Rattle.permit_store.specs.declared.change.RowEffect.TheVariants as effect;
@@ -49,10 +49,10 @@ fn is_count(days: Option<Days>)
     }
 }
 
-/// The fields of a row, in which no number is 0.
+/// The fields of a row, in which no number is 0. Its edition is stored nowhere.
 fn fields_of(row: &FileState) -> StateFields
     ensures same { result ≡ row.now }
-    ensures named { IsNamed row.now }
+    ensures named { (upgrade : Option ℕ) (id : ℕ) → row.now.edition ≡ edition_numbered upgrade id → IsNamed upgrade id row.now }
 {
     let fields = row.fields();
     is_party(fields.contractor);

@@ -1,22 +1,22 @@
-//! The tables with their founding, in an empty database.
+//! The tables with their founding, in an empty database, and their upgrade from version 1.
 
 ghost use Rattle.std.specs.Prelude.{◌≡◌, false, [], IsTrue, OnOk, OnErr};
 ghost use Rattle.sqlite.specs.State.{HasCleanDisk, Survives};
 ghost use Rattle.sqlite.specs.Held.{state};
 ghost use Rattle.sqlite.specs.Values.{bound};
-ghost use Rattle.permit_model.specs.Tables.{tables};
+ghost use Rattle.permit_model.specs.Tables.{tables, with_upgrade};
 ghost use Rattle.permit_store.specs.Founding.{founding};
 ghost use Rattle.permit_sql_rows.specs.Schema.{empty_schema};
 ghost use Rattle.permit_sql_statements.specs.Statements.{RanAll};
-ghost use Rattle.permit_sql_statements.specs.Founding.{founding_statements};
+ghost use Rattle.permit_sql_statements.specs.Founding.{founding_statements, upgrade_statements, OverFirst};
 ghost use Rattle.permit_sql_rows.specs.Kept.{Keeps};
-ghost use Rattle.permit_sql_statements.specs.Frames.{StatementsSurvive};
+ghost use Rattle.permit_sql_statements.specs.Frames.{IsOpenAfter, StatementsSurvive};
 
 use crate::statements::{Statement, run_all};
 use crate::texts::{
-    ADD_PARTY, CREATE_DESK, CREATE_FILE, CREATE_INTEREST, CREATE_PAPER, CREATE_PARCEL,
-    CREATE_PARTY, FOUND_DESK, INDEX_APPLICANT, INDEX_CELL, INDEX_CONTRACTOR, INDEX_INSPECTOR,
-    INDEX_INTERESTED, INDEX_OWNER, INDEX_PARCEL, INDEX_REVIEWER,
+    ADD_PARTY, ADD_UPGRADE, CREATE_DESK, CREATE_FILE, CREATE_INTEREST, CREATE_PAPER, CREATE_PARCEL,
+    CREATE_PARTY, CREATE_UPGRADE, FOUND_DESK, INDEX_APPLICANT, INDEX_CELL, INDEX_CONTRACTOR,
+    INDEX_INSPECTOR, INDEX_INTERESTED, INDEX_OWNER, INDEX_PARCEL, INDEX_REVIEWER, SET_VERSION,
 };
 use permit_base::words::Role;
 use permit_store::founder::Founder;
@@ -30,23 +30,24 @@ fn statement<'a>(text: &'a str, params: &'a [ValueRef<'a>]) -> Statement<'a>
     Statement { text, params }
 }
 
-/// The tables, their indexes, the desk and the first party, in one transaction.
+/// The tables, their indexes, the desk, the upgrade and the first party, in one transaction.
 fn found<'a, S: Alter>(
     conn: &mut Connection<S>,
     none: &'a [ValueRef<'a>],
     desk: &'a [ValueRef<'a>],
+    upgrade: &'a [ValueRef<'a>],
     party: &'a [ValueRef<'a>],
 ) -> Result<(), Error>
     requires not_in_transaction { conn.old.in_transaction ≡ false }
     requires bare { none.now ≡ [] }
     ensures all { HasCleanDisk (state S.Store conn.new)
-        → OnOk result (RanAll S.Store (founding_statements (bound desk.now) (bound party.now)) conn.old (state S.Store conn.new).committed) }
+        → OnOk result (RanAll S.Store (founding_statements (bound desk.now) (bound upgrade.now) (bound party.now)) conn.old (state S.Store conn.new).committed) }
     ensures shown { HasCleanDisk (state S.Store conn.new) → OnOk result ((state S.Store conn.new).now ≡ (state S.Store conn.new).committed) }
     ensures none { HasCleanDisk (state S.Store conn.new) → IsTrue (state S.Store conn.new).is_open
         → OnErr result (((state S.Store conn.new).now ≡ (state S.Store conn.old).now)
         × ((state S.Store conn.new).committed ≡ (state S.Store conn.old).committed)) }
     ensures not_in_transaction { conn.new.in_transaction ≡ false }
-    ensures crash { StatementsSurvive S.Store (founding_statements (bound desk.now) (bound party.now)) conn.old conn.new }
+    ensures crash { StatementsSurvive S.Store (founding_statements (bound desk.now) (bound upgrade.now) (bound party.now)) conn.old conn.new }
 {
     run_all(
         conn,
@@ -65,7 +66,9 @@ fn found<'a, S: Alter>(
             statement(INDEX_PARCEL, none),
             statement(INDEX_OWNER, none),
             statement(INDEX_INTERESTED, none),
+            statement(CREATE_UPGRADE, none),
             statement(FOUND_DESK, desk),
+            statement(ADD_UPGRADE, upgrade),
             statement(ADD_PARTY, party),
         ],
     )
@@ -74,7 +77,10 @@ fn found<'a, S: Alter>(
 /// The number of the first party, who founds the office.
 const FOUNDER: u32 = 1;
 
-/// Makes the tables with their founding in a database that has none, or changes nothing, also over a crash.
+/// How many files there are at the upgrade of a new office, which follows its founding at once.
+const NO_FILES: u32 = 0;
+
+/// Makes the tables with their founding and the upgrade in a database that has none, or changes nothing, also over a crash.
 pub fn create_in<S: Alter>(conn: &mut Connection<S>, founder: &Founder) -> Result<(), Error>
     requires not_in_transaction { conn.old.in_transaction ≡ false }
     requires empty { (state S.Store conn.old).now.schema ≡ empty_schema }
@@ -91,6 +97,7 @@ pub fn create_in<S: Alter>(conn: &mut Connection<S>, founder: &Founder) -> Resul
         conn,
         &[],
         params![founder.day.get()],
+        params![NO_FILES],
         params![
             FOUNDER,
             founder.name.as_str(),
@@ -98,4 +105,50 @@ pub fn create_in<S: Alter>(conn: &mut Connection<S>, founder: &Founder) -> Resul
             founder.digest.as_str()
         ],
     )
+}
+
+/// The table of the upgrade with its row, and the desk's version, in one transaction.
+fn upgraded<'a, S: Alter>(
+    conn: &mut Connection<S>,
+    none: &'a [ValueRef<'a>],
+    files: &'a [ValueRef<'a>],
+) -> Result<(), Error>
+    requires not_in_transaction { conn.old.in_transaction ≡ false }
+    requires bare { none.now ≡ [] }
+    ensures all { HasCleanDisk (state S.Store conn.new)
+        → OnOk result (RanAll S.Store (upgrade_statements (bound files.now)) conn.old (state S.Store conn.new).committed) }
+    ensures shown { HasCleanDisk (state S.Store conn.new) → OnOk result ((state S.Store conn.new).now ≡ (state S.Store conn.new).committed) }
+    ensures none { HasCleanDisk (state S.Store conn.new) → IsTrue (state S.Store conn.new).is_open
+        → OnErr result (((state S.Store conn.new).now ≡ (state S.Store conn.old).now)
+        × ((state S.Store conn.new).committed ≡ (state S.Store conn.old).committed)) }
+    ensures opened { HasCleanDisk (state S.Store conn.new) → IsTrue (state S.Store conn.new).is_open → IsTrue (state S.Store conn.old).is_open }
+    ensures open { IsOpenAfter S.Store conn.new result }
+    ensures not_in_transaction { conn.new.in_transaction ≡ false }
+    ensures crash { StatementsSurvive S.Store (upgrade_statements (bound files.now)) conn.old conn.new }
+{
+    run_all(
+        conn,
+        &[
+            statement(CREATE_UPGRADE, none),
+            statement(ADD_UPGRADE, files),
+            statement(SET_VERSION, none),
+        ],
+    )
+}
+
+/// Makes of tables of version 1 with so many files those after the upgrade, or changes nothing, also over a crash.
+pub fn upgrade_in<S: Alter>(conn: &mut Connection<S>, files: u32) -> Result<(), Error>
+    requires not_in_transaction { conn.old.in_transaction ≡ false }
+    ensures made { HasCleanDisk (state S.Store conn.new)
+        → OverFirst files (state S.Store conn.old).now (λ t. OnOk result (Keeps (with_upgrade t) (state S.Store conn.new).now)) }
+    ensures none { HasCleanDisk (state S.Store conn.new) → IsTrue (state S.Store conn.new).is_open
+        → OnErr result (((state S.Store conn.new).now ≡ (state S.Store conn.old).now)
+        × ((state S.Store conn.new).committed ≡ (state S.Store conn.old).committed)) }
+    ensures opened { HasCleanDisk (state S.Store conn.new) → IsTrue (state S.Store conn.new).is_open → IsTrue (state S.Store conn.old).is_open }
+    ensures open { IsOpenAfter S.Store conn.new result }
+    ensures not_in_transaction { conn.new.in_transaction ≡ false }
+    ensures crash { Survives (state S.Store conn.old) (state S.Store conn.new)
+        (λ trees. OverFirst files (state S.Store conn.old).now (λ t. (db : _) × Keeps (with_upgrade t) db × (trees ≡ db.trees))) }
+{
+    upgraded(conn, &[], params![files])
 }

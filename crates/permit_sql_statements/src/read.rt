@@ -135,7 +135,7 @@ fn file_rows<S: Alter>(conn: &mut Connection<S>, file: FileId) -> Got<Vec<Row>>
     ensures found { OverShown S.Store conn.old conn.new
         (λ t. IfOk result (λ rows. slice_get rows.items 0 ≡ option_map shown_file (find (λ f. f.id == file) t.files))) }
     ensures named { OverShown S.Store conn.old conn.new
-        (λ t. IfOk result (λ rows. IfSome (find (λ f. f.id == file) t.files) (λ f. IsNamed f.state))) }
+        (λ t. IfOk result (λ rows. IfSome (find (λ f. f.id == file) t.files) (λ f. IsNamed t.upgrade f.id f.state))) }
     ensures kept { LeavesTables S.Store conn.old conn.new }
     ensures open { IsOpenAfter S.Store conn.new result }
     ensures doubt { KeepsDoubt S.Store conn.old conn.new }
@@ -204,13 +204,13 @@ fn first_parcel(rows: &[Row]) -> Got<Option<Parcel>>
 }
 
 /// The first row as a typed value, if there is a row.
-fn first_file(rows: &[Row]) -> Got<Option<FileRow>>
-    ensures { (found : Option TheRow) → IfSome found (λ f. IsNamed f.state) → slice_get rows.now 0 ≡ option_map shown_file found
+fn first_file(rows: &[Row], upgrade: Option<u32>) -> Got<Option<FileRow>>
+    ensures { (found : Option TheRow) → IfSome found (λ f. IsNamed upgrade f.id f.state) → slice_get rows.now 0 ≡ option_map shown_file found
         → IfOk result (λ x. x ≡ found) }
 {
     match rows.get(0) {
         None => Ok(None),
-        Some(row) => match file_in(row) {
+        Some(row) => match file_in(row, upgrade) {
             Some(value) => Ok(Some(value)),
             None => Err(StoreError),
         },
@@ -218,10 +218,10 @@ fn first_file(rows: &[Row]) -> Got<Option<FileRow>>
 }
 
 /// The state in a file's row that has no further columns.
-fn file_state(row: &Row) -> Option<FileState>
-    ensures { (is : TheRow) → IsNamed is.state → row.now ≡ shown_file is → IfSome result (λ s. s ≡ is.state) }
+fn file_state(row: &Row, upgrade: Option<u32>) -> Option<FileState>
+    ensures { (is : TheRow) → IsNamed upgrade is.id is.state → row.now ≡ shown_file is → IfSome result (λ s. s ≡ is.state) }
 {
-    state_in(row)
+    state_in(row, upgrade)
 }
 
 /// The role in the first row, if there is a row.
@@ -266,13 +266,13 @@ fn first_truth(rows: &[Row]) -> Got<bool>
 }
 
 /// The state in the first row, if there is a row.
-fn first_state(rows: &[Row]) -> Got<Option<FileState>>
-    ensures { (found : Option TheRow) → IfSome found (λ f. IsNamed f.state) → slice_get rows.now 0 ≡ option_map shown_file found
+fn first_state(rows: &[Row], upgrade: Option<u32>) -> Got<Option<FileState>>
+    ensures { (found : Option TheRow) → IfSome found (λ f. IsNamed upgrade f.id f.state) → slice_get rows.now 0 ≡ option_map shown_file found
         → IfOk result (λ x. x ≡ option_map (λ f. f.state) found) }
 {
     match rows.get(0) {
         None => Ok(None),
-        Some(row) => match file_state(row) {
+        Some(row) => match file_state(row, upgrade) {
             Some(state) => Ok(Some(state)),
             None => Err(StoreError),
         },
@@ -430,10 +430,15 @@ pub(crate) fn is_interested<S: Alter>(conn: &mut Connection<S>, party: PartyId) 
     first_truth(&rows)
 }
 
-/// The row of the file with the number.
-pub fn read_file<S: Alter>(conn: &mut Connection<S>, file: FileId) -> Got<Option<FileRow>>
+/// The row of the file with the number, where there were so many files at the upgrade.
+pub fn read_file<S: Alter>(
+    conn: &mut Connection<S>,
+    file: FileId,
+    upgrade: Option<u32>,
+) -> Got<Option<FileRow>>
     requires not_in_transaction { conn.old.in_transaction ≡ false }
-    ensures found { OverShown S.Store conn.old conn.new (λ t. IfOk result (λ f. f ≡ find (λ f. f.id == file) t.files)) }
+    ensures found { OverShown S.Store conn.old conn.new
+        (λ t. t.upgrade ≡ upgrade → IfOk result (λ f. f ≡ find (λ f. f.id == file) t.files)) }
     ensures kept { LeavesTables S.Store conn.old conn.new }
     ensures open { IsOpenAfter S.Store conn.new result }
     ensures doubt { KeepsDoubt S.Store conn.old conn.new }
@@ -441,14 +446,18 @@ pub fn read_file<S: Alter>(conn: &mut Connection<S>, file: FileId) -> Got<Option
     ensures not_in_transaction { conn.new.in_transaction ≡ false }
 {
     let rows = file_rows(conn, file)?;
-    first_file(&rows)
+    first_file(&rows, upgrade)
 }
 
 /// The state of the file with the number, read of its row without a copy of its description.
-pub fn read_state<S: Alter>(conn: &mut Connection<S>, file: FileId) -> Got<Option<FileState>>
+pub fn read_state<S: Alter>(
+    conn: &mut Connection<S>,
+    file: FileId,
+    upgrade: Option<u32>,
+) -> Got<Option<FileState>>
     requires not_in_transaction { conn.old.in_transaction ≡ false }
     ensures found { OverShown S.Store conn.old conn.new
-        (λ t. IfOk result (λ s. s ≡ option_map (λ f. f.state) (find (λ f. f.id == file) t.files))) }
+        (λ t. t.upgrade ≡ upgrade → IfOk result (λ s. s ≡ option_map (λ f. f.state) (find (λ f. f.id == file) t.files))) }
     ensures kept { LeavesTables S.Store conn.old conn.new }
     ensures open { IsOpenAfter S.Store conn.new result }
     ensures doubt { KeepsDoubt S.Store conn.old conn.new }
@@ -456,7 +465,7 @@ pub fn read_state<S: Alter>(conn: &mut Connection<S>, file: FileId) -> Got<Optio
     ensures not_in_transaction { conn.new.in_transaction ≡ false }
 {
     let rows = file_rows(conn, file)?;
-    first_state(&rows)
+    first_state(&rows, upgrade)
 }
 
 /// Whether the paper of the number is an open notice of the file.

@@ -66,12 +66,12 @@ fn push_found(all: &mut Vec<Found>, found: Found) -> Got<()>
 }
 
 /// The rows as typed values.
-fn all_found(alloc: Global, rows: &[Row]) -> Got<Vec<Found>>
-    ensures { (given : List TheFound) → AreNamed given → rows.now ≡ map shown_found given → IfOk result (λ v. v.items ≡ given) }
+fn all_found(alloc: Global, rows: &[Row], upgrade: Option<u32>) -> Got<Vec<Found>>
+    ensures { (given : List TheFound) → AreNamed upgrade given → rows.now ≡ map shown_found given → IfOk result (λ v. v.items ≡ given) }
 {
     let mut all = Vec::new(alloc);
     'rows: for row in rows {
-        let Some(found) = found_in(row) else {
+        let Some(found) = found_in(row, upgrade) else {
             return Err(StoreError);
         };
         push_found(&mut all, found)?;
@@ -85,11 +85,12 @@ pub fn select_found<S: Alter>(
     route: &Route,
     caller: PartyId,
     day: Day,
+    upgrade: Option<u32>,
     alloc: Global,
 ) -> Got<Vec<Found>>
     requires not_in_transaction { conn.old.in_transaction ≡ false }
     ensures found { OverShown S.Store conn.old conn.new
-        (λ t. IfOk result (λ v. AreFound t v.items (found_by route.now caller day t))) }
+        (λ t. t.upgrade ≡ upgrade → IfOk result (λ v. AreFound t v.items (found_by route.now caller day t))) }
     ensures kept { LeavesTables S.Store conn.old conn.new }
     ensures open { IsOpenAfter S.Store conn.new result }
     ensures doubt { KeepsDoubt S.Store conn.old conn.new }
@@ -97,7 +98,7 @@ pub fn select_found<S: Alter>(
     ensures not_in_transaction { conn.new.in_transaction ≡ false }
 {
     let rows = found_rows(conn, route, caller, day)?;
-    all_found(alloc, &rows)
+    all_found(alloc, &rows, upgrade)
 }
 
 /// Hands what the rows of the answer show to the taker, each as it is read, until it asks to stop, and counts each that
@@ -106,13 +107,14 @@ fn hand_rows<S: Alter, T: Taker<Found>>(
     conn: &mut Connection<S>,
     sql: &str,
     params: &[ValueRef<'_>],
+    upgrade: Option<u32>,
     handed: &mut u64,
     taker: &mut T,
 ) -> Got<bool>
     requires not_in_transaction { conn.old.in_transaction ≡ false }
     ensures handed { (given : List TheFound) × Took T.took given taker.old taker.new result × (handed.new ≡ more_handed (length given) handed.old)
         × (HasCleanDisk (state S.Store conn.new) → (IsTrue (state S.Store conn.old).is_open → IsPlain (understood conn.old.schema sql.now))
-        → Gave result sql.now (bound params.now) (state S.Store conn.old) (state S.Store conn.new) given) }
+        → Gave upgrade result sql.now (bound params.now) (state S.Store conn.old) (state S.Store conn.new) given) }
     ensures fine { IsFine (state S.Store conn.new) → IsFine (state S.Store conn.old) }
     ensures same { IsFine (state S.Store conn.new) → IsPlain (understood conn.old.schema sql.now)
         → (state S.Store conn.new).now ≡ (state S.Store conn.old).now }
@@ -135,7 +137,7 @@ fn hand_rows<S: Alter, T: Taker<Found>>(
         let Some(row) = next else {
             return Ok(true);
         };
-        let Some(found) = found_in(row) else {
+        let Some(found) = found_in(row, upgrade) else {
             return Err(StoreError);
         };
         *handed = handed.wrapping_add(1);
@@ -152,12 +154,13 @@ fn each_by_text<S: Alter, T: Taker<Found>>(
     route: &Route,
     caller: PartyId,
     day: Day,
+    upgrade: Option<u32>,
     handed: &mut u64,
     taker: &mut T,
 ) -> Got<bool>
     requires not_in_transaction { conn.old.in_transaction ≡ false }
     ensures handed { (given : List TheFound) × Took T.took given taker.old taker.new result × (handed.new ≡ more_handed (length given) handed.old)
-        × OverShown S.Store conn.old conn.new (λ t. AreHanded t result given (found_by route.now caller day t)) }
+        × OverShown S.Store conn.old conn.new (λ t. t.upgrade ≡ upgrade → AreHanded t result given (found_by route.now caller day t)) }
     ensures kept { LeavesTables S.Store conn.old conn.new }
     ensures open { IsOpenAfter S.Store conn.new result }
     ensures doubt { KeepsDoubt S.Store conn.old conn.new }
@@ -172,6 +175,7 @@ fn each_by_text<S: Alter, T: Taker<Found>>(
         conn,
         text_of(route),
         &values[..count_of(route)],
+        upgrade,
         handed,
         taker,
     )
@@ -182,12 +186,13 @@ fn each_of_every<S: Alter, T: Taker<Found>>(
     conn: &mut Connection<S>,
     caller: PartyId,
     day: Day,
+    upgrade: Option<u32>,
     handed: &mut u64,
     taker: &mut T,
 ) -> Got<bool>
     requires not_in_transaction { conn.old.in_transaction ≡ false }
     ensures handed { (given : List TheFound) × Took T.took given taker.old taker.new result × (handed.new ≡ more_handed (length given) handed.old)
-        × OverShown S.Store conn.old conn.new (λ t. AreHanded t result given (found_by Every caller day t)) }
+        × OverShown S.Store conn.old conn.new (λ t. t.upgrade ≡ upgrade → AreHanded t result given (found_by Every caller day t)) }
     ensures kept { LeavesTables S.Store conn.old conn.new }
     ensures open { IsOpenAfter S.Store conn.new result }
     ensures doubt { KeepsDoubt S.Store conn.old conn.new }
@@ -197,10 +202,10 @@ fn each_of_every<S: Alter, T: Taker<Found>>(
     let before = *handed;
     prove!(before <= u64::MAX);
     if is_interested(conn, caller)? {
-        return each_by_text(conn, &Route::Every, caller, day, handed, taker);
+        return each_by_text(conn, &Route::Every, caller, day, upgrade, handed, taker);
     }
     let params = [number(caller.get()), number(0)];
-    hand_rows(conn, EVERY_WITHOUT, &params, handed, taker)
+    hand_rows(conn, EVERY_WITHOUT, &params, upgrade, handed, taker)
 }
 
 /// Hands the rows that the selection finds for the caller on the day to the taker, one at a time and in rising number,
@@ -210,12 +215,13 @@ pub fn each_found<S: Alter, T: Taker<Found>>(
     route: &Route,
     caller: PartyId,
     day: Day,
+    upgrade: Option<u32>,
     handed: &mut u64,
     taker: &mut T,
 ) -> Got<bool>
     requires not_in_transaction { conn.old.in_transaction ≡ false }
     ensures handed { (given : List TheFound) × Took T.took given taker.old taker.new result × (handed.new ≡ more_handed (length given) handed.old)
-        × OverShown S.Store conn.old conn.new (λ t. AreHanded t result given (found_by route.now caller day t)) }
+        × OverShown S.Store conn.old conn.new (λ t. t.upgrade ≡ upgrade → AreHanded t result given (found_by route.now caller day t)) }
     ensures kept { LeavesTables S.Store conn.old conn.new }
     ensures open { IsOpenAfter S.Store conn.new result }
     ensures doubt { KeepsDoubt S.Store conn.old conn.new }
@@ -223,8 +229,8 @@ pub fn each_found<S: Alter, T: Taker<Found>>(
     ensures not_in_transaction { conn.new.in_transaction ≡ false }
 {
     match *route {
-        Route::Every => each_of_every(conn, caller, day, handed, taker),
-        Route::Cell { .. } => each_by_text(conn, route, caller, day, handed, taker),
+        Route::Every => each_of_every(conn, caller, day, upgrade, handed, taker),
+        Route::Cell { .. } => each_by_text(conn, route, caller, day, upgrade, handed, taker),
     }
 }
 
@@ -236,6 +242,7 @@ fn hand_sifted<S: Alter, T: Taker<Found>>(
     routes: &[Route],
     caller: PartyId,
     day: Day,
+    upgrade: Option<u32>,
     handed: &mut u64,
     taker: &mut T,
 ) -> Got<bool>
@@ -243,7 +250,7 @@ fn hand_sifted<S: Alter, T: Taker<Found>>(
     ensures handed { (given : List TheFound) × Took T.took (filter (is_found_by_any routes.now caller day) given) taker.old taker.new result
         × (handed.new ≡ more_handed (length (filter (is_found_by_any routes.now caller day) given)) handed.old)
         × (HasCleanDisk (state S.Store conn.new) → (IsTrue (state S.Store conn.old).is_open → IsPlain (understood conn.old.schema sql.now))
-        → Gave result sql.now (bound params.now) (state S.Store conn.old) (state S.Store conn.new) given) }
+        → Gave upgrade result sql.now (bound params.now) (state S.Store conn.old) (state S.Store conn.new) given) }
     ensures fine { IsFine (state S.Store conn.new) → IsFine (state S.Store conn.old) }
     ensures same { IsFine (state S.Store conn.new) → IsPlain (understood conn.old.schema sql.now)
         → (state S.Store conn.new).now ≡ (state S.Store conn.old).now }
@@ -262,7 +269,7 @@ fn hand_sifted<S: Alter, T: Taker<Found>>(
         taker,
         passed: 0,
     };
-    let all = hand_rows(conn, sql, params, &mut seen, &mut sieve);
+    let all = hand_rows(conn, sql, params, upgrade, &mut seen, &mut sieve);
     *handed = handed.wrapping_add(sieve.passed);
     all
 }
@@ -273,12 +280,13 @@ fn each_by_any_text<S: Alter, T: Taker<Found>>(
     routes: &[Route],
     caller: PartyId,
     day: Day,
+    upgrade: Option<u32>,
     handed: &mut u64,
     taker: &mut T,
 ) -> Got<bool>
     requires not_in_transaction { conn.old.in_transaction ≡ false }
     ensures handed { (given : List TheFound) × Took T.took given taker.old taker.new result × (handed.new ≡ more_handed (length given) handed.old)
-        × OverShown S.Store conn.old conn.new (λ t. AreAmong result given (found_by_any routes.now caller day t)) }
+        × OverShown S.Store conn.old conn.new (λ t. t.upgrade ≡ upgrade → AreAmong result given (found_by_any routes.now caller day t)) }
     ensures kept { LeavesTables S.Store conn.old conn.new }
     ensures open { IsOpenAfter S.Store conn.new result }
     ensures doubt { KeepsDoubt S.Store conn.old conn.new }
@@ -295,6 +303,7 @@ fn each_by_any_text<S: Alter, T: Taker<Found>>(
         routes,
         caller,
         day,
+        upgrade,
         handed,
         taker,
     )
@@ -307,12 +316,13 @@ pub fn each_of_any_found<S: Alter, T: Taker<Found>>(
     routes: &[Route],
     caller: PartyId,
     day: Day,
+    upgrade: Option<u32>,
     handed: &mut u64,
     taker: &mut T,
 ) -> Got<bool>
     requires not_in_transaction { conn.old.in_transaction ≡ false }
     ensures handed { (given : List TheFound) × Took T.took given taker.old taker.new result × (handed.new ≡ more_handed (length given) handed.old)
-        × OverShown S.Store conn.old conn.new (λ t. AreAmong result given (found_by_any routes.now caller day t)) }
+        × OverShown S.Store conn.old conn.new (λ t. t.upgrade ≡ upgrade → AreAmong result given (found_by_any routes.now caller day t)) }
     ensures kept { LeavesTables S.Store conn.old conn.new }
     ensures open { IsOpenAfter S.Store conn.new result }
     ensures doubt { KeepsDoubt S.Store conn.old conn.new }
@@ -322,11 +332,13 @@ pub fn each_of_any_found<S: Alter, T: Taker<Found>>(
     let before = *handed;
     prove!(before <= u64::MAX);
     let Some(text) = text_of_any_without(routes) else {
-        return each_by_any_text(conn, routes, caller, day, handed, taker);
+        return each_by_any_text(conn, routes, caller, day, upgrade, handed, taker);
     };
     if is_interested(conn, caller)? {
-        return each_by_any_text(conn, routes, caller, day, handed, taker);
+        return each_by_any_text(conn, routes, caller, day, upgrade, handed, taker);
     }
     let params = [number(caller.get()), number(0)];
-    hand_sifted(conn, text, &params, routes, caller, day, handed, taker)
+    hand_sifted(
+        conn, text, &params, routes, caller, day, upgrade, handed, taker,
+    )
 }

@@ -50,14 +50,21 @@ pub const INDEX_OWNER: &str = "CREATE INDEX parcel_owner ON parcel (owner)";
 /// The interests by party.
 pub const INDEX_INTERESTED: &str = "CREATE INDEX interest_party ON interest (party)";
 
+/// The table of the upgrade, which keeps one row. It is made behind all indexes.
+pub const CREATE_UPGRADE: &str =
+    "CREATE TABLE upgrade (id INTEGER PRIMARY KEY, files INTEGER NOT NULL) STRICT";
+
 /// The desk's row at the founding, on the day.
 pub const FOUND_DESK: &str =
-    "INSERT INTO desk (id, version, last, parties, parcels, files) VALUES (1, 1, ?1, 1, 0, 0)";
+    "INSERT INTO desk (id, version, last, parties, parcels, files) VALUES (1, 2, ?1, 1, 0, 0)";
 
 // ---- the reads
 
 /// The desk's row.
 pub const READ_DESK: &str = "SELECT id, version, last, parties, parcels, files FROM desk";
+
+/// The upgrade's row.
+pub const READ_UPGRADE: &str = "SELECT id, files FROM upgrade";
 
 /// The party with the number.
 pub const READ_PARTY: &str = "SELECT id, name, role, digest FROM party WHERE id = ?1";
@@ -93,6 +100,12 @@ pub const FIND_NOTICE: &str = "SELECT 1 FROM paper WHERE file = ?1 AND open = 1 
 /// Sets the desk's row.
 pub const WRITE_DESK: &str =
     "UPDATE desk SET last = ?1, parties = ?2, parcels = ?3, files = ?4 WHERE id = 1";
+
+/// Sets the desk's version.
+pub const SET_VERSION: &str = "UPDATE desk SET version = 2 WHERE id = 1";
+
+/// Adds the upgrade's row, with the count of files.
+pub const ADD_UPGRADE: &str = "INSERT INTO upgrade (id, files) VALUES (1, ?1)";
 
 /// Adds a party.
 pub const ADD_PARTY: &str = "INSERT INTO party (id, name, role, digest) VALUES (?1, ?2, ?3, ?4)";

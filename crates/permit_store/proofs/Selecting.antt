@@ -174,11 +174,11 @@ rows_same s t (k ∷ files) ep ei =
     ∙ ap (λ rows. found_row t s.caller k.row ∷ rows) (rows_same s t files ep ei)
 
 -- what the selection finds of the files that are kept is what it finds in the tables
-pub found_in_tables : (last : ℕ) (parties : List Party) (s : Selection) (parcels : List Parcel) (interests : List Interest) (files seen : List KeptFile)
+pub found_in_tables : (upgrade last : ℕ) (parties : List Party) (s : Selection) (parcels : List Parcel) (interests : List Interest) (files seen : List KeptFile)
     (t : Tables)
-    → s.parcels.now ≡ parcels → s.interests.now ≡ interests → seen ≡ files → Keeps last parties parcels interests files t →
+    → s.parcels.now ≡ parcels → s.interests.now ≡ interests → seen ≡ files → Keeps upgrade last parties parcels interests files t →
     rows_found s seen ≡ found_by s.route s.caller s.day t
-found_in_tables last parties s parcels interests files seen t ep ei ef k =
+found_in_tables upgrade last parties s parcels interests files seen t ep ei ef k =
     let p : Found → Bool = is_found s.route s.caller s.day in
     ap (rows_found s) ef ∙ ap (filter p) (rows_same s t files (ep ∙ sym k.parcels) (ei ∙ sym k.interests))
     ∙ ap (λ rows. filter p (map (found_row t s.caller) rows)) (sym k.files)

@@ -4,6 +4,7 @@ use Rattle.std.specs.Prelude.{unwrap_or, IsTrue, bytes_eq, nat_lt, not}
 use Rattle.std.specs.Borrow.{Bor}
 use Rattle.std.specs.Option.{option_copied}
 use Rattle.std.specs.List.{list_any}
+use Rattle.permit_model.specs.Codes.{is_edition}
 use Rattle.permit_model.specs.Parcels.{Parcel}
 use Rattle.permit_base.specs.Limits.{most_records, most_papers}
 use Rattle.permit_model.specs.Tables.{State, FileRow, Paper, is_notice, Tables}
@@ -90,13 +91,14 @@ suits_effect t before after (effect.Paper new) =
 suits_effect t before after effect.None = after.papers == before.papers
 suits_effect t before after (effect.NoticeClosed number) = after.papers == before.papers
 
--- the file is there, and stays the one that was filed by that applicant on that parcel
+-- the file is there, and stays the one that was filed by that applicant on that parcel, under that edition
 abbrev pub suits_row : Tables → Option FileRow → State → RowEffect → Bool
 suits_row t None after effect = false
 suits_row t (Some row) after effect =
-    (after.parcel == row.state.parcel) && (after.applicant == row.state.applicant) && suits_effect t row.state after effect
+    (after.parcel == row.state.parcel) && (after.applicant == row.state.applicant) && is_edition after.edition row.state.edition
+    && suits_effect t row.state after effect
 
--- what the change adds has room and breaks no key, and what it speaks of is there
+-- what the change adds has room and breaks no key, and what it speaks of is there; a new file is of the edition in force
 abbrev pub suits : Tables → Change → Bool
 suits t (NewParty name role digest) =
     nat_lt t.desk.parties most_records && is_none (find (λ p. bytes_eq p.digest digest.now) t.parties)
@@ -108,7 +110,7 @@ suits t (NewInterest parcel party) =
     is_some (find (λ p. p.id == parcel) t.parcels) && is_some (find (λ p. p.id == party) t.parties)
     && not (list_any (λ i. (i.parcel == parcel) && (i.party == party)) t.interests)
 suits t (NewFile state valuation description) =
-    nat_lt t.desk.files most_records && is_some (find (λ p. p.id == state.parcel) t.parcels) && is_some (find (λ p. p.id == state.applicant) t.parties)
+    nat_lt t.desk.files most_records && is_edition state.edition t.desk.edition && is_some (find (λ p. p.id == state.parcel) t.parcels) && is_some (find (λ p. p.id == state.applicant) t.parties)
 suits t (NewRow file state effect) = suits_row t (find (λ f. f.id == file) t.files) state effect
 
 -- the condition of a commit: the change suits the tables, and the day isn't below the last

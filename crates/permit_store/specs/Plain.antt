@@ -1,6 +1,7 @@
 -- The tables that vectors keep, each file with its papers.
 use Rattle.std.specs.Prelude.{◌≡◌, ℕ, ◌==◌, ◌&&◌, Bool, List, [], length, map, filter, ◌++◌, find, Option, None, Some, option_map, Result}
 use Rattle.std.specs.List.{list_any, range_with_len}
+use Rattle.permit_base.specs.declared.words.Edition.TheVariants.{Second}
 use Rattle.permit_model.specs.Caller.{Party}
 use Rattle.permit_model.specs.Parcels.{Parcel, Interest}
 use Rattle.permit_model.specs.Tables.{State, FileRow, Paper, Tables}
@@ -35,10 +36,18 @@ renewed file state day effect kept = record {
   papers = papers_after file state.papers day effect kept.papers;
 }
 
--- the tables are those of the vectors, and the papers of each file are those kept with it
-pub record Keeps (last : ℕ) (kept_parties : List Party) (kept_parcels : List Parcel) (kept_interests : List Interest) (kept_files : List KeptFile)
+-- the tables are those of the vectors, and the papers of each file are those kept with it; there were so many files at the
+-- upgrade
+pub record Keeps (at_upgrade last : ℕ) (kept_parties : List Party) (kept_parcels : List Parcel) (kept_interests : List Interest) (kept_files : List KeptFile)
     (t : Tables) : Type 0 where
-  pub desk : t.desk ≡ record { last = last; parties = length kept_parties; parcels = length kept_parcels; files = length kept_files }
+  pub desk : t.desk ≡ record {
+    edition = Second;
+    last = last;
+    parties = length kept_parties;
+    parcels = length kept_parcels;
+    files = length kept_files;
+  }
+  pub upgrade : t.upgrade ≡ Some at_upgrade
   pub parties : t.parties ≡ kept_parties
   pub parcels : t.parcels ≡ kept_parcels
   pub interests : t.interests ≡ kept_interests

@@ -23,7 +23,7 @@ use crate::sieve::Sieve;
 use crate::store::{Got, OpenError, Store, StoreError};
 use permit_base::route::Route;
 use permit_base::values::{Day, Digest, FileId, Lot, PaperNumber, ParcelId, PartyId};
-use permit_base::words::Role;
+use permit_base::words::{Edition, Role};
 use permit_core::state::FileState;
 use permit_core::taker::Taker;
 use std::alloc::Global;
@@ -34,6 +34,8 @@ use std::alloc::Global;
 #[derive(Drop)]
 pub struct PlainStore {
     alloc: Global,
+    /// How many files there were at the upgrade to the second edition.
+    upgrade: u32,
     last: Day,
     parties: Vec<Party>,
     parcels: Vec<Parcel>,
@@ -81,7 +83,7 @@ impl PlainStore {
         Err(StoreError)
     }
 
-    /// The tables after a founding: one party, number 1, an official, on the founding day. It refuses only as
+    /// The tables after a founding and the upgrade: one party, number 1, an official, on the founding day. It refuses only as
     /// `Store`, where memory is refused.
     pub fn create(alloc: Global, founder: &Founder) -> Result<PlainStore, OpenError>
         ensures founded { IfOk result (λ s. (⟦<PlainStore as Store>⟧.view s).holds
@@ -99,6 +101,7 @@ impl PlainStore {
         }
         Ok(PlainStore {
             alloc,
+            upgrade: 0,
             last: founder.day,
             parties,
             parcels: Vec::new(alloc),
@@ -116,7 +119,7 @@ impl Store for PlainStore {
     ghost use Rattle.permit_store.specs.Plain.{Keeps};
 
     ghost view = { λ s. record {
-      holds = Keeps s.last s.parties.items s.parcels.items s.interests.items s.files.items;
+      holds = Keeps s.upgrade s.last s.parties.items s.parcels.items s.interests.items s.files.items;
       doubt = 0;
       handed = s.handed;
       failed = s.failed;
@@ -127,6 +130,7 @@ impl Store for PlainStore {
 
     fn desk(&mut self) -> Got<Desk> {
         Ok(Desk {
+            edition: Edition::Second,
             last: self.last,
             parties: self.parties.len() as u32,
             parcels: self.parcels.len() as u32,

@@ -4,14 +4,16 @@ ghost use Rattle.std.specs.Prelude.{◌≡◌, IfOk};
 
 pub use crate::change::{Change, NewPaper, RowEffect};
 use permit_base::values::{Day, Digest, FileId, Lot, PaperNumber, ParcelId, PartyId, Text};
-use permit_base::words::{PaperSort, Role};
+use permit_base::words::{Edition, PaperSort, Role};
 pub use permit_core::row::{FileRow, FileView};
 use std::alloc::AllocError;
 use std::marker::Model;
 
-/// The last day and the counts of rows.
+/// The edition of the inspections that is in force, the last day and the counts of rows.
 #[derive(Clone, Copy)]
 pub struct Desk {
+    /// The edition that a new file keeps to.
+    pub edition: Edition,
     /// The day of the last accepted command.
     pub last: Day,
     pub parties: u32,
@@ -24,9 +26,9 @@ impl Model for Desk {
 
     ghost Value = { TheDesk };
 
-    ghost view = { λ d. record { last = d.last; parties = d.parties; parcels = d.parcels; files = d.files } };
+    ghost view = { λ d. record { edition = d.edition; last = d.last; parties = d.parties; parcels = d.parcels; files = d.files } };
 
-    ghost inverse = { λ d. record { last = d.last; parties = d.parties; parcels = d.parcels; files = d.files } };
+    ghost inverse = { λ d. record { edition = d.edition; last = d.last; parties = d.parties; parcels = d.parcels; files = d.files } };
 }
 
 /// A party: who may ask the office for something.

@@ -55,7 +55,7 @@ pub trait Store {
     /// the call, or else what this says of the tables that are left. Of memory a crash leaves nothing.
     ghost crash: { Self → Self → Tables → ((Tables → Type 0) → Type 0) → Type 0 };
 
-    /// The last day and the counts of parties, parcels and files.
+    /// The edition of the inspections in force, the last day and the counts of parties, parcels and files.
     fn desk(&mut self) -> Got<Desk>
         ensures found { OverTables (view self.old) (view self.new) (λ t. IfOk result (λ d. d ≡ t.desk)) }
         ensures read { IsRead (view self.old) (view self.new) result }

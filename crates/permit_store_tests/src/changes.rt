@@ -2,7 +2,7 @@
 
 use crate::database::founded;
 use permit_base::values::{Cents, Day, PaperNumber};
-use permit_base::words::{Kind, PaperSort, Role, Word};
+use permit_base::words::{Edition, Kind, PaperSort, Role, Word};
 use permit_core::state::FileState;
 use permit_samples::ask::TOKENS;
 use permit_samples::makers::{day, digest_of, file, lot, parcel, party, text};
@@ -26,7 +26,14 @@ const SHOWN: [&str; 9] = [
 
 /// The row of file 1 with a count of papers.
 fn state(papers: u16) -> Result<FileState, Fail> {
-    let mut fields = FileState::file(party(1)?, parcel(1)?, Kind::Repair, day(19702)?).fields();
+    let mut fields = FileState::file(
+        party(1)?,
+        parcel(1)?,
+        Kind::Repair,
+        Edition::Second,
+        day(19702)?,
+    )
+    .fields();
     fields.papers = papers;
     Ok(FileState::restore(fields).ok_or("a state")?)
 }

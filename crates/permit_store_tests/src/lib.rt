@@ -15,3 +15,5 @@ mod reopening;
 mod rows;
 #[cfg(test)]
 mod several;
+#[cfg(test)]
+mod upgrading;

@@ -19,7 +19,7 @@ const OPENINGS: [(Option<&str>, Result<&str, OpenError>); 9] = [
     (None, Ok("Chief")),
     (Some("UPDATE party SET name = 'Another'"), Ok("Another")),
     (
-        Some("UPDATE desk SET version = 2, parties = 7"),
+        Some("UPDATE desk SET version = 3, parties = 7"),
         Err(OpenError::Version),
     ),
     (

@@ -5,7 +5,7 @@ use permit_answer::answer::Answer;
 use permit_answer::{WriteFault, write_reply};
 use permit_base::refusal::{Reason, Refusal};
 use permit_base::values::{Cents, PaperNumber, RuleName};
-use permit_base::words::{Action, Kind, PaperSort, Stage, Timing};
+use permit_base::words::{Action, Edition, Kind, PaperSort, Stage, Timing};
 use permit_core::row::{FileRow, FileView};
 use permit_core::state::FileState;
 use permit_http::fault::Fault;
@@ -53,7 +53,13 @@ fn house(alloc: Global, papers: Vec<Paper>) -> Result<Answer, Fail> {
     let applicant = party(5)?;
     let row = FileRow {
         id: file(1)?,
-        state: FileState::file(applicant, parcel, Kind::Construct, day(19723)?),
+        state: FileState::file(
+            applicant,
+            parcel,
+            Kind::Construct,
+            Edition::Second,
+            day(19723)?,
+        ),
         valuation: Cents::new(25000000).ok_or("cents")?,
         description: text(alloc, "House")?,
     };

@@ -126,7 +126,7 @@ fn hall_of_lists<R: Threads + Wait + Copy + Drop + Send + 'static>(
     lists: Vec<Vec<Asked>>,
     on: Day,
 ) -> Result<ListsEnd<PlainStore>, HallError> {
-    match run_lists(rt, alloc, office, lists, &|| on) {
+    match run_lists(rt, alloc, office, lists, &mut || on) {
         Ok(end) => Ok(end),
         Err((_, error)) => Err(error),
     }

@@ -173,7 +173,7 @@ pub fn hall<R: Threads + Wait + Copy + Drop + Send + 'static>(
     doors: Vec<MemoryDoor<R>>,
     on: Day,
 ) -> Result<HallEnd<PlainStore, MemoryDoor<R>>, HallError> {
-    match run_hall(rt, alloc, office, doors, &|| on) {
+    match run_hall(rt, alloc, office, doors, &mut || on) {
         Ok(end) => Ok(end),
         Err((_, error)) => Err(error),
     }

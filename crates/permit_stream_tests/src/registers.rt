@@ -2,7 +2,7 @@
 
 use crate::streams::Narrow;
 use permit_base::values::{Cents, Day};
-use permit_base::words::{Kind, RegisterKind, Stage, Step};
+use permit_base::words::{Edition, Kind, RegisterKind, Stage, Step};
 use permit_core::restore::StateFields;
 use permit_core::row::{FileRow, FileView};
 use permit_core::state::FileState;
@@ -62,7 +62,13 @@ fn shown(alloc: Global, number: u32, state: FileState, on: Day) -> Result<FileVi
 /// A construction that party 5 files on parcel 1 on the day 19723.
 fn filed() -> Result<FileState, Fail> {
     let applicant = party(5)?;
-    Ok(FileState::file(applicant, parcel(1)?, Kind::Construct, day(19723)?))
+    Ok(FileState::file(
+        applicant,
+        parcel(1)?,
+        Kind::Construct,
+        Edition::Second,
+        day(19723)?,
+    ))
 }
 
 /// A construction under way, with a footing inspection requested on the day 20000.
@@ -74,6 +80,7 @@ fn requested() -> Result<FileState, Fail> {
         reviewer: Some(party(3)?),
         inspector: None,
         kind: Kind::Construct,
+        edition: Edition::Second,
         filed: day(19790)?,
         stage: Stage::Working,
         deadline: Some(20180),

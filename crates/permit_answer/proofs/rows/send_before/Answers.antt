@@ -18,7 +18,7 @@ returns g c =
     let inspector : c.map-3.result ≡ c.inspector.result = search (rules, c.map-3.ensures.cases) in
     let steps : take c.min.result c.required_steps-required.result.now ≡ done_steps file.row.state =
     let count : c.from-2.result ≡ file.row.state.done = search rules in
-    let required : c.required_steps-required.result.now ≡ required_steps file.row.state.kind = search rules in
+    let required : c.required_steps-required.result.now ≡ required_steps file.row.state.edition file.row.state.kind = search rules in
     let least : c.min.result ≡ min c.from-2.result (length c.required_steps-required.result.now) = search rules in
     ap (λ n. take n c.required_steps-required.result.now) least ∙ take_min c.from-2.result c.required_steps-required.result.now
     ∙ ap (λ n. take n c.required_steps-required.result.now) count

@@ -11,5 +11,6 @@ invariant-loop g l =
     IsSeatAt (receives_on l.intake) l.pass × (view l.pass ≡ owner (view l.fn.pass).made (view l.pass).got [])
     × SameLanes l.fn.outlets.items l.outlets.items
     × ((served : List (Entry g.row.M-Request.Denot g.row.M-Reply.Denot))
-    × Serves g.M.Machine.step (goal.C-post g l.clock) (length l.fn.outlets.items) (view l.pass).got l.fn.machine l.machine served
+    × Serves g.M.Machine.step (goal.C-step g) (length l.fn.outlets.items) (view l.pass).got l.fn.machine l.machine l.fn.clock l.clock served
     × Sent served l.outlets.items)
+    × goal.C-IsAlwaysCallable g l.clock

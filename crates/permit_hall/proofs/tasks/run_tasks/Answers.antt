@@ -26,6 +26,6 @@ pub returns-clause-served : goal.returns-clause-served
 returns-clause-served g c = let s = c.serve_all.ensures in let d = c.close-outs.ensures in let l = c.learn_as.ensures in let o = c.in-Ok.ensures in
     let count = as_listed c.in-Ok.setup.hall c.in-Ok.setup.jobs.items (λ j. j.1.task) c.args.tasks.items o.new o.tasks in (
       s.served.0,
-      all_served _ _ _ _ c.args.tasks.items c.start_all-workers.result.items c.serve_all.new.outlets.items _ c.close-outs.result.items _ l.rule.0 _ _ s.served.0 s.served.1 count (c.start_all-workers.ensures.tasks ∙ o.tasks) (s.lanes.0 ∙ count) s.served.2
+      all_served _ _ _ _ c.args.tasks.items c.start_all-workers.result.items c.serve_all.new.outlets.items _ c.close-outs.result.items _ l.rule.0 _ _ _ _ s.served.0 s.served.1 count (c.start_all-workers.ensures.tasks ∙ o.tasks) (s.lanes.0 ∙ count) s.served.2
           d.count d.closed (λ k low. l.rule.1 k low ∙ ap (λ x. requests_in k (x ++ l.rule.0)) (ap (λ v. v.got) d.pass.1)),
     )

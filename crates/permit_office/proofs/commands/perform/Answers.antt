@@ -27,7 +27,7 @@ returns-clause-model g c = λ doubt h is held one there state owner time party.
     let effect = c.effect_of-effect.ensures.suits (tables h) c.apply.new.self (rw state counted) party
     (λ makes. rw state (papers_room h a.day a.caller a.file a.command.now one there none makes)) in
     let suits = row_suits h a.file one c.apply.new.self c.effect_of-effect.result there (ap (λ (s : State). s.parcel) after)
-    (ap (λ (s : State). s.applicant) after) (rw state at effect) in
+    (ap (λ (s : State). s.applicant) after) (ap (λ (s : State). s.edition) after) (rw state at effect) in
     let done = c.carry_out.ensures.model h (entry_of h a.day a.caller (OnFile a.file a.command.now)) (c.people_about.ensures.read.kept (tables h) held)
     (λ same is_ok. (
       number_is (Ok c.paper_number-number.result) same _ number is_ok

@@ -5,6 +5,7 @@ use Rattle.permit_base.specs.declared.words.Action.TheVariants as action
 use Rattle.permit_model.specs.Caller.{Party}
 use Rattle.std.specs.Prelude.{Some}
 use Rattle.std.proofs.lemmas.List.{length-map}
+use Rattle.permit_model.specs.History.{edition}
 use Rattle.permit_model.specs.Files.{filings, case_file, case_files}
 use Rattle.permit_model.specs.Tables.{Desk, tables}
 use Rattle.permit_model.specs.Facts.{parcel_facts}
@@ -50,7 +51,8 @@ returns-clause-model g c = λ doubt h is held e t party.
     let count : c.desk.inside.files ≡ length (filings h) = ap (λ (d : Desk). d.files) (c.desk.view_is ∙ e) ∙ n in
     let reason = rw count at c.next_number-admitted.ensures.reason in
     let caller = ap (λ (p : Party). p.id) c.caller.view_is in
-    let state = rw caller at (c.file-state.ensures.row (length (filings h) + 1) a.valuation a.description.now) in
+    let now : c.desk.inside.edition ≡ edition h = ap (λ (d : Desk). d.edition) (c.desk.view_is ∙ e) in
+    let state = rw (caller, now) at (c.file-state.ensures.row (length (filings h) + 1) a.valuation a.description.now) in
     let done = c.carry_out.ensures.model h (entry_of h a.day a.caller.now.id (File a.parcel a.kind a.valuation a.description.now))
     (c.facts_on_parcel.ensures.read.kept (tables h) kept)
     (λ number is_ok. let s = file_suits h a.day a.caller.now.id a.parcel a.kind a.valuation a.description.now owned.land owned.found party

@@ -12,10 +12,10 @@ returns-clause-good g c fine office =
     let was = c.desk_seen.ensures.fine fine in
     let is = c.as_slice.ensures.value in
     of_both c.only_desk.result c.only_desk.ensures.back c.only_desk.ensures.typed (λ d shown good.
-    only_found (state g.S.Store c.args.conn.now).now c.in_ok-rows.rows.items shown.0 d office (c.schema-schema.ensures.live was.1).0
+    only_found c.args.edition (state g.S.Store c.args.conn.now).now c.in_ok-rows.rows.items shown.0 d office (c.schema-schema.ensures.live was.1).0
     (c.in_ok-rows.ensures.rows fine.0) (sym is ∙ shown.1) shown.2 good)
 
 pub returns-clause-kept : goal.returns-clause-kept
 returns-clause-kept g c fine t typed k =
-    c.only_desk.ensures.some t.desk typed.desk (c.as_slice.ensures.value
-    ∙ kept_desk t (state g.S.Store c.args.conn.now).now c.in_ok-rows.rows.items k (c.in_ok-rows.ensures.rows fine.0))
+    c.only_desk.ensures.some t.desk typed.desk k.now (c.as_slice.ensures.value
+    ∙ kept_desk c.args.edition t (state g.S.Store c.args.conn.now).now c.in_ok-rows.rows.items k (c.in_ok-rows.ensures.rows fine.0))

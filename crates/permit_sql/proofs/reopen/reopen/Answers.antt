@@ -11,4 +11,4 @@ returns g c t held =
     let was = file_state c.settled.result in
     IfSome_then c.opened_again.result {P = λ again. HasCleanDisk (file_state again) →
     FindsAgain was (file_state again)} {Q = λ again. HasCleanDisk (file_state again) → Keeps t (file_state again).now} c.opened_again.ensures
-    (λ again found clean. found_again t was (file_state again) (c.settled.ensures t held) (found clean))
+    (λ again found clean. found_again t was (file_state again) (c.settled.ensures t (λ clean. (held clean).1)) (found clean))

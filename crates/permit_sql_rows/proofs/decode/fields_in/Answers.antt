@@ -1,17 +1,17 @@
-use Rattle.std.proofs.Common.{ap}
+use Rattle.std.proofs.Common.{ap, sym}
 use Rattle.sqlite_value.specs.Order.{column}
 use Rattle.permit_sql_rows.proofs.Stated.{state_is, not_some}
 use Rattle.permit_sql_rows.proofs.decode.fields_in.Goals as goal
 
 pub returns-clause-read : goal.returns-clause-read
-returns-clause-read c = λ is more named e.
+returns-clause-read c = λ upgrade is more named under e.
     let s = is.state in
     let at = λ (n : _). ap (λ r. column r n) e in
-    state_is s _ _ _ _ _ _ _ _ _ _ _ _ _ _ _ _ _
+    state_is s _ _ _ _ _ _ _ _ _ _ _ _ _ _ _ _ _ _
     (c.in_ok-parcel_number.ensures.read s.parcel (at 1)) (c.in_ok-party_number.ensures.read s.applicant (at 2))
     (c.in_ok-party_or_zero.ensures.read s.contractor named.contractor (at 3))
     (c.in_ok-party_or_zero-2.ensures.read s.reviewer named.reviewer (at 4)) (c.in_ok-party_or_zero-3.ensures.read s.inspector named.inspector (at 5))
-    (c.in_ok-kind.ensures.read s.kind (at 6)) (c.in_ok-day.ensures.read s.filed (at 9))
+    (c.in_ok-kind.ensures.read s.kind (at 6)) (sym under) (c.in_ok-day.ensures.read s.filed (at 9))
     (c.in_ok-stage.ensures.read s.stage (at 10)) (c.in_ok-number_or_minus_one.ensures.read s.deadline (at 11))
     (c.in_ok-small_number.ensures.read s.done (at 12)) (c.in_ok-step_or_minus_one.ensures.read s.request (at 13))
     (c.in_ok-day_or_minus_one.ensures.read s.requested (at 14)) (c.in_ok-days_or_zero.ensures.read s.ask named.ask (at 15))
@@ -40,7 +40,8 @@ returns-clause-back c = record {
 }
 
 pub returns-clause-named : goal.returns-clause-named
-returns-clause-named c = record {
+returns-clause-named c = λ upgrade id under. record {
+  edition = under;
   contractor = c.in_ok-party_or_zero.ensures.back.1;
   reviewer = c.in_ok-party_or_zero-2.ensures.back.1;
   inspector = c.in_ok-party_or_zero-3.ensures.back.1;

@@ -1,5 +1,6 @@
-use Rattle.std.proofs.Common.{◌≡◌, [], ◌∷◌, IfSome, ap, ap₂, subst}
+use Rattle.std.proofs.Common.{◌≡◌, [], ◌∷◌, IfSome, ap, ap₂, subst, sym, ◌∙◌}
 use Rattle.sqlite_value.specs.Order.{column}
+use Rattle.permit_model.specs.Tables.{edition_numbered}
 use Rattle.permit_sql_rows.specs.Rows.{int}
 use Rattle.permit_sql_rows.specs.Typed.{ShowsState}
 use Rattle.permit_sql_rows.proofs.Stated.{row_is}
@@ -8,9 +9,9 @@ use Rattle.permit_sql_rows.proofs.decode.file_of.Goals as goal
 pub returns-clause-back : goal.returns-clause-back
 returns-clause-back c =
     let row = c.args.row.now in
-    let id = subst (λ o. IfSome o (λ x. column row 0 ≡ int x)) c.in_ok-readable.ensures.ok c.file_number.ensures.back in
-    let h = subst (λ o. IfSome o (ShowsState row)) c.in_ok-readable-2.ensures.ok c.state_in.ensures.back in
-    let v = subst (λ o. IfSome o (λ x. column row 7 ≡ int x)) c.in_ok-readable-3.ensures.ok c.cents.ensures.back in
+    let id = subst (λ o. IfSome o (λ x. column row 0 ≡ int x)) c.in_ok-id.ensures.ok c.file_number.ensures.back in
+    let h = subst (λ o. IfSome o (ShowsState row)) c.in_ok-readable.ensures.ok c.state_under.ensures.back in
+    let v = subst (λ o. IfSome o (λ x. column row 7 ≡ int x)) c.in_ok-readable-2.ensures.ok c.cents.ensures.back in
     let d = c.in_ok-text.ensures.back in
     ap₂ ◌∷◌ id (ap₂ ◌∷◌ h.parcel (ap₂ ◌∷◌ h.applicant (ap₂ ◌∷◌ h.contractor
     (ap₂ ◌∷◌ h.reviewer (ap₂ ◌∷◌ h.inspector (ap₂ ◌∷◌ h.kind (ap₂ ◌∷◌ v
@@ -21,8 +22,11 @@ returns-clause-back c =
 pub returns-clause-read : goal.returns-clause-read
 returns-clause-read c = λ is more named e.
     let at = λ (n : _). ap (λ r. column r n) e in
+    let here : c.in_ok-id.id ≡ is.id = subst (λ o. IfSome o (λ x. x ≡ is.id)) c.in_ok-id.ensures.ok (c.file_number.ensures.read is.id (at 0)) in
+    let under : is.state.edition ≡ c.edition_numbered.result =
+    named.edition ∙ ap (edition_numbered c.args.upgrade) (sym here) ∙ sym c.edition_numbered.ensures in
     row_is is _ _ _ _
-    (subst (λ o. IfSome o (λ x. x ≡ is.id)) c.in_ok-readable.ensures.ok (c.file_number.ensures.read is.id (at 0)))
-    (subst (λ o. IfSome o (λ x. x ≡ is.state)) c.in_ok-readable-2.ensures.ok (c.state_in.ensures.read is more named e))
-    (subst (λ o. IfSome o (λ x. x ≡ is.valuation)) c.in_ok-readable-3.ensures.ok (c.cents.ensures.read is.valuation (at 7)))
+    here
+    (subst (λ o. IfSome o (λ x. x ≡ is.state)) c.in_ok-readable.ensures.ok (c.state_under.ensures.read c.args.upgrade is more named under e))
+    (subst (λ o. IfSome o (λ x. x ≡ is.valuation)) c.in_ok-readable-2.ensures.ok (c.cents.ensures.read is.valuation (at 7)))
     (c.in_ok-text.ensures.read is.description (at 8))

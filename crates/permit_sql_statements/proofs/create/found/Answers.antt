@@ -23,9 +23,11 @@ returns-clause-all g c clean =
     (ap₂ ◌∷◌ (ap₂ (λ a b. (a, bound b)) c.statement-12.ensures.0 (c.statement-12.ensures.1 ∙ c.requires.bare))
     (ap₂ ◌∷◌ (ap₂ (λ a b. (a, bound b)) c.statement-13.ensures.0 (c.statement-13.ensures.1 ∙ c.requires.bare))
     (ap₂ ◌∷◌ (ap₂ (λ a b. (a, bound b)) c.statement-14.ensures.0 (c.statement-14.ensures.1 ∙ c.requires.bare))
-    (ap₂ ◌∷◌ (ap₂ (λ a b. (a, bound b)) c.statement-15.ensures.0 (c.statement-15.ensures.1))
+    (ap₂ ◌∷◌ (ap₂ (λ a b. (a, bound b)) c.statement-15.ensures.0 (c.statement-15.ensures.1 ∙ c.requires.bare))
     (ap₂ ◌∷◌ (ap₂ (λ a b. (a, bound b)) c.statement-16.ensures.0 (c.statement-16.ensures.1))
-    (refl)))))))))))))))))
+    (ap₂ ◌∷◌ (ap₂ (λ a b. (a, bound b)) c.statement-17.ensures.0 (c.statement-17.ensures.1))
+    (ap₂ ◌∷◌ (ap₂ (λ a b. (a, bound b)) c.statement-18.ensures.0 (c.statement-18.ensures.1))
+    (refl)))))))))))))))))))
     (c.run_all.ensures.all clean)
 
 pub returns-clause-crash : goal.returns-clause-crash
@@ -46,7 +48,9 @@ returns-clause-crash g c =
     (ap₂ ◌∷◌ (ap₂ (λ a b. (a, bound b)) c.statement-12.ensures.0 (c.statement-12.ensures.1 ∙ c.requires.bare))
     (ap₂ ◌∷◌ (ap₂ (λ a b. (a, bound b)) c.statement-13.ensures.0 (c.statement-13.ensures.1 ∙ c.requires.bare))
     (ap₂ ◌∷◌ (ap₂ (λ a b. (a, bound b)) c.statement-14.ensures.0 (c.statement-14.ensures.1 ∙ c.requires.bare))
-    (ap₂ ◌∷◌ (ap₂ (λ a b. (a, bound b)) c.statement-15.ensures.0 (c.statement-15.ensures.1))
+    (ap₂ ◌∷◌ (ap₂ (λ a b. (a, bound b)) c.statement-15.ensures.0 (c.statement-15.ensures.1 ∙ c.requires.bare))
     (ap₂ ◌∷◌ (ap₂ (λ a b. (a, bound b)) c.statement-16.ensures.0 (c.statement-16.ensures.1))
-    (refl)))))))))))))))))
+    (ap₂ ◌∷◌ (ap₂ (λ a b. (a, bound b)) c.statement-17.ensures.0 (c.statement-17.ensures.1))
+    (ap₂ ◌∷◌ (ap₂ (λ a b. (a, bound b)) c.statement-18.ensures.0 (c.statement-18.ensures.1))
+    (refl)))))))))))))))))))
     c.run_all.ensures.crash

@@ -29,4 +29,4 @@ returns-clause-named g c t clean there =
     let new = state g.S.Store c.rows_of.new.conn in
     IfOk-weaker c.rows_of.result _ _ (λ rows h.
     let keeps = there (shown_open _ _ old new rows.items h) in
-    all_found (λ f. eqb f.id c.args.file) (λ f. IsNamed f.state) t.files keeps.keyed.named) (c.rows_of.ensures.shown clean)
+    all_found (λ f. eqb f.id c.args.file) (λ f. IsNamed t.upgrade f.id f.state) t.files keeps.keyed.named) (c.rows_of.ensures.shown clean)

@@ -6,4 +6,4 @@ use Rattle.permit_sql_statements.proofs.select.all_found.Given as goal
 
 -- the rows so far are as many of those that are found
 abbrev pub invariant-rows : goal.invariant-rows
-invariant-rows l = (given : List Found) → AreNamed given → l.rows ≡ map shown_found given → l.all.items ≡ take l.row-index given
+invariant-rows l = (given : List Found) → AreNamed l.upgrade given → l.rows ≡ map shown_found given → l.all.items ≡ take l.row-index given

@@ -5,6 +5,7 @@ use Rattle.permit_store.proofs.Sieving.{among}
 use Rattle.permit_sql_rows.specs.Kept.{Keeps}
 use Rattle.permit_sql_rows.specs.Rows.{int}
 use Rattle.permit_sql_statements.specs.Gave.{Gave}
+use Rattle.permit_sql_statements.proofs.Handing.{gave_under}
 use Rattle.permit_sql_statements.proofs.AnyHanding.{handed_among, any_plain}
 use Rattle.permit_sql_statements.proofs.select.each_by_any_text.Goals as goal
 
@@ -19,11 +20,12 @@ returns-clause-handed g c =
       filter test it.0,
       it.1,
       it.2,
-      λ t clean there.
+      λ t clean there same.
           let gave = it.3 clean (λ opened. any_plain t old.now routes text c.text_of_any.ensures (there opened)) in
           let asked = ap (λ v. v ∷ []) (c.number.ensures ∙ ap int c.get.ensures.same) in
           let all = handed_among t c.args.caller c.get.ensures.within.0 c.args.day routes text c.text_of_any.ensures c.hand_sifted.result old new it.0 there
-          (subst (λ p. Gave c.hand_sifted.result text p old new it.0) asked gave) in
+          (gave_under t.upgrade c.args.upgrade same
+          (subst (λ p. Gave c.args.upgrade c.hand_sifted.result text p old new it.0) asked gave)) in
           subst (AreAmong c.hand_sifted.result (filter test it.0)) all.2 (among c.hand_sifted.result test it.0 all.1.0 all.0 all.1.1 all.1.2),
     )
 

@@ -3,7 +3,7 @@ use Rattle.sqlite.specs.Held.{state}
 use Rattle.permit_sql_rows.specs.Kept.{Keeps}
 use Rattle.permit_sql_statements.specs.Gave.{Gave}
 use Rattle.permit_sql_statements.proofs.RouteAnswers.{asked}
-use Rattle.permit_sql_statements.proofs.Handing.{plain_in, handed_shown}
+use Rattle.permit_sql_statements.proofs.Handing.{gave_under, plain_in, handed_shown}
 use Rattle.permit_sql_statements.proofs.select.each_by_text.Goals as goal
 
 pub returns-clause-handed : goal.returns-clause-handed
@@ -15,10 +15,11 @@ returns-clause-handed g c =
       it.0,
       it.1,
       it.2,
-      λ t clean there.
+      λ t clean there same.
           let gave = it.3 clean (λ opened. plain_in t old.now c.args.route.now c.text_of.result.now c.text_of.ensures (there opened)) in
           handed_shown t c.args.caller c.get-id.ensures.within.0 c.args.route.now c.args.day c.hand_rows.result old new it.0 there
-          (subst₂ (λ s p. Gave c.hand_rows.result s p old new it.0) c.text_of.ensures params gave),
+          (gave_under t.upgrade c.args.upgrade same
+          (subst₂ (λ s p. Gave c.args.upgrade c.hand_rows.result s p old new it.0) c.text_of.ensures params gave)),
     )
 
 pub returns-clause-kept : goal.returns-clause-kept

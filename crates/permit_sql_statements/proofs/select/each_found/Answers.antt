@@ -9,6 +9,6 @@ returns-in-Every-clause-handed g c =
       it.0,
       it.1,
       it.2,
-      λ t clean there. subst (λ r. AreHanded t c.each_of_every.result it.0 (found_by r c.args.caller c.args.day t)) (sym c.in-Every.is)
-          (it.3 t clean there),
+      λ t clean there same. subst (λ r. AreHanded t c.each_of_every.result it.0 (found_by r c.args.caller c.args.day t)) (sym c.in-Every.is)
+          (it.3 t clean there same),
     )

@@ -7,7 +7,7 @@ use Rattle.permit_sql_rows.specs.Kept.{Keeps}
 use Rattle.permit_sql_rows.specs.Rows.{int}
 use Rattle.permit_sql_statements.specs.Gave.{Gave}
 use Rattle.permit_sql_statements.proofs.AnyHanding.{handed_among_without, any_plain_without}
-use Rattle.permit_sql_statements.proofs.Handing.{none_taken, none_among}
+use Rattle.permit_sql_statements.proofs.Handing.{gave_under, none_taken, none_among}
 use Rattle.permit_sql_statements.proofs.KeptLemmas.{survives_both}
 use Rattle.permit_sql_statements.proofs.Reading.{none_counted}
 use Rattle.permit_sql_statements.proofs.select.each_of_any_found.Goals as goal
@@ -18,7 +18,7 @@ returns-in_err-is_interested-clause-handed g c =
       [],
       none_taken c.from_residual.result failed g.T.Taker.took _,
       none_counted c.args.handed.now (omega (arith, c.if-prove.false)),
-      λ t clean there. none_among c.from_residual.result failed _,
+      λ t clean there same. none_among c.from_residual.result failed _,
     )
 
 pub returns-then-branch-clause-handed : goal.returns-then-branch-clause-handed
@@ -53,14 +53,15 @@ returns-clause-handed g c =
       filter test it.0,
       it.1,
       it.2,
-      λ t clean there.
+      λ t clean there same.
           let late : HasCleanDisk (state g.S.Store c.is_interested.new.conn) = omega (arith, c.hand_sifted.ensures.doubt, clean) in
           let shows = c.is_interested.ensures.kept t late there in
           let none = sym (c.in_ok-is_interested.ensures.found t late there) ∙ c.if-branch.false in
           let asked = ap₂ (λ v w. v ∷ w ∷ []) (c.number.ensures ∙ ap int c.get.ensures.same) c.number-2.ensures in
           let gave = it.3 clean (λ opened. any_plain_without t mid.now routes text c.in-Some.ensures.some (shows opened)) in
           let all = handed_among_without t c.args.caller c.get.ensures.within.0 c.args.day routes none text c.in-Some.ensures.some c.hand_sifted.result mid new it.0 shows
-          (subst (λ p. Gave c.hand_sifted.result text p mid new it.0) asked gave) in
+          (gave_under t.upgrade c.args.upgrade same
+          (subst (λ p. Gave c.args.upgrade c.hand_sifted.result text p mid new it.0) asked gave)) in
           subst (AreAmong c.hand_sifted.result (filter test it.0)) all.2 (among c.hand_sifted.result test it.0 all.1.0 all.0 all.1.1 all.1.2),
     )
 

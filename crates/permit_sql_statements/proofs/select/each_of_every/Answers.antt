@@ -5,7 +5,7 @@ use Rattle.permit_sql_rows.specs.Kept.{Keeps}
 use Rattle.permit_sql_rows.specs.Rows.{int}
 use Rattle.permit_sql_statements.specs.Gave.{Gave}
 use Rattle.permit_sql_statements.specs.declared.question.TheConstants.{EVERY_WITHOUT}
-use Rattle.permit_sql_statements.proofs.Handing.{handed_without, plain_without, none_taken, none_handed}
+use Rattle.permit_sql_statements.proofs.Handing.{gave_under, handed_without, plain_without, none_taken, none_handed}
 use Rattle.permit_sql_statements.proofs.KeptLemmas.{survives_both}
 use Rattle.permit_sql_statements.proofs.Reading.{none_counted}
 use Rattle.permit_sql_statements.proofs.select.each_of_every.Goals as goal
@@ -16,7 +16,7 @@ returns-in_err-is_interested-clause-handed g c =
       [],
       none_taken c.from_residual.result failed g.T.Taker.took _,
       none_counted c.args.handed.now (omega (arith, c.if-prove.false)),
-      λ t clean there. none_handed c.from_residual.result failed t _,
+      λ t clean there same. none_handed c.from_residual.result failed t _,
     )
 
 pub returns-then-branch-clause-handed : goal.returns-then-branch-clause-handed
@@ -42,14 +42,15 @@ returns-clause-handed g c =
       it.0,
       it.1,
       it.2,
-      λ t clean there.
+      λ t clean there same.
           let late : HasCleanDisk (state g.S.Store c.is_interested.new.conn) = omega (arith, c.hand_rows.ensures.doubt, clean) in
           let shows = c.is_interested.ensures.kept t late there in
           let none = sym (c.in_ok-is_interested.ensures.found t late there) ∙ c.if-branch.false in
           let asked = ap₂ (λ v w. v ∷ w ∷ []) (c.number.ensures ∙ ap int c.get.ensures.same) c.number-2.ensures in
           let gave = it.3 clean (λ opened. plain_without t mid.now (shows opened)) in
           handed_without t c.args.caller c.get.ensures.within.0 none c.args.day c.hand_rows.result mid new it.0 shows
-          (subst (λ p. Gave c.hand_rows.result EVERY_WITHOUT.now p mid new it.0) asked gave),
+          (gave_under t.upgrade c.args.upgrade same
+          (subst (λ p. Gave c.args.upgrade c.hand_rows.result EVERY_WITHOUT.now p mid new it.0) asked gave)),
     )
 
 pub returns-clause-kept : goal.returns-clause-kept

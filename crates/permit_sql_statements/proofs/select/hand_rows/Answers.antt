@@ -191,7 +191,7 @@ returns-then-not-take-clause-handed g c =
           record {
             rows = it.1 ++ row ∷ [];
             are = (here.0, begins_since sql params old (state g.S.Store now) (it.1 ++ row ∷ []) still.0.now_is begins);
-            shown = read_more it.1 was.4 row found it.3 c.in-Some-found_in.ensures;
+            shown = read_more c.args.upgrade it.1 was.4 row found it.3 c.in-Some-found_in.ensures;
           },
     )
 
@@ -252,7 +252,7 @@ rows-preserved g c =
                   unchanged_then old mid (state g.S.Store now) it.0 kept,
                   it.1 ++ row ∷ [],
                   given,
-                  read_more it.1 was.4 row found it.3 c.in-Some-found_in.ensures,
+                  read_more c.args.upgrade it.1 was.4 row found it.3 c.in-Some-found_in.ensures,
                 ),
           ),
     )

@@ -23,4 +23,4 @@ invariant-rows g l =
     × (given : List Found) × TookAll g.T.Taker.took given l.fn.taker l.taker × (l.handed ≡ more_handed (length given) l.fn.handed)
     × (HasCleanDisk now → IsTrue old.is_open × IsTrue now.is_open
     × (IsPlain (understood l.fn.conn.schema l.sql) → IsUnchanged old now × (rows : List Row) × HasGiven g.S.Store l.sql (bound l.params) l.rows.conn.now rows
-    × AreReadAs rows given))
+    × AreReadAs l.upgrade rows given))

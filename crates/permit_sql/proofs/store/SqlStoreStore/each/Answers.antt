@@ -9,9 +9,9 @@ returns-in-Ok-clause-handed g c =
       it.0,
       record {
         taken = it.1;
-        read = hand_ok g.S.Store s.conn c.each_found.new.conn s.handed s.failed s.commits _ _ _ it.2 c.each_found.ensures.kept c.each_found.ensures.doubt c.in-Ok.ensures.open;
+        read = hand_ok g.S.Store s.conn c.each_found.new.conn s.upgrade s.handed s.failed s.commits _ _ _ it.2 c.each_found.ensures.kept c.each_found.ensures.doubt c.in-Ok.ensures.open;
       },
-      λ sure t held. it.3 t sure (held (omega (arith, c.each_found.ensures.doubt, sure))),
+      λ sure t held. it.3 t sure (held (omega (arith, c.each_found.ensures.doubt, sure))).1 (held (omega (arith, c.each_found.ensures.doubt, sure))).0,
     )
 
 pub returns-in-Err-clause-handed : goal.returns-in-Err-clause-handed
@@ -21,7 +21,7 @@ returns-in-Err-clause-handed g c =
       it.0,
       record {
         taken = it.1;
-        read = hand_err g.S.Store s.conn c.each_found.new.conn s.handed s.failed s.commits _ _ _ it.2 c.each_found.ensures.kept c.each_found.ensures.doubt;
+        read = hand_err g.S.Store s.conn c.each_found.new.conn s.upgrade s.handed s.failed s.commits _ _ _ it.2 c.each_found.ensures.kept c.each_found.ensures.doubt;
       },
-      λ sure t held. it.3 t sure (held (omega (arith, c.each_found.ensures.doubt, sure))),
+      λ sure t held. it.3 t sure (held (omega (arith, c.each_found.ensures.doubt, sure))).1 (held (omega (arith, c.each_found.ensures.doubt, sure))).0,
     )

@@ -3,16 +3,16 @@ use Rattle.permit_sql.proofs.Calls.{read_ok, read_err}
 use Rattle.permit_sql.proofs.store.SqlStoreStore.has_open_notice.Goals as goal
 
 pub returns-in-Ok-clause-found : goal.returns-in-Ok-clause-found
-returns-in-Ok-clause-found g c sure t held = c.in-Ok.ensures.found t sure (held (omega (arith, c.has_open_notice.ensures.doubt, sure)))
+returns-in-Ok-clause-found g c sure t held = c.in-Ok.ensures.found t sure (held (omega (arith, c.has_open_notice.ensures.doubt, sure))).1
 
 pub returns-in-Ok-clause-read : goal.returns-in-Ok-clause-read
 returns-in-Ok-clause-read g c =
     let s = c.args.self.now in
-    read_ok g.S.Store s.conn c.has_open_notice.new.conn s.handed s.failed s.commits _ _ c.has_open_notice.ensures.kept c.has_open_notice.ensures.doubt c.in-Ok.ensures.open
+    read_ok g.S.Store s.conn c.has_open_notice.new.conn s.upgrade s.handed s.failed s.commits _ _ c.has_open_notice.ensures.kept c.has_open_notice.ensures.doubt c.in-Ok.ensures.open
 
 pub returns-in-Err-clause-read : goal.returns-in-Err-clause-read
 returns-in-Err-clause-read g c =
     let s = c.args.self.now in
     let n = c.fail.new.self in
-    read_err g.S.Store s.conn c.has_open_notice.new.conn s.handed s.failed s.commits n.conn n.handed n.failed n.commits _ c.fail.ensures.error c.fail.ensures.conn c.fail.ensures.counted c.fail.ensures.others
+    read_err g.S.Store s.conn c.has_open_notice.new.conn s.upgrade s.handed s.failed s.commits n.conn n.upgrade n.handed n.failed n.commits _ c.fail.ensures.error c.fail.ensures.conn c.fail.ensures.counted c.fail.ensures.others
     c.has_open_notice.ensures.kept c.has_open_notice.ensures.doubt

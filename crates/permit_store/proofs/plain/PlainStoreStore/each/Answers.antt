@@ -8,7 +8,7 @@ pub returns-in-Ok-clause-handed : goal.returns-in-Ok-clause-handed
 returns-in-Ok-clause-handed g c =
     let s : Selection = record { route = c.args.route.now; caller = c.args.caller; day = c.args.day; parcels = c.deref.result; interests = c.deref-2.result } in
     hands g.T.Taker.took _ (found_by c.args.route.now c.args.caller c.args.day) _ _ c.args.taker.now c.hand-outcome.new.taker _
-    (λ t k. found_in_tables _ _ s _ _ _ _ t c.deref.ensures.value c.deref-2.ensures.value c.deref-3.ensures.value k)
+    (λ t k. found_in_tables _ _ _ s _ _ _ _ t c.deref.ensures.value c.deref-2.ensures.value c.deref-3.ensures.value k)
     (search rules)
     (told_ok g.T.Taker.took _ _ _ _ _ _ c.in-Ok.all c.in-Ok.is c.hand-outcome.ensures)
 
@@ -17,6 +17,6 @@ returns-in-Err-clause-handed g c =
     let s : Selection = record { route = c.args.route.now; caller = c.args.caller; day = c.args.day; parcels = c.deref.result; interests = c.deref-2.result } in
     rw c.fail.ensures.counted
     (hands g.T.Taker.took _ (found_by c.args.route.now c.args.caller c.args.day) _ _ c.args.taker.now c.hand-outcome.new.taker c.fail.result
-    (λ t k. found_in_tables _ _ s _ _ _ _ t c.deref.ensures.value c.deref-2.ensures.value c.deref-3.ensures.value k)
+    (λ t k. found_in_tables _ _ _ s _ _ _ _ t c.deref.ensures.value c.deref-2.ensures.value c.deref-3.ensures.value k)
     (reads_failed _ _ c.fail.result c.fail.ensures.error (λ t k. k) (le_refl _) refl refl)
     (told_err g.T.Taker.took _ _ _ _ _ c.hand-outcome.result c.in-Err.field-0 c.fail.result c.in-Err.is c.fail.ensures.error c.hand-outcome.ensures))

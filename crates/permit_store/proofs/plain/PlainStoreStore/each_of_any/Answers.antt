@@ -13,7 +13,7 @@ returns-in-Ok-clause-handed g c =
     let handed = told_ok (Sieves g.T.Taker.took) _ _ _ _ _ _ c.in-Ok.all c.in-Ok.is c.hand-outcome.ensures in
     let named = same_taker g.T.Taker.took a.routes.now a.caller a.day _ _ _ _ c.hand-outcome.new.taker _ (refl, refl, refl) refl handed in
     hands_of_any g.T.Taker.took a.routes.now a.caller a.day _ _ _ _ c.hand-outcome.new.taker _ _ _ _ (refl, refl, refl) refl (search rules)
-    (λ t k. found_in_tables _ _ s _ _ _ _ t c.deref.ensures.value c.deref-2.ensures.value c.deref-3.ensures.value k
+    (λ t k. found_in_tables _ _ _ s _ _ _ _ t c.deref.ensures.value c.deref-2.ensures.value c.deref-3.ensures.value k
     ∙ found_every a.caller a.day (map (found_row t a.caller) t.files))
     (search rules) refl handed
 
@@ -26,6 +26,6 @@ returns-in-Err-clause-handed g c =
     let named = same_taker g.T.Taker.took a.routes.now a.caller a.day _ _ _ _ c.hand-outcome.new.taker _ (refl, refl, refl) refl handed in
     rw c.fail.ensures.counted
     (hands_of_any g.T.Taker.took a.routes.now a.caller a.day _ _ _ _ c.hand-outcome.new.taker _ _ _ _ (refl, refl, refl) refl (search rules)
-    (λ t k. found_in_tables _ _ s _ _ _ _ t c.deref.ensures.value c.deref-2.ensures.value c.deref-3.ensures.value k
+    (λ t k. found_in_tables _ _ _ s _ _ _ _ t c.deref.ensures.value c.deref-2.ensures.value c.deref-3.ensures.value k
     ∙ found_every a.caller a.day (map (found_row t a.caller) t.files))
     (reads_failed _ _ c.fail.result c.fail.ensures.error (λ t k. k) (le_refl _) refl refl) refl handed)

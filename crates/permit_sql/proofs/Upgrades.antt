@@ -1,0 +1,145 @@
+-- The table of the upgrade: what a query of it shows, and the row that it then has.
+use Rattle.std.proofs.Common.{◌≡◌, ◌≤◌, ◌+◌, suc, length, Option, Some, None, IfSome, refl, sym, ap, subst, ◌∙◌, List, [], ◌∷◌, map, codes, false, arith, IsPermutation, ℕ}
+use Rattle.std.proofs.lemmas.List.Sorted.{IsPermutation-sym}
+use Rattle.std.specs.List.{AllByRecursion}
+use Rattle.sqlite_tied.specs.Compute.{everything}
+use Rattle.sqlite.specs.Listing.{understood, reads_listing}
+use Rattle.sqlite_schema.specs.declared.schema.Constraint.TheVariants.{Datatype, NotNull}
+use Rattle.sqlite_schema.specs.Rules.{Keeps as KeepsRule}
+use Rattle.sqlite_schema.specs.declared.command.Command.TheVariants.{Select}
+use Rattle.sqlite.specs.declared.types.Value.TheVariants.{Null}
+use Rattle.sqlite_value.specs.Order.{Row}
+use Rattle.sqlite_sql.specs.Term.{col}
+use Rattle.sqlite_sql.specs.Query.{Query, inner, end}
+use Rattle.sqlite_sql.specs.Program.{overlay}
+use Rattle.sqlite.specs.Effect.{Database, IsDatabase}
+use Rattle.sqlite.specs.State.{State, Shown}
+use Rattle.sqlite.proofs.Callers.{command_of, IsPlain, reads_as, one_permutation}
+use Rattle.permit_base.specs.declared.words.Edition.{Edition}
+use Rattle.permit_base.specs.declared.words.Edition.TheVariants.{First, Second}
+use Rattle.permit_model.specs.History.{History}
+use Rattle.permit_model.specs.Machine.{IsHistory}
+use Rattle.permit_model.specs.Files.{CaseFile, case_files}
+use Rattle.permit_model.specs.Numbering.{IsNumberedFrom}
+use Rattle.permit_model.specs.Tables.{Tables, FileRow, file_row, tables, edition_by, with_upgrade}
+use Rattle.permit_model.proofs.Numbers.{case_files_numbered}
+use Rattle.permit_sql_rows.specs.Kept.{KeepsUnder}
+use Rattle.permit_sql_rows.specs.Schema.{upgrade_table, office_schema, key_column, int_column}
+use Rattle.permit_sql_rows.specs.Rows.{shown_upgrade, upgrade_row}
+use Rattle.permit_sql_rows.specs.Typed.{firsts}
+use Rattle.permit_sql_statements.specs.declared.texts.TheConstants.{READ_UPGRADE}
+use Rattle.permit_sql_statements.proofs.Lookups.{plain_query}
+use Rattle.permit_sql_statements.proofs.QueryTexts.{alone, names_of, columns_of}
+use Rattle.permit_sql_statements.specs.Founding.{AreCounted}
+use Rattle.permit_sql.specs.Found.{IsNumbered, AreTyped}
+use Rattle.permit_sql.specs.Opening.{seen_upgrade}
+use Rattle.permit_sql.proofs.Shaped.{keyed_rows, IsKeyedRow}
+use Rattle.permit_sql.proofs.Checks.{with_null}
+use Rattle.permit_sql.proofs.Version.{only_one}
+use Rattle.permit_sql.proofs.Wholes.{whole_shown}
+
+abbrev pub read_upgrade_query : Query
+read_upgrade_query = plain_query (inner 18 end) [] (col 1 0 ∷ columns_of 1 2) []
+
+read_upgrade_is : command_of (understood office_schema READ_UPGRADE.now)
+    ≡ Select (alone read_upgrade_query) (names_of (command_of (understood office_schema READ_UPGRADE.now)))
+unfolding understood everything
+read_upgrade_is = refl
+
+pub read_upgrade_plain : IsPlain (understood office_schema READ_UPGRADE.now)
+unfolding understood everything
+read_upgrade_plain = (refl, refl)
+
+read_upgrade_unlisted : reads_listing office_schema READ_UPGRADE.now ≡ false
+unfolding understood everything
+read_upgrade_unlisted = refl
+
+-- the rows of the tree, as the query shows them
+pub upgrade_rows_seen : (old new : State) (rows : List Row) → old.now.schema ≡ office_schema → Shown READ_UPGRADE.now [] old new rows →
+    IsPermutation (map seen_upgrade (old.now.trees 18)) rows
+upgrade_rows_seen old new rows office h =
+    let read = reads_as READ_UPGRADE.now [] old new office_schema office _ read_upgrade_is read_upgrade_plain read_upgrade_unlisted rows h in
+    whole_shown 18 read_upgrade_query.project read_upgrade_query.order (overlay old.now.trees []) rows (read.answer Null)
+
+-- one row that shows a count is the tree's
+pub upgrade_found : (db : Database) (rows : List Row) (q : Row) (n : ℕ) → db.schema ≡ office_schema → IsDatabase db →
+    IsPermutation (map seen_upgrade (db.trees 18)) rows → rows ≡ q ∷ [] → firsts 2 0 q ≡ shown_upgrade n → db.trees 18 ≡ upgrade_row n ∷ []
+upgrade_found db rows q n schema sound same alone shown =
+    let it = only_one seen_upgrade (db.trees 18) q
+    (one_permutation q _ (IsPermutation-sym _ _ (subst (IsPermutation (map seen_upgrade (db.trees 18))) alone same))) in
+    let typed : KeepsRule Datatype office_schema db.trees = subst (λ s. KeepsRule Datatype s db.trees) schema (sound.obeys.rules Datatype) in
+    let there : KeepsRule NotNull office_schema db.trees = subst (λ s. KeepsRule NotNull s db.trees) schema (sound.obeys.rules NotNull) in
+    let whole = keyed_rows office_schema db.trees upgrade_table key_column (int_column (codes "files") ∷ []) refl refl (refl, tt) (omega arith)
+    (db.trees 18) typed.1.1.1.1.1.1.0 there.1.1.1.1.1.1.0 in
+    let row = (subst (AllByRecursion (IsKeyedRow 1)) it.1 whole).0 in
+    let says : seen_upgrade it.0 ≡ shown_upgrade n = subst (λ r. firsts 2 0 r ≡ shown_upgrade n) (sym it.2) shown in
+    let is_row : it.0 ≡ upgrade_row n = sym row ∙ ap with_null says in
+    it.1 ∙ ap (λ r. r ∷ []) is_row
+
+-- the row of tables that the database keeps is the answer
+pub kept_upgrade : (db : Database) (rows : List Row) (n : ℕ) → db.trees 18 ≡ upgrade_row n ∷ [] → IsPermutation (map seen_upgrade (db.trees 18)) rows →
+    rows ≡ shown_upgrade n ∷ []
+kept_upgrade db rows n here same = one_permutation (shown_upgrade n) rows (subst (λ l. IsPermutation (map seen_upgrade l) rows) here same)
+
+-- what tables under the second edition have there
+pub record HasCount (t : Tables) (db : Database) : Type 0 where
+  pub files : ℕ
+  pub upgrade : t.upgrade ≡ Some files
+  pub within : files ≤ t.desk.files
+  pub here : db.trees 18 ≡ upgrade_row files ∷ []
+
+pub under_second : (edition : Edition) (t : Tables) (db : Database) → edition ≡ Second → KeepsUnder edition t db → HasCount t db
+under_second edition t db second k = go t.upgrade refl k.keyed.upgraded k.rows.upgrade
+  where
+    go : (o : Option ℕ) → t.upgrade ≡ o → IfSome o (λ files. files ≤ t.desk.files) → IfSome o (λ files. db.trees 18 ≡ upgrade_row files ∷ []) → HasCount t db
+    go None is within here = absurd (let e = sym (k.now ∙ second) ∙ k.keyed.edition ∙ ap edition_by is in cc)
+    go (Some files) is within here = record { files = files; upgrade = is; within = within; here = here }
+
+-- and those under the first
+pub under_first : (edition : Edition) (t : Tables) (db : Database) → edition ≡ First → KeepsUnder edition t db → t.upgrade ≡ None
+under_first edition t db first k = go t.upgrade refl
+  where
+    go : (o : Option ℕ) → t.upgrade ≡ o → t.upgrade ≡ None
+    go None is = is
+    go (Some files) is = absurd (let e = sym (k.now ∙ first) ∙ k.keyed.edition ∙ ap edition_by is in cc)
+
+-- ---- the tables after the upgrade
+
+counted_from : (n : ℕ) (fs : List FileRow) → IsNumbered (λ (f : FileRow). f.id) n fs → (most : ℕ) → n + length fs ≤ most + 1 →
+    AllByRecursion (λ (f : FileRow). f.id ≤ most) fs
+counted_from n [] up most low = tt
+counted_from n (f ∷ fs) up most low =
+    let e : f.id ≡ n = up.0 in
+    (omega (arith, e, low), counted_from (suc n) fs up.1 most (omega (arith, low)))
+
+-- typed tables have no file whose number is above their count
+pub are_counted : (t : Tables) → AreTyped t → AreCounted t
+are_counted t typed = let count = typed.file_count in counted_from 1 t.files typed.file_numbers t.desk.files (omega (arith, count))
+
+case_files_counted : (first : ℕ) (files : List CaseFile) → IsNumberedFrom (λ (f : CaseFile). f.filing.id) first files → (count : ℕ) →
+    first + length files ≤ suc count → AllByRecursion (λ (f : FileRow). f.id ≤ count) (map file_row files)
+case_files_counted first [] numbered count low = tt
+case_files_counted first (f ∷ files) numbered count low =
+    let here = numbered.0 in
+    (omega (arith, here, low), case_files_counted (first + 1) files numbered.1 count (omega (arith, low)))
+
+-- nor have those of a history
+pub history_counted : (h : History) → IsHistory h → AreCounted (tables h)
+history_counted h is = case_files_counted 1 (case_files h) (case_files_numbered h is) (length (case_files h)) (omega arith)
+
+-- and are typed after the upgrade
+pub typed_after : (t : Tables) → AreTyped t → AreTyped (with_upgrade t)
+typed_after t typed = record {
+  desk = record { last = typed.desk.last; parties = typed.desk.parties; parcels = typed.desk.parcels; files = typed.desk.files };
+  parties = typed.parties;
+  parcels = typed.parcels;
+  interests = typed.interests;
+  files = typed.files;
+  papers = typed.papers;
+  party_numbers = typed.party_numbers;
+  parcel_numbers = typed.parcel_numbers;
+  file_numbers = typed.file_numbers;
+  party_count = typed.party_count;
+  parcel_count = typed.parcel_count;
+  file_count = typed.file_count;
+}

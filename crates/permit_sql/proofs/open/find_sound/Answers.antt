@@ -1,0 +1,30 @@
+use Rattle.std.proofs.Common.{◌≡◌, sym, subst, ◌∙◌, rules}
+use Rattle.sqlite.specs.Effect.{Database}
+use Rattle.sqlite.specs.Held.{state}
+use Rattle.permit_sql.specs.Found.{HasDesk, HasUpgrade, HasObjects, HasCases, HasSound}
+use Rattle.permit_sql.proofs.Opened.{tables_found}
+use Rattle.permit_sql.proofs.open.find_sound.Goals as goal
+
+pub returns-clause-good : goal.returns-clause-good
+returns-clause-good g c fine office =
+    let old = (state g.S.Store c.args.conn.now).now in
+    let d = c.in-Some.desk in
+    let e = c.args.edition in
+    let u = c.in-Some-2.upgrade in
+    let fourth = c.has_sound_files.ensures.left fine in
+    let third = c.has_sound_objects.ensures.left fourth.0 in
+    let second = c.find_upgrade.ensures.left third.0 in
+    let first = c.find_desk.ensures.left second.0 in
+    let same : c.desk.inside.files ≡ d.files = search rules in
+    let desk : HasDesk d (old.trees 0) = rw c.in-Some.is at (c.in_ok-desk.ensures.good second.0 office) in
+    let now = rw c.in-Some.is at c.in_ok-desk.ensures.now in
+    let upgrade : HasUpgrade e d.files u old.trees = subst (λ (db : Database). HasUpgrade e d.files u db.trees) first.1
+    (subst (λ n. HasUpgrade e n u (state g.S.Store c.find_desk.new.conn).now.trees) same
+    (rw c.in-Some-2.is at (c.in_ok-upgrade.ensures.good third.0))) in
+    let objects : HasObjects d old.trees = subst (λ (db : Database). HasObjects d db.trees) (second.1 ∙ first.1)
+    (c.in_ok-has_sound_objects.ensures.good fourth.0 c.if-not-branch.false) in
+    let cases : HasCases d u old.trees = subst (λ (db : Database). HasCases d u db.trees) (third.1 ∙ second.1 ∙ first.1)
+    (c.in_ok-has_sound_files.ensures.good fine c.if-not-branch-2.false) in
+    let last : c.desk-2.inside.files ≡ d.files = search rules in
+    subst (λ n. HasSound e old n u) (sym last)
+    (tables_found e old d u cases.counts office now desk upgrade objects.parties objects.parcels objects.interests cases.files cases.counted cases.papers cases.apart)

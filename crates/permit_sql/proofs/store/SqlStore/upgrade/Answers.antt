@@ -1,0 +1,54 @@
+use Rattle.std.proofs.Common.{◌≡◌, ℕ, sym, subst, ap, ◌∙◌, arith}
+use Rattle.sqlite.specs.Effect.{Database}
+use Rattle.sqlite.specs.State.{HasCleanDisk}
+use Rattle.sqlite.specs.Held.{state}
+use Rattle.sqlite.proofs.StateLemmas.{survives_then}
+use Rattle.permit_base.specs.declared.words.Edition.TheVariants.{First}
+use Rattle.permit_model.specs.History.{upgraded}
+use Rattle.permit_model.specs.Tables.{Tables, Desk, tables, with_upgrade}
+use Rattle.permit_model.proofs.Editions.{upgrade_made}
+use Rattle.permit_sql_rows.specs.Kept.{KeepsUnder, Keeps, IsFine}
+use Rattle.permit_sql.specs.Found.{HasSound}
+use Rattle.permit_sql.proofs.Calls.{one_desk}
+use Rattle.permit_sql.proofs.Upgrades.{are_counted, history_counted, typed_after}
+use Rattle.permit_sql.proofs.store.SqlStore.upgrade.Goals as goal
+
+-- the count that was found is that of any tables that the database keeps
+counted : (old mid : Database) (files : ℕ) (upgrade : _) (t : Tables) → HasSound First mid files upgrade → mid ≡ old → KeepsUnder First t old → t.desk.files ≡ files
+counted old mid files upgrade t sound same k =
+    ap (λ (d : Desk). d.files) (one_desk First t sound.0 mid (subst (KeepsUnder First t) (sym same) k) sound.2) ∙ sound.3
+
+pub returns-in-Ok-clause-made : goal.returns-in-Ok-clause-made
+returns-in-Ok-clause-made g c clean t low k =
+    let mid = state g.S.Store c.check.new.conn in
+    let late : HasCleanDisk mid = let kept = c.upgrade_in.ensures.crash.clean in omega (arith, kept, clean) in
+    let fine : IsFine mid = (late, c.in_ok-sound.ensures.open late) in
+    let was = c.check.ensures.left fine in
+    let files = counted (state g.S.Store c.args.conn.now).now mid.now c.in_ok-sound.sound.files c.in_ok-sound.sound.upgrade t
+    (c.in_ok-sound.ensures.sound fine) was.1 k in
+    (sym files, c.in-Ok.ensures.made clean t files low (subst (KeepsUnder First t) (sym was.1) k))
+
+pub returns-in-Ok-clause-history : goal.returns-in-Ok-clause-history
+returns-in-Ok-clause-history g c clean h is k =
+    let made = returns-in-Ok-clause-made g c clean (tables h) (history_counted h is) k in
+    (made.0, subst (λ t. Keeps t (state g.S.Store c.upgrade_in.new.conn).now) (sym (upgrade_made h)) made.1)
+
+pub returns-in-Ok-clause-typed : goal.returns-in-Ok-clause-typed
+returns-in-Ok-clause-typed g c clean =
+    let mid = state g.S.Store c.check.new.conn in
+    let late : HasCleanDisk mid = let kept = c.upgrade_in.ensures.crash.clean in omega (arith, kept, clean) in
+    let fine : IsFine mid = (late, c.in_ok-sound.ensures.open late) in
+    let sound = c.in_ok-sound.ensures.sound fine in
+    (with_upgrade sound.0, typed_after sound.0 sound.1, c.in-Ok.ensures.made clean sound.0 sound.3 (are_counted sound.0 sound.1) sound.2)
+
+pub returns-in-Ok-clause-crash : goal.returns-in-Ok-clause-crash
+returns-in-Ok-clause-crash g c =
+    let mid = state g.S.Store c.check.new.conn in
+    survives_then (state g.S.Store c.args.conn.now) mid (state g.S.Store c.upgrade_in.new.conn) _ _ _ (λ _ db none. absurd none)
+    (λ clean db made t low k.
+    let late : HasCleanDisk mid = let kept = c.upgrade_in.ensures.crash.clean in omega (arith, kept, clean) in
+    let fine : IsFine mid = (late, c.in_ok-sound.ensures.open late) in
+    let was = c.check.ensures.left fine in
+    made t (counted (state g.S.Store c.args.conn.now).now mid.now c.in_ok-sound.sound.files c.in_ok-sound.sound.upgrade t
+    (c.in_ok-sound.ensures.sound fine) was.1 k) low (subst (KeepsUnder First t) (sym was.1) k))
+    c.check.ensures.crash c.upgrade_in.ensures.crash

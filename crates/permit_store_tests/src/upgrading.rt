@@ -1,0 +1,85 @@
+//! A database of version 1 that is made one of version 2, and played on.
+
+use crate::database::{founded, over_database};
+use permit_samples::offices::office_over;
+use permit_samples::opening::OPENING;
+use permit_samples::script::play;
+use permit_samples::standard::POLICY;
+use permit_samples::upgrade::{BEFORE, BEHIND};
+use permit_sql::store::SqlStore;
+use permit_store::store::OpenError;
+use sqlite::{Connection, MemStore};
+use std::alloc::Global;
+use std::test::Fail;
+
+/// What makes of a database of version 2 the one of version 1 with the same rows.
+const VERSION_1: [&str; 2] = ["DROP TABLE upgrade", "UPDATE desk SET version = 1"];
+
+/// What the databases of either version show of the desk, and of the upgrade.
+const DESK: &str = "SELECT version || ' ' || last || ' ' || files FROM desk";
+const UPGRADE: &str = "SELECT id || ' ' || files FROM upgrade";
+
+/// A statement that is run in a database of version 1, and why it then isn't upgraded.
+const REFUSED: [(&str, OpenError); 5] = [
+    ("UPDATE desk SET version = 2", OpenError::Version),
+    ("UPDATE desk SET version = 0", OpenError::Version),
+    ("UPDATE file SET kind = 9", OpenError::Damaged),
+    ("UPDATE desk SET files = 2", OpenError::Damaged),
+    ("DROP INDEX file_cell", OpenError::Store),
+];
+
+/// A database of version 1 with a construction whose frame is approved.
+fn of_version_1(alloc: Global) -> Result<Connection<MemStore>, Fail> {
+    let mut office = over_database(alloc)?;
+    for script in [OPENING].iter().chain(BEFORE.iter()) {
+        play(alloc, &mut office, script)?;
+    }
+    let mut conn = office.into_store().into_connection();
+    for statement in VERSION_1 {
+        conn.execute(statement, &[])?;
+    }
+    Ok(conn)
+}
+
+/// The text that a query of one row gives.
+fn text_of(conn: &mut Connection<MemStore>, query: &str) -> Result<String, Fail> {
+    Ok(conn.query_row(query, &[])?.get(0)?)
+}
+
+#[test]
+fn an_old_office_is_upgraded_once_and_played_on(rt: HostRuntime) -> Result<(), Fail> {
+    let alloc = rt.alloc();
+    let mut conn = of_version_1(alloc)?;
+    assert_eq!(rt; text_of(&mut conn, DESK)?.as_str(), "1 19820 1");
+    assert!(rt; SqlStore::upgrade(alloc, &mut conn) == Ok(1));
+    assert_eq!(rt; text_of(&mut conn, DESK)?.as_str(), "2 19820 1");
+    assert_eq!(rt; text_of(&mut conn, UPGRADE)?.as_str(), "1 1");
+    assert!(rt; SqlStore::upgrade(alloc, &mut conn) == Err(OpenError::Version));
+    let store = match SqlStore::open(alloc, conn) {
+        Ok(store) => store,
+        Err((_, why)) => return Err(why)?,
+    };
+    let mut office = office_over(alloc, store, POLICY)?;
+    for script in BEHIND {
+        play(alloc, &mut office, script)?;
+    }
+    Ok(())
+}
+
+#[test]
+fn what_is_no_old_office_is_not_upgraded(rt: HostRuntime) -> Result<(), Fail> {
+    let alloc = rt.alloc();
+    for (statement, wanted) in REFUSED {
+        let mut conn = of_version_1(alloc)?;
+        conn.execute(statement, &[])?;
+        let shown = text_of(&mut conn, DESK)?;
+        let why = SqlStore::upgrade(alloc, &mut conn);
+        assert!(rt; why == Err(wanted), "{statement}");
+        assert_eq!(rt; text_of(&mut conn, DESK)?.as_str(), shown.as_str());
+    }
+    let mut conn = founded(alloc)?.into_connection();
+    assert!(rt; SqlStore::upgrade(alloc, &mut conn) == Err(OpenError::Version));
+    let mut none = Connection::open_in_memory(alloc)?;
+    assert!(rt; SqlStore::upgrade(alloc, &mut none) == Err(OpenError::Store));
+    Ok(())
+}
