@@ -67,7 +67,10 @@ fn words_are_spelled_as_the_department_spells_them(rt: HostRuntime) {
             "occupancy",
         ],
     );
-    check_words::<Step>(&rt, &["footing", "slab", "frame", "lath", "final", "energy"]);
+    check_words::<Step>(
+        &rt,
+        &["footing", "slab", "frame", "lath", "final", "energy"],
+    );
     check_words::<Stage>(
         &rt,
         &[

@@ -75,7 +75,11 @@ pub struct ListsEnd<S: Store + Drop> {
 /// office serves them one at a time, in one order for all lists, each on a day that the clock gives as it is taken. A
 /// request that is refused for the store has its refusal at its place, and has changed nothing. With an error the
 /// office comes back as it was.
-pub fn run_lists<S: Store + Drop, C: FnMut() -> Day, R: Threads + Wait + Copy + Drop + Send + 'static>(
+pub fn run_lists<
+    S: Store + Drop,
+    C: FnMut() -> Day,
+    R: Threads + Wait + Copy + Drop + Send + 'static,
+>(
     rt: R,
     alloc: Global,
     office: Office<S>,

@@ -149,7 +149,9 @@ pub(crate) const STEPS_OF_ALTERATION: &[&str] = &[
 ];
 
 /// A construction with its frame approved.
-pub(crate) const FRAME_APPROVED: &[&str] = &[CONSTRUCT, APPROVED, ISSUED, BEGUN, FOOTING, SLAB, FRAME];
+pub(crate) const FRAME_APPROVED: &[&str] = &[
+    CONSTRUCT, APPROVED, ISSUED, BEGUN, FOOTING, SLAB, FRAME,
+];
 
 /// The inspection of energy, which stands between frame and lath.
 pub(crate) const ENERGY_AFTER_FRAME: &[&str] = &[

@@ -17,6 +17,7 @@ const VERSION_1: [&str; 2] = ["DROP TABLE upgrade", "UPDATE desk SET version = 1
 
 /// What the databases of either version show of the desk, and of the upgrade.
 const DESK: &str = "SELECT version || ' ' || last || ' ' || files FROM desk";
+
 const UPGRADE: &str = "SELECT id || ' ' || files FROM upgrade";
 
 /// A statement that is run in a database of version 1, and why it then isn't upgraded.
