@@ -1,10 +1,10 @@
 -- What is found in some rows is found in the same rows.
 use Rattle.std.proofs.Common.{◌≡◌, List, subst}
 use Rattle.clap.specs.Words.{Row}
-use Rattle.permit_args.specs.Plans.{IsActOf, IsCheckPolicyOf, IsImportOf, IsInitOf, IsListOf, IsRegisterOf, IsServeOf, IsUpgradeOf}
+use Rattle.permit_args.specs.Plans.{IsActOf, IsCheckPolicyOf, IsImportOf, IsInitOf, IsListOf, IsRegisterOf, IsServeOf, IsDatabaseOf}
 use Rattle.permit_args.specs.declared.plan.ActWords.{ActWords}
 use Rattle.permit_args.specs.declared.plan.CheckPolicyWords.{CheckPolicyWords}
-use Rattle.permit_args.specs.declared.plan.UpgradeWords.{UpgradeWords}
+use Rattle.permit_args.specs.declared.plan.DatabaseWords.{DatabaseWords}
 use Rattle.permit_args.specs.declared.plan.ImportWords.{ImportWords}
 use Rattle.permit_args.specs.declared.plan.InitWords.{InitWords}
 use Rattle.permit_args.specs.declared.plan.ListWords.{ListWords}
@@ -32,5 +32,5 @@ import_of {words = words} e is = subst (λ r. IsImportOf r words) e is
 pub serve_of : {rows other : List Row} {words : ServeWords} → rows ≡ other → IsServeOf rows words → IsServeOf other words
 serve_of {words = words} e is = subst (λ r. IsServeOf r words) e is
 
-pub upgrade_of : {rows other : List Row} {words : UpgradeWords} → rows ≡ other → IsUpgradeOf rows words → IsUpgradeOf other words
-upgrade_of {words = words} e is = subst (λ r. IsUpgradeOf r words) e is
+pub database_of : {rows other : List Row} {words : DatabaseWords} → rows ≡ other → IsDatabaseOf rows words → IsDatabaseOf other words
+database_of {words = words} e is = subst (λ r. IsDatabaseOf r words) e is

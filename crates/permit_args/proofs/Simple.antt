@@ -2,7 +2,7 @@
 use Rattle.std.proofs.Common.{◌≡◌, true, refl}
 use Rattle.clap.specs.Words.{is_simple}
 use Rattle.clap.proofs.OnLiterals.{clap_on_literals}
-use Rattle.permit_args.specs.Plans.{act_app, check_policy_app, import_app, init_app, list_app, register_app, serve_app, upgrade_app}
+use Rattle.permit_args.specs.Plans.{act_app, check_db_app, check_policy_app, import_app, init_app, list_app, register_app, serve_app, upgrade_app}
 
 pub check_policy_simple : is_simple check_policy_app ≡ true
 unfolding check_policy_app clap_on_literals
@@ -31,6 +31,10 @@ import_simple = refl
 pub serve_simple : is_simple serve_app ≡ true
 unfolding serve_app clap_on_literals
 serve_simple = refl
+
+pub check_db_simple : is_simple check_db_app ≡ true
+unfolding check_db_app clap_on_literals
+check_db_simple = refl
 
 pub upgrade_simple : is_simple upgrade_app ≡ true
 unfolding upgrade_app clap_on_literals

@@ -11,7 +11,7 @@ use Rattle.permit_base.specs.declared.words.Stage.{Stage}
 use Rattle.permit_args.specs.declared.plan.Check.{Check}
 use Rattle.permit_args.specs.declared.plan.Check.TheVariants.{Rules, Dead, Facts}
 use Rattle.permit_args.specs.declared.plan.CheckPolicyWords.{CheckPolicyWords}
-use Rattle.permit_args.specs.declared.plan.UpgradeWords.{UpgradeWords}
+use Rattle.permit_args.specs.declared.plan.DatabaseWords.{DatabaseWords}
 use Rattle.permit_args.specs.declared.plan.DayWords.{DayWords}
 use Rattle.permit_args.specs.declared.plan.InitWords.{InitWords}
 use Rattle.permit_args.specs.declared.plan.OfficeWords.{OfficeWords}
@@ -103,6 +103,10 @@ pub record IsDaysOf (rows : List Row) (words : DayWords) : Type 0 where
 -- whether an option without a value was given
 abbrev pub is_given : Text → List Row → Bool
 is_given name rows = option_map_or (bytes_eq (codes "true")) (first_of name rows) false
+
+-- the subcommand that says whether a database's tables are sound
+unfoldable pub check_db_app : App
+check_db_app = with_rule (new_app (codes "check-db")) (required_option (codes "db"))
 
 -- the subcommand that upgrades a database
 unfoldable pub upgrade_app : App
@@ -199,7 +203,7 @@ pub record IsServeOf (rows : List Row) (words : ServeWords) : Type 0 where
   pub connections : IsConnectionsOf rows words.connections
 
 -- the database that was found
-pub record IsUpgradeOf (rows : List Row) (words : UpgradeWords) : Type 0 where
+pub record IsDatabaseOf (rows : List Row) (words : DatabaseWords) : Type 0 where
   pub db : first_of (codes "db") rows ≡ Some words.db.now
 
 abbrev pub first_word : List (List ℕ) → Option (List ℕ)
@@ -216,4 +220,5 @@ IsPlanOf words (plan.List listing) = (first_word words ≡ Some (codes "list")) 
 IsPlanOf words (plan.Register register) = (first_word words ≡ Some (codes "register")) × IsRegisterOf (matches_of register_app words) register
 IsPlanOf words (plan.Import imported) = (first_word words ≡ Some (codes "import")) × IsImportOf (matches_of import_app words) imported
 IsPlanOf words (plan.Serve serving) = (first_word words ≡ Some (codes "serve")) × IsServeOf (matches_of serve_app words) serving
-IsPlanOf words (plan.Upgrade upgrade) = (first_word words ≡ Some (codes "upgrade")) × IsUpgradeOf (matches_of upgrade_app words) upgrade
+IsPlanOf words (plan.Upgrade upgrade) = (first_word words ≡ Some (codes "upgrade")) × IsDatabaseOf (matches_of upgrade_app words) upgrade
+IsPlanOf words (plan.CheckDb check) = (first_word words ≡ Some (codes "check-db")) × IsDatabaseOf (matches_of check_db_app words) check

@@ -2,7 +2,7 @@
 
 ghost use Rattle.std.specs.Prelude.{◌≡◌, IfOk, codes, false};
 ghost use Rattle.clap.specs.Words.{app_of, new_app, rule_of};
-ghost use Rattle.permit_args.specs.Plans.{act_app, check_policy_app, flag, import_app, init_app, list_app, optional_option, optional_word, upgrade_app};
+ghost use Rattle.permit_args.specs.Plans.{act_app, check_db_app, check_policy_app, flag, import_app, init_app, list_app, optional_option, optional_word, upgrade_app};
 ghost use Rattle.permit_args.specs.Plans.{register_app, required_option, required_word, serve_app, with_days, with_office};
 
 use clap::{Arg, ArgAction, Command};
@@ -269,6 +269,20 @@ pub(crate) fn serve<'a>(alloc: Global) -> Result<Command<'a>, AllocError>
         ))
 }
 
+/// The subcommand that says whether a database's tables are sound.
+pub(crate) fn check_db<'a>(alloc: Global) -> Result<Command<'a>, AllocError>
+    ensures { IfOk result (λ command. app_of command ≡ check_db_app) }
+{
+    subcommand(
+        alloc,
+        "check-db",
+        "permit check-db",
+        "Says whether the tables of a database are sound, and how many parties, parcels and files there are; changes nothing",
+        "Example: permit check-db --db office.db",
+    )?
+    .arg(database(alloc))
+}
+
 /// The subcommand that upgrades a database.
 pub(crate) fn upgrade<'a>(alloc: Global) -> Result<Command<'a>, AllocError>
     ensures { IfOk result (λ command. app_of command ≡ upgrade_app) }
@@ -298,5 +312,6 @@ pub(crate) fn program<'a>(alloc: Global) -> Result<Command<'a>, AllocError> {
         .subcommand(register(alloc)?)?
         .subcommand(import(alloc)?)?
         .subcommand(serve(alloc)?)?
-        .subcommand(upgrade(alloc)?)
+        .subcommand(upgrade(alloc)?)?
+        .subcommand(check_db(alloc)?)
 }

@@ -26,7 +26,9 @@ pub enum Plan<'a> {
     /// Serves the office over TCP.
     Serve(ServeWords<'a>),
     /// Makes of a database of the schema's first version one of the second.
-    Upgrade(UpgradeWords<'a>),
+    Upgrade(DatabaseWords<'a>),
+    /// Says whether a database's tables are sound.
+    CheckDb(DatabaseWords<'a>),
 }
 
 /// Which policy is read, and what is said of it.
@@ -162,9 +164,9 @@ impl From<AllocError> for PlanFault {
     }
 }
 
-/// Which database is upgraded.
+/// Which database is upgraded or checked.
 #[derive(Clone, Copy, PartialEq, Drop)]
-pub struct UpgradeWords<'a> {
+pub struct DatabaseWords<'a> {
     /// The database's path.
     pub db: &'a str,
 }

@@ -4,14 +4,16 @@ ghost use Rattle.std.specs.Prelude.{◌≡◌, [], IfErr, IfOk, IfSome, IsTrue, 
 ghost use Rattle.clap.specs.Words.{app_of, first_of, found_of, is_simple, matches_of, rows_of};
 ghost use Rattle.permit_base.specs.Stages.{is_file_stage};
 ghost use Rattle.permit_base.specs.Words.{register_word, stage_word};
-ghost use Rattle.permit_args.specs.Plans.{act_app, check_policy_app, import_app, init_app, is_given, list_app, register_app, serve_app, text_of, upgrade_app, IsUpgradeOf};
+ghost use Rattle.permit_args.specs.Plans.{act_app, check_db_app, check_policy_app, import_app, init_app, is_given, list_app, register_app, serve_app, text_of, upgrade_app, IsDatabaseOf};
 ghost use Rattle.permit_args.specs.Plans.{IsActOf, IsCheckOf, IsCheckPolicyOf, IsConnectionsOf, IsCountOf, IsDaysOf, IsImportOf, IsInitOf, IsListOf};
 ghost use Rattle.permit_args.specs.Plans.{IsOfficeOf, IsPlanOf, IsRegisterOf, IsServeOf, IsStageOf, IsWorkersOf, Refuses};
 
-use crate::commands::{act, check_policy, import, init, list, program, register, serve, upgrade};
+use crate::commands::{
+    act, check_db, check_policy, import, init, list, program, register, serve, upgrade,
+};
 use crate::plan::{
-    ActWords, Check, CheckPolicyWords, DayWords, ImportWords, InitWords, ListWords, OfficeWords,
-    Plan, PlanFault, RegisterWords, ServeWords, UpgradeWords,
+    ActWords, Check, CheckPolicyWords, DatabaseWords, DayWords, ImportWords, InitWords, ListWords,
+    OfficeWords, Plan, PlanFault, RegisterWords, ServeWords,
 };
 use clap::error::ErrorKind;
 use clap::{ArgMatches, Command, Error};
@@ -307,12 +309,22 @@ fn plan_serve<'a>(alloc: Global, words: &'a [String]) -> Result<ServeWords<'a>, 
     })
 }
 
+/// The plan of `check-db`.
+fn plan_check_db<'a>(alloc: Global, words: &'a [String]) -> Result<DatabaseWords<'a>, PlanFault>
+    ensures { IfOk result (IsDatabaseOf (matches_of check_db_app (map string_bytes words.now))) }
+{
+    let matches = matches(alloc, check_db(alloc)?, words)?;
+    Ok(DatabaseWords {
+        db: required(alloc, &matches, "db")?,
+    })
+}
+
 /// The plan of `upgrade`.
-fn plan_upgrade<'a>(alloc: Global, words: &'a [String]) -> Result<UpgradeWords<'a>, PlanFault>
-    ensures { IfOk result (IsUpgradeOf (matches_of upgrade_app (map string_bytes words.now))) }
+fn plan_upgrade<'a>(alloc: Global, words: &'a [String]) -> Result<DatabaseWords<'a>, PlanFault>
+    ensures { IfOk result (IsDatabaseOf (matches_of upgrade_app (map string_bytes words.now))) }
 {
     let matches = matches(alloc, upgrade(alloc)?, words)?;
-    Ok(UpgradeWords {
+    Ok(DatabaseWords {
         db: required(alloc, &matches, "db")?,
     })
 }
@@ -346,6 +358,7 @@ pub fn plan<'a>(alloc: Global, words: &'a [String]) -> Result<Plan<'a>, PlanFaul
         "import" => Ok(Plan::Import(plan_import(alloc, words)?)),
         "serve" => Ok(Plan::Serve(plan_serve(alloc, words)?)),
         "upgrade" => Ok(Plan::Upgrade(plan_upgrade(alloc, words)?)),
+        "check-db" => Ok(Plan::CheckDb(plan_check_db(alloc, words)?)),
         _ => Err(no_subcommand(alloc, words)),
     }
 }

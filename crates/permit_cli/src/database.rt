@@ -9,9 +9,9 @@ ghost use Rattle.sqlite.specs.Held.{state};
 ghost use Rattle.permit_base.specs.declared.words.Edition.TheVariants.{First};
 ghost use Rattle.permit_model.specs.History.{History, upgraded};
 ghost use Rattle.permit_model.specs.Machine.{IsHistory};
-ghost use Rattle.permit_model.specs.Tables.{tables};
+ghost use Rattle.permit_model.specs.Tables.{Tables, tables};
 ghost use Rattle.permit_store.specs.Founding.{founding};
-ghost use Rattle.permit_sql_rows.specs.Kept.{Keeps, KeepsUnder, IsFine};
+ghost use Rattle.permit_sql_rows.specs.Kept.{Keeps, KeepsUnder, IsFine, Shows};
 
 use permit_args::plan::ServeWords;
 use permit_base::request::Filter;
@@ -25,7 +25,8 @@ use permit_policy::Policy;
 use permit_sockets::serving::serve;
 use permit_sql::store::SqlStore;
 use permit_store::founder::Founder;
-use permit_store::store::{OpenError, Store};
+use permit_store::rows::Desk;
+use permit_store::store::{OpenError, Store, StoreError};
 use permit_subcommands::asking::ask;
 use permit_subcommands::days::RunDays;
 use permit_subcommands::failure::Failure;
@@ -44,6 +45,8 @@ pub enum Work<'a> {
     Found(Founder),
     /// It is made one of this version of the tables.
     Upgrade,
+    /// Its tables are tested, and left as they are.
+    Check,
     /// The office in it is asked.
     Ask {
         policy: Policy,
@@ -84,6 +87,8 @@ pub enum Done {
     Founded,
     /// The database is of this version, with this many files that keep their list of inspections.
     Upgraded(u32),
+    /// The database's tables are sound, and the desk counts its records.
+    Sound(Desk),
     /// The answer's bytes.
     Served(Vec<u8>),
     /// The files that may be listed.
@@ -133,6 +138,27 @@ fn upgrade_in<S: Alter + Drop>(
     match SqlStore::upgrade(alloc, &mut conn) {
         Ok(files) => (conn, Ok(Done::Upgraded(files))),
         Err(why) => (conn, Err(Failure::Database(why))),
+    }
+}
+
+/// Tests the tables of a database, and reads how many records they have.
+fn check_in<S: Alter + Drop>(
+    alloc: Global,
+    conn: Connection<S>,
+) -> (Connection<S>, Result<Done, Failure>)
+    ensures counted { IfOk result.1 (λ done. (t : Tables) → Shows t (state S.Store conn) → done ≡ Done.Sound t.desk) }
+{
+    match SqlStore::open(alloc, conn) {
+        Ok(store) => {
+            let mut store = store;
+            let desk = store.desk();
+            let done = match desk {
+                Ok(desk) => Ok(Done::Sound(desk)),
+                Err(StoreError) => Err(Failure::Database(OpenError::Store)),
+            };
+            (store.into_connection(), done)
+        }
+        Err((conn, why)) => (conn, Err(Failure::Database(why))),
     }
 }
 
@@ -230,6 +256,7 @@ fn work_in<S: Alter + Drop, O: Write>(
     match work {
         Work::Found(founder) => found_in(alloc, conn, &founder),
         Work::Upgrade => upgrade_in(alloc, conn),
+        Work::Check => check_in(alloc, conn),
         Work::Ask {
             policy,
             day,

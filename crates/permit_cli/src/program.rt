@@ -10,13 +10,14 @@ use crate::database::{Done, Question, Work, serve_at, work_at};
 use permit_args::checking::{dead_text, explained_text, rules_text};
 use permit_args::facts::read_facts;
 use permit_args::plan::{
-    ActWords, Check, CheckPolicyWords, ImportWords, InitWords, ListWords, OfficeWords, Plan,
-    PlanFault, RegisterWords, ServeWords, UpgradeWords,
+    ActWords, Check, CheckPolicyWords, DatabaseWords, ImportWords, InitWords, ListWords,
+    OfficeWords, Plan, PlanFault, RegisterWords, ServeWords,
 };
 use permit_args::words::{plan, words_given};
 use permit_base::request::Filter;
 use permit_policy::text::read_policy;
 use permit_policy::{Facts, Policy};
+use permit_store::rows::Desk;
 use permit_store::store::OpenError;
 use permit_subcommands::asking::{print, show};
 use permit_subcommands::days::{day_of_run, days_of_run};
@@ -213,14 +214,15 @@ where
     Ok(Outcome::Ended)
 }
 
-/// Makes of the database that the words name one of this version of the tables. None is made where there is none.
-fn upgrade<O: Write>(
+/// Does the work on the database that the words name. None is made where there is none.
+fn work_on<O: Write>(
     rt: &HostRuntime,
-    words: &UpgradeWords<'_>,
+    words: &DatabaseWords<'_>,
+    work: Work<'_>,
     out: &mut O,
 ) -> Result<Outcome, Failure> {
     found_at(rt, words.db)?;
-    Ok(Outcome::Worked(work_at(rt, words.db, Work::Upgrade, out)?))
+    Ok(Outcome::Worked(work_at(rt, words.db, work, out)?))
 }
 
 /// Does what a plan asks for. The database is closed before anything else is printed than a register, the lines of an
@@ -244,7 +246,8 @@ where
         Plan::Register(words) => register(rt, words, out),
         Plan::Import(words) => import(rt, words, out),
         Plan::Serve(words) => serve(rt, workers, words, out),
-        Plan::Upgrade(words) => upgrade(rt, words, out),
+        Plan::Upgrade(words) => work_on(rt, words, Work::Upgrade, out),
+        Plan::CheckDb(words) => work_on(rt, words, Work::Check, out),
     }
 }
 
@@ -254,6 +257,17 @@ fn print_text<O: Write>(out: &mut O, text: &str) -> Result<(), Failure> {
         Ok(()) => Ok(()),
         Err(_) => Err(Failure::Output),
     }
+}
+
+/// The line on tables that are sound.
+fn sound_text(alloc: Global, desk: Desk) -> Result<String, Failure> {
+    let Desk {
+        parties,
+        parcels,
+        files,
+        ..
+    } = desk;
+    Ok(format!(in alloc; "sound parties {parties} parcels {parcels} files {files}\n")?)
 }
 
 /// Prints what a plan came to, and gives the status. The refusal that an answer says is the failure then.
@@ -269,6 +283,7 @@ fn tell<O: Write>(alloc: Global, outcome: &Outcome, out: &mut O) -> Result<u8, F
             out,
             format!(in alloc; "upgraded files {files}\n")?.as_str(),
         )?,
+        Outcome::Worked(Done::Sound(desk)) => print_text(out, sound_text(alloc, *desk)?.as_str())?,
         Outcome::Worked(Done::Served(answer)) => show(answer.as_slice(), out)?,
         Outcome::Worked(Done::Listed(listing)) => print_text(
             out,

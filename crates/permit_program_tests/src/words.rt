@@ -73,7 +73,10 @@ fn a_founding(rt: HostRuntime) -> Result<(), Fail> {
         (2, "", "database: exists\n")
     );
     let words = ["upgrade", "--db", "office.db"];
-    told(&rt, rt, &words, 2, "", "database: version\n")
+    told(&rt, rt, &words, 2, "", "database: version\n")?;
+    let words = ["check-db", "--db", "office.db"];
+    let line = "sound parties 1 parcels 0 files 0\n";
+    told(&rt, rt, &words, 0, line, "")
 }
 
 #[test]
@@ -89,8 +92,10 @@ fn a_founding_that_is_refused(rt: HostRuntime) -> Result<(), Fail> {
         let (is, out, err) = run(&rt, rt, &words)?;
         assert_eq!(rt; (is, out.as_str(), err.as_str()), (status, "", line));
     }
-    let words = ["upgrade", "--db", "none.db"];
-    told(&rt, rt, &words, 2, "", "database: store\n")?;
+    for name in ["upgrade", "check-db"] {
+        let words = [name, "--db", "none.db"];
+        told(&rt, rt, &words, 2, "", "database: store\n")?;
+    }
     assert!(rt; !fs::exists(&rt, "none.db")?);
     Ok(())
 }

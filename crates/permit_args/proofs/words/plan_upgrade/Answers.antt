@@ -1,6 +1,6 @@
 use Rattle.std.proofs.Common.{ap, ◌∙◌, map, string_bytes}
 use Rattle.clap.specs.Words.{is_simple, matches_of}
-use Rattle.permit_args.proofs.Matched.{upgrade_of}
+use Rattle.permit_args.proofs.Matched.{database_of}
 use Rattle.permit_args.proofs.Simple.{upgrade_simple}
 use Rattle.permit_args.proofs.words.plan_upgrade.Goals as goal
 
@@ -8,4 +8,4 @@ pub returns : goal.returns
 returns c =
     let is = c.in_ok-upgrade.ensures in
     let rows = c.in_ok-matches.ensures (ap is_simple is ∙ upgrade_simple) ∙ ap (λ a. matches_of a (map string_bytes c.args.words.now)) is in
-    upgrade_of rows (record { db = c.in_ok-required.ensures })
+    database_of rows (record { db = c.in_ok-required.ensures })
