@@ -18,4 +18,8 @@ mod each;
 mod open;
 pub mod reopen;
 pub mod store;
+mod sound;
+mod sound_files;
+mod sound_row;
+mod tally;
 mod texts;
