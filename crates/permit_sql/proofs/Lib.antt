@@ -14,3 +14,6 @@ pub mod Answered
 pub mod PapersAnswered
 pub mod Refused
 pub mod Calls
+mod Numbered
+mod Tallies
+mod Soundness
