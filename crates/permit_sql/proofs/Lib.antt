@@ -17,3 +17,6 @@ pub mod Calls
 mod Numbered
 mod Tallies
 mod Soundness
+mod SameOrder
+mod FilesFilled
+mod Passing

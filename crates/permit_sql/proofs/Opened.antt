@@ -50,7 +50,7 @@ rising_from : (f n : ℕ) (ps : List Paper) → IsRising f n ps → AllByRecursi
 rising_from f n [] up = tt
 rising_from f n (p ∷ ps) up = (up.0, all_later f n p.file p.number ps up.0 up.1)
 
-rise_in : (f n : ℕ) (ps : List Paper) → IsRising f n ps → (file : ℕ) → IsAscending (λ a b. a.number < b.number) (filter (λ p. eqb p.file file) ps)
+pub rise_in : (f n : ℕ) (ps : List Paper) → IsRising f n ps → (file : ℕ) → IsAscending (λ a b. a.number < b.number) (filter (λ p. eqb p.file file) ps)
 rise_in f n [] up file = tt
 rise_in f n (p ∷ ps) up file = go (eqb p.file file) refl (rise_in p.file p.number ps up.1 file)
   where

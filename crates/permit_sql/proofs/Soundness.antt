@@ -89,10 +89,10 @@ module _ (t : Tables) (typed : AreTyped t) where
   parcel_there : (id : ℕ) → IsObject id → has_parcel t id ≡ nat_le id t.desk.parcels
   parcel_there id is = there_numbered (λ p. p.id) t.parcels typed.parcel_numbers id is.0 ∙ ap (nat_le id) typed.parcel_count
 
-  file_there : (id : ℕ) → IsObject id → has_file t id ≡ nat_le id t.desk.files
+  pub file_there : (id : ℕ) → IsObject id → has_file t id ≡ nat_le id t.desk.files
   file_there id is = there_numbered (λ f. f.id) t.files typed.file_numbers id is.0 ∙ ap (nat_le id) typed.file_count
 
-  among : (id : ℕ) → IsObject id → has_party t id ≡ nat_le id t.desk.parties
+  pub among : (id : ℕ) → IsObject id → has_party t id ≡ nat_le id t.desk.parties
   among id is = party_there id is ∙ ap (nat_le id) typed.party_count
 
 -- ---- what a row's type tells
