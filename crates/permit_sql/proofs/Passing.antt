@@ -1,6 +1,6 @@
 -- What the tests of soundness tell of typed tables.
 use Rattle.std.proofs.Common.{◌≡◌, inl, inr, ℕ, zero, suc, ◌+◌, ◌-◌, ◌<◌, ◌≤◌, Bool, true, false, Some, None, Option, List, [], ◌∷◌, ◌++◌, map, length, refl, sym, ap, ap₂, subst}
-use Rattle.std.proofs.Common.{◌∙◌, arith, append-nil, append_assoc, true≢false, false≢true, IsPermutation}
+use Rattle.std.proofs.Common.{◌∙◌, arith, append-nil, append_assoc, true≢false, IsPermutation}
 use Rattle.std.specs.Prelude.{◌⊎◌, ◌&&◌, IsTrue, MatchBool, slice_get, slice_set, nat_le, if◌then◌else◌}
 use Rattle.std.specs.List.{list_all, AllByRecursion}
 use Rattle.std.proofs.lemmas.Bool.{cases_Bool, and_parts, and_from}
@@ -207,8 +207,8 @@ module _ (edition : Edition) {S : Type 0} (g : Ghosts S) (old new : Held S) (t :
       stop d e f fs fits h =
           let named = subst (λ u. IsNamed u f.id f.state) (sym fits.1.0) fits.0.0.1 in
           elim (h f fits.0.0.0 named refl) [
-            | inl no ↦
-                let is = moved d f false fits.1.1.0 fits.1.1.1.0 fits.1.1.1.1 no in
+            | inl failed ↦
+                let is = moved d f false fits.1.1.0 fits.1.1.1.0 fits.1.1.1.1 failed in
                 inl (one_failed (fits_file a.roles.items a.parcels a.last f.state) _ total is fits.2)
             | inr lacks ↦ inr lacks
           ]
@@ -228,9 +228,9 @@ module _ (edition : Edition) {S : Type 0} (g : Ghosts S) (old new : Held S) (t :
 
       after : ((all ≡ true) × Fits b []) ⊎ ((all ≡ false) × ((total ≡ false) ⊎ IsTrue b.lacks_memory)) →
           ((all ≡ total) × (all ≡ true → b.tallies.items ≡ first_of t.files)) ⊎ IsTrue b.lacks_memory
-      after (inl it) = inl (it.0 ∙ it.1.2, λ yes. sym (append-nil b.tallies.items) ∙ it.1.3)
-      after (inr (no, inl failed)) = inl (no ∙ sym failed, λ yes. absurd (true≢false (sym yes ∙ no)))
-      after (inr (no, inr lacks)) = inr lacks
+      after (inl it) = inl (it.0 ∙ it.1.2, λ went. sym (append-nil b.tallies.items) ∙ it.1.3)
+      after (inr (stopped, inl failed)) = inl (stopped ∙ sym failed, λ went. absurd (true≢false (sym went ∙ stopped)))
+      after (inr (stopped, inr lacks)) = inr lacks
 
   -- ---- papers
 
@@ -316,11 +316,11 @@ module _ (edition : Edition) {S : Type 0} (g : Ghosts S) (old new : Held S) (t :
       ]
         where
           never : (x : Bool) → (x ≡ true → ⊥) → x ≡ false
-          never true no = absurd (no refl)
-          never false no = refl
+          never true denied = absurd (denied refl)
+          never false denied = refl
 
           fails : IsLeft d (p ∷ ps) → (fits_paper d.parties d.last p ≡ false) ⊎ (next_tally p (slice_get d.tallies.items (p.file - 1)) ≡ None) → ⊥
-          fails left (inl no) = true≢false (sym left.alone.0 ∙ moved d p false fits.1.0 fits.1.1.0 no)
+          fails left (inl failed) = true≢false (sym left.alone.0 ∙ moved d p false fits.1.0 fits.1.1.0 failed)
           fails left (inr none) =
               let low = fits.0.0.file.0 in
               let long = fits.1.1.1 in
@@ -347,5 +347,10 @@ module _ (edition : Edition) {S : Type 0} (g : Ghosts S) (old new : Held S) (t :
       after (inl it) = inl (ap (λ x. x && list_all is_ended b.tallies.items) it.0 ∙ same_test (list_all is_ended b.tallies.items) (fits_papers t)
           (λ ended. it.1.2 (ended_left t.desk.parties t.desk.last t.desk.files b.tallies.items ended))
           (λ total. all_ended t.desk.parties t.desk.last t.desk.files b.tallies.items (it.1.3 total)))
-      after (inr (no, inl failed)) = inl (ap (λ x. x && list_all is_ended b.tallies.items) no ∙ sym failed)
-      after (inr (no, inr lacks)) = inr lacks
+      after (inr (stopped, inl failed)) = inl (ap (λ x. x && list_all is_ended b.tallies.items) stopped ∙ sym failed)
+      after (inr (stopped, inr lacks)) = inr lacks
+
+-- what is said where memory wasn't refused
+pub unless : {excused : Bool} {P : Type 0} → P ⊎ IsTrue excused → excused ≡ false → P
+unless (inl it) none = it
+unless (inr lacks) none = absurd (true≢false (sym lacks ∙ none))

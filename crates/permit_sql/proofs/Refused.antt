@@ -18,7 +18,7 @@ use Rattle.sqlite.specs.Held.{Held, state}
 use Rattle.sqlite.proofs.Callers.{command_of, EndsIn, begins_shown}
 use Rattle.permit_base.specs.declared.words.Edition.{Edition}
 use Rattle.permit_model.specs.Caller.{Party}
-use Rattle.permit_model.specs.Parcels.{Parcel}
+use Rattle.permit_model.specs.Parcels.{Parcel, Interest}
 use Rattle.permit_model.specs.Tables.{Tables, FileRow, Paper}
 use Rattle.permit_sql_rows.specs.Schema.{schema_of}
 use Rattle.permit_sql_rows.specs.Rows.{int, shown_party, shown_parcel, shown_file, shown_interest, shown_paper}

@@ -65,14 +65,15 @@ pub(crate) fn tallies_of<S: Alter>(
     conn: &mut Connection<S>,
     alloc: Global,
     edition: Edition,
-    desk: Desk,
     upgrade: Option<u32>,
     roles: Vec<Role>,
+    parcels: u32,
+    last: Day,
 ) -> Got<Option<Vec<Tally>>>
     requires not_in_transaction { conn.old.in_transaction ≡ false }
     ensures told { HasCleanDisk (state S.Store conn.new)
         → OverTyped S.Store edition conn.old (λ t. t.upgrade ≡ upgrade
-        → IfOk result (λ o. (is_some o ≡ list_all (λ f. fits_state roles.items desk.parcels desk.last f.state) t.files)
+        → IfOk result (λ o. (is_some o ≡ list_all (λ f. fits_state roles.items parcels last f.state) t.files)
         × IfSome o (λ tallies. tallies.items ≡ map (λ f. first_tally f.state) t.files))) }
     ensures left { LeavesRows S.Store conn.old conn.new }
     ensures crash { LeavesOverCrash S.Store conn.old conn.new }
@@ -81,8 +82,8 @@ pub(crate) fn tallies_of<S: Alter>(
     let mut filed = Filed {
         upgrade,
         roles,
-        parcels: desk.parcels,
-        last: desk.last,
+        parcels,
+        last,
         tallies: Vec::new(alloc),
         lacks_memory: false,
     };
@@ -138,12 +139,13 @@ impl Taker for Entered {
 pub(crate) fn has_sound_papers<S: Alter>(
     conn: &mut Connection<S>,
     edition: Edition,
-    desk: Desk,
+    parties: u32,
+    last: Day,
     tallies: Vec<Tally>,
 ) -> Got<bool>
     requires not_in_transaction { conn.old.in_transaction ≡ false }
     ensures told { HasCleanDisk (state S.Store conn.new)
-        → OverTyped S.Store edition conn.old (λ t. t.desk ≡ desk → tallies.items ≡ map (λ f. first_tally f.state) t.files
+        → OverTyped S.Store edition conn.old (λ t. parties ≡ t.desk.parties → last ≡ t.desk.last → tallies.items ≡ map (λ f. first_tally f.state) t.files
         → list_all (λ f. nat_le f.state.papers most_papers) t.files ≡ true
         → IfOk result (λ good. good ≡ fits_papers t)) }
     ensures open { HasCleanDisk (state S.Store conn.new) → IfOk result (λ good. IsTrue good → IsTrue (state S.Store conn.new).is_open) }
@@ -152,8 +154,8 @@ pub(crate) fn has_sound_papers<S: Alter>(
     ensures not_in_transaction { conn.new.in_transaction ≡ false }
 {
     let mut entered = Entered {
-        parties: desk.parties,
-        last: desk.last,
+        parties,
+        last,
         tallies,
         lacks_memory: false,
     };
@@ -161,7 +163,10 @@ pub(crate) fn has_sound_papers<S: Alter>(
     if entered.lacks_memory {
         return Err(StoreError);
     }
-    Ok(all && are_ended(&entered.tallies))
+    if !all {
+        return Ok(false);
+    }
+    Ok(are_ended(&entered.tallies))
 }
 
 /// Whether the typed files and papers are sound, by the roles of the parties.
@@ -182,8 +187,8 @@ fn has_sound_cases<S: Alter>(
     ensures crash { LeavesOverCrash S.Store conn.old conn.new }
     ensures not_in_transaction { conn.new.in_transaction ≡ false }
 {
-    match tallies_of(conn, alloc, edition, desk, upgrade, roles)? {
-        Some(tallies) => has_sound_papers(conn, edition, desk, tallies),
+    match tallies_of(conn, alloc, edition, upgrade, roles, desk.parcels, desk.last)? {
+        Some(tallies) => has_sound_papers(conn, edition, desk.parties, desk.last, tallies),
         None => Ok(false),
     }
 }
