@@ -20,3 +20,4 @@ mod Soundness
 mod SameOrder
 mod FilesFilled
 mod Passing
+mod SoundUpgrade

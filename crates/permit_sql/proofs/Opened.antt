@@ -12,7 +12,7 @@ use Rattle.permit_sql_rows.specs.Schema.{schema_of}
 use Rattle.permit_sql_rows.specs.Kept.{IsNamed, AreKeyed, AreInTrees, papers_counted}
 use Rattle.permit_sql_rows.specs.Typed.{IsFile, IsPaper}
 use Rattle.permit_sql.specs.Found.{IsNumbered, IsLater, IsRising, IsGoodFile, IsApart, counted_in, HasDesk, HasUpgrade, HasParties, HasParcels, HasFiles, HasInterests}
-use Rattle.permit_sql.specs.Found.{HasPapers, AreTyped, HasSound}
+use Rattle.permit_sql.specs.Found.{HasPapers, AreTyped, HasTyped}
 use Rattle.permit_sql.proofs.Numbered.{once_numbered, find_numbered, get_map}
 
 all_of : {A : Type 0} {P Q : A → Type 0} → ((x : A) → P x → Q x) → (xs : List A) → AllByRecursion P xs → AllByRecursion Q xs
@@ -68,7 +68,7 @@ rise_in f n (p ∷ ps) up file = go (eqb p.file file) refl (rise_in p.file p.num
 pub tables_found : (edition : Edition) (db : Database) (d : Desk) (upgrade : Option ℕ) (counts : List ℕ) → db.schema ≡ schema_of edition →
     d.edition ≡ edition → HasDesk d (db.trees 0) → HasUpgrade edition d.files upgrade db.trees → HasParties d.parties (db.trees 1) →
     HasParcels d.parcels (db.trees 3) → HasInterests (db.trees 5)
-    → HasFiles upgrade counts (db.trees 7) → length counts ≡ d.files → HasPapers counts (db.trees 8) → IsApart (db.trees 8) → HasSound edition db d.files upgrade
+    → HasFiles upgrade counts (db.trees 7) → length counts ≡ d.files → HasPapers counts (db.trees 8) → IsApart (db.trees 8) → HasTyped edition db d upgrade
 tables_found edition db d upgrade counts schema now desk upgraded parties parcels interests files long papers apart =
     let t : Tables = record { desk = d; upgrade = upgrade; parties = parties.all; parcels = parcels.all; interests = interests.all; files = files.all; papers = papers.all } in
     let many : length files.all ≡ d.files = sym (long_map (λ (f : FileRow). f.state.papers) files.all) ∙ ap length files.counted ∙ long in

@@ -354,3 +354,11 @@ module _ (edition : Edition) {S : Type 0} (g : Ghosts S) (old new : Held S) (t :
 pub unless : {excused : Bool} {P : Type 0} → P ⊎ IsTrue excused → excused ≡ false → P
 unless (inl it) none = it
 unless (inr lacks) none = absurd (true≢false (sym lacks ∙ none))
+
+-- files that fit have few papers
+pub few_papers : (roles : List Role) (parcels last : ℕ) (fs : List FileRow) → list_all (λ f. fits_file roles parcels last f.state) fs ≡ true →
+    list_all (λ f. nat_le f.state.papers most_papers) fs ≡ true
+few_papers roles parcels last [] h = refl
+few_papers roles parcels last (f ∷ fs) h =
+    let parts = and_parts (fits_file roles parcels last f.state) (list_all (λ f. fits_file roles parcels last f.state) fs) h in
+    and_from _ _ (and_parts _ (nat_le f.state.papers most_papers) parts.0).1 (few_papers roles parcels last fs parts.1)

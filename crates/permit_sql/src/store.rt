@@ -16,7 +16,7 @@ ghost use Rattle.permit_sql_rows.specs.Schema.{empty_schema};
 ghost use Rattle.permit_sql_rows.specs.Kept.{KeepsUnder, Keeps, Shows, IsFine};
 ghost use Rattle.permit_sql.specs.Seen.{Lasts};
 ghost use Rattle.permit_sql.specs.Opening.{HasOtherVersion};
-ghost use Rattle.permit_sql.specs.Found.{KeepsTyped, KeepsTypedUnder};
+ghost use Rattle.permit_sql.specs.Found.{KeepsSound, KeepsSoundUnder};
 ghost use Rattle.permit_sql_statements.specs.Founding.{AreCounted};
 
 use crate::open::check;
@@ -137,8 +137,8 @@ impl<S: Alter> SqlStore<S> {
         ensures held { IfOk result (λ s. (t : Tables) → (HasCleanDisk (state S.Store s.conn) → Shows t (state S.Store conn))
             → (⟦<SqlStore<S> as Store>⟧.view s).holds t) }
         ensures opened { IfOk result (λ s. HasCleanDisk (state S.Store s.conn) → IsTrue (state S.Store s.conn).is_open) }
-        ensures typed { IfOk result (λ s. HasCleanDisk (state S.Store s.conn)
-            → IsTrue (state S.Store s.conn).is_open → KeepsTyped (state S.Store s.conn).now) }
+        ensures sound { IfOk result (λ s. HasCleanDisk (state S.Store s.conn)
+            → IsTrue (state S.Store s.conn).is_open → KeepsSound (state S.Store s.conn).now) }
         ensures doubt { IfOk result (λ s. (⟦<SqlStore<S> as Store>⟧.view s).doubt ≡ doubt (state S.Store s.conn).is_clean) }
         ensures counts { IfOk result (λ s. (s.handed ≡ 0) × (s.failed ≡ 0) × (s.commits ≡ 0)) }
         ensures crash { IfOk result (λ s. Survives (state S.Store conn) (state S.Store s.conn) (λ _. ⊥)) }
@@ -148,7 +148,7 @@ impl<S: Alter> SqlStore<S> {
         ensures told { IfErr result (λ e. HasCleanDisk (state S.Store e.0) → HasOtherVersion Second (state S.Store conn).now
             → (e.1 ≡ open_error.Version) ⊎ (e.1 ≡ open_error.Store)) }
         ensures first { IfOk result (λ s. HasCleanDisk (state S.Store s.conn) → ¬ HasOtherVersion Second (state S.Store conn).now) }
-        ensures damaged { IfErr result (λ e. e.1 ≡ open_error.Damaged → IsFine (state S.Store e.0) → ¬ KeepsTyped (state S.Store conn).now) }
+        ensures damaged { IfErr result (λ e. e.1 ≡ open_error.Damaged → IsFine (state S.Store e.0) → ¬ KeepsSound (state S.Store conn).now) }
         ensures refusal { IfErr result (λ e. (e.1 ≡ open_error.Damaged) ⊎ ((e.1 ≡ open_error.Version) ⊎ (e.1 ≡ open_error.Store))) }
     {
         let mut conn = conn;
@@ -177,7 +177,7 @@ impl<S: Alter> SqlStore<S> {
             → IfOk result (λ n. (n ≡ t.desk.files) × Keeps (with_upgrade t) (state S.Store conn.new).now) }
         ensures history { HasCleanDisk (state S.Store conn.new) → (h : History) → IsHistory h → KeepsUnder First (tables h) (state S.Store conn.old).now
             → IfOk result (λ n. (n ≡ length (case_files h)) × Keeps (tables (upgraded h)) (state S.Store conn.new).now) }
-        ensures typed { HasCleanDisk (state S.Store conn.new) → OnOk result (KeepsTyped (state S.Store conn.new).now) }
+        ensures sound { HasCleanDisk (state S.Store conn.new) → OnOk result (KeepsSound (state S.Store conn.new).now) }
         ensures opened { HasCleanDisk (state S.Store conn.new) → OnOk result (IsTrue (state S.Store conn.new).is_open) }
         ensures same { IsFine (state S.Store conn.new) → OnErr result ((state S.Store conn.new).now ≡ (state S.Store conn.old).now) }
         ensures version { HasCleanDisk (state S.Store conn.new)
@@ -185,7 +185,7 @@ impl<S: Alter> SqlStore<S> {
         ensures told { HasCleanDisk (state S.Store conn.new) → HasOtherVersion First (state S.Store conn.old).now
             → (result ≡ Err open_error.Version) ⊎ (result ≡ Err open_error.Store) }
         ensures damaged { IsFine (state S.Store conn.new)
-            → IfErr result (λ e. e ≡ open_error.Damaged → ¬ KeepsTypedUnder First (state S.Store conn.old).now) }
+            → IfErr result (λ e. e ≡ open_error.Damaged → ¬ KeepsSoundUnder First (state S.Store conn.old).now) }
         ensures refusal { IfErr result (λ e. (e ≡ open_error.Damaged) ⊎ ((e ≡ open_error.Version) ⊎ (e ≡ open_error.Store))) }
         ensures crash { Survives (state S.Store conn.old) (state S.Store conn.new)
             (λ trees. (t : Tables) → AreCounted t → KeepsUnder First t (state S.Store conn.old).now
