@@ -1,7 +1,7 @@
 -- What is told of the files before their papers are read.
-use Rattle.std.proofs.Common.{◌≡◌, inl, inr, ℕ, zero, suc, ◌+◌, ◌-◌, ◌<◌, ◌≤◌, Bool, true, false, eqb, List, [], ◌∷◌, map, filter, length, refl, sym, ap, ap₂, subst}
+use Rattle.std.proofs.Common.{◌≡◌, ℕ, zero, suc, ◌+◌, ◌≤◌, Bool, true, eqb, List, [], ◌∷◌, map, filter, length, refl, sym, ap, subst}
 use Rattle.std.proofs.Common.{◌∙◌, arith, IsPermutation}
-use Rattle.std.specs.Prelude.{◌&&◌, ◌||◌, ◌==◌, not, nat_le, Option, None, Some, slice_get}
+use Rattle.std.specs.Prelude.{◌&&◌, ◌||◌, ◌==◌, not, nat_le, Some, slice_get}
 use Rattle.std.specs.List.{list_all, AllByRecursion}
 use Rattle.std.proofs.lemmas.Bool.{and_parts, and_from, leb-true, le-leb}
 use Rattle.sqlite_trees.proofs.ListLemmas.{all-permutation}
@@ -9,7 +9,7 @@ use Rattle.std.proofs.lemmas.List.Sorted.{IsPermutation-sym}
 use Rattle.sqlite_keyed.proofs.ListLemmas.{IsPermutation-filter}
 use Rattle.permit_base.specs.Limits.{most_papers}
 use Rattle.permit_model.specs.Numbering.{is_numbered_from}
-use Rattle.permit_model.specs.Tables.{Tables, FileRow, Paper, State, is_notice}
+use Rattle.permit_model.specs.Tables.{Tables, FileRow, Paper, is_notice}
 use Rattle.permit_model.specs.Sound
 use Rattle.permit_model.specs.Sound.{papers_in, has_file, has_party, never_fall}
 use Rattle.permit_sql_rows.specs.Kept.{AreKeyed}

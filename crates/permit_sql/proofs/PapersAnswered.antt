@@ -36,7 +36,7 @@ use Rattle.permit_sql_statements.proofs.Selecting.{unmapped}
 use Rattle.permit_sql.proofs.Opened.{counts_of}
 use Rattle.permit_sql.proofs.Wholes.{whole_shown}
 use Rattle.permit_sql.proofs.Answered.{each_one}
-use Rattle.permit_sql.proofs.Neighbours.{First, Adjacent, one_passes, climbs, all_of_form, all_in_form, long_map}
+use Rattle.permit_sql.proofs.Neighbours.{First, Adjacent, one_passes, climbs, all_of_form, long_map}
 use Rattle.permit_sql.proofs.WholeMeanings.{each_interest_query, each_interest_is, each_interest_plain, each_interest_unlisted, each_paper_query, each_paper_is}
 use Rattle.permit_sql.proofs.WholeMeanings.{each_paper_plain, each_paper_unlisted, each_rowid_query, each_rowid_is, each_rowid_plain, each_rowid_unlisted}
 

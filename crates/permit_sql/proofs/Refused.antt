@@ -101,7 +101,7 @@ module _ (edition : Edition) {S X T : Type 0} (g : Ghosts S) (old new : Held S) 
   pub all_or_excused : (a b : T) (all : Bool) → ((was late : State) → KeepsUnder edition t was.now → (rows : List Row) → Shown sql [] was late rows → (xs : List X)
       × (rows ≡ map shown xs) × Fits a xs)
       → TookRows took g sql [] old new a b all → (IsTrue all × Fits b []) ⊎ IsExcused b
-  all_or_excused a b all answer h = elim (all_or_stopped a b all answer h) [ | inl took ↦ inl took | inr stopped ↦ inr stopped.1 ]
+  all_or_excused a b all answer h = elim (all_or_stopped a b all answer h) [ inl took ↦ inl took | inr stopped ↦ inr stopped.1 ]
 
 -- ---- a taker that was not excused took all rows
 

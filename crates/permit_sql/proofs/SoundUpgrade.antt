@@ -1,5 +1,5 @@
 -- Sound tables stay sound where they are upgraded.
-use Rattle.std.proofs.Common.{◌≡◌, ◌≤◌, Bool, true, refl, sym, ap, ◌∙◌, arith}
+use Rattle.std.proofs.Common.{◌≡◌, ◌≤◌, true, refl, sym, ap, ◌∙◌, arith}
 use Rattle.std.specs.Prelude.{◌&&◌, nat_le, None, Some}
 use Rattle.std.proofs.lemmas.Bool.{and_parts, and_from, le-leb}
 use Rattle.sqlite.specs.Effect.{Database}

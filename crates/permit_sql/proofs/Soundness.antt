@@ -1,28 +1,28 @@
 -- Typed tables are sound exactly where an open finds them so.
-use Rattle.std.proofs.Common.{◌≡◌, inl, inr, ℕ, zero, suc, ◌+◌, ◌-◌, ◌<◌, ◌≤◌, Bool, true, false, cond, not, eqb, List, [], ◌∷◌, map, filter, find, length, refl, sym}
-use Rattle.std.proofs.Common.{ap, ap₂, subst, ◌∙◌, arith, true≢false}
-use Rattle.std.specs.Prelude.{◌⊎◌, ◌&&◌, ◌||◌, ◌==◌, nat_lt, nat_le, Option, None, Some, is_some, is_none, IfSome, option_map, slice_get, IsTrue}
+use Rattle.std.proofs.Common.{◌≡◌, ℕ, zero, suc, ◌+◌, ◌-◌, ◌≤◌, Bool, true, not, eqb, List, [], ◌∷◌, map, filter, find, length, refl, sym}
+use Rattle.std.proofs.Common.{ap, subst, ◌∙◌, arith}
+use Rattle.std.specs.Prelude.{◌&&◌, ◌||◌, ◌==◌, nat_lt, nat_le, Option, None, Some, is_some, is_none, IfSome, option_map, slice_get}
 use Rattle.std.specs.List.{list_all, AllByRecursion}
-use Rattle.std.proofs.lemmas.Bool.{cases_Bool, and_parts, and_from, eqb-true, eq-eqb, le-leb, lt-leb, leb-true}
+use Rattle.std.proofs.lemmas.Bool.{and_parts, and_from, eq-eqb, le-leb}
 use Rattle.std.proofs.lemmas.Bool.Decides.{nat_tests}
 use Rattle.permit_base.specs.declared.words.Role.{Role}
 use Rattle.permit_base.specs.declared.words.Role.TheVariants.{Reviewer, Inspector, Official}
 use Rattle.permit_base.specs.declared.words.Edition.{Edition}
 use Rattle.permit_base.specs.declared.words.Edition.TheVariants as edition
-use Rattle.permit_base.specs.Limits.{is_between, most_records, most_papers, most_cents, latest_day, latest_deadline, is_cents}
+use Rattle.permit_base.specs.Limits.{is_between, most_papers, most_cents, latest_day, latest_deadline, is_cents}
 use Rattle.permit_base.specs.Texts.{is_printable}
-use Rattle.permit_model.specs.Codes.{is_role, is_edition, is_stage_among}
+use Rattle.permit_model.specs.Codes.{is_edition, is_stage_among}
 use Rattle.permit_model.specs.Caller.{Party, has_role}
 use Rattle.permit_model.specs.Parcels.{Parcel, Interest}
 use Rattle.permit_model.specs.Numbering.{is_numbered_from}
-use Rattle.permit_model.specs.Tables.{Tables, Desk, State, FileRow, Paper, edition_by, edition_numbered, is_notice, next_in_row}
+use Rattle.permit_model.specs.Tables.{Tables, State, FileRow, Paper, edition_by, edition_numbered, next_in_row}
 use Rattle.permit_model.specs.SoundState.{is_stored, is_sound_state, deadline_stands, is_for, request_dated, is_completed, is_certified, is_finished}
 use Rattle.permit_model.specs.Steps.{required_steps, has_certificates}
 use Rattle.permit_model.specs.Days.{term, longest_temporary}
 use Rattle.permit_model.specs.Sound
 use Rattle.permit_model.specs.Sound.{IsSoundTables, if_any, has_party, has_party_of, has_parcel, has_file, papers_in, has_few_records, is_done_in, begun_stages}
 use Rattle.permit_sql_rows.specs.Kept.{IsNamed, AreKeyed}
-use Rattle.permit_sql_rows.specs.Typed.{IsObject, IsFile, IsPaper, IsParty, IsParcel, IsInterest}
+use Rattle.permit_sql_rows.specs.Typed.{IsObject, IsFile, IsParcel, IsInterest}
 use Rattle.permit_sql.specs.Found.{IsNumbered, AreTyped}
 use Rattle.permit_sql.specs.Tested
 use Rattle.permit_sql.proofs.Numbered.{find_numbered, get_map}

@@ -1,14 +1,14 @@
 -- What the tallies tell once papers were read.
-use Rattle.std.proofs.Common.{◌≡◌, ◌≢◌, inl, inr, ℕ, zero, suc, ◌+◌, ◌-◌, ◌<◌, ◌≤◌, Bool, true, false, cond, not, eqb, List, [], ◌∷◌, map, filter, length, refl, sym}
+use Rattle.std.proofs.Common.{◌≡◌, inl, inr, ℕ, zero, suc, ◌+◌, ◌-◌, ◌≤◌, Bool, true, false, cond, not, eqb, List, [], ◌∷◌, map, filter, length, refl, sym}
 use Rattle.std.proofs.Common.{ap, ap₂, subst, ◌∙◌, arith, true≢false}
-use Rattle.std.specs.Prelude.{◌⊎◌, ◌&&◌, ◌||◌, ◌==◌, nat_lt, nat_le, Option, None, Some, slice_get, slice_set}
+use Rattle.std.specs.Prelude.{◌&&◌, ◌||◌, ◌==◌, nat_lt, nat_le, Some, slice_get, slice_set}
 use Rattle.std.specs.List.{list_all, AllByRecursion}
 use Rattle.std.proofs.lemmas.Bool.{cases_Bool, and_parts, and_from, eqb-true, eqb-false, eq-eqb, ne_eqb, lt-ltb, ltb-true}
 use Rattle.std.proofs.lemmas.Bool.Decides.{nat_tests}
 use Rattle.permit_model.specs.Numbering.{is_numbered_from}
 use Rattle.permit_model.specs.Tables.{Paper}
 use Rattle.permit_model.specs.Sound.{never_fall}
-use Rattle.permit_sql.specs.Tested.{fits_paper, is_next, tally_after, next_tally, is_ended, are_left}
+use Rattle.permit_sql.specs.Tested.{fits_paper, is_next, tally_after, is_ended, are_left}
 use Rattle.permit_sql.specs.declared.tally.Tally.{Tally}
 
 -- ---- one file

@@ -4,7 +4,7 @@ use Rattle.sqlite_value.specs.Order.{Row}
 use Rattle.permit_base.specs.declared.words.Role.{Role}
 use Rattle.permit_model.specs.Caller.{Party}
 use Rattle.permit_model.specs.Parcels.{Parcel, Interest}
-use Rattle.permit_model.specs.Tables.{FileRow, State, Paper}
+use Rattle.permit_model.specs.Tables.{FileRow, Paper}
 use Rattle.permit_sql_rows.specs.Rows.{shown_party, shown_parcel, shown_file, shown_interest, shown_paper}
 use Rattle.permit_sql_rows.specs.Kept.{IsNamed}
 use Rattle.permit_sql_rows.specs.Typed.{IsParty, IsParcel, IsInterest, IsFile, IsPaper}

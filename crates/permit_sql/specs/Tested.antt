@@ -1,18 +1,18 @@
 -- What an open tests of tables whose rows are typed, so that they are sound.
-use Rattle.std.specs.Prelude.{ℕ, Bool, true, false, not, ◌&&◌, ◌||◌, ◌==◌, ◌+◌, ◌-◌, nat_lt, nat_le, if◌then◌else◌, List, length, map, filter, slice_get, slice_set}
+use Rattle.std.specs.Prelude.{ℕ, Bool, false, not, ◌&&◌, ◌||◌, ◌==◌, ◌+◌, ◌-◌, nat_lt, nat_le, if◌then◌else◌, List, length, map, filter, slice_get}
 use Rattle.std.specs.Prelude.{Option, None, Some, is_none}
 use Rattle.std.specs.List.{list_all}
 use Rattle.permit_base.specs.declared.words.Role.{Role}
-use Rattle.permit_base.specs.declared.words.Role.TheVariants.{Reviewer, Inspector, Official}
-use Rattle.permit_base.specs.Limits.{is_between, most_records, most_papers, latest_day, latest_deadline}
+use Rattle.permit_base.specs.declared.words.Role.TheVariants.{Reviewer, Inspector}
+use Rattle.permit_base.specs.Limits.{is_between, most_papers, latest_deadline}
 use Rattle.permit_model.specs.Codes.{is_role, is_stage_among}
 use Rattle.permit_model.specs.Days.{term, longest_temporary}
 use Rattle.permit_model.specs.Steps.{required_steps, has_certificates}
 use Rattle.permit_model.specs.Numbering.{is_numbered_from}
 use Rattle.permit_model.specs.Parcels.{Parcel, Interest}
-use Rattle.permit_model.specs.Tables.{Desk, State, FileRow, Paper, Tables, is_notice}
+use Rattle.permit_model.specs.Tables.{Desk, State, Paper, Tables, is_notice}
 use Rattle.permit_model.specs.Sound.{if_any, has_few_records, begun_stages, stopped_stages, occupied_stages, is_done_in, longest_ask, never_fall}
-use Rattle.permit_model.specs.Sound.{has_sound_days, has_sound_text, has_sound_terms, papers_in, is_sound_paper, are_sound_papers_of, has_sound_notices}
+use Rattle.permit_model.specs.Sound.{has_sound_days, has_sound_text, has_sound_terms, papers_in, is_sound_paper, are_sound_papers_of}
 use Rattle.permit_sql.specs.declared.tally.Tally.{Tally}
 
 -- ---- the desk and the objects

@@ -135,5 +135,10 @@ pub(crate) fn has_declarers<S: Alter>(
     ensures crash { LeavesOverCrash S.Store conn.old conn.new }
     ensures not_in_transaction { conn.new.in_transaction ≡ false }
 {
-    takes_all(conn, edition, EACH_INTEREST, &mut Declarers { parcels, parties })
+    takes_all(
+        conn,
+        edition,
+        EACH_INTEREST,
+        &mut Declarers { parcels, parties },
+    )
 }

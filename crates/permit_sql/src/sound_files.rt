@@ -40,7 +40,7 @@ struct Filed {
 impl Taker for Filed {
     ghost took = { λ a row b good. MatchBool good
         (PassesFile a.upgrade a.roles.items a.parcels a.last a.tallies.items row b.tallies.items
-            × ((b.upgrade ≡ a.upgrade) × ((b.roles.items ≡ a.roles.items) × ((b.parcels ≡ a.parcels) × (b.last ≡ a.last)))))
+        × ((b.upgrade ≡ a.upgrade) × ((b.roles.items ≡ a.roles.items) × ((b.parcels ≡ a.parcels) × (b.last ≡ a.last)))))
         (StopsFile a.upgrade a.roles.items a.parcels a.last row b.lacks_memory) };
 
     fn take(&mut self, row: &Row) -> bool {
@@ -187,7 +187,15 @@ fn has_sound_cases<S: Alter>(
     ensures crash { LeavesOverCrash S.Store conn.old conn.new }
     ensures not_in_transaction { conn.new.in_transaction ≡ false }
 {
-    match tallies_of(conn, alloc, edition, upgrade, roles, desk.parcels, desk.last)? {
+    match tallies_of(
+        conn,
+        alloc,
+        edition,
+        upgrade,
+        roles,
+        desk.parcels,
+        desk.last,
+    )? {
         Some(tallies) => has_sound_papers(conn, edition, desk.parties, desk.last, tallies),
         None => Ok(false),
     }

@@ -13,8 +13,8 @@ ghost use Rattle.permit_model.specs.Sound;
 ghost use Rattle.permit_sql.specs.Tested;
 
 use permit_base::limits::{
-    LATEST_DEADLINE, LONGEST_PERMIT_EXTENSION, LONGEST_REVIEW_EXTENSION,
-    LONGEST_TEMPORARY, MOST_PAPERS, MOST_RECORDS, TERM,
+    LATEST_DEADLINE, LONGEST_PERMIT_EXTENSION, LONGEST_REVIEW_EXTENSION, LONGEST_TEMPORARY,
+    MOST_PAPERS, MOST_RECORDS, TERM,
 };
 use permit_base::values::{Day, PartyId};
 use permit_base::words::{Kind, PaperSort, Role, Stage};

@@ -1,6 +1,5 @@
-use Rattle.std.proofs.Common.{◌≡◌, true, false, sym, ap, subst, ◌∙◌, true≢false}
+use Rattle.std.proofs.Common.{sym, ap, subst, ◌∙◌, true≢false}
 use Rattle.std.proofs.lemmas.Result.{IfOk-weaker}
-use Rattle.sqlite.specs.Held.{state}
 use Rattle.permit_base.specs.declared.words.Role.TheVariants.{Official}
 use Rattle.permit_sql_rows.specs.Kept.{KeepsUnder}
 use Rattle.permit_sql.specs.Tested.{fits_desk, fits_cases, has_role_at}

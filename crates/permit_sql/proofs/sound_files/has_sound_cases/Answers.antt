@@ -2,7 +2,6 @@ use Rattle.std.proofs.Common.{◌≡◌, true, sym, ap, subst, ◌∙◌, rules}
 use Rattle.std.specs.Prelude.{◌&&◌}
 use Rattle.std.specs.List.{list_all}
 use Rattle.std.proofs.lemmas.Result.{IfOk-weaker}
-use Rattle.sqlite.specs.Held.{state}
 use Rattle.permit_model.specs.Tables.{Desk}
 use Rattle.permit_sql_rows.specs.Kept.{KeepsUnder}
 use Rattle.permit_sql.specs.Tested.{fits_file, fits_papers}

@@ -4,7 +4,6 @@ use Rattle.sqlite.specs.State.{HasCleanDisk}
 use Rattle.sqlite.specs.Held.{state}
 use Rattle.sqlite.proofs.StateLemmas.{survives_then}
 use Rattle.permit_base.specs.declared.words.Edition.TheVariants.{First}
-use Rattle.permit_model.specs.History.{upgraded}
 use Rattle.permit_model.specs.Tables.{Tables, Desk, tables, with_upgrade}
 use Rattle.permit_model.proofs.Editions.{upgrade_made}
 use Rattle.permit_sql_rows.specs.Kept.{KeepsUnder, Keeps, IsFine}
