@@ -14,3 +14,10 @@ pub mod Answered
 pub mod PapersAnswered
 pub mod Refused
 pub mod Calls
+mod Numbered
+mod Tallies
+mod Soundness
+mod SameOrder
+mod FilesFilled
+mod Passing
+mod SoundUpgrade

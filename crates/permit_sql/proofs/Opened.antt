@@ -1,9 +1,8 @@
 -- The tables that the tested rows are.
-use Rattle.std.proofs.Common.{◌≡◌, inl, inr, ℕ, zero, suc, ◌-◌, ◌<◌, ◌≤◌, Bool, true, false, cond, eqb, List, [], ◌∷◌, map, filter, find, length, slice_get}
+use Rattle.std.proofs.Common.{◌≡◌, inl, inr, ℕ, suc, ◌-◌, ◌<◌, ◌≤◌, Bool, true, false, cond, eqb, List, [], ◌∷◌, map, filter, length}
 use Rattle.std.proofs.Common.{Option, option_map, unwrap_or, refl, sym, ap, subst, ◌∙◌, arith}
 use Rattle.std.specs.List.{AllByRecursion}
-use Rattle.std.proofs.lemmas.Bool.{cases_Bool, eqb-true}
-use Rattle.std.proofs.lemmas.Bool.Decides.{nat_tests}
+use Rattle.std.proofs.lemmas.Bool.{eqb-true}
 use Rattle.sqlite_trees.specs.Tree.{IsAscending}
 use Rattle.sqlite.specs.Effect.{Database}
 use Rattle.permit_base.specs.declared.words.Edition.{Edition}
@@ -12,7 +11,8 @@ use Rattle.permit_sql_rows.specs.Schema.{schema_of}
 use Rattle.permit_sql_rows.specs.Kept.{IsNamed, AreKeyed, AreInTrees, papers_counted}
 use Rattle.permit_sql_rows.specs.Typed.{IsFile, IsPaper}
 use Rattle.permit_sql.specs.Found.{IsNumbered, IsLater, IsRising, IsGoodFile, IsApart, counted_in, HasDesk, HasUpgrade, HasParties, HasParcels, HasFiles, HasInterests}
-use Rattle.permit_sql.specs.Found.{HasPapers, AreTyped, HasSound}
+use Rattle.permit_sql.specs.Found.{HasPapers, AreTyped, HasTyped}
+use Rattle.permit_sql.proofs.Numbered.{once_numbered, find_numbered, get_map}
 
 all_of : {A : Type 0} {P Q : A → Type 0} → ((x : A) → P x → Q x) → (xs : List A) → AllByRecursion P xs → AllByRecursion Q xs
 all_of f [] h = tt
@@ -26,47 +26,6 @@ all_passing {P = P} {Q = Q} test f (x ∷ xs) h = go (test x) refl (all_passing 
     go : (b : Bool) → test x ≡ b → AllByRecursion Q (filter test xs) → AllByRecursion Q (cond b (x ∷ filter test xs) (filter test xs))
     go true e more = (f x e h.0, more)
     go false e more = more
-
--- ---- numbered values
-
-module _ {X : Type 0} (number : X → ℕ) where
-  none_before : (id n : ℕ) (xs : List X) → id < n → IsNumbered number n xs → filter (λ x. eqb (number x) id) xs ≡ []
-  none_before id n [] low h = refl
-  none_before id n (x ∷ xs) low h =
-      let e : number x ≡ n = h.0 in
-      let apart : eqb (number x) id ≡ false = grind (arith, nat_tests) in
-      rw apart (none_before id (suc n) xs (omega (arith, low)) h.1)
-
-  pub once_numbered : (n : ℕ) (xs : List X) → IsNumbered number n xs → (id : ℕ) → length (filter (λ x. eqb (number x) id) xs) ≤ 1
-  once_numbered n [] h id = omega arith
-  once_numbered n (x ∷ xs) h id = elim (cases_Bool (eqb (number x) id)) [
-    | inl same ↦
-        let e : number x ≡ n = h.0 in
-        let here = eqb-true (number x) id same in
-        let none = none_before id (suc n) xs (omega (arith, e, here)) h.1 in
-        rw (same, none) (omega arith)
-    | inr other ↦ rw other (once_numbered (suc n) xs h.1 id)
-  ]
-
-  find_numbered : (n : ℕ) (xs : List X) → IsNumbered number n xs → (id : ℕ) → n ≤ id → find (λ x. eqb (number x) id) xs ≡ slice_get xs (id - n)
-  find_numbered n [] h id low = refl
-  find_numbered n (x ∷ xs) h id low = elim (cases_Bool (eqb (number x) id)) [
-    | inl same ↦
-        let e : number x ≡ n = h.0 in
-        let here = eqb-true (number x) id same in
-        let first : id - n ≡ 0 = omega (arith, e, here) in
-        rw (same, first) refl
-    | inr other ↦
-        let e : number x ≡ n = h.0 in
-        let less : suc n ≤ id = grind (arith, nat_tests) in
-        let next : id - n ≡ suc (id - suc n) = omega (arith, less) in
-        rw (other, next) (find_numbered (suc n) xs h.1 id less)
-  ]
-
-get_map : {A B : Type 0} (f : A → B) (xs : List A) (at : ℕ) → slice_get (map f xs) at ≡ option_map f (slice_get xs at)
-get_map f [] at = refl
-get_map f (x ∷ xs) zero = refl
-get_map f (x ∷ xs) (suc at) = get_map f xs at
 
 pub counts_of : (files : List FileRow) → IsNumbered (λ f. f.id) 1 files → (file : ℕ) → 1 ≤ file →
     papers_counted file files ≡ counted_in (map (λ f. f.state.papers) files) file
@@ -90,7 +49,7 @@ rising_from : (f n : ℕ) (ps : List Paper) → IsRising f n ps → AllByRecursi
 rising_from f n [] up = tt
 rising_from f n (p ∷ ps) up = (up.0, all_later f n p.file p.number ps up.0 up.1)
 
-rise_in : (f n : ℕ) (ps : List Paper) → IsRising f n ps → (file : ℕ) → IsAscending (λ a b. a.number < b.number) (filter (λ p. eqb p.file file) ps)
+pub rise_in : (f n : ℕ) (ps : List Paper) → IsRising f n ps → (file : ℕ) → IsAscending (λ a b. a.number < b.number) (filter (λ p. eqb p.file file) ps)
 rise_in f n [] up file = tt
 rise_in f n (p ∷ ps) up file = go (eqb p.file file) refl (rise_in p.file p.number ps up.1 file)
   where
@@ -108,7 +67,7 @@ rise_in f n (p ∷ ps) up file = go (eqb p.file file) refl (rise_in p.file p.num
 pub tables_found : (edition : Edition) (db : Database) (d : Desk) (upgrade : Option ℕ) (counts : List ℕ) → db.schema ≡ schema_of edition →
     d.edition ≡ edition → HasDesk d (db.trees 0) → HasUpgrade edition d.files upgrade db.trees → HasParties d.parties (db.trees 1) →
     HasParcels d.parcels (db.trees 3) → HasInterests (db.trees 5)
-    → HasFiles upgrade counts (db.trees 7) → length counts ≡ d.files → HasPapers counts (db.trees 8) → IsApart (db.trees 8) → HasSound edition db d.files upgrade
+    → HasFiles upgrade counts (db.trees 7) → length counts ≡ d.files → HasPapers counts (db.trees 8) → IsApart (db.trees 8) → HasTyped edition db d upgrade
 tables_found edition db d upgrade counts schema now desk upgraded parties parcels interests files long papers apart =
     let t : Tables = record { desk = d; upgrade = upgrade; parties = parties.all; parcels = parcels.all; interests = interests.all; files = files.all; papers = papers.all } in
     let many : length files.all ≡ d.files = sym (long_map (λ (f : FileRow). f.state.papers) files.all) ∙ ap length files.counted ∙ long in

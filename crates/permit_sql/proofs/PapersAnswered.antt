@@ -32,10 +32,11 @@ use Rattle.permit_sql.specs.Found.{AreTyped, IsLater, IsRising, counted_in}
 use Rattle.permit_sql.specs.declared.texts.TheConstants.{EACH_INTEREST, EACH_PAPER, EACH_ROWID}
 use Rattle.permit_sql_statements.proofs.Lookups.{answers}
 use Rattle.permit_sql_statements.proofs.Permuted.{no_more}
+use Rattle.permit_sql_statements.proofs.Selecting.{unmapped}
 use Rattle.permit_sql.proofs.Opened.{counts_of}
 use Rattle.permit_sql.proofs.Wholes.{whole_shown}
 use Rattle.permit_sql.proofs.Answered.{each_one}
-use Rattle.permit_sql.proofs.Neighbours.{First, Adjacent, one_passes, climbs, all_of_form, all_in_form, long_map}
+use Rattle.permit_sql.proofs.Neighbours.{First, Adjacent, one_passes, climbs, all_of_form, long_map}
 use Rattle.permit_sql.proofs.WholeMeanings.{each_interest_query, each_interest_is, each_interest_plain, each_interest_unlisted, each_paper_query, each_paper_is}
 use Rattle.permit_sql.proofs.WholeMeanings.{each_paper_plain, each_paper_unlisted, each_rowid_query, each_rowid_is, each_rowid_plain, each_rowid_unlisted}
 
@@ -210,6 +211,7 @@ adjacent_values (v ∷ w ∷ vs) h = (up, adjacent_values (w ∷ vs) h.1)
 
 module _ (edition : Edition) (old new : State) (t : Tables) (typed : AreTyped t) (k : KeepsUnder edition t old.now) (rows : List Row) where
   pub interests_shown : Shown EACH_INTEREST.now [] old new rows → (xs : List Interest) × (rows ≡ map shown_interest xs) × AllByRecursion IsInterest xs
+      × IsPermutation t.interests xs
   interests_shown h =
       let read = reads_as EACH_INTEREST.now [] old new (schema_of edition) k.schema _ (each_interest_is edition) (each_interest_plain edition) (each_interest_unlisted edition) rows h in
       let seen : IsPermutation (map (λ r. firsts 2 1 r) (old.now.trees 5)) rows =
@@ -220,9 +222,8 @@ module _ (edition : Edition) (old new : State) (t : Tables) (typed : AreTyped t)
       let same = IsPermutation-trans _ _ _ moved (subst (λ l. IsPermutation l rows) (sym here) seen) in
       let plain : map (firsts 2 0) (map shown_interest t.interests) ≡ map shown_interest t.interests = map-map (firsts 2 0) shown_interest _
       ∙ map_same _ _ (λ i. refl) _ in
-      all_of_form shown_interest IsInterest rows
-      (all-permutation _ (map shown_interest t.interests) rows (subst (λ l. IsPermutation l rows) plain same)
-      (all_in_form shown_interest IsInterest t.interests typed.interests))
+      let it = unmapped shown_interest t.interests rows (subst (λ l. IsPermutation l rows) plain same) in
+      (it.0, it.2, all-permutation IsInterest t.interests it.0 it.1 typed.interests, it.1)
     where
       cut : (r : Row) → firsts 2 0 (drop 1 r) ≡ firsts 2 1 r
       cut [] = refl
@@ -230,7 +231,7 @@ module _ (edition : Edition) (old new : State) (t : Tables) (typed : AreTyped t)
 
   pub papers_shown : Shown EACH_PAPER.now [] old new rows → let counts = map (λ f. f.state.papers) t.files in
       (xs : List Paper) × (rows ≡ map shown_paper xs) × AllByRecursion IsPaper xs × IsRising 0 0 xs
-      × AllByRecursion (λ p. p.number ≤ counted_in counts p.file) xs
+      × AllByRecursion (λ p. p.number ≤ counted_in counts p.file) xs × IsPermutation t.papers xs
   papers_shown h =
       let q = each_paper_query in
       let db = overlay old.now.trees [] in
@@ -250,19 +251,20 @@ module _ (edition : Edition) (old new : State) (t : Tables) (typed : AreTyped t)
       let low = by_file (λ file p. 1 ≤ file → p.number ≤ counted_in counts file) t.papers
       (λ file. counted file (filter (λ p. eqb p.file file) t.papers) (k.keyed.counted file)) in
       let fit = joined counts t.papers typed.papers low in
-      let form = all_of_form paper_out (IsFit counts) got.0 (all-permutation _ (map paper_out t.papers) got.0 same
-      (all_in_form paper_out (IsFit counts) t.papers fit)) in
-      let xs = form.0 in
+      let same_papers = unmapped paper_out t.papers got.0 same in
+      let xs = same_papers.0 in
+      let fits = all-permutation (IsFit counts) t.papers xs same_papers.1 fit in
       let apart = λ (a : Output) (keyed : (z : Paper) × (a ≡ paper_out z)). no_more (λ b. is_eq (paper_cmp a b)) _ got.0 same
       (subst (λ o. length (filter (λ b. is_eq (paper_cmp o b)) (map paper_out t.papers)) ≤ 1) (sym keyed.1) (papers_apart keyed.0 t.papers up)) in
-      let next = adjacent_papers xs (subst (Adjacent (λ a b. (z : Paper) × (a ≡ paper_out z) → paper_cmp a b ≡ Less)) form.1
+      let next = adjacent_papers xs (subst (Adjacent (λ a b. (z : Paper) × (a ≡ paper_out z) → paper_cmp a b ≡ Less)) same_papers.2
       (climbs paper_cmp (output_cmp_total q) (λ a. (z : Paper) × (a ≡ paper_out z)) got.0 got.2 apart)) in
-      let good = parts counts xs form.2 in (
+      let good = parts counts xs fits in (
         xs,
-        got.3 ∙ ap (map (λ (o : Output). o.1)) form.1 ∙ map-map (λ (o : Output). o.1) paper_out xs,
+        got.3 ∙ ap (map (λ (o : Output). o.1)) same_papers.2 ∙ map-map (λ (o : Output). o.1) paper_out xs,
         good.0,
-        rising_from 0 0 xs (fit_first counts xs form.2) next,
+        rising_from 0 0 xs (fit_first counts xs fits) next,
         good.1,
+        same_papers.1,
       )
     where
       cut : (r : Row) → output each_paper_query ([] ∷ r ∷ []) ≡ output each_paper_query ([] ∷ (Null ∷ drop 1 r) ∷ [])

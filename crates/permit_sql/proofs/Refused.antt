@@ -18,7 +18,7 @@ use Rattle.sqlite.specs.Held.{Held, state}
 use Rattle.sqlite.proofs.Callers.{command_of, EndsIn, begins_shown}
 use Rattle.permit_base.specs.declared.words.Edition.{Edition}
 use Rattle.permit_model.specs.Caller.{Party}
-use Rattle.permit_model.specs.Parcels.{Parcel}
+use Rattle.permit_model.specs.Parcels.{Parcel, Interest}
 use Rattle.permit_model.specs.Tables.{Tables, FileRow, Paper}
 use Rattle.permit_sql_rows.specs.Schema.{schema_of}
 use Rattle.permit_sql_rows.specs.Rows.{int, shown_party, shown_parcel, shown_file, shown_interest, shown_paper}
@@ -84,18 +84,24 @@ module _ (edition : Edition) {S X T : Type 0} (g : Ghosts S) (old new : Held S) 
     (shown : X → Row) (took : T → Row → T → Bool → Type 0) (Fits : T → List X → Type 0) (IsExcused : T → Type 0)
     (next : (a b : T) (x : X) (xs : List X) → Fits a (x ∷ xs) → took a (shown x) b true → Fits b xs)
     (stop : (a b : T) (x : X) (xs : List X) → Fits a (x ∷ xs) → took a (shown x) b false → IsExcused b) where
-  pub all_or_excused : (a b : T) (all : Bool) → ((was late : State) → KeepsUnder edition t was.now → (rows : List Row) → Shown sql [] was late rows → (xs : List X)
+  -- it took them all, or stopped at a row that excuses it
+  pub all_or_stopped : (a b : T) (all : Bool) → ((was late : State) → KeepsUnder edition t was.now → (rows : List Row) → Shown sql [] was late rows → (xs : List X)
       × (rows ≡ map shown xs) × Fits a xs)
-      → TookRows took g sql [] old new a b all → (IsTrue all × Fits b []) ⊎ IsExcused b
-  all_or_excused a b true answer h =
+      → TookRows took g sql [] old new a b all → ((all ≡ true) × Fits b []) ⊎ ((all ≡ false) × IsExcused b)
+  all_or_stopped a b true answer h =
       let kept = subst (λ (db : Database). KeepsUnder edition t db) (sym h.2.0.now_is) k in
       let it = answer (state g h.1) (state g new) kept h.0 h.3 in
       inl (refl, took_on shown took Fits IsExcused next it.0 a b it.2 (subst (λ rows. TookAll took rows a b) it.1 h.4))
-  all_or_excused a b false answer h =
+  all_or_stopped a b false answer h =
       let kept = subst (λ (db : Database). KeepsUnder edition t db) (sym h.3.0.now_is) k in
       let whole = whole_answer edition sql (state g h.2) q kept.schema means h.3.0.is_open (h.0 ++ h.1 ∷ []) h.4 in
       let it = answer (state g h.2) (state g h.2) kept ((h.0 ++ h.1 ∷ []) ++ whole.0) whole.1 in
-      inr (stopped_in shown took Fits IsExcused next stop it.0 h.0 h.1 whole.0 a h.5.0 b (sym it.1 ∙ append_more h.0 h.1 whole.0) it.2 h.5.1 h.5.2)
+      inr (refl, stopped_in shown took Fits IsExcused next stop it.0 h.0 h.1 whole.0 a h.5.0 b (sym it.1 ∙ append_more h.0 h.1 whole.0) it.2 h.5.1 h.5.2)
+
+  pub all_or_excused : (a b : T) (all : Bool) → ((was late : State) → KeepsUnder edition t was.now → (rows : List Row) → Shown sql [] was late rows → (xs : List X)
+      × (rows ≡ map shown xs) × Fits a xs)
+      → TookRows took g sql [] old new a b all → (IsTrue all × Fits b []) ⊎ IsExcused b
+  all_or_excused a b all answer h = elim (all_or_stopped a b all answer h) [ inl took ↦ inl took | inr stopped ↦ inr stopped.1 ]
 
 -- ---- a taker that was not excused took all rows
 
@@ -178,8 +184,12 @@ module _ (edition : Edition) {S : Type 0} (g : Ghosts S) (old new : Held S) (t :
   interests_taken a b all h =
       after (all_or_excused edition g old new t k EACH_INTEREST.now _ (each_interest_is edition) shown_interest interest_took (λ d is. AllByRecursion IsInterest is) (λ d. ⊥)
       (λ a b i is fits h. fits.1) (λ a b i is fits refuses. refuses i fits.0 refl) a b all
-      (λ was late kept rows h. interests_shown edition was late t typed kept rows h) h)
+      answer h)
     where
+      answer : (was late : State) → KeepsUnder edition t was.now → (rows : List Row) → Shown EACH_INTEREST.now [] was late rows → (is : List Interest)
+          × (rows ≡ map shown_interest is) × AllByRecursion IsInterest is
+      answer was late kept rows h = let it = interests_shown edition was late t typed kept rows h in (it.0, it.1, it.2)
+
       after : (IsTrue all × AllByRecursion IsInterest []) ⊎ ⊥ → IsTrue all
       after (inl it) = it.0
       after (inr never) = absurd never

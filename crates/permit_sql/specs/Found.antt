@@ -14,6 +14,7 @@ use Rattle.permit_model.specs.Parcels.{Parcel, Interest}
 use Rattle.permit_base.specs.declared.words.Edition.{Edition}
 use Rattle.permit_base.specs.declared.words.Edition.TheVariants.{Second}
 use Rattle.permit_model.specs.Tables.{Tables, Desk, FileRow, Paper, edition_by}
+use Rattle.permit_model.specs.Sound.{IsSoundTables}
 use Rattle.permit_sql_rows.specs.Rows.{desk_row, upgrade_row, party_row, parcel_row, file_row, shown_party, shown_parcel, shown_file, shown_interest, shown_paper}
 use Rattle.permit_sql_rows.specs.Kept.{IsNamed, KeepsUnder}
 use Rattle.permit_sql.specs.Taken.{TookAll}
@@ -174,14 +175,19 @@ pub record AreTyped (t : Tables) : Type 0 where
   pub parcel_count : length t.parcels ≡ t.desk.parcels
   pub file_count : length t.files ≡ t.desk.files
 
--- typed tables that the database keeps under the edition
-abbrev pub KeepsTypedUnder : Edition → Database → Type 0
-KeepsTypedUnder edition db = (t : Tables) × AreTyped t × KeepsUnder edition t db
+-- sound tables that the database keeps under the edition
+abbrev pub KeepsSoundUnder : Edition → Database → Type 0
+KeepsSoundUnder edition db = (t : Tables) × AreTyped t × IsSoundTables t × KeepsUnder edition t db
 
--- typed tables that the database keeps
-abbrev pub KeepsTyped : Database → Type 0
-KeepsTyped db = KeepsTypedUnder Second db
+-- sound tables that the database keeps
+abbrev pub KeepsSound : Database → Type 0
+KeepsSound db = KeepsSoundUnder Second db
 
--- these are typed tables that the database keeps under the edition, with so many files, and so many at the upgrade
+-- these are typed tables that the database keeps under the edition, with this desk, and so many files at the upgrade
+abbrev pub HasTyped : Edition → Database → Desk → Option ℕ → Type 0
+HasTyped edition db desk upgrade = (t : Tables) × AreTyped t × KeepsUnder edition t db × (t.desk ≡ desk) × (t.upgrade ≡ upgrade)
+
+-- these are sound tables that the database keeps under the edition, with so many files, and so many at the upgrade
 abbrev pub HasSound : Edition → Database → ℕ → Option ℕ → Type 0
-HasSound edition db files upgrade = (t : Tables) × AreTyped t × KeepsUnder edition t db × (t.desk.files ≡ files) × (t.upgrade ≡ upgrade)
+HasSound edition db files upgrade =
+    (t : Tables) × AreTyped t × IsSoundTables t × KeepsUnder edition t db × (t.desk.files ≡ files) × (t.upgrade ≡ upgrade)

@@ -7,9 +7,10 @@
 //!
 //! **What an open finds.** `specs/Found.antt` says when the tables that a database keeps are typed: each row is within
 //! the limits of the program's types, its texts in UTF-8, parties, parcels and files are numbered from 1, and the desk
-//! counts them. An open reads the desk's version first, then compares the schema, then tests the rows one at a time,
-//! each table by one streamed query. It calls rows damaged only where no such tables are kept; want of memory and a
-//! call that failed are the store's (`proofs/Refused.antt`).
+//! counts them; and when they are sound: the model's conditions hold of them too. An open reads the desk's version
+//! first, then compares the schema, then tests the rows one at a time, each table by one streamed query: once for their
+//! types (`proofs/Refused.antt`), and once for what they say together (`specs/Tested.antt`, `proofs/Passing.antt`). It
+//! calls rows damaged exactly where no sound tables are kept; want of memory and a call that failed are the store's.
 #![tactic(auto)]
 
 mod check;
@@ -17,5 +18,9 @@ mod check_files;
 mod each;
 mod open;
 pub mod reopen;
+mod sound;
+mod sound_files;
+mod sound_row;
 pub mod store;
+mod tally;
 mod texts;

@@ -12,11 +12,12 @@ ghost use Rattle.permit_sql_rows.specs.Rows.{shown_desk, shown_upgrade};
 ghost use Rattle.permit_sql_rows.specs.Typed.{firsts, IsDesk};
 ghost use Rattle.permit_sql_rows.specs.Kept.{IsFine};
 ghost use Rattle.permit_sql.specs.Opening.{seen_desk, seen_upgrade, IsOther, HasOtherVersion};
-ghost use Rattle.permit_sql.specs.Found.{HasDesk, HasUpgrade, HasObjects, HasCases, HasSound, KeepsTypedUnder};
+ghost use Rattle.permit_sql.specs.Found.{HasDesk, HasUpgrade, HasObjects, HasCases, HasSound, KeepsSoundUnder};
 ghost use Rattle.permit_sql.specs.Frames.{OverTyped, LeavesRows, LeavesOverCrash};
 
 use crate::check::{check_interests, check_parcels, check_parties};
 use crate::check_files::{check_files, check_papers, check_rowids};
+use crate::sound_files::are_sound;
 use permit_base::words::Edition;
 use permit_sql_rows::decode::{desk_in, upgrade_in};
 use permit_sql_rows::fields::whole_number;
@@ -248,7 +249,7 @@ pub(crate) struct Sound {
     pub(crate) upgrade: Option<u32>,
 }
 
-/// What the rows tell, where they are typed tables.
+/// What the rows tell, where they are sound tables: they are read twice, for their types and for what they say together.
 fn find_sound<S: Alter>(
     conn: &mut Connection<S>,
     alloc: Global,
@@ -258,7 +259,7 @@ fn find_sound<S: Alter>(
     requires desk { slice_get (state S.Store conn.old).now.schema.tables 0 ≡ Some desk_table }
     ensures good { IsFine (state S.Store conn.new) → (state S.Store conn.old).now.schema ≡ schema_of edition
         → IfOk result (λ o. IfSome o (λ s. HasSound edition (state S.Store conn.old).now s.files s.upgrade)) }
-    ensures kept { IsFine (state S.Store conn.new) → KeepsTypedUnder edition (state S.Store conn.old).now → IfOk result (λ o. IsSome o) }
+    ensures kept { IsFine (state S.Store conn.new) → KeepsSoundUnder edition (state S.Store conn.old).now → IfOk result (λ o. IsSome o) }
     ensures open { HasCleanDisk (state S.Store conn.new) → IfOk result (λ o. IsSome o → IsTrue (state S.Store conn.new).is_open) }
     ensures left { LeavesRows S.Store conn.old conn.new }
     ensures crash { LeavesOverCrash S.Store conn.old conn.new }
@@ -276,13 +277,16 @@ fn find_sound<S: Alter>(
     if !has_sound_files(conn, alloc, edition, desk, upgrade)? {
         return Ok(None);
     }
+    if !are_sound(conn, alloc, edition, desk, upgrade)? {
+        return Ok(None);
+    }
     Ok(Some(Sound {
         files: desk.files,
         upgrade,
     }))
 }
 
-/// What the tables tell, where the schema is the edition's and the rows are typed tables; with another schema the
+/// What the tables tell, where the schema is the edition's and the rows are sound tables; with another schema the
 /// refusal is `Store`.
 fn check_tables<S: Alter>(
     conn: &mut Connection<S>,
@@ -292,7 +296,7 @@ fn check_tables<S: Alter>(
     requires not_in_transaction { conn.old.in_transaction ≡ false }
     ensures sound { IsFine (state S.Store conn.new) → IfOk result (λ s. HasSound edition (state S.Store conn.new).now s.files s.upgrade) }
     ensures damaged { IsFine (state S.Store conn.new)
-        → IfErr result (λ e. e ≡ open_error.Damaged → ¬ KeepsTypedUnder edition (state S.Store conn.old).now) }
+        → IfErr result (λ e. e ≡ open_error.Damaged → ¬ KeepsSoundUnder edition (state S.Store conn.old).now) }
     ensures open { HasCleanDisk (state S.Store conn.new) → OnOk result (IsTrue (state S.Store conn.new).is_open) }
     ensures left { LeavesRows S.Store conn.old conn.new }
     ensures refusal { IfErr result (λ e. (e ≡ open_error.Damaged) ⊎ (e ≡ open_error.Store)) }
@@ -319,7 +323,7 @@ fn check_versioned<S: Alter>(
     requires desk { slice_get (state S.Store conn.old).now.schema.tables 0 ≡ Some desk_table }
     ensures sound { IsFine (state S.Store conn.new) → IfOk result (λ s. HasSound edition (state S.Store conn.new).now s.files s.upgrade) }
     ensures damaged { IsFine (state S.Store conn.new)
-        → IfErr result (λ e. e ≡ open_error.Damaged → ¬ KeepsTypedUnder edition (state S.Store conn.old).now) }
+        → IfErr result (λ e. e ≡ open_error.Damaged → ¬ KeepsSoundUnder edition (state S.Store conn.old).now) }
     ensures version { HasCleanDisk (state S.Store conn.new)
         → IfErr result (λ e. e ≡ open_error.Version → HasOtherVersion edition (state S.Store conn.old).now) }
     ensures told { HasCleanDisk (state S.Store conn.new) → HasOtherVersion edition (state S.Store conn.old).now
@@ -345,7 +349,7 @@ pub(crate) fn check<S: Alter>(
 ) -> Result<Sound, OpenError>
     ensures sound { IsFine (state S.Store conn.new) → IfOk result (λ s. HasSound edition (state S.Store conn.new).now s.files s.upgrade) }
     ensures damaged { IsFine (state S.Store conn.new)
-        → IfErr result (λ e. e ≡ open_error.Damaged → ¬ KeepsTypedUnder edition (state S.Store conn.old).now) }
+        → IfErr result (λ e. e ≡ open_error.Damaged → ¬ KeepsSoundUnder edition (state S.Store conn.old).now) }
     ensures version { HasCleanDisk (state S.Store conn.new)
         → IfErr result (λ e. e ≡ open_error.Version → HasOtherVersion edition (state S.Store conn.old).now) }
     ensures told { HasCleanDisk (state S.Store conn.new) → HasOtherVersion edition (state S.Store conn.old).now

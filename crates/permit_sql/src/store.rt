@@ -9,6 +9,7 @@ ghost use Rattle.permit_model.specs.History.{History, upgraded};
 ghost use Rattle.permit_model.specs.Machine.{IsHistory};
 ghost use Rattle.permit_model.specs.Files.{case_files};
 ghost use Rattle.permit_model.specs.Tables.{Tables, tables, with_upgrade};
+ghost use Rattle.permit_model.specs.Sound.{IsSoundTables};
 ghost use Rattle.permit_store.specs.Founding.{founding};
 ghost use Rattle.permit_store.specs.Counts.{next_count};
 ghost use Rattle.permit_store.specs.declared.store.OpenError.TheVariants as open_error;
@@ -16,7 +17,7 @@ ghost use Rattle.permit_sql_rows.specs.Schema.{empty_schema};
 ghost use Rattle.permit_sql_rows.specs.Kept.{KeepsUnder, Keeps, Shows, IsFine};
 ghost use Rattle.permit_sql.specs.Seen.{Lasts};
 ghost use Rattle.permit_sql.specs.Opening.{HasOtherVersion};
-ghost use Rattle.permit_sql.specs.Found.{KeepsTyped, KeepsTypedUnder};
+ghost use Rattle.permit_sql.specs.Found.{KeepsSound, KeepsSoundUnder};
 ghost use Rattle.permit_sql_statements.specs.Founding.{AreCounted};
 
 use crate::open::check;
@@ -66,6 +67,15 @@ fn is_empty<S: Alter>(conn: &Connection<S>) -> bool
     schema.views.len() == 0
 }
 
+/// A law: the tables of a founding are sound, since a founder's texts and day are within their limits.
+fn founds_sound_tables(founder: &Founder)
+    ensures { IsSoundTables (tables (founding founder.now.name founder.now.digest founder.now.day)) }
+{
+    let _name = founder.name.as_str();
+    let _digest = founder.digest.as_str();
+    let _day = founder.day.get();
+}
+
 impl<S: Alter> SqlStore<S> {
     /// The answer of a call that failed, which counts.
     fn fail<T>(&mut self) -> Got<T>
@@ -91,6 +101,7 @@ impl<S: Alter> SqlStore<S> {
             (tables (founding founder.now.name founder.now.digest founder.now.day))) }
         ensures keeps { IfOk result (λ s. HasCleanDisk (state S.Store s.conn)
             → Keeps (tables (founding founder.now.name founder.now.digest founder.now.day)) (state S.Store s.conn).now) }
+        ensures sound { IsSoundTables (tables (founding founder.now.name founder.now.digest founder.now.day)) }
         ensures doubt { IfOk result (λ s. (⟦<SqlStore<S> as Store>⟧.view s).doubt ≡ doubt (state S.Store s.conn).is_clean) }
         ensures handed { IfOk result (λ s. (⟦<SqlStore<S> as Store>⟧.view s).handed ≡ 0) }
         ensures failed { IfOk result (λ s. (⟦<SqlStore<S> as Store>⟧.view s).failed ≡ 0) }
@@ -105,6 +116,7 @@ impl<S: Alter> SqlStore<S> {
         ensures told { IfErr result (λ e. conn.in_transaction ≡ false → (state S.Store conn).now.schema ≢ empty_schema → e.1 ≡ OpenError.Exists) }
         ensures refusal { IfErr result (λ e. (e.1 ≡ open_error.Exists) ⊎ (e.1 ≡ open_error.Store)) }
     {
+        founds_sound_tables(founder);
         let mut conn = conn;
         if !conn.is_autocommit() {
             return Err((conn, OpenError::Store));
@@ -125,11 +137,11 @@ impl<S: Alter> SqlStore<S> {
         }
     }
 
-    /// Opens the database that holds the office's tables, which it reads and leaves as they are. It refuses as
-    /// `Version` where the desk's row says another version than 2, which is tested first; as `Damaged` only where the
-    /// rows are out of their limits, or aren't numbered and counted as the desk says; and as `Store` where a call failed
-    /// or gave a rowid that is no number, memory was refused, a transaction is open, or the database has another schema
-    /// than `create` makes. With a refusal the connection comes back, its database as before.
+    /// Opens the database that holds the office's tables, which it reads and leaves as they are: they are sound tables.
+    /// It refuses as `Version` where the desk's row says another version than 2, which is tested first; as `Damaged`
+    /// only where the rows are no sound tables; and as `Store` where a call
+    /// failed or gave a rowid that is no number, memory was refused, a transaction is open, or the database has another
+    /// schema than `create` makes. With a refusal the connection comes back, its database as before.
     pub fn open(
         alloc: Global,
         conn: Connection<S>,
@@ -137,8 +149,8 @@ impl<S: Alter> SqlStore<S> {
         ensures held { IfOk result (λ s. (t : Tables) → (HasCleanDisk (state S.Store s.conn) → Shows t (state S.Store conn))
             → (⟦<SqlStore<S> as Store>⟧.view s).holds t) }
         ensures opened { IfOk result (λ s. HasCleanDisk (state S.Store s.conn) → IsTrue (state S.Store s.conn).is_open) }
-        ensures typed { IfOk result (λ s. HasCleanDisk (state S.Store s.conn)
-            → IsTrue (state S.Store s.conn).is_open → KeepsTyped (state S.Store s.conn).now) }
+        ensures sound { IfOk result (λ s. HasCleanDisk (state S.Store s.conn)
+            → IsTrue (state S.Store s.conn).is_open → KeepsSound (state S.Store s.conn).now) }
         ensures doubt { IfOk result (λ s. (⟦<SqlStore<S> as Store>⟧.view s).doubt ≡ doubt (state S.Store s.conn).is_clean) }
         ensures counts { IfOk result (λ s. (s.handed ≡ 0) × (s.failed ≡ 0) × (s.commits ≡ 0)) }
         ensures crash { IfOk result (λ s. Survives (state S.Store conn) (state S.Store s.conn) (λ _. ⊥)) }
@@ -148,7 +160,7 @@ impl<S: Alter> SqlStore<S> {
         ensures told { IfErr result (λ e. HasCleanDisk (state S.Store e.0) → HasOtherVersion Second (state S.Store conn).now
             → (e.1 ≡ open_error.Version) ⊎ (e.1 ≡ open_error.Store)) }
         ensures first { IfOk result (λ s. HasCleanDisk (state S.Store s.conn) → ¬ HasOtherVersion Second (state S.Store conn).now) }
-        ensures damaged { IfErr result (λ e. e.1 ≡ open_error.Damaged → IsFine (state S.Store e.0) → ¬ KeepsTyped (state S.Store conn).now) }
+        ensures damaged { IfErr result (λ e. e.1 ≡ open_error.Damaged → IsFine (state S.Store e.0) → ¬ KeepsSound (state S.Store conn).now) }
         ensures refusal { IfErr result (λ e. (e.1 ≡ open_error.Damaged) ⊎ ((e.1 ≡ open_error.Version) ⊎ (e.1 ≡ open_error.Store))) }
     {
         let mut conn = conn;
@@ -166,18 +178,17 @@ impl<S: Alter> SqlStore<S> {
     }
 
     /// Makes of a database of version 1 one of version 2, all in one transaction: the tables of the same history with the
-    /// entry of the upgrade. It gives the count of files, which keep to the first edition of the inspections for good. It
-    /// refuses as `Version` where the desk's row says another version than 1, which is tested first; as `Damaged` only
-    /// where the rows are out of their limits, or aren't numbered and counted as the desk says; and as `Store` where a
-    /// call failed, memory was refused, a transaction is open, or the database has another schema than that version's.
-    /// With a refusal the database is as before. A crash inside leaves what was there, or the tables after the upgrade
-    /// whole.
+    /// entry of the upgrade, which are sound. It gives the count of files, which keep to the first edition of the
+    /// inspections for good. It refuses as `Version` where the desk's row says another version than 1, which is tested
+    /// first; as `Damaged` only where the rows are no sound tables; and as `Store` where a call failed, memory was
+    /// refused, a transaction is open, or the database has another schema than that version's. With a refusal the
+    /// database is as before. A crash inside leaves what was there, or the tables after the upgrade whole.
     pub fn upgrade(alloc: Global, conn: &mut Connection<S>) -> Result<u32, OpenError>
         ensures made { HasCleanDisk (state S.Store conn.new) → (t : Tables) → AreCounted t → KeepsUnder First t (state S.Store conn.old).now
             → IfOk result (λ n. (n ≡ t.desk.files) × Keeps (with_upgrade t) (state S.Store conn.new).now) }
         ensures history { HasCleanDisk (state S.Store conn.new) → (h : History) → IsHistory h → KeepsUnder First (tables h) (state S.Store conn.old).now
             → IfOk result (λ n. (n ≡ length (case_files h)) × Keeps (tables (upgraded h)) (state S.Store conn.new).now) }
-        ensures typed { HasCleanDisk (state S.Store conn.new) → OnOk result (KeepsTyped (state S.Store conn.new).now) }
+        ensures sound { HasCleanDisk (state S.Store conn.new) → OnOk result (KeepsSound (state S.Store conn.new).now) }
         ensures opened { HasCleanDisk (state S.Store conn.new) → OnOk result (IsTrue (state S.Store conn.new).is_open) }
         ensures same { IsFine (state S.Store conn.new) → OnErr result ((state S.Store conn.new).now ≡ (state S.Store conn.old).now) }
         ensures version { HasCleanDisk (state S.Store conn.new)
@@ -185,7 +196,7 @@ impl<S: Alter> SqlStore<S> {
         ensures told { HasCleanDisk (state S.Store conn.new) → HasOtherVersion First (state S.Store conn.old).now
             → (result ≡ Err open_error.Version) ⊎ (result ≡ Err open_error.Store) }
         ensures damaged { IsFine (state S.Store conn.new)
-            → IfErr result (λ e. e ≡ open_error.Damaged → ¬ KeepsTypedUnder First (state S.Store conn.old).now) }
+            → IfErr result (λ e. e ≡ open_error.Damaged → ¬ KeepsSoundUnder First (state S.Store conn.old).now) }
         ensures refusal { IfErr result (λ e. (e ≡ open_error.Damaged) ⊎ ((e ≡ open_error.Version) ⊎ (e ≡ open_error.Store))) }
         ensures crash { Survives (state S.Store conn.old) (state S.Store conn.new)
             (λ trees. (t : Tables) → AreCounted t → KeepsUnder First t (state S.Store conn.old).now

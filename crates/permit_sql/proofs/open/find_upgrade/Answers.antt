@@ -1,6 +1,6 @@
-use Rattle.std.proofs.Common.{◌≡◌, Option, Some, sym, ap, ◌∙◌, arith}
+use Rattle.std.proofs.Common.{Option, Some, sym, ap, ◌∙◌, arith}
 use Rattle.sqlite.specs.Held.{state}
-use Rattle.permit_sql.proofs.Upgrades.{upgrade_found, kept_upgrade, under_first, under_second}
+use Rattle.permit_sql.proofs.Upgrades.{upgrade_found, kept_upgrade, under_second}
 use Rattle.permit_sql.proofs.open.find_upgrade.Goals as goal
 
 pub returns-in-Some-clause-good : goal.returns-in-Some-clause-good

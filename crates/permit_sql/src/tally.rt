@@ -1,0 +1,72 @@
+//! What is told of a file while its papers are read.
+
+ghost use Rattle.std.specs.Prelude.{◌≡◌, Some};
+ghost use Rattle.std.specs.List.{list_all};
+ghost use Rattle.permit_sql.specs.Tested.{first_tally, next_tally, is_ended};
+
+use permit_core::state::FileState;
+use permit_store::rows::Paper;
+
+/// The day and the number of the last paper that was read of a file, the count of its papers, and how many open notices
+/// are to come.
+#[derive(Clone, Copy)]
+pub(crate) struct Tally {
+    /// The day of the last paper; that of the filing before the first one.
+    pub(crate) day: u32,
+    /// The number of the last paper, or 0.
+    pub(crate) number: u32,
+    /// The count in the file's row.
+    pub(crate) papers: u16,
+    /// How many of the open notices that the file's row counts weren't read.
+    pub(crate) notices: u16,
+}
+
+impl Tally {
+    /// What is told before the file's papers are read.
+    pub(crate) fn of(state: &FileState) -> Tally
+        ensures { result ≡ first_tally state.now }
+    {
+        Tally {
+            day: state.filed().get(),
+            number: 0,
+            papers: state.papers(),
+            notices: state.notices(),
+        }
+    }
+
+    /// What is told once the paper is read, where it has the next number and no earlier day, and is counted if it is open.
+    pub(crate) fn after(self, paper: &Paper) -> Option<Tally>
+        ensures { result ≡ next_tally paper.now (Some self) }
+    {
+        let day = paper.day.get();
+        let number = paper.number.get();
+        if number - 1 != self.number || day < self.day {
+            return None;
+        }
+        let notices = if paper.is_open {
+            self.notices.checked_sub(1)?
+        } else {
+            self.notices
+        };
+        Some(Tally {
+            day,
+            number,
+            papers: self.papers,
+            notices,
+        })
+    }
+
+    /// Whether all papers and all open notices were read.
+    fn is_ended(self) -> bool
+        ensures { result ≡ is_ended self }
+    {
+        self.number == u32::from(self.papers) && self.notices == 0
+    }
+}
+
+/// Whether all papers and all open notices of each file were read.
+pub(crate) fn are_ended(tallies: &[Tally]) -> bool
+    ensures { result ≡ list_all is_ended tallies.now }
+{
+    tallies.iter().all(|tally| tally.is_ended())
+}
