@@ -63,7 +63,8 @@ module _ (t : Tables) (typed : AreTyped t) (keyed : AreKeyed t) (xs : List Paper
       let four = and_parts _ (Sound.has_sound_days p) three.0 in
       let five = and_parts _ (nat_le p.day t.desk.last) four.0 in
       let six = and_parts (has_file t p.file) (has_party t p.author) five.0 in (
-        and_from _ _ (and_from _ _ (and_from _ _ (and_from _ _ (and_from _ _ (sym (among t typed p.author good.author) ∙ six.1) five.1) four.1) three.1) two.1) one.1,
+        and_from _ _ (and_from _ _
+            (and_from _ _ (and_from _ _ (and_from _ _ (sym (among t typed p.author good.author) ∙ six.1) five.1) four.1) three.1) two.1) one.1,
         leb-true p.file t.desk.files (sym (file_there t typed p.file good.file) ∙ six.0),
       )
 
@@ -75,7 +76,8 @@ module _ (t : Tables) (typed : AreTyped t) (keyed : AreKeyed t) (xs : List Paper
       let four = and_parts _ (Sound.has_sound_days p) three.0 in
       let five = and_parts (nat_le p.author t.desk.parties) (nat_le p.day t.desk.last) four.0 in
       let file : has_file t p.file ≡ true = file_there t typed p.file good.file ∙ le-leb p.file t.desk.files fit.1 in
-      and_from _ _ (and_from _ _ (and_from _ _ (and_from _ _ (and_from _ _ (and_from _ _ file (among t typed p.author good.author ∙ five.0)) five.1) four.1) three.1)
+      and_from _ _ (and_from _ _
+      (and_from _ _ (and_from _ _ (and_from _ _ (and_from _ _ file (among t typed p.author good.author ∙ five.0)) five.1) four.1) three.1)
       two.1) one.1
 
   left_of : (f : FileRow) (i : ℕ) → f.id ≡ suc i → is_filled f ≡ true → are_left (first_tally f.state) (of_file (suc i) xs) ≡ true
@@ -125,7 +127,8 @@ module _ (t : Tables) (typed : AreTyped t) (keyed : AreKeyed t) (xs : List Paper
   pub first_left : AreLeft t.desk.parties t.desk.last t.desk.files tallies xs → fits_papers t ≡ true
   first_left left =
       let each = all_by_two (λ p a b. (a, b)) xs left.alone left.there in
-      let back = all-permutation (λ p. (fits_paper t.desk.parties t.desk.last p ≡ true) × (p.file ≤ t.desk.files)) xs t.papers (IsPermutation-sym _ _ same) each in
+      let back = all-permutation (λ p. (fits_paper t.desk.parties t.desk.last p ≡ true) × (p.file ≤ t.desk.files)) xs t.papers
+      (IsPermutation-sym _ _ same) each in
       let filled = each_at (λ f. nat_le f.state.papers most_papers ≡ true → is_filled f ≡ true) t.files 1 typed.file_numbers (λ i f got is low.
       let id : f.id ≡ suc i = omega (arith, is) in
       of_left f i id low (left.left i (first_tally f.state) got)) in

@@ -1,5 +1,6 @@
 -- What the tests of soundness tell of typed tables.
-use Rattle.std.proofs.Common.{◌≡◌, inl, inr, ℕ, zero, suc, ◌-◌, ◌<◌, ◌≤◌, Bool, true, false, Some, None, Option, List, [], ◌∷◌, ◌++◌, map, length, refl, sym, ap, subst}
+use Rattle.std.proofs.Common.{◌≡◌, inl, inr, ℕ, zero, suc, ◌-◌, ◌<◌, ◌≤◌, Bool, true, false, Some, None, Option, List}
+use Rattle.std.proofs.Common.{[], ◌∷◌, ◌++◌, map, length, refl, sym, ap, subst}
 use Rattle.std.proofs.Common.{◌∙◌, arith, append-nil, append_assoc, true≢false, IsPermutation}
 use Rattle.std.specs.Prelude.{◌⊎◌, ◌&&◌, IsTrue, MatchBool, slice_get, slice_set, nat_le, if◌then◌else◌}
 use Rattle.std.specs.List.{list_all, AllByRecursion}
@@ -22,7 +23,8 @@ use Rattle.permit_sql_rows.specs.Typed.{IsParty, IsParcel, IsInterest, IsFile, I
 use Rattle.permit_sql.specs.Taken.{TookRows}
 use Rattle.permit_sql.specs.Found.{AreTyped}
 use Rattle.permit_sql.specs.Tested.{fits_parcel, fits_interest, fits_file, fits_paper, fits_papers, first_tally, next_tally, is_next, tally_after, is_ended}
-use Rattle.permit_sql.specs.Passed.{PassesParty, StopsParty, PassesParcel, StopsParcel, PassesInterest, StopsInterest, PassesFile, StopsFile, PassesPaper, StopsPaper}
+use Rattle.permit_sql.specs.Passed.{PassesParty, StopsParty, PassesParcel, StopsParcel, PassesInterest, StopsInterest}
+use Rattle.permit_sql.specs.Passed.{PassesFile, StopsFile, PassesPaper, StopsPaper}
 use Rattle.permit_sql.specs.declared.tally.Tally.{Tally}
 use Rattle.permit_sql.specs.declared.sound.Roles.{Roles}
 use Rattle.permit_sql.specs.declared.sound.Owners.{Owners}
@@ -101,13 +103,15 @@ module _ (edition : Edition) {S : Type 0} (g : Ghosts S) (old new : Held S) (t :
           × (rows ≡ map shown_party ps) × Fits a ps
       answer was late kept rows h = (t.parties, parties_shown edition was late t typed kept rows h, (typed.parties, ap (λ l. l ++ roles_of t.parties) none))
 
-      after : ((all ≡ true) × Fits b []) ⊎ ((all ≡ false) × IsTrue b.lacks_memory) → ((all ≡ true) × (b.roles.items ≡ roles_of t.parties)) ⊎ IsTrue b.lacks_memory
+      after : ((all ≡ true) × Fits b []) ⊎ ((all ≡ false) × IsTrue b.lacks_memory) →
+          ((all ≡ true) × (b.roles.items ≡ roles_of t.parties)) ⊎ IsTrue b.lacks_memory
       after (inl it) = inl (it.0, sym (append-nil b.roles.items) ∙ it.1.1)
       after (inr lacks) = inr lacks.1
 
   pub owners_taken : (a b : Owners) (all : Bool) → TookRows owner_took g EACH_PARCEL.now [] old new a b all → all ≡ list_all (fits_parcel a.parties) t.parcels
   owners_taken a b all h =
-      after (all_or_stopped edition g old new t k EACH_PARCEL.now _ (each_parcel_is edition) shown_parcel owner_took Fits (λ d. total ≡ false) next stop a b all answer h)
+      after (all_or_stopped edition g old new t k EACH_PARCEL.now _ (each_parcel_is edition) shown_parcel owner_took Fits
+      (λ d. total ≡ false) next stop a b all answer h)
     where
       total : Bool
       total = list_all (fits_parcel a.parties) t.parcels
@@ -136,7 +140,8 @@ module _ (edition : Edition) {S : Type 0} (g : Ghosts S) (old new : Held S) (t :
   pub declarers_taken : (a b : Declarers) (all : Bool) → TookRows declarer_took g EACH_INTEREST.now [] old new a b all →
       all ≡ list_all (fits_interest a.parcels a.parties) t.interests
   declarers_taken a b all h =
-      after (all_or_stopped edition g old new t k EACH_INTEREST.now _ (each_interest_is edition) shown_interest declarer_took Fits (λ d. total ≡ false) next stop a b all
+      after (all_or_stopped edition g old new t k EACH_INTEREST.now _ (each_interest_is edition) shown_interest declarer_took Fits
+      (λ d. total ≡ false) next stop a b all
       answer h)
     where
       total : Bool
@@ -171,9 +176,11 @@ module _ (edition : Edition) {S : Type 0} (g : Ghosts S) (old new : Held S) (t :
   first_of = map (λ f. first_tally f.state)
 
   pub filed_taken : (a b : Filed) (all : Bool) → a.tallies.items ≡ [] → a.upgrade ≡ t.upgrade → TookRows filed_took g EACH_FILE.now [] old new a b all →
-      ((all ≡ list_all (λ f. fits_file a.roles.items a.parcels a.last f.state) t.files) × (all ≡ true → b.tallies.items ≡ first_of t.files)) ⊎ IsTrue b.lacks_memory
+      ((all ≡ list_all (λ f. fits_file a.roles.items a.parcels a.last f.state) t.files) ×
+      (all ≡ true → b.tallies.items ≡ first_of t.files)) ⊎ IsTrue b.lacks_memory
   filed_taken a b all none same h =
-      after (all_or_stopped edition g old new t k EACH_FILE.now _ (each_file_is edition) shown_file filed_took Fits (λ d. (total ≡ false) ⊎ IsTrue d.lacks_memory) next
+      after (all_or_stopped edition g old new t k EACH_FILE.now _ (each_file_is edition) shown_file filed_took Fits
+      (λ d. (total ≡ false) ⊎ IsTrue d.lacks_memory) next
       stop a b all answer h)
     where
       total : Bool

@@ -38,7 +38,8 @@ true_all test [] h = refl
 true_all test (x ∷ xs) h = and_from (test x) (list_all test xs) h.0 (true_all test xs h.1)
 
 -- two facts of each give a third
-pub all_by_two : {A : Type 0} {P Q R : A → Type 0} → ((x : A) → P x → Q x → R x) → (xs : List A) → AllByRecursion P xs → AllByRecursion Q xs → AllByRecursion R xs
+pub all_by_two : {A : Type 0} {P Q R : A → Type 0} → ((x : A) → P x → Q x → R x) → (xs : List A) → AllByRecursion P xs → AllByRecursion Q xs →
+    AllByRecursion R xs
 all_by_two f [] p q = tt
 all_by_two f (x ∷ xs) p q = (f x p.0 q.0, all_by_two f xs p.1 q.1)
 
@@ -72,9 +73,6 @@ numbered_is number n (x ∷ xs) up =
 role_at : (role : Role) (o : Option Party) → has_role role o ≡ Tested.is_that_role role (option_map (λ p. p.role) o)
 role_at role None = refl
 role_at role (Some p) = refl
-
-abbrev pub roles_in : Tables → List Role
-roles_in t = map (λ p. p.role) t.parties
 
 module _ (t : Tables) (typed : AreTyped t) where
   party_there : (id : ℕ) → IsObject id → has_party t id ≡ nat_le id (length t.parties)
@@ -164,11 +162,13 @@ module _ (t : Tables) (typed : AreTyped t) (keyed : AreKeyed t) where
       let st = good.state in
       let a1 = and_parts (Sound.is_sound_filing t f && Sound.has_sound_people t s) (Sound.has_own_edition t f) sound.0 in
       let a2 = and_parts (Sound.is_sound_filing t f) (Sound.has_sound_people t s) a1.0 in
-      let f1 = and_parts (has_parcel t s.parcel && has_party t s.applicant && is_cents f.valuation && is_printable f.description) (is_between 1 t.desk.last s.filed) a2.0 in
+      let f1 = and_parts (has_parcel t s.parcel && has_party t s.applicant && is_cents f.valuation && is_printable f.description)
+      (is_between 1 t.desk.last s.filed) a2.0 in
       let f2 = and_parts (has_parcel t s.parcel && has_party t s.applicant && is_cents f.valuation) (is_printable f.description) f1.0 in
       let f3 = and_parts (has_parcel t s.parcel && has_party t s.applicant) (is_cents f.valuation) f2.0 in
       let f4 = and_parts (has_parcel t s.parcel) (has_party t s.applicant) f3.0 in
-      let p1 = and_parts (if_any (has_party t) s.contractor && if_any (has_party_of t Reviewer) s.reviewer) (if_any (has_party_of t Inspector) s.inspector) a2.1 in
+      let p1 = and_parts (if_any (has_party t) s.contractor && if_any (has_party_of t Reviewer) s.reviewer)
+      (if_any (has_party_of t Inspector) s.inspector) a2.1 in
       let p2 = and_parts (if_any (has_party t) s.contractor) (if_any (has_party_of t Reviewer) s.reviewer) p1.0 in
       let b1 = and_parts (is_stored s.stage && deadline_stands s) (if_any (is_between (s.filed + term) latest_deadline) s.deadline) sound.1 in
       let c1 = and_parts _ (Sound.has_sound_notices (papers_in t f.id) s) sound.2 in
@@ -210,7 +210,8 @@ module _ (t : Tables) (typed : AreTyped t) (keyed : AreKeyed t) where
       let k2 = and_parts _ (is_none s.temporary || (is_stage_among Sound.occupied_stages s.stage && has_certificates s.kind)) k1.0 in
       let k3 = and_parts _ (if_any (is_between 1 (Sound.longest_ask s.stage)) s.ask) k2.0 in
       let k4 = and_parts _ (not s.stopped || is_stage_among Sound.stopped_stages s.stage) k3.0 in
-      let k5 = and_parts (is_done_in s.stage (length (required_steps s.edition s.kind)) s.done) (is_none s.request || is_stage_among begun_stages s.stage) k4.0 in
+      let k5 = and_parts (is_done_in s.stage (length (required_steps s.edition s.kind)) s.done)
+      (is_none s.request || is_stage_among begun_stages s.stage) k4.0 in
       let e1 = and_parts (Sound.are_sound_papers_of (papers_in t f.id) s) _ fit.1 in
       let cents : is_cents f.valuation ≡ true = and_from _ _ (le-leb 0 f.valuation (omega arith)) (le-leb f.valuation most_cents good.valuation) in
       let filing : Sound.is_sound_filing t f ≡ true = and_from _ _ (and_from _ _ (and_from _ _ (and_from _ _
@@ -260,7 +261,8 @@ module _ (t : Tables) (typed : AreTyped t) (keyed : AreKeyed t) where
       let d4 = and_parts (nat_le 1 t.desk.last) (nat_le t.desk.last latest_day) d3.0 in
       let p1 = and_parts _ (has_party_of t Official 1) sound.parties in
       let q1 = and_parts (list_all (Sound.is_sound_parcel t) t.parcels) (list_all (Sound.is_sound_interest t) t.interests) sound.parcels in
-      let y1 = and_parts (list_all (Sound.is_sound_paper t) t.papers) (list_all (λ f. Sound.are_sound_papers_of (papers_in t f.id) f.state) t.files) sound.papers in
+      let y1 = and_parts (list_all (Sound.is_sound_paper t) t.papers)
+      (list_all (λ f. Sound.are_sound_papers_of (papers_in t f.id) f.state) t.files) sound.papers in
       let a = all_true (λ f. Sound.is_sound_filing t f && Sound.has_sound_people t f.state && Sound.has_own_edition t f) t.files sound.filings in
       let b = all_true (λ f. Sound.has_sound_stage f.state) t.files sound.stages in
       let c = all_true (Sound.has_sound_work t) t.files sound.work in
@@ -270,7 +272,8 @@ module _ (t : Tables) (typed : AreTyped t) (keyed : AreKeyed t) where
         desk = and_from _ _ d4.0 d2.1;
         official = sym (role_there t typed Official 1 (omega arith)) ∙ p1.1;
         parcels = and_from _ _
-            (true_all (Tested.fits_parcel t.desk.parties) t.parcels (all_by_two parcel_fits t.parcels typed.parcels (all_true (Sound.is_sound_parcel t) t.parcels q1.0)))
+            (true_all (Tested.fits_parcel t.desk.parties) t.parcels
+            (all_by_two parcel_fits t.parcels typed.parcels (all_true (Sound.is_sound_parcel t) t.parcels q1.0)))
             (true_all (Tested.fits_interest t.desk.parcels t.desk.parties) t.interests
             (all_by_two interest_fits t.interests typed.interests (all_true (Sound.is_sound_interest t) t.interests q1.1)));
         cases = and_from _ _
@@ -288,7 +291,8 @@ module _ (t : Tables) (typed : AreTyped t) (keyed : AreKeyed t) where
   pub sound_by : AreTested → IsSoundTables t
   sound_by h =
       let d1 = and_parts (nat_le 1 t.desk.last) (has_few_records t.desk) h.desk in
-      let q1 = and_parts (list_all (Tested.fits_parcel t.desk.parties) t.parcels) (list_all (Tested.fits_interest t.desk.parcels t.desk.parties) t.interests) h.parcels in
+      let q1 = and_parts (list_all (Tested.fits_parcel t.desk.parties) t.parcels)
+      (list_all (Tested.fits_interest t.desk.parcels t.desk.parties) t.interests) h.parcels in
       let y1 = and_parts (list_all (λ f. Tested.fits_file roles t.desk.parcels t.desk.last f.state) t.files) (Tested.fits_papers t) h.cases in
       let y2 = and_parts (list_all (Sound.is_sound_paper t) t.papers) (list_all is_filled t.files) y1.1 in
       let sound = sounding t.files typed.files keyed.named
@@ -303,10 +307,12 @@ module _ (t : Tables) (typed : AreTyped t) (keyed : AreKeyed t) where
         parties = and_from _ _ (true_all Sound.is_sound_party t.parties (all_by_one (λ p good. and_from _ _ good.name good.digest) t.parties typed.parties))
             (role_there t typed Official 1 (omega arith) ∙ h.official);
         parcels = and_from _ _
-            (true_all (Sound.is_sound_parcel t) t.parcels (all_by_two fit_parcel t.parcels typed.parcels (all_true (Tested.fits_parcel t.desk.parties) t.parcels q1.0)))
+            (true_all (Sound.is_sound_parcel t) t.parcels
+            (all_by_two fit_parcel t.parcels typed.parcels (all_true (Tested.fits_parcel t.desk.parties) t.parcels q1.0)))
             (true_all (Sound.is_sound_interest t) t.interests (all_by_two fit_interest t.interests typed.interests
             (all_true (Tested.fits_interest t.desk.parcels t.desk.parties) t.interests q1.1)));
-        filings = true_all (λ f. Sound.is_sound_filing t f && Sound.has_sound_people t f.state && Sound.has_own_edition t f) t.files (all_by_one (λ f s. s.0) t.files sound);
+        filings = true_all (λ f. Sound.is_sound_filing t f && Sound.has_sound_people t f.state && Sound.has_own_edition t f) t.files
+            (all_by_one (λ f s. s.0) t.files sound);
         stages = true_all (λ f. Sound.has_sound_stage f.state) t.files (all_by_one (λ f s. s.1) t.files sound);
         work = true_all (Sound.has_sound_work t) t.files (all_by_one (λ f s. s.2) t.files sound);
         papers = and_from _ _ y2.0 (true_all (λ f. Sound.are_sound_papers_of (papers_in t f.id) f.state) t.files (all_by_one (λ f s. s.3) t.files sound));

@@ -122,7 +122,8 @@ module _ (parties last files : ℕ) where
         go i u got true same =
             let file : p.file ≡ suc i = eqb-true p.file (suc i) same in
             let is : i ≡ place = omega (arith, file) in
-            let told : Some u ≡ Some (tally_after t p) = sym got ∙ ap (λ j. slice_get (slice_set ts place (tally_after t p)) j) is ∙ set_here ts place (tally_after t p) t at in
+            let told : Some u ≡ Some (tally_after t p) = sym got ∙ ap (λ j. slice_get (slice_set ts place (tally_after t p)) j) is ∙ set_here ts place
+            (tally_after t p) t at in
             let one : u ≡ tally_after t p = cc in
             let was : are_left t (p ∷ of_file (suc place) ps) ≡ true = rw here at (ok.left place t at) in
             let now = sym (left_on t p (of_file (suc place) ps) (next_left ok)) ∙ was in
