@@ -6,6 +6,8 @@ mod calls;
 #[cfg(test)]
 mod changes;
 #[cfg(test)]
+mod damage;
+#[cfg(test)]
 mod database;
 #[cfg(test)]
 mod opening;
