@@ -11,7 +11,7 @@ use std::alloc::Global;
 use std::test::Fail;
 
 /// A statement that is run in the database of a filing, and why that isn't opened then.
-const CHANGES: [(&str, OpenError); 14] = [
+const CHANGES: [(&str, OpenError); 13] = [
     ("UPDATE file SET deadline = 19902", OpenError::Damaged),
     ("UPDATE file SET stage = 8", OpenError::Damaged),
     ("UPDATE file SET papers = 1", OpenError::Damaged),
@@ -20,10 +20,9 @@ const CHANGES: [(&str, OpenError); 14] = [
     ("UPDATE party SET id = 8 WHERE id = 7", OpenError::Damaged),
     ("UPDATE party SET role = 1 WHERE id = 1", OpenError::Damaged),
     (
-        "UPDATE parcel SET owner = 8 WHERE id = 2",
+        "UPDATE parcel SET lot = 'a' WHERE id = 2",
         OpenError::Damaged,
     ),
-    ("INSERT INTO interest VALUES (3, 1)", OpenError::Damaged),
     ("UPDATE file SET reviewer = 2", OpenError::Damaged),
     ("UPDATE file SET inspector = 3", OpenError::Damaged),
     ("UPDATE file SET deadline = 200001", OpenError::Damaged),
