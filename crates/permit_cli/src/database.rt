@@ -146,7 +146,7 @@ fn check_in<S: Alter + Drop>(
     alloc: Global,
     conn: Connection<S>,
 ) -> (Connection<S>, Result<Done, Failure>)
-    ensures counted { IfOk result.1 (λ done. (t : Tables) → Shows t (state S.Store conn) → done ≡ Done.Sound t.desk) }
+    ensures counted { IfOk result.1 (λ done. HasCleanDisk (state S.Store result.0) → (t : Tables) → Shows t (state S.Store conn) → done ≡ Done.Sound t.desk) }
 {
     match SqlStore::open(alloc, conn) {
         Ok(store) => {
