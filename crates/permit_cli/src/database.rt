@@ -11,6 +11,7 @@ ghost use Rattle.permit_model.specs.History.{History, upgraded};
 ghost use Rattle.permit_model.specs.Machine.{IsHistory};
 ghost use Rattle.permit_model.specs.Tables.{Tables, tables};
 ghost use Rattle.permit_store.specs.Founding.{founding};
+ghost use Rattle.permit_store.specs.Frames.{OverTables};
 ghost use Rattle.permit_sql_rows.specs.Kept.{Keeps, KeepsUnder, IsFine, Shows};
 
 use permit_args::plan::ServeWords;
@@ -141,21 +142,28 @@ fn upgrade_in<S: Alter + Drop>(
     }
 }
 
-/// Tests the tables of a database, and reads how many records they have.
+/// How many records the tables of a store have.
+fn counted<S: Store>(store: &mut S) -> Result<Done, Failure>
+    ensures counted { OverTables (S.view store.old) (S.view store.new) (λ t. IfOk result (λ done. done ≡ Done.Sound t.desk)) }
+{
+    match store.desk() {
+        Ok(desk) => Ok(Done::Sound(desk)),
+        Err(StoreError) => Err(Failure::Database(OpenError::Store)),
+    }
+}
+
+/// Tests the tables of a database, and counts their records.
 fn check_in<S: Alter + Drop>(
     alloc: Global,
     conn: Connection<S>,
 ) -> (Connection<S>, Result<Done, Failure>)
-    ensures counted { IfOk result.1 (λ done. HasCleanDisk (state S.Store result.0) → (t : Tables) → Shows t (state S.Store conn) → done ≡ Done.Sound t.desk) }
+    ensures counted { HasCleanDisk (state S.Store result.0) → (t : Tables) → Shows t (state S.Store conn)
+        → IfOk result.1 (λ done. done ≡ Done.Sound t.desk) }
 {
     match SqlStore::open(alloc, conn) {
         Ok(store) => {
             let mut store = store;
-            let desk = store.desk();
-            let done = match desk {
-                Ok(desk) => Ok(Done::Sound(desk)),
-                Err(StoreError) => Err(Failure::Database(OpenError::Store)),
-            };
+            let done = counted(&mut store);
             (store.into_connection(), done)
         }
         Err((conn, why)) => (conn, Err(Failure::Database(why))),
