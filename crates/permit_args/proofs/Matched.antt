@@ -1,8 +1,9 @@
 -- What is found in some rows is found in the same rows.
 use Rattle.std.proofs.Common.{◌≡◌, List, subst}
 use Rattle.clap.specs.Words.{Row}
-use Rattle.permit_args.specs.Plans.{IsActOf, IsCheckPolicyOf, IsImportOf, IsInitOf, IsListOf, IsRegisterOf, IsServeOf, IsDatabaseOf}
+use Rattle.permit_args.specs.Plans.{IsActOf, IsCheckPolicyOf, IsImportOf, IsInitOf, IsListOf, IsRegisterOf, IsServeOf, IsDatabaseOf, IsCheckDbOf}
 use Rattle.permit_args.specs.declared.plan.ActWords.{ActWords}
+use Rattle.permit_args.specs.declared.plan.CheckDbWords.{CheckDbWords}
 use Rattle.permit_args.specs.declared.plan.CheckPolicyWords.{CheckPolicyWords}
 use Rattle.permit_args.specs.declared.plan.DatabaseWords.{DatabaseWords}
 use Rattle.permit_args.specs.declared.plan.ImportWords.{ImportWords}
@@ -34,3 +35,6 @@ serve_of {words = words} e is = subst (λ r. IsServeOf r words) e is
 
 pub database_of : {rows other : List Row} {words : DatabaseWords} → rows ≡ other → IsDatabaseOf rows words → IsDatabaseOf other words
 database_of {words = words} e is = subst (λ r. IsDatabaseOf r words) e is
+
+pub check_db_of : {rows other : List Row} {words : CheckDbWords} → rows ≡ other → IsCheckDbOf rows words → IsCheckDbOf other words
+check_db_of {words = words} e is = subst (λ r. IsCheckDbOf r words) e is

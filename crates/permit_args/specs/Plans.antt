@@ -10,6 +10,7 @@ use Rattle.permit_base.specs.Words.{register_word, stage_word}
 use Rattle.permit_base.specs.declared.words.Stage.{Stage}
 use Rattle.permit_args.specs.declared.plan.Check.{Check}
 use Rattle.permit_args.specs.declared.plan.Check.TheVariants.{Rules, Dead, Facts}
+use Rattle.permit_args.specs.declared.plan.CheckDbWords.{CheckDbWords}
 use Rattle.permit_args.specs.declared.plan.CheckPolicyWords.{CheckPolicyWords}
 use Rattle.permit_args.specs.declared.plan.DatabaseWords.{DatabaseWords}
 use Rattle.permit_args.specs.declared.plan.DayWords.{DayWords}
@@ -106,7 +107,7 @@ is_given name rows = option_map_or (bytes_eq (codes "true")) (first_of name rows
 
 -- the subcommand that says whether a database's tables are sound
 unfoldable pub check_db_app : App
-check_db_app = with_rule (new_app (codes "check-db")) (required_option (codes "db"))
+check_db_app = with_rule (with_rule (new_app (codes "check-db")) (required_option (codes "db"))) (flag (codes "why"))
 
 -- the subcommand that upgrades a database
 unfoldable pub upgrade_app : App
@@ -206,6 +207,11 @@ pub record IsServeOf (rows : List Row) (words : ServeWords) : Type 0 where
 pub record IsDatabaseOf (rows : List Row) (words : DatabaseWords) : Type 0 where
   pub db : first_of (codes "db") rows ≡ Some words.db.now
 
+-- the database that was found, and whether the place is named
+pub record IsCheckDbOf (rows : List Row) (words : CheckDbWords) : Type 0 where
+  pub db : first_of (codes "db") rows ≡ Some words.db.now
+  pub why : is_given (codes "why") rows ≡ words.why
+
 abbrev pub first_word : List (List ℕ) → Option (List ℕ)
 first_word [] = None
 first_word (word ∷ words) = Some word
@@ -221,4 +227,4 @@ IsPlanOf words (plan.Register register) = (first_word words ≡ Some (codes "reg
 IsPlanOf words (plan.Import imported) = (first_word words ≡ Some (codes "import")) × IsImportOf (matches_of import_app words) imported
 IsPlanOf words (plan.Serve serving) = (first_word words ≡ Some (codes "serve")) × IsServeOf (matches_of serve_app words) serving
 IsPlanOf words (plan.Upgrade upgrade) = (first_word words ≡ Some (codes "upgrade")) × IsDatabaseOf (matches_of upgrade_app words) upgrade
-IsPlanOf words (plan.CheckDb check) = (first_word words ≡ Some (codes "check-db")) × IsDatabaseOf (matches_of check_db_app words) check
+IsPlanOf words (plan.CheckDb check) = (first_word words ≡ Some (codes "check-db")) × IsCheckDbOf (matches_of check_db_app words) check

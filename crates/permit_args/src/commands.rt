@@ -280,7 +280,12 @@ pub(crate) fn check_db<'a>(alloc: Global) -> Result<Command<'a>, AllocError>
         "Says whether the tables of a database are sound, and how many parties, parcels and files there are; changes nothing",
         "Example: permit check-db --db office.db",
     )?
-    .arg(database(alloc))
+    .arg(database(alloc))?
+    .arg(flag(
+        alloc,
+        "why",
+        "Where they aren't, prints the first place as well: table, number and the rule that it breaks",
+    ))
 }
 
 /// The subcommand that upgrades a database.

@@ -28,7 +28,7 @@ pub enum Plan<'a> {
     /// Makes of a database of the schema's first version one of the second.
     Upgrade(DatabaseWords<'a>),
     /// Says whether a database's tables are sound.
-    CheckDb(DatabaseWords<'a>),
+    CheckDb(CheckDbWords<'a>),
 }
 
 /// Which policy is read, and what is said of it.
@@ -164,9 +164,18 @@ impl From<AllocError> for PlanFault {
     }
 }
 
-/// Which database is upgraded or checked.
+/// Which database is upgraded.
 #[derive(Clone, Copy, PartialEq, Drop)]
 pub struct DatabaseWords<'a> {
     /// The database's path.
     pub db: &'a str,
+}
+
+/// Which database is checked.
+#[derive(Clone, Copy, PartialEq, Drop)]
+pub struct CheckDbWords<'a> {
+    /// The database's path.
+    pub db: &'a str,
+    /// Whether the first place that is wrong is named.
+    pub why: bool,
 }

@@ -4,7 +4,7 @@ ghost use Rattle.std.specs.Prelude.{◌≡◌, [], IfErr, IfOk, IfSome, IsTrue, 
 ghost use Rattle.clap.specs.Words.{app_of, first_of, found_of, is_simple, matches_of, rows_of};
 ghost use Rattle.permit_base.specs.Stages.{is_file_stage};
 ghost use Rattle.permit_base.specs.Words.{register_word, stage_word};
-ghost use Rattle.permit_args.specs.Plans.{act_app, check_db_app, check_policy_app, import_app, init_app, is_given, list_app, register_app, serve_app, text_of, upgrade_app, IsDatabaseOf};
+ghost use Rattle.permit_args.specs.Plans.{act_app, check_db_app, check_policy_app, import_app, init_app, is_given, list_app, register_app, serve_app, text_of, upgrade_app, IsCheckDbOf, IsDatabaseOf};
 ghost use Rattle.permit_args.specs.Plans.{IsActOf, IsCheckOf, IsCheckPolicyOf, IsConnectionsOf, IsCountOf, IsDaysOf, IsImportOf, IsInitOf, IsListOf};
 ghost use Rattle.permit_args.specs.Plans.{IsOfficeOf, IsPlanOf, IsRegisterOf, IsServeOf, IsStageOf, IsWorkersOf, Refuses};
 
@@ -12,8 +12,8 @@ use crate::commands::{
     act, check_db, check_policy, import, init, list, program, register, serve, upgrade,
 };
 use crate::plan::{
-    ActWords, Check, CheckPolicyWords, DatabaseWords, DayWords, ImportWords, InitWords, ListWords,
-    OfficeWords, Plan, PlanFault, RegisterWords, ServeWords,
+    ActWords, Check, CheckDbWords, CheckPolicyWords, DatabaseWords, DayWords, ImportWords,
+    InitWords, ListWords, OfficeWords, Plan, PlanFault, RegisterWords, ServeWords,
 };
 use clap::error::ErrorKind;
 use clap::{ArgMatches, Command, Error};
@@ -310,12 +310,13 @@ fn plan_serve<'a>(alloc: Global, words: &'a [String]) -> Result<ServeWords<'a>, 
 }
 
 /// The plan of `check-db`.
-fn plan_check_db<'a>(alloc: Global, words: &'a [String]) -> Result<DatabaseWords<'a>, PlanFault>
-    ensures { IfOk result (IsDatabaseOf (matches_of check_db_app (map string_bytes words.now))) }
+fn plan_check_db<'a>(alloc: Global, words: &'a [String]) -> Result<CheckDbWords<'a>, PlanFault>
+    ensures { IfOk result (IsCheckDbOf (matches_of check_db_app (map string_bytes words.now))) }
 {
     let matches = matches(alloc, check_db(alloc)?, words)?;
-    Ok(DatabaseWords {
+    Ok(CheckDbWords {
         db: required(alloc, &matches, "db")?,
+        why: is_given(&matches, "why"),
     })
 }
 

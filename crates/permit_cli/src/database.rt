@@ -13,7 +13,10 @@ ghost use Rattle.permit_model.specs.Tables.{Tables, tables};
 ghost use Rattle.permit_store.specs.Founding.{founding};
 ghost use Rattle.permit_store.specs.Frames.{OverTables};
 ghost use Rattle.permit_sql_rows.specs.Kept.{Keeps, KeepsUnder, IsFine, Shows};
+ghost use Rattle.permit_sql.specs.Found.{AreTyped};
+ghost use Rattle.permit_cli.specs.Checked.{IsCounted, IsPlaceIn, IsToldOf};
 
+use crate::shut::flag;
 use permit_args::plan::ServeWords;
 use permit_base::request::Filter;
 use permit_base::values::{Day, Token};
@@ -23,8 +26,11 @@ use permit_import::tally::Tally;
 use permit_office::office::Office;
 use permit_office::reply::Listing;
 use permit_policy::Policy;
+use permit_sockets::connections::Flag;
 use permit_sockets::serving::serve;
+use permit_sql::fault::Fault;
 use permit_sql::store::SqlStore;
+use permit_sql::why::first_fault;
 use permit_store::founder::Founder;
 use permit_store::rows::Desk;
 use permit_store::store::{OpenError, Store, StoreError};
@@ -37,6 +43,7 @@ use std::alloc::Global;
 use std::fs::File;
 use std::io::Write;
 use std::sync::Wait;
+use std::sync::atomic::Ordering;
 use std::thread::Threads;
 
 /// What is done on a database.
@@ -47,7 +54,10 @@ pub enum Work<'a> {
     /// It is made one of this version of the tables.
     Upgrade,
     /// Its tables are tested, and left as they are.
-    Check,
+    Check {
+        /// Whether the first place that is wrong is named.
+        why: bool,
+    },
     /// The office in it is asked.
     Ask {
         policy: Policy,
@@ -90,6 +100,8 @@ pub enum Done {
     Upgraded(u32),
     /// The database's tables are sound, and the desk counts its records.
     Sound(Desk),
+    /// They aren't, and this is the first place.
+    Unsound(Fault),
     /// The answer's bytes.
     Served(Vec<u8>),
     /// The files that may be listed.
@@ -145,6 +157,7 @@ fn upgrade_in<S: Alter + Drop>(
 /// How many records the tables of a store have.
 fn counted<S: Store>(store: &mut S) -> Result<Done, Failure>
     ensures counted { OverTables (S.view store.old) (S.view store.new) (λ t. IfOk result (λ done. done ≡ Done.Sound t.desk)) }
+    ensures sound { IfOk result (λ done. (desk : _) × (done ≡ Done.Sound desk)) }
 {
     match store.desk() {
         Ok(desk) => Ok(Done::Sound(desk)),
@@ -152,13 +165,34 @@ fn counted<S: Store>(store: &mut S) -> Result<Done, Failure>
     }
 }
 
-/// Tests the tables of a database, and counts their records.
-fn check_in<S: Alter + Drop>(
+/// The first place at which the tables of a damaged database aren't sound. Where it can't be told, they are damaged all the
+/// same.
+fn named_in<S: Alter + Drop>(
     alloc: Global,
     conn: Connection<S>,
 ) -> (Connection<S>, Result<Done, Failure>)
+    ensures named { IsFine (state S.Store result.0) → (t : Tables) → AreTyped t → Keeps t (state S.Store conn).now
+        → IfOk result.1 (IsPlaceIn t) }
+    ensures unsound { IsFine (state S.Store result.0) → IfOk result.1 (IsToldOf (state S.Store conn).now) }
+    ensures place { IfOk result.1 (λ done. (fault : _) × (done ≡ Done.Unsound fault)) }
+    ensures left { IsFine (state S.Store result.0) → IsFine (state S.Store conn) × ((state S.Store result.0).now ≡ (state S.Store conn).now) }
+{
+    let mut conn = conn;
+    match first_fault(&mut conn, alloc) {
+        Ok(Some(fault)) => (conn, Ok(Done::Unsound(fault))),
+        _ => (conn, Err(Failure::Database(OpenError::Damaged))),
+    }
+}
+
+/// Tests the tables of a database, and counts their records. Where they aren't sound, the first place is told if that is
+/// asked for.
+fn check_in<S: Alter + Drop>(
+    alloc: Global,
+    conn: Connection<S>,
+    why: bool,
+) -> (Connection<S>, Result<Done, Failure>)
     ensures counted { HasCleanDisk (state S.Store result.0) → (t : Tables) → Shows t (state S.Store conn)
-        → IfOk result.1 (λ done. done ≡ Done.Sound t.desk) }
+        → IfOk result.1 (IsCounted t) }
 {
     match SqlStore::open(alloc, conn) {
         Ok(store) => {
@@ -166,21 +200,33 @@ fn check_in<S: Alter + Drop>(
             let done = counted(&mut store);
             (store.into_connection(), done)
         }
-        Err((conn, why)) => (conn, Err(Failure::Database(why))),
+        Err((conn, refusal)) => {
+            if why && refusal == OpenError::Damaged {
+                return named_in(alloc, conn);
+            }
+            (conn, Err(Failure::Database(refusal)))
+        }
     }
 }
 
-/// The office in a database, under the policy; else the connection comes back.
+/// The office in a database, under the policy; else the connection comes back. The flag is set once the connection is shut.
 fn office_in<S: Alter + Drop>(
     alloc: Global,
     conn: Connection<S>,
     policy: Policy,
+    shut: Option<Flag>,
 ) -> Result<Office<SqlStore<S>>, (Connection<S>, OpenError)> {
     match SqlStore::open(alloc, conn) {
-        Ok(store) => match Office::open(store, policy) {
-            Ok(office) => Ok(office),
-            Err((store, why)) => Err((store.into_connection(), why)),
-        },
+        Ok(store) => {
+            let mut store = store;
+            if let Some(shut) = shut {
+                store.tell_when_shut(shut);
+            }
+            match Office::open(store, policy) {
+                Ok(office) => Ok(office),
+                Err((store, why)) => Err((store.into_connection(), why)),
+            }
+        }
         Err(refused) => Err(refused),
     }
 }
@@ -211,7 +257,8 @@ fn ask_of<S: Store + Drop, O: Write>(
     }
 }
 
-/// Serves the office in a database over TCP, until its workers have ended.
+/// Serves the office in a database over TCP, until its workers have ended. Where a fault of the disk shuts the database
+/// meanwhile, they end with their connections, and the failure is the store's: only an opening of the file mends that.
 fn serve_in<S, R, O>(
     rt: &HostRuntime,
     workers: R,
@@ -226,10 +273,18 @@ where
     R: Threads + Wait + Copy + Drop + Send + 'static,
     O: Write,
 {
-    match office_in(rt.alloc(), conn, policy) {
+    let Ok((set, shut)) = flag(rt.alloc()) else {
+        return (conn, Err(Failure::memory()));
+    };
+    match office_in(rt.alloc(), conn, policy, Some(set)) {
         Ok(office) => {
-            let (office, served) = serve(rt, workers, office, words, &mut || days.today(rt), out);
-            (office.into_store().into_connection(), served)
+            let today = &mut || days.today(rt);
+            let (office, served) = serve(rt, workers, office, words, today, &shut, out);
+            let conn = office.into_store().into_connection();
+            if shut.load(Ordering::SeqCst) {
+                return (conn, Err(Failure::memory()));
+            }
+            (conn, served)
         }
         Err((conn, why)) => (conn, Err(Failure::Database(why))),
     }
@@ -244,7 +299,7 @@ fn ask_in<S: Alter + Drop, O: Write>(
     question: Question<'_>,
     out: &mut O,
 ) -> (Connection<S>, Result<Done, Failure>) {
-    match office_in(alloc, conn, policy) {
+    match office_in(alloc, conn, policy, None) {
         Ok(office) => {
             let mut office = office;
             let done = ask_of(alloc, &mut office, day, question, out);
@@ -264,7 +319,7 @@ fn work_in<S: Alter + Drop, O: Write>(
     match work {
         Work::Found(founder) => found_in(alloc, conn, &founder),
         Work::Upgrade => upgrade_in(alloc, conn),
-        Work::Check => check_in(alloc, conn),
+        Work::Check { why } => check_in(alloc, conn, why),
         Work::Ask {
             policy,
             day,

@@ -6,6 +6,7 @@
 
 mod database;
 pub mod program;
+mod shut;
 
 pub use permit_args::plan as plans;
 pub use permit_args::plan::PlanFault;

@@ -10,8 +10,8 @@ use crate::database::{Done, Question, Work, serve_at, work_at};
 use permit_args::checking::{dead_text, explained_text, rules_text};
 use permit_args::facts::read_facts;
 use permit_args::plan::{
-    ActWords, Check, CheckPolicyWords, DatabaseWords, ImportWords, InitWords, ListWords,
-    OfficeWords, Plan, PlanFault, RegisterWords, ServeWords,
+    ActWords, Check, CheckPolicyWords, ImportWords, InitWords, ListWords, OfficeWords, Plan,
+    PlanFault, RegisterWords, ServeWords,
 };
 use permit_args::words::{plan, words_given};
 use permit_base::request::Filter;
@@ -214,15 +214,15 @@ where
     Ok(Outcome::Ended)
 }
 
-/// Does the work on the database that the words name. None is made where there is none.
+/// Does the work on the database at a path. None is made where there is none.
 fn work_on<O: Write>(
     rt: &HostRuntime,
-    words: &DatabaseWords<'_>,
+    path: &str,
     work: Work<'_>,
     out: &mut O,
 ) -> Result<Outcome, Failure> {
-    found_at(rt, words.db)?;
-    Ok(Outcome::Worked(work_at(rt, words.db, work, out)?))
+    found_at(rt, path)?;
+    Ok(Outcome::Worked(work_at(rt, path, work, out)?))
 }
 
 /// Does what a plan asks for. The database is closed before anything else is printed than a register, the lines of an
@@ -246,8 +246,8 @@ where
         Plan::Register(words) => register(rt, words, out),
         Plan::Import(words) => import(rt, words, out),
         Plan::Serve(words) => serve(rt, workers, words, out),
-        Plan::Upgrade(words) => work_on(rt, words, Work::Upgrade, out),
-        Plan::CheckDb(words) => work_on(rt, words, Work::Check, out),
+        Plan::Upgrade(words) => work_on(rt, words.db, Work::Upgrade, out),
+        Plan::CheckDb(words) => work_on(rt, words.db, Work::Check { why: words.why }, out),
     }
 }
 
@@ -270,7 +270,8 @@ fn sound_text(alloc: Global, desk: Desk) -> Result<String, Failure> {
     Ok(format!(in alloc; "sound parties {parties} parcels {parcels} files {files}\n")?)
 }
 
-/// Prints what a plan came to, and gives the status. The refusal that an answer says is the failure then.
+/// Prints what a plan came to, and gives the status. The refusal that an answer says is the failure then, and damage is once
+/// its place is printed.
 fn tell<O: Write>(alloc: Global, outcome: &Outcome, out: &mut O) -> Result<u8, Failure>
     ensures { IfOk result (λ status. status ≤ 1) }
 {
@@ -284,6 +285,10 @@ fn tell<O: Write>(alloc: Global, outcome: &Outcome, out: &mut O) -> Result<u8, F
             format!(in alloc; "upgraded files {files}\n")?.as_str(),
         )?,
         Outcome::Worked(Done::Sound(desk)) => print_text(out, sound_text(alloc, *desk)?.as_str())?,
+        Outcome::Worked(Done::Unsound(fault)) => {
+            print_text(out, format!(in alloc; "{fault}\n")?.as_str())?;
+            return Err(Failure::Database(OpenError::Damaged));
+        }
         Outcome::Worked(Done::Served(answer)) => show(answer.as_slice(), out)?,
         Outcome::Worked(Done::Listed(listing)) => print_text(
             out,

@@ -9,12 +9,11 @@ use Rattle.permit_base.specs.declared.request.Asked.{Asked}
 use Rattle.permit_store.specs.Frames.{StoreView}
 use Rattle.permit_office.specs.declared.reply.Reply.{Reply}
 use Rattle.permit_office.specs.Office.{OfficeView}
-use Rattle.permit_hall.specs.declared.dated.Dated.{Dated}
+use Rattle.permit_wire.specs.declared.service.Dated.{Dated}
 use Rattle.permit_hall.specs.declared.lists.ListTask.{ListTask}
 use Rattle.permit_hall.specs.declared.doors.DoorTask.{DoorTask}
 use Rattle.permit_hall.specs.declared.doors.DoorEnd.{DoorEnd}
 use Rattle.permit_hall.specs.Runs.{Entry, requests_of, replies_of}
-use Rattle.permit_hall.specs.Doors.{IsDoorDone, AreDoorsServed}
 use Rattle.permit_hall.specs.Answers.{AreServed, AreAnswers}
 use Rattle.permit_hall.specs.OneHistory.{StepOn, OneHistory, IsListServed, AreListsServed}
 use Rattle.permit_hall.proofs.OfficeRuns.{is_run}
@@ -52,33 +51,34 @@ module _ {S C : Type 0} (view : S → StoreView) (tick : C → ℕ → C → Typ
         },
       )
 
-  module _ {D : Type 0} (spent : D → Type 0) where
+  module _ {D : Type 0} (done : D → List Asked → List Dated → Option (DoorEnd D) → Type 0) (none : (d : D) (put : List Asked) (got : List Dated) → done d put got None) where
     -- of both kinds of None nothing is said
-    flat_done : (put : List Asked) (got : List Dated) (nothing : Type 0) (o : Option (Option (DoorEnd D))) →
-        MatchOption o nothing (λ end. IsDoorDone spent put got end) → IsDoorDone spent put got (option_flatten o)
-    flat_done put got nothing None h = tt
-    flat_done put got nothing (Some end) h = h
+    flat_done : (door : D) (put : List Asked) (got : List Dated) (nothing : Type 0) (o : Option (Option (DoorEnd D))) →
+        MatchOption o nothing (λ end. done door put got end) → done door put got (option_flatten o)
+    flat_done door put got nothing None h = none door put got
+    flat_done door put got nothing (Some end) h = h
 
+    -- what the workers of doors have done
     pub doors_served : (tasks : List (DoorTask D)) (doors : List D) (outs : List (Option (Option (DoorEnd D)))) (ends : List (Option (DoorEnd D)))
         (old new : OfficeView S) (c d : C) (served : List (Entry Asked Dated))
         → map (λ t. t.door) tasks ≡ doors → ends ≡ map option_flatten outs →
-        AreServed (StepOn view) tick (λ (t : DoorTask D) put got end. IsDoorDone spent put got end) tasks outs old new c d served
-        → OneHistory view tick (length doors) old new c d served × AreDoorsServed spent (length doors) ends served
+        AreServed (StepOn view) tick (λ (t : DoorTask D) put got end. done t.door put got end) tasks outs old new c d served
+        → OneHistory view tick (length doors) old new c d served × (length ends ≡ length doors)
+        × ((k : ℕ) (door : D) (end : Option (DoorEnd D)) → slice_get doors k ≡ Some door → slice_get ends k ≡ Some end
+        → done door (requests_of k served) (replies_of k served) end)
     doors_served tasks doors outs ends old new c d served same flat h =
-        let len : length tasks ≡ length doors = sym (length-map tasks (λ (t : DoorTask D). t.door)) ∙ ap length same in
+        let by_door = served_as (StepOn view) tick (λ (t : DoorTask D) put got end. done t.door put got end) done (λ t. t.door)
+        (λ t put got x d. d) tasks doors outs old new c d served same h in
         let many : length ends ≡ length outs = ap length flat ∙ length-map outs (λ (o : Option (Option (DoorEnd D))). option_flatten o) in (
-          subst (λ n. OneHistory view tick n old new c d served) len (one_history
-              (λ (t : DoorTask D) put got end. IsDoorDone spent put got end) tasks outs old new c d served h),
-          record {
-            count = many ∙ h.len ∙ len;
-            each = λ k end at.
-                let low : k < length ends = slice_get_within ends k end at in
-                let long = h.len in
-                let task : DoorTask D = element_of tasks (omega arith) in
-                let is : get_or ends k None ≡ option_flatten (get_or outs k None) = ap (λ l. get_or l k None) flat
-                ∙ get_or-map (λ (o : Option (Option (DoorEnd D))). option_flatten o) outs k None None (omega arith) in
-                subst (λ e. IsDoorDone spent (requests_of k served) (replies_of k served) e) (get_or_from_slice_get ends k end None at)
-                (subst (λ e. IsDoorDone spent (requests_of k served) (replies_of k served) e) (sym is)
-                (flat_done (requests_of k served) (replies_of k served) (requests_of k served ≡ []) (get_or outs k None) (h.right k task None (omega arith))));
-          },
+          one_history done doors outs old new c d served by_door,
+          many ∙ by_door.len,
+          λ k door end at at'.
+              let low : k < length ends = slice_get_within ends k end at' in
+              let is : get_or ends k None ≡ option_flatten (get_or outs k None) = ap (λ l. get_or l k None) flat
+              ∙ get_or-map (λ (o : Option (Option (DoorEnd D))). option_flatten o) outs k None None (omega arith) in
+              let right = by_door.right k door None (slice_get_within doors k door at) in
+              subst (λ (x : D). done x (requests_of k served) (replies_of k served) end) (get_or_from_slice_get doors k door door at)
+              (subst (λ e. done (get_or doors k door) (requests_of k served) (replies_of k served) e) (get_or_from_slice_get ends k end None at')
+              (subst (λ e. done (get_or doors k door) (requests_of k served) (replies_of k served) e) (sym is)
+              (flat_done (get_or doors k door) (requests_of k served) (replies_of k served) (requests_of k served ≡ []) (get_or outs k None) right))),
         )

@@ -10,5 +10,6 @@ pub mod Entries
 pub mod EventSteps
 pub mod OfficeRuns
 pub mod HallRuns
+pub mod Talks
 pub mod Histories
 pub mod ModelRuns

@@ -5,7 +5,7 @@ use Rattle.permit_base.specs.declared.request.Asked.{Asked}
 use Rattle.permit_store.specs.Frames.{StoreView}
 use Rattle.permit_office.specs.declared.reply.Reply.{Reply}
 use Rattle.permit_office.specs.Office.{OfficeView}
-use Rattle.permit_hall.specs.declared.dated.Dated.{Dated}
+use Rattle.permit_wire.specs.declared.service.Dated.{Dated}
 use Rattle.permit_hall.specs.OfficeSteps.{StepFor, IsRun}
 use Rattle.permit_hall.specs.Runs.{Entry, Gives, days_of, requests_of, replies_of}
 

@@ -24,3 +24,7 @@ module _ {A Y : Type 0} where
 
   abbrev pub IsSamePlace : Session A Y → Session A Y → Type 0
   IsSamePlace s t = (t.number ≡ s.number) × (sends_on t.intake ≡ sends_on s.intake) × (receives_on t.lane ≡ receives_on s.lane)
+
+  -- it has put the request and collected the answer, and nothing else
+  abbrev pub Asks : Session A Y → A → Y → Session A Y → Type 0
+  Asks s request answer t = Has t (put_by s ++ request ∷ []) (got_by s ++ answer ∷ []) × IsSamePlace s t

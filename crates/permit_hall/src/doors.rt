@@ -1,25 +1,24 @@
 //! One worker a door, which yields connections.
 
-ghost use Rattle.std.specs.Prelude.{◌≡◌, ◌≤◌, ◌+◌, ℕ, [], List, length, map, true, ⊤, IfNone, IfOk, IfErr, MatchOption, vec_capacity};
+ghost use Rattle.std.specs.Prelude.{◌≡◌, ◌≤◌, ℕ, [], List, Option, length, map, true, ⊤, IfNone, IfOk, IfErr, MatchOption, vec_capacity};
 ghost use Rattle.std.specs.Option.{option_flatten};
 ghost use Rattle.permit_base.specs.declared.request.Asked.{Asked};
-ghost use Rattle.permit_hall.specs.declared.dated.Dated.{Dated};
+ghost use Rattle.permit_wire.specs.declared.service.Dated.{Dated};
 ghost use Rattle.permit_hall.specs.Runs.{Entry};
 ghost use Rattle.permit_hall.specs.Errors.{may_open as is_count, FitsCount};
 ghost use Rattle.permit_hall.specs.OneHistory.{OneHistory};
-ghost use Rattle.permit_hall.specs.Doors.{IsDoorDone, AreDoorsServed};
+ghost use Rattle.permit_hall.specs.Doors.{IsDoorDone, AreDoorsServed, Holds};
 ghost use Rattle.permit_hall.specs.Session.{Has, IsSession, IsSamePlace, put_by, got_by};
 
-use crate::dated::Dated;
 use crate::error::{HallError, may_open};
 use crate::session::Session;
 use crate::tasks::{TasksEnd, run_tasks};
 use crate::worker::Task;
-use permit_base::request::{Asked, action};
+use permit_base::request::Asked;
 use permit_base::values::Day;
 use permit_office::office::Office;
 use permit_store::store::Store;
-use permit_wire::{Answer, Inbox, answer_with, read_request};
+use permit_wire::{Dated, Inbox, Service, serve_by};
 use std::alloc::{AllocError, Global};
 use std::io::{Read, Write};
 use std::sync::Wait;
@@ -36,9 +35,13 @@ pub trait Door: Send {
     /// When no more connections come.
     ghost spent: { Self → Type 0 };
 
+    /// What the door gives next, with the door before it and after it.
+    ghost gave: { Self → Option (Self.In × Self.Out) → Self → Type 0 };
+
     /// The next connection's reader and writer, or `None` where no more comes.
     fn next(&mut self) -> Option<(Self::In, Self::Out)>
-        ensures { IfNone result (spent self.new) };
+        ensures spent { IfNone result (spent self.new) }
+        ensures gave { gave self.old result self.new };
 }
 
 /// A door that is spent, and how many answers its session has collected.
@@ -48,26 +51,16 @@ pub struct DoorEnd<D: Drop> {
     pub collected: u64,
 }
 
-/// Puts a request that was read from a connection, collects its answer and writes it. A connection that fails then
-/// drops the answer.
-fn pass_on<O: Write, R: Wait>(
-    rt: &R,
-    alloc: Global,
-    session: &mut Session<Asked, Dated>,
-    inbox: &mut Inbox,
-    writer: &mut O,
-    asked: Asked,
-)
-    requires { IsSession session.old }
-    ensures session { IsSession session.new × IsSamePlace session.old session.new }
-    ensures put { length (put_by session.new) ≡ length (put_by session.old) + 1 }
-    ensures got { length (got_by session.new) ≡ length (got_by session.old) + 1 }
-{
-    let action = action(&asked.request);
-    let Dated { day, reply } = session.ask(rt, asked);
-    let answer = Answer::Replied { reply, action, day };
-    let _served = answer_with(alloc, inbox, &answer, writer);
-    drop(answer);
+impl<R: Wait> Service<R> for Session<Asked, Dated> {
+    ghost use Rattle.permit_hall.specs.Session.{Asks};
+
+    ghost ready = { λ session. IsSession session };
+
+    ghost did = { λ _ old asked dated new. Asks old asked dated new };
+
+    fn serve(&mut self, rt: &R, asked: Asked) -> Dated {
+        self.ask(rt, asked)
+    }
 }
 
 /// Serves a connection to its end, which comes with the end of its input, with a reader or a writer that fails, or with
@@ -86,23 +79,15 @@ fn serve_connection<I: Read, O: Write, R: Wait>(
     ensures session { IsSession session.new × IsSamePlace session.old session.new }
     ensures even { length (put_by session.new) ≡ length (got_by session.new) }
     ensures count { MatchOption result ⊤ (λ n. (length (put_by session.new) ≡ n) × (length (got_by session.new) ≡ n)) }
+    ensures holds { MatchOption result ⊤ (λ n. Holds I.remaining O.contents session.old session.new reader.old writer.old writer.new) }
 {
     let mut inbox = Inbox::new();
     let mut count = count;
     for _ in rt.forever() {
-        match read_request(alloc, &mut inbox, reader) {
-            Ok(Some(asked)) => {
-                let next = count.checked_add(1);
-                pass_on(rt, alloc, session, &mut inbox, writer, asked);
-                count = next?;
-            }
-            Ok(None) => return Some(count),
-            Err(error) => {
-                let Some(fault) = error.fault() else {
-                    return Some(count);
-                };
-                answer_with(alloc, &mut inbox, &Answer::Fault(fault), writer);
-            }
+        let turn = serve_by(alloc, session, rt, &mut inbox, reader, writer);
+        count = count.checked_add(u64::from(turn.asked))?;
+        if turn.served.is_shut() {
+            return Some(count);
         }
     }
     unreachable!()
@@ -121,7 +106,7 @@ where
     D::In: Drop,
     D::Out: Drop,
 {
-    ghost did = { λ t put got end. IsDoorDone D.spent put got end };
+    ghost did = { λ t put got end. IsDoorDone D.In.remaining D.Out.contents D.gave D.spent t.door put got end };
 
     fn run<R: Wait>(self, rt: &R, session: &mut Session<Asked, Dated>) -> Option<DoorEnd<D>> {
         let DoorTask { mut door, alloc } = self;
@@ -198,7 +183,7 @@ where
     requires { C.IsAlwaysCallable clock.old }
     ensures history { IfOk result (λ end. (served : List (Entry Asked Dated))
         × OneHistory S.view C.step (length doors.items) office end.office clock.old clock.new served
-        × AreDoorsServed D.spent (length doors.items) end.doors.items served) }
+        × AreDoorsServed D.In.remaining D.Out.contents D.gave D.spent doors.items end.doors.items served) }
     ensures opens { IfOk result (λ end. is_count (length doors.items) ≡ true) }
     ensures back { IfErr result (λ back. back.0 ≡ office) }
     ensures error { IfErr result (λ back. FitsCount back.1 (is_count (length doors.items))) }

@@ -10,7 +10,6 @@
 //! (`specs/Intake.antt`, `specs/Lane.antt`), which carry messages of any type, and `tasks` runs workers of any kind.
 #![tactic(auto)]
 
-pub mod dated;
 pub mod doors;
 pub mod error;
 pub mod events;

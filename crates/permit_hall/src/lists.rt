@@ -2,13 +2,12 @@
 
 ghost use Rattle.std.specs.Prelude.{◌≡◌, ◌≤◌, [], ℕ, List, length, map, true, vec_capacity, IfOk, IfErr};
 ghost use Rattle.permit_base.specs.declared.request.Asked.{Asked};
-ghost use Rattle.permit_hall.specs.declared.dated.Dated.{Dated};
+ghost use Rattle.permit_wire.specs.declared.service.Dated.{Dated};
 ghost use Rattle.permit_hall.specs.Runs.{Entry};
 ghost use Rattle.permit_hall.specs.Errors.{may_open as is_count, FitsCount};
 ghost use Rattle.permit_hall.specs.OneHistory.{OneHistory, AreListsServed};
 ghost use Rattle.permit_hall.specs.Session.{Has, IsSession, IsSamePlace, put_by, got_by};
 
-use crate::dated::Dated;
 use crate::error::{HallError, may_open};
 use crate::session::Session;
 use crate::tasks::run_tasks;
@@ -18,6 +17,7 @@ use permit_base::values::Day;
 use permit_office::office::Office;
 use permit_office::reply::Reply;
 use permit_store::store::Store;
+use permit_wire::Dated;
 use std::alloc::{AllocError, Global};
 use std::sync::Wait;
 use std::thread::Threads;

@@ -2,11 +2,11 @@
 
 ghost use Rattle.std.specs.Prelude.{ℕ};
 
-use crate::dated::Dated;
 use permit_base::request::Asked;
 use permit_base::values::Day;
 use permit_office::office::Office;
 use permit_store::store::Store;
+use permit_wire::Dated;
 
 /// What serves one request after the other. Its clauses name one step.
 pub trait Machine: Drop {

@@ -9,9 +9,7 @@ use Rattle.permit_base.specs.declared.words.Relation.{Relation}
 use Rattle.permit_base.specs.declared.words.Relations.{Relations}
 use Rattle.permit_base.specs.declared.words.Relation.TheVariants as relation
 use Rattle.permit_base.specs.declared.words.Stage.{Stage}
-use Rattle.permit_base.specs.declared.words.Stage.TheVariants as stage
 use Rattle.permit_base.specs.declared.words.Timing.{Timing}
-use Rattle.permit_base.specs.declared.words.Timing.TheVariants.{Untimed, Past, Near, Ahead}
 use Rattle.permit_base.specs.declared.request.Filter.{Filter}
 use Rattle.permit_base.specs.declared.route.By.{By}
 use Rattle.permit_base.specs.declared.route.By.TheVariants as by

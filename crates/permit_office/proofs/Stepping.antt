@@ -11,7 +11,8 @@ use Rattle.permit_base.specs.declared.request.Request.{Request}
 use Rattle.permit_model.specs.History.{History, last_day}
 use Rattle.permit_model.specs.Caller.{Party, parties, who, is_party}
 use Rattle.permit_model.specs.Policy.{Policy}
-use Rattle.permit_model.specs.Tables.{tables}
+use Rattle.permit_model.specs.Tables.{Tables, tables}
+use Rattle.permit_store.specs.Changes.{changed}
 use Rattle.permit_model.specs.Machine.{IsHistory, outcome_by_caller, outcome_by_request, refused, step_as}
 use Rattle.permit_store.specs.Counts.{next_count}
 use Rattle.permit_store.specs.Frames.{StoreView, HasOneDesk}
@@ -21,7 +22,8 @@ use Rattle.permit_office.specs.Office.{OfficeView}
 use Rattle.permit_office.specs.Answers.{CommittedBy, commits_after, IsOwn, failed_by, is_store_refusal}
 use Rattle.permit_office.specs.Reach.{Reach, NoRow, OneRow, ManyRows, reach_of, is_many, HandedBy, HandedIn, FailedBy, FailedIn}
 use Rattle.permit_office.specs.Opening.{opened_for, rows_opened, Opens}
-use Rattle.permit_office.specs.Frames.{IsAttempt, IsStep, Steps}
+use Rattle.permit_office.specs.Frames.{IsAttempt, IsStep, Steps, UnlessDone}
+use Rattle.permit_office.specs.Sound.{KeepsSound, IsSoundChange, OnMade, MakesOne}
 use Rattle.permit_model.proofs.Histories.{found_by_number}
 
 in_time : (last day : ℕ) → last ≤ day → nat_lt day last ≡ false
@@ -131,12 +133,13 @@ pub stepped_ok : {S : Type 0} (view : S → StoreView) (digest : List ℕ) (aske
     IsAttempt (reach_of asked) (view old.store) (view new.store) (Ok reply) → ((view new.store).doubt ≡ 0 → HasOneDesk (view new.store)) → IsOwn reply →
     ((view new.store).doubt ≡ 0 → (h : History) → IsHistory h → (view old.store).holds (tables h) →
     Opens (rows_opened old.policy h digest asked day) reply (view old.store).handed (view new.store).handed) →
-    IsStep view digest asked day old new reply
-stepped_ok view digest asked day old new reply same attempt one own opened =
+    MakesOne (view old.store) (view new.store) day reply → IsStep view digest asked day old new reply
+stepped_ok view digest asked day old new reply same attempt one own opened made =
     let none : (view new.store).failed ≡ (view old.store).failed = none_failed (reach_of asked) reply _ _ attempt.failed in
     record {
       policy = same;
       kept = attempt.kept;
+      made = made;
       one = λ sure _. one sure;
       doubt = attempt.doubt;
       failed = λ _. (λ refused. absurd (clash (is_store_refusal reply) refused own), λ differs. absurd (differs none));
@@ -153,6 +156,7 @@ pub stepped_err : {S : Type 0} (view : S → StoreView) (digest : List ℕ) (ask
 stepped_err view digest asked day old new e same attempt = record {
   policy = same;
   kept = attempt.kept;
+  made = λ sure t held sound. tt;
   one = λ sure own. absurd (clash true refl own);
   doubt = attempt.doubt;
   failed = λ few. (λ refused same. next_differs (view old.store).failed (sym (one_failed (reach_of asked) e _ _ few attempt.failed) ∙ same), λ differs. refl);
@@ -161,6 +165,44 @@ stepped_err view digest asked day old new e same attempt = record {
   handed = handed_err (reach_of asked) e _ _ attempt.handed;
   opened = λ sure h is held. opens_refused (rows_opened old.policy h digest asked day) refusal.Store _ _;
 }
+
+-- ---- sound tables
+
+-- a reading that isn't a command which is done says nothing of one
+pub unmade : (r : Result Given StoreError) (said : Type 0) → OnMade r ⊥ → OnMade r said
+unmade (Ok (given.Done number)) said none = absurd none
+unmade (Ok (given.Parcel p)) said none = tt
+unmade (Ok (given.File f ps)) said none = tt
+unmade (Ok (given.Listed l)) said none = tt
+unmade (Ok (given.Register k l)) said none = tt
+unmade (Ok (given.Refused why)) said none = tt
+unmade (Err e) said none = tt
+
+keeps_by : (old new : StoreView) (day : ℕ) (reply : Given) → ((t : Tables) → old.holds t → UnlessDone reply (new.holds t)) → MakesOne old new day reply →
+    KeepsSound old new
+keeps_by old new day (given.Done number) kept made = λ sure t held sound.
+    let w : IsSoundChange new.holds day t = made sure t held sound in (changed t w.change day, w.held, w.sound)
+keeps_by old new day (given.Parcel p) kept made = λ sure t held sound. (t, kept t held, sound)
+keeps_by old new day (given.File f ps) kept made = λ sure t held sound. (t, kept t held, sound)
+keeps_by old new day (given.Listed l) kept made = λ sure t held sound. (t, kept t held, sound)
+keeps_by old new day (given.Register k l) kept made = λ sure t held sound. (t, kept t held, sound)
+keeps_by old new day (given.Refused why) kept made = λ sure t held sound. (t, kept t held, sound)
+
+-- a step keeps sound tables sound
+pub keeps_step : {S : Type 0} (view : S → StoreView) (digest : List ℕ) (asked : Request) (day : ℕ) (old new : OfficeView S) (reply : Given) →
+    IsStep view digest asked day old new reply → KeepsSound (view old.store) (view new.store)
+keeps_step view digest asked day old new reply step = keeps_by (view old.store) (view new.store) day reply step.kept step.made
+
+pub keeps_none : (s : StoreView) → KeepsSound s s
+keeps_none s = λ sure t held sound. (t, held, sound)
+
+-- so does a step more
+pub keeps_more : (old between new : StoreView) → between.doubt ≤ new.doubt → KeepsSound old between → KeepsSound between new → KeepsSound old new
+keeps_more old between new doubt first last = λ sure t held sound.
+    let none : between.doubt ≡ 0 = omega (arith, doubt, sure) in
+    let w = first none t held sound in last sure w.0 w.1 w.2
+
+-- ---- a run
 
 -- one step more
 pub steps_last : {S : Type 0} (view : S → StoreView) (requests : List (Asked × ℕ)) (replies : List Given) (request : Asked × ℕ) (reply : Given)

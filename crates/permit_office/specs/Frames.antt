@@ -13,6 +13,7 @@ use Rattle.permit_office.specs.Office.{OfficeView}
 use Rattle.permit_office.specs.Answers.{Committed, CommittedBy, IsOwn, is_store_refusal}
 use Rattle.permit_office.specs.Reach.{Reach, reach_of, is_many, HandedIn, HandedBy, FailedIn, FailedBy}
 use Rattle.permit_office.specs.Opening.{rows_opened, Opens}
+use Rattle.permit_office.specs.Sound.{MakesOne}
 
 -- calls that read, any number of them
 abbrev pub OnlyReads : {A E : Type 0} → StoreView → StoreView → Result A E → Type 0
@@ -46,13 +47,14 @@ pub record IsMaking {A : Type 0} (old new : StoreView) (result : Result A StoreE
   pub failed : MatchResult result (λ made. new.failed ≡ old.failed) (λ e. (new.failed ≡ old.failed) ⊎ (new.failed ≡ next_count old.failed))
   pub commits : new.commits ≡ old.commits
 
--- A step leaves the policy, and any tables, unless a command is done; no doubt goes. After any reply but the store's
--- refusal, a store that is without doubt can be read. That refusal stands for a call that failed, and comes exactly where
--- one did, but for that of a listing or a register, which may be for want of memory. The rows handed out for a listing
--- are those that it opens.
+-- A step leaves the policy, and any tables, unless a command is done, which makes one change of sound tables and leaves
+-- them sound; no doubt goes. After any reply but the store's refusal, a store that is without doubt can be read. That
+-- refusal stands for a call that failed, and comes exactly where one did, but for that of a listing or a register, which
+-- may be for want of memory. The rows handed out for a listing are those that it opens.
 pub record IsStep {S : Type 0} (view : S → StoreView) (digest : List ℕ) (asked : Request) (day : ℕ) (old new : OfficeView S) (reply : Given) : Type 0 where
   pub policy : new.policy ≡ old.policy
   pub kept : (t : Tables) → (view old.store).holds t → UnlessDone reply ((view new.store).holds t)
+  pub made : MakesOne (view old.store) (view new.store) day reply
   pub one : (view new.store).doubt ≡ 0 → IsOwn reply → HasOneDesk (view new.store)
   pub doubt : (view old.store).doubt ≤ (view new.store).doubt
   pub failed : IsTrue (not (is_many (reach_of asked))) → (IsTrue (is_store_refusal reply) ↔ ((view new.store).failed ≢ (view old.store).failed))

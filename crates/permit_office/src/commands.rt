@@ -1,6 +1,6 @@
 //! The commands on a file that is there.
 
-ghost use Rattle.std.specs.Prelude.{◌≡◌, ◌≤◌, ◌==◌, ℕ, List, Option, Some, None, IsTrue, IfOk, find, is_some, nat_lt, true, false};
+ghost use Rattle.std.specs.Prelude.{◌≡◌, ◌≤◌, ◌==◌, ℕ, List, Option, Some, None, IsTrue, IfOk, find, is_some, nat_lt, option_map, true, false};
 ghost use Rattle.permit_base.specs.declared.request.Request.TheVariants as request;
 ghost use Rattle.permit_model.specs.Caller;
 ghost use Rattle.permit_model.specs.History.{History, last_day};
@@ -13,16 +13,19 @@ ghost use Rattle.permit_model.specs.Tables.{Paper, State, Tables, tables, state_
 ghost use Rattle.permit_model.specs.Machine.{outcome_by_reason, entry_of, outcome_by_request};
 ghost use Rattle.permit_core.specs.Naming;
 ghost use Rattle.permit_core.specs.RowAfter;
+ghost use Rattle.permit_model.specs.Sound.{IsSoundTables};
 ghost use Rattle.permit_store.specs.Changes.{papers_after, suits_effect};
-ghost use Rattle.permit_store.specs.Frames.{OverHistory};
+ghost use Rattle.permit_store.specs.Frames.{OverHistory, OverTables};
 ghost use Rattle.permit_office.specs.Answers.{Attempts, IsDecided, IsOwn};
-ghost use Rattle.permit_office.specs.Effects.{papers_entered};
+ghost use Rattle.permit_office.specs.Effects.{papers_with};
 ghost use Rattle.permit_office.specs.Frames.{OnlyReads, IsAttempt};
 ghost use Rattle.permit_office.specs.Reach.{NoRow, OneRow};
+ghost use Rattle.permit_office.specs.Sound.{HasState, IsSoundChange, MakesBy, MayAct, OnMade, is_open_in, role_named};
 
 use crate::commit::carry_out;
 use crate::facts::{facts_on_file, owner_on};
 use crate::reply::Reply;
+use crate::within::{command_within, state_within};
 use permit_base::refusal::Refusal;
 use permit_base::request::Command;
 use permit_base::values::{Day, FileId, ParcelId, PartyId};
@@ -37,6 +40,8 @@ use permit_store::store::{Got, Store};
 fn named<S: Store>(store: &mut S, parcel: ParcelId, command: &Command) -> Got<Option<NamedParty>>
     ensures named { (S.view store.new).doubt ≡ 0 → (h : History) → (S.view store.old).holds (tables h)
         → IfOk result (λ p. p ≡ Naming.party_known h parcel (Naming.named_party command.now)) }
+    ensures role { OverTables (S.view store.old) (S.view store.new) (λ t.
+        IfOk result (λ p. option_map (λ n. n.role) p ≡ role_named t (Naming.named_party command.now))) }
     ensures read { OnlyReads (S.view store.old) (S.view store.new) result }
 {
     let Some(party) = named_party(command) else {
@@ -54,6 +59,7 @@ fn is_open_notice<S: Store>(store: &mut S, file: FileId, command: &Command) -> G
     ensures open { OverHistory (S.view store.old) (S.view store.new) (λ h.
         (one : CaseFile) → case_numbered h file ≡ Some one
         → IfOk result (λ b. b ≡ Naming.is_notice_open one (Naming.named_paper command.now))) }
+    ensures held { OverTables (S.view store.old) (S.view store.new) (λ t. IfOk result (λ b. b ≡ is_open_in t file (Naming.named_paper command.now))) }
     ensures read { OnlyReads (S.view store.old) (S.view store.new) result }
 {
     let Some(number) = named_paper(command) else {
@@ -73,6 +79,10 @@ fn people_about<S: Store>(
     ensures people { OverHistory (S.view store.old) (S.view store.new) (λ h.
         (one : CaseFile) → case_numbered h file ≡ Some one → state.now ≡ state_of one → owner ≡ Parcels.owner h one.filing.parcel
         → IfOk result (λ p. p ≡ Naming.people_of h one command.now)) }
+    ensures role { OverTables (S.view store.old) (S.view store.new) (λ t.
+        IfOk result (λ p. option_map (λ n. n.role) p.named ≡ role_named t (Naming.named_party command.now))) }
+    ensures notice { OverTables (S.view store.old) (S.view store.new) (λ t.
+        IfOk result (λ p. p.is_open_notice ≡ is_open_in t file (Naming.named_paper command.now))) }
     ensures read { OnlyReads (S.view store.old) (S.view store.new) result }
 {
     let named = named(store, state.parcel(), command)?;
@@ -86,9 +96,10 @@ fn people_about<S: Store>(
 
 /// What changes of the papers by a command of the author on a file of this state.
 fn effect_of<'a>(state: &FileState, author: PartyId, command: &'a Command) -> RowEffect<'a>
-    ensures papers { (file number day : ℕ) (one : CaseFile) (papers : List Paper) → state.now ≡ state_of one
+    ensures papers { (file number day : ℕ) (papers : List Paper)
         → papers_after file number day result papers
-        ≡ papers_entered file number day author command.now one.acts (Work.paper_sort command.now) (Naming.named_paper command.now) papers }
+        ≡ papers_with file number day author (RowAfter.row_paper_days state.now command.now) command.now (Work.paper_sort command.now)
+        (Naming.named_paper command.now) papers }
     ensures suits { (t : Tables) (after : State) → after.papers ≡ RowAfter.papers_after command.now state.now.papers
         → IsTrue (is_some (find (λ p. p.id == author) t.parties))
         → (IsTrue (Work.makes_paper command.now) → IsTrue (nat_lt state.now.papers most_papers)) → IsTrue (suits_effect t state.now after result) }
@@ -123,6 +134,8 @@ fn perform<S: Store>(
         → last_day h ≤ day → IsTrue (Caller.is_party h caller)
         → Attempts (S.view store.new).holds result
         (outcome_by_reason h (entry_of h day caller (request.OnFile file command.now)) (reason_against h day caller (request.OnFile file command.now))) h) }
+    ensures sound { OverTables (S.view store.old) (S.view store.new) (λ t. IsSoundTables t → HasState t file state.now → MayAct t caller day
+        → OnMade result (IsSoundChange (S.view store.new).holds day t)) }
     ensures attempt { IsAttempt NoRow (S.view store.old) (S.view store.new) result }
     ensures decided { IfOk result IsDecided }
     ensures own { IfOk result IsOwn }
@@ -135,6 +148,8 @@ fn perform<S: Store>(
     let effect = effect_of(state, caller, command);
     let mut state = *state;
     state.apply(day, command, caller);
+    command_within(command);
+    state_within(&state);
     let change = Change::NewRow {
         file,
         state,
@@ -156,6 +171,7 @@ pub(crate) fn on_file<S: Store>(
         last_day h ≤ day
         → IsTrue (Caller.is_party h caller.now.id)
         → Attempts (S.view store.new).holds result (outcome_by_request policy.now h day caller.now (request.OnFile file command.now)) h) }
+    ensures sound { MakesBy (S.view store.old) (S.view store.new) caller.now.id day result }
     ensures attempt { IsAttempt OneRow (S.view store.old) (S.view store.new) result }
     ensures own { IfOk result IsOwn }
 {

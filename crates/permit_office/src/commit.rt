@@ -5,12 +5,14 @@ ghost use Rattle.permit_base.specs.Limits.{most_records};
 ghost use Rattle.permit_base.specs.declared.refusal.Reason.TheVariants.{Full};
 ghost use Rattle.permit_model.specs.Admission.{first_failing};
 ghost use Rattle.permit_model.specs.History.{History, Entry};
-ghost use Rattle.permit_model.specs.Tables.{tables};
+ghost use Rattle.permit_model.specs.Tables.{Tables, tables};
+ghost use Rattle.permit_model.specs.Sound.{IsSoundTables};
 ghost use Rattle.permit_model.specs.Machine.{outcome_by_reason};
 ghost use Rattle.permit_store.specs.Changes.{Fits, changed};
 ghost use Rattle.permit_office.specs.Answers.{Attempts, IsDecided, IsOwn, reason_in};
 ghost use Rattle.permit_office.specs.Frames.{IsAttempt};
 ghost use Rattle.permit_office.specs.Reach.{NoRow};
+ghost use Rattle.permit_office.specs.Sound.{IsSoundChange, OnMade};
 
 use crate::reply::Reply;
 use permit_base::limits::number_after;
@@ -43,6 +45,9 @@ pub(crate) fn carry_out<S: Store>(
     ensures model { (h : History) (entry : Entry) → (S.view store.old).holds (tables h)
         → ((number : Option ℕ) → admitted ≡ Ok number → (number ≡ entry.number) × Fits (tables h) change.now day × (changed (tables h) change.now day ≡ tables (entry ∷ h)))
         → Attempts (S.view store.new).holds result (outcome_by_reason h entry (reason_in admitted)) h }
+    ensures sound { (t : Tables) → (S.view store.old).holds t
+        → ((number : Option ℕ) → admitted ≡ Ok number → Fits t change.now day × IsSoundTables (changed t change.now day))
+        → OnMade result (IsSoundChange (S.view store.new).holds day t) }
     ensures attempt { IsAttempt NoRow (S.view store.old) (S.view store.new) result }
     ensures decided { IfOk result IsDecided }
     ensures own { IfOk result IsOwn }

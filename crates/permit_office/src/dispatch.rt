@@ -5,11 +5,13 @@ ghost use Rattle.permit_model.specs.Caller;
 ghost use Rattle.permit_model.specs.History.{last_day};
 ghost use Rattle.permit_model.specs.Tables.{desk_of};
 ghost use Rattle.permit_model.specs.Machine.{outcome_by_request, step_as};
-ghost use Rattle.permit_store.specs.Frames.{HasOneDesk, OverHistory};
+ghost use Rattle.permit_model.specs.Sound.{IsSoundTables};
+ghost use Rattle.permit_store.specs.Frames.{HasOneDesk, OverHistory, OverTables};
 ghost use Rattle.permit_office.specs.Answers.{Attempts, IsOwn};
 ghost use Rattle.permit_office.specs.Frames.{IsAttempt};
 ghost use Rattle.permit_office.specs.Opening.{opened_for, rows_opened, Opens};
 ghost use Rattle.permit_office.specs.Reach.{reach_of};
+ghost use Rattle.permit_office.specs.Sound.{IsSoundChange, MayAct, OnMade};
 
 use crate::commands::on_file;
 use crate::filing::file;
@@ -40,6 +42,8 @@ fn serve_known<S: Store>(
         → Attempts (S.view store.new).holds result (outcome_by_request policy.now h day caller.now request.now) h) }
     ensures opened { OverHistory (S.view store.old) (S.view store.new) (λ h.
         IfOk result (λ reply. Opens (opened_for policy.now h day caller.now request.now) reply (S.view store.old).handed (S.view store.new).handed)) }
+    ensures sound { OverTables (S.view store.old) (S.view store.new) (λ t. IsSoundTables t → desk.now ≡ t.desk → MayAct t caller.now.id day
+        → OnMade result (IsSoundChange (S.view store.new).holds day t)) }
     ensures attempt { IsAttempt (reach_of request.now) (S.view store.old) (S.view store.new) result }
     ensures own { IfOk result IsOwn }
 {
@@ -90,6 +94,7 @@ pub(crate) fn attempt<S: Store>(
         Attempts (S.view store.new).holds result (step_as policy.now h digest.now request.now day) h) }
     ensures opened { OverHistory (S.view store.old) (S.view store.new) (λ h.
         IfOk result (λ reply. Opens (rows_opened policy.now h digest.now request.now day) reply (S.view store.old).handed (S.view store.new).handed)) }
+    ensures sound { OverTables (S.view store.old) (S.view store.new) (λ t. IsSoundTables t → OnMade result (IsSoundChange (S.view store.new).holds day t)) }
     ensures attempt { IsAttempt (reach_of request.now) (S.view store.old) (S.view store.new) result }
     ensures one { (S.view store.new).doubt ≡ 0 → OnOk result (HasOneDesk (S.view store.new)) }
     ensures own { IfOk result IsOwn }

@@ -1,11 +1,13 @@
 //! The facts by which the policy decides, from the rows of a parcel or a file.
 
-ghost use Rattle.std.specs.Prelude.{◌≡◌, Option, Some, None, IfOk};
+ghost use Rattle.std.specs.Prelude.{◌≡◌, ◌==◌, ◌&&◌, Option, Some, None, IfOk};
+ghost use Rattle.std.specs.List.{list_any};
 ghost use Rattle.permit_model.specs.History.{History};
 ghost use Rattle.permit_model.specs.Parcels;
 ghost use Rattle.permit_model.specs.Files.{CaseFile};
 ghost use Rattle.permit_model.specs.Facts.{file_facts, parcel_facts};
 ghost use Rattle.permit_model.specs.Tables.{Tables, tables, state_of};
+ghost use Rattle.permit_store.specs.Frames.{OverTables};
 ghost use Rattle.permit_office.specs.Frames.{OnlyReads};
 
 use permit_base::values::{Day, ParcelId, PartyId};
@@ -26,6 +28,8 @@ pub(crate) fn facts_on_parcel<S: Store>(
 ) -> Got<Facts>
     ensures facts { (S.view store.new).doubt ≡ 0 → (h : History) → (S.view store.old).holds (tables h) → Parcels.owner h parcel ≡ Some owner
         → IfOk result (λ f. f ≡ parcel_facts h caller.now parcel word action) }
+    ensures conflict { OverTables (S.view store.old) (S.view store.new) (λ t.
+        IfOk result (λ f. f.relations.conflict ≡ list_any (λ i. (i.parcel == parcel) && (i.party == caller.now.id)) t.interests)) }
     ensures read { OnlyReads (S.view store.old) (S.view store.new) result }
 {
     let conflict = store.interest(parcel, caller.id)?;

@@ -6,14 +6,17 @@ ghost use Rattle.permit_model.specs.Caller;
 ghost use Rattle.permit_model.specs.History.{last_day};
 ghost use Rattle.permit_model.specs.Tables.{desk_of};
 ghost use Rattle.permit_model.specs.Machine.{outcome_by_request};
-ghost use Rattle.permit_store.specs.Frames.{OverHistory};
+ghost use Rattle.permit_model.specs.Sound.{IsSoundTables};
+ghost use Rattle.permit_store.specs.Frames.{OverHistory, OverTables};
 ghost use Rattle.permit_office.specs.Answers.{Attempts, IsOwn};
 ghost use Rattle.permit_office.specs.Frames.{IsAttempt};
 ghost use Rattle.permit_office.specs.Reach.{NoRow};
+ghost use Rattle.permit_office.specs.Sound.{IsSoundChange, MayAct, OnMade};
 
 use crate::commit::{carry_out, next_number};
 use crate::facts::facts_on_parcel;
 use crate::reply::Reply;
+use crate::within::filing_within;
 use permit_base::refusal::Refusal;
 use permit_base::values::{Cents, Day, ParcelId, Text};
 use permit_base::words::{Action, Kind, Stage};
@@ -38,6 +41,8 @@ pub(crate) fn file<S: Store>(
         desk.now ≡ desk_of h
         → last_day h ≤ day → IsTrue (Caller.is_party h caller.now.id)
         → Attempts (S.view store.new).holds result (outcome_by_request policy.now h day caller.now (request.File parcel kind valuation description.now)) h) }
+    ensures sound { OverTables (S.view store.old) (S.view store.new) (λ t. IsSoundTables t → desk.now ≡ t.desk → MayAct t caller.now.id day
+        → OnMade result (IsSoundChange (S.view store.new).holds day t)) }
     ensures attempt { IsAttempt NoRow (S.view store.old) (S.view store.new) result }
     ensures own { IfOk result IsOwn }
 {
@@ -49,6 +54,7 @@ pub(crate) fn file<S: Store>(
         return Ok(Reply::Refused(Refusal::Denied(name)));
     }
     let admitted = next_number(desk.files);
+    filing_within(valuation, description);
     let state = FileState::file(caller.id, parcel, kind, desk.edition, day);
     carry_out(
         store,

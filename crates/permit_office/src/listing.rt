@@ -16,6 +16,7 @@ ghost use Rattle.permit_office.specs.Frames.{IsAttempt, IsMaking};
 ghost use Rattle.permit_office.specs.Listings.{found_facts, view_found, Takes, Gathers, AreRising};
 ghost use Rattle.permit_office.specs.Opening.{Opens, OpensRows};
 ghost use Rattle.permit_office.specs.Reach.{ManyRows, WereRead};
+ghost use Rattle.permit_office.specs.Sound.{OnMade};
 ghost use Rattle.permit_office.specs.Stops.{routes_for};
 ghost use Rattle.permit_store.specs.Handing.{AreAmong, Hands, found_by_any};
 
@@ -232,6 +233,7 @@ pub(crate) fn list_files<S: Store>(
     ensures opened { OverHistory (S.view store.old) (S.view store.new) (λ h.
         IfOk result (λ reply. Opens (Some (length (opened policy.now h day caller.now wanted))) reply (S.view store.old).handed (S.view store.new).handed)) }
     ensures attempt { IsAttempt ManyRows (S.view store.old) (S.view store.new) result }
+    ensures unmade { OnMade result ⊥ }
     ensures own { IfOk result IsOwn }
 {
     let listing = make_listing(store, policy, caller, day, wanted)?;
@@ -252,6 +254,7 @@ pub(crate) fn show_register<S: Store>(
         IfOk result (λ reply. Opens (Some (length (opened policy.now h day caller.now (register_filter kind)))) reply
         (S.view store.old).handed (S.view store.new).handed)) }
     ensures attempt { IsAttempt ManyRows (S.view store.old) (S.view store.new) result }
+    ensures unmade { OnMade result ⊥ }
     ensures own { IfOk result IsOwn }
 {
     let listing = make_listing(store, policy, caller, day, register_filter(kind))?;

@@ -12,6 +12,7 @@ ghost use Rattle.permit_office.specs.Frames.{IsStep, Steps};
 ghost use Rattle.permit_office.specs.Opening.{rows_opened};
 ghost use Rattle.permit_office.specs.Runs.{Ran};
 ghost use Rattle.permit_office.specs.Showing.{IsShowing, OpensAt, Shows, ShowsSome};
+ghost use Rattle.permit_office.specs.Sound.{KeepsSound};
 ghost use Rattle.permit_office.specs.Stops.{StopsAt};
 
 use crate::dispatch::attempt;
@@ -77,12 +78,14 @@ impl<S: Store + Drop> Office<S> {
     ///
     /// The refusals are tested in the order caller, clock, record, denied, not admitted; the first that applies
     /// is answered, and nothing has changed. Only an accepted command changes the tables, by one commit, and
-    /// moves the last day. A listing has no test but the first two; its files are found by the selections that the
-    /// policy's rules give, and no other row is read. The refusal for the store comes exactly where a call of the
-    /// store failed, or where memory was refused to a listing; then, too, nothing has changed.
+    /// moves the last day; it leaves sound tables sound, also those that no history makes. A listing has no test but
+    /// the first two; its files are found by the selections that the policy's rules give, and no other row is read.
+    /// The refusal for the store comes exactly where a call of the store failed, or where memory was refused to a
+    /// listing; then, too, nothing has changed.
     pub fn step_as(&mut self, digest: &Digest, request: &Request, day: Day) -> Reply
         ensures model { OverHistory (S.view self.old.store) (S.view self.new.store) (λ h.
             Answers (S.view self.new.store).holds result (step_as self.old.policy h digest.now request.now day) h) }
+        ensures sound { KeepsSound (S.view self.old.store) (S.view self.new.store) }
         ensures step { IsStep S.view digest.now request.now day self.old self.new result }
     {
         match attempt(&mut self.store, &self.policy, digest, request, day) {
@@ -95,6 +98,7 @@ impl<S: Store + Drop> Office<S> {
     pub fn step(&mut self, asked: &Asked, day: Day) -> Reply
         ensures model { OverHistory (S.view self.old.store) (S.view self.new.store) (λ h.
             Answers (S.view self.new.store).holds result (step self.old.policy h asked.now day) h) }
+        ensures sound { KeepsSound (S.view self.old.store) (S.view self.new.store) }
         ensures step { IsStep S.view (digest_of asked.now.token) asked.now.request day self.old self.new result }
     {
         match digest(&asked.token) {
@@ -142,6 +146,7 @@ impl<S: Store + Drop> Office<S> {
     ) -> Result<Vec<Reply>, AllocError>
         ensures model { OverHistory (S.view self.old.store) (S.view self.new.store) (λ h.
             IfOk result (λ replies. Ran (S.view self.new.store).holds self.old.policy requests.now replies.items h)) }
+        ensures sound { KeepsSound (S.view self.old.store) (S.view self.new.store) }
         ensures policy { self.new.policy ≡ self.old.policy }
         ensures doubt { (S.view self.old.store).doubt ≤ (S.view self.new.store).doubt }
         ensures steps { IfOk result (λ replies. Steps S.view requests.now replies.items self.old self.new) }

@@ -1,8 +1,10 @@
 //! Parcels: new ones, their owners, and the interests declared in them.
 
-ghost use Rattle.std.specs.Prelude.{◌≡◌, ◌≤◌, ◌+◌, ◌∷◌, [], ℕ, Option, Some, None, List, IsTrue, IfOk, bytes_eq, false};
+ghost use Rattle.std.specs.Prelude.{◌≡◌, ◌≤◌, ◌+◌, ◌∷◌, ◌&&◌, [], false, ℕ, Option, Some, None, List, IsTrue, IfOk, OnOk, bytes_eq, find};
+ghost use Rattle.std.specs.Prelude.{is_none, is_some, nat_lt};
 ghost use Rattle.std.specs.List.{list_any};
 ghost use Rattle.permit_base.specs.declared.request.Request.TheVariants as request;
+ghost use Rattle.permit_base.specs.Limits.{most_records};
 ghost use Rattle.permit_model.specs.Caller;
 ghost use Rattle.permit_model.specs.History.{History, last_day};
 ghost use Rattle.permit_model.specs.Parcels;
@@ -11,15 +13,18 @@ ghost use Rattle.permit_base.specs.declared.refusal.Reason.TheVariants.{Taken};
 ghost use Rattle.permit_model.specs.Admission.{first_failing, reason_against};
 ghost use Rattle.permit_model.specs.Tables.{Tables, tables, desk_of};
 ghost use Rattle.permit_model.specs.Machine.{outcome_by_request};
-ghost use Rattle.permit_store.specs.Frames.{OverHistory};
+ghost use Rattle.permit_model.specs.Sound.{IsSoundTables, has_party};
+ghost use Rattle.permit_store.specs.Frames.{OverHistory, OverTables};
 ghost use Rattle.permit_office.specs.Answers.{Attempts, IsOwn, reason_in};
 ghost use Rattle.permit_office.specs.Frames.{OnlyReads, IsAttempt};
 ghost use Rattle.permit_office.specs.Reach.{NoRow};
+ghost use Rattle.permit_office.specs.Sound.{IsSoundChange, MakesBy, MayAct, OnMade};
 
 use crate::commit::{Admitted, carry_out, next_number};
 use crate::facts::facts_on_parcel;
 use crate::parties::is_party;
 use crate::reply::Reply;
+use crate::within::parcel_within;
 use permit_base::refusal::{Reason, Refusal};
 use permit_base::values::{Day, Lot, ParcelId, PartyId, Text};
 use permit_base::words::{Action, Stage};
@@ -32,6 +37,7 @@ use permit_store::store::{Got, Store};
 fn is_lot<S: Store>(store: &mut S, lot: &Lot) -> Got<bool>
     ensures there { (S.view store.new).doubt ≡ 0 → (h : History) → (S.view store.old).holds (tables h)
         → IfOk result (λ b. b ≡ list_any (λ p. bytes_eq p.lot lot.now) (parcels h)) }
+    ensures held { OverTables (S.view store.old) (S.view store.new) (λ t. IfOk result (λ b. b ≡ is_some (find (λ p. bytes_eq p.lot lot.now) t.parcels))) }
     ensures read { OnlyReads (S.view store.old) (S.view store.new) result }
 {
     let found = store.parcel_by_lot(lot)?;
@@ -44,6 +50,9 @@ fn admit_parcel<S: Store>(store: &mut S, desk: &Desk, lot: &Lot, owner: PartyId)
         → desk.now ≡ desk_of h
         → IfOk result (λ r. reason_in r ≡ reason_against h day caller (request.AddParcel lot.now address owner)) }
     ensures number { IfOk result (λ r. IfOk r (λ number. number ≡ Some (desk.now.parcels + 1))) }
+    ensures suits { OverTables (S.view store.old) (S.view store.new) (λ t. desk.now ≡ t.desk
+        → IfOk result (λ r. OnOk r (IsTrue (nat_lt t.desk.parcels most_records
+        && is_none (find (λ p. bytes_eq p.lot lot.now) t.parcels) && has_party t owner)))) }
     ensures read { OnlyReads (S.view store.old) (S.view store.new) result }
 {
     if !is_party(store, owner)? {
@@ -69,6 +78,8 @@ pub(crate) fn add_parcel<S: Store>(
     ensures model { OverHistory (S.view store.old) (S.view store.new) (λ h.
         desk.now ≡ desk_of h → last_day h ≤ day
         → Attempts (S.view store.new).holds result (outcome_by_request policy.now h day caller.now (request.AddParcel lot.now address.now owner)) h) }
+    ensures sound { OverTables (S.view store.old) (S.view store.new) (λ t. IsSoundTables t → desk.now ≡ t.desk → MayAct t caller.now.id day
+        → OnMade result (IsSoundChange (S.view store.new).holds day t)) }
     ensures attempt { IsAttempt NoRow (S.view store.old) (S.view store.new) result }
     ensures own { IfOk result IsOwn }
 {
@@ -76,6 +87,7 @@ pub(crate) fn add_parcel<S: Store>(
         return Ok(Reply::Refused(Refusal::Denied(name)));
     }
     let admitted = admit_parcel(store, desk, lot, owner)?;
+    parcel_within(lot, address);
     carry_out(
         store,
         admitted,
@@ -110,6 +122,7 @@ pub(crate) fn declare<S: Store>(
     ensures model { (S.view store.new).doubt ≡ 0 → (h : History) → (S.view store.old).holds (tables h) → last_day h ≤ day
         → IsTrue (Caller.is_party h caller.now.id)
         → Attempts (S.view store.new).holds result (outcome_by_request policy.now h day caller.now (request.Declare parcel)) h }
+    ensures sound { MakesBy (S.view store.old) (S.view store.new) caller.now.id day result }
     ensures attempt { IsAttempt NoRow (S.view store.old) (S.view store.new) result }
     ensures own { IfOk result IsOwn }
 {
@@ -136,6 +149,7 @@ fn admit_transfer<S: Store>(
         → Parcels.owner h parcel ≡ Some owner
         → IfOk result (λ r. reason_in r ≡ reason_against h day caller (request.Transfer parcel to)) }
     ensures number { IfOk result (λ r. IfOk r (λ number. number ≡ None)) }
+    ensures receiver { OverTables (S.view store.old) (S.view store.new) (λ t. IfOk result (λ r. OnOk r (IsTrue (has_party t to)))) }
     ensures read { OnlyReads (S.view store.old) (S.view store.new) result }
 {
     if !is_party(store, to)? {
@@ -158,6 +172,7 @@ pub(crate) fn transfer<S: Store>(
 ) -> Got<Reply>
     ensures model { (S.view store.new).doubt ≡ 0 → (h : History) → (S.view store.old).holds (tables h) → last_day h ≤ day
         → Attempts (S.view store.new).holds result (outcome_by_request policy.now h day caller.now (request.Transfer parcel to)) h }
+    ensures sound { MakesBy (S.view store.old) (S.view store.new) caller.now.id day result }
     ensures attempt { IsAttempt NoRow (S.view store.old) (S.view store.new) result }
     ensures own { IfOk result IsOwn }
 {

@@ -1,6 +1,7 @@
 //! New parties.
 
-ghost use Rattle.std.specs.Prelude.{◌≡◌, ◌≤◌, ◌+◌, ℕ, Option, Some, None, List, IfOk, false};
+ghost use Rattle.std.specs.Prelude.{◌≡◌, ◌≤◌, ◌+◌, ◌&&◌, ℕ, Option, Some, None, List, IfOk, OnOk, IsTrue, bytes_eq, find, is_none, nat_lt, false};
+ghost use Rattle.permit_base.specs.Limits.{most_records};
 ghost use Rattle.permit_base.specs.Actions.{adding_action};
 ghost use Rattle.permit_base.specs.Digests.{digest_of};
 ghost use Rattle.permit_base.specs.declared.request.Request.TheVariants as request;
@@ -9,13 +10,16 @@ ghost use Rattle.permit_model.specs.History.{History, last_day};
 ghost use Rattle.permit_model.specs.Admission.{reason_against};
 ghost use Rattle.permit_model.specs.Tables.{Tables, tables, desk_of};
 ghost use Rattle.permit_model.specs.Machine.{outcome_by_request};
-ghost use Rattle.permit_store.specs.Frames.{OverHistory};
+ghost use Rattle.permit_model.specs.Sound.{IsSoundTables, has_party};
+ghost use Rattle.permit_store.specs.Frames.{OverHistory, OverTables};
 ghost use Rattle.permit_office.specs.Answers.{Attempts, IsOwn, reason_in};
 ghost use Rattle.permit_office.specs.Frames.{OnlyReads, IsAttempt};
 ghost use Rattle.permit_office.specs.Reach.{NoRow};
+ghost use Rattle.permit_office.specs.Sound.{IsSoundChange, MayAct, OnMade};
 
 use crate::commit::{Admitted, carry_out, next_number};
 use crate::reply::Reply;
+use crate::within::party_within;
 use permit_base::digests::digest;
 use permit_base::refusal::{Reason, Refusal};
 use permit_base::values::{Day, Digest, PartyId, Text, Token};
@@ -37,6 +41,7 @@ fn adding(role: Role) -> Action
 /// Whether there is such a party.
 pub(crate) fn is_party<S: Store>(store: &mut S, party: PartyId) -> Got<bool>
     ensures there { (S.view store.new).doubt ≡ 0 → (h : History) → (S.view store.old).holds (tables h) → IfOk result (λ b. b ≡ Caller.is_party h party) }
+    ensures held { OverTables (S.view store.old) (S.view store.new) (λ t. IfOk result (λ b. b ≡ has_party t party)) }
     ensures read { OnlyReads (S.view store.old) (S.view store.new) result }
 {
     let role = store.role(party)?;
@@ -50,6 +55,8 @@ fn admit_party<S: Store>(store: &mut S, desk: &Desk, digest: &Digest) -> Got<Adm
         → digest.now ≡ digest_of token
         → IfOk result (λ r. reason_in r ≡ reason_against h day caller (request.AddParty name role token)) }
     ensures number { IfOk result (λ r. IfOk r (λ number. number ≡ Some (desk.now.parties + 1))) }
+    ensures suits { OverTables (S.view store.old) (S.view store.new) (λ t. desk.now ≡ t.desk
+        → IfOk result (λ r. OnOk r (IsTrue (nat_lt t.desk.parties most_records && is_none (find (λ p. bytes_eq p.digest digest.now) t.parties))))) }
     ensures read { OnlyReads (S.view store.old) (S.view store.new) result }
 {
     if store.party_by_token(digest)?.is_some() {
@@ -72,6 +79,8 @@ pub(crate) fn add_party<S: Store>(
     ensures model { OverHistory (S.view store.old) (S.view store.new) (λ h.
         desk.now ≡ desk_of h → last_day h ≤ day
         → Attempts (S.view store.new).holds result (outcome_by_request policy.now h day caller.now (request.AddParty name.now role token.now)) h) }
+    ensures sound { OverTables (S.view store.old) (S.view store.new) (λ t. IsSoundTables t → desk.now ≡ t.desk → MayAct t caller.now.id day
+        → OnMade result (IsSoundChange (S.view store.new).holds day t)) }
     ensures attempt { IsAttempt NoRow (S.view store.old) (S.view store.new) result }
     ensures own { IfOk result IsOwn }
 {
@@ -82,6 +91,7 @@ pub(crate) fn add_party<S: Store>(
         return Err(StoreError);
     };
     let admitted = admit_party(store, desk, &digest)?;
+    party_within(name, &digest);
     carry_out(
         store,
         admitted,

@@ -8,6 +8,7 @@ ghost use Rattle.permit_model.specs.Machine.{outcome_by_request};
 ghost use Rattle.permit_office.specs.Answers.{Attempts, IsOwn};
 ghost use Rattle.permit_office.specs.Frames.{IsAttempt};
 ghost use Rattle.permit_office.specs.Reach.{NoRow, OneRow};
+ghost use Rattle.permit_office.specs.Sound.{OnMade};
 
 use crate::facts::{facts_on_file, facts_on_parcel, owner_on};
 use crate::reply::Reply;
@@ -29,6 +30,7 @@ pub(crate) fn read_file<S: Store>(
     ensures model { (S.view store.new).doubt ≡ 0 → (h : History) → (S.view store.old).holds (tables h)
         → Attempts (S.view store.new).holds result (outcome_by_request policy.now h day caller.now (request.ReadFile file)) h }
     ensures attempt { IsAttempt OneRow (S.view store.old) (S.view store.new) result }
+    ensures unmade { OnMade result ⊥ }
     ensures own { IfOk result IsOwn }
 {
     let Some(row) = store.file(file)? else {
@@ -56,6 +58,7 @@ pub(crate) fn read_parcel<S: Store>(
     ensures model { (S.view store.new).doubt ≡ 0 → (h : History) → (S.view store.old).holds (tables h)
         → Attempts (S.view store.new).holds result (outcome_by_request policy.now h day caller.now (request.ReadParcel parcel)) h }
     ensures attempt { IsAttempt NoRow (S.view store.old) (S.view store.new) result }
+    ensures unmade { OnMade result ⊥ }
     ensures own { IfOk result IsOwn }
 {
     let Some(land) = store.parcel(parcel)? else {

@@ -9,7 +9,7 @@ ghost use Rattle.permit_routes.specs.Bodies.{text_in, said, has_members, object_
 ghost use Rattle.permit_routes.specs.Outcome.{ReadsAs, same};
 
 use crate::fault::BodyFault;
-use permit_base::limits::{MOST_CENTS, MOST_PAPERS, MOST_RECORDS};
+use permit_base::limits::{MOST_CENTS, MOST_DAYS, MOST_PAPERS, MOST_RECORDS};
 use permit_base::values::{Cents, Days, Lot, PaperNumber, ParcelId, PartyId, Text, Token};
 use permit_base::words::Word;
 use serde_json::Value;
@@ -117,7 +117,7 @@ pub fn cents_at(value: &Value, key: &str) -> Result<Cents, BodyFault>
 pub fn days_at(value: &Value, key: &str) -> Result<Days, BodyFault>
     ensures { ReadsAs same result (number_at is_days key.now (view value.now)) }
 {
-    let number = number_at(value, key, 1, 365).ok_or(BodyFault::Refused)?;
+    let number = number_at(value, key, 1, u64::from(MOST_DAYS)).ok_or(BodyFault::Refused)?;
     Days::new(number as u32).ok_or(BodyFault::Refused)
 }
 

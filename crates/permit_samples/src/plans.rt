@@ -110,6 +110,8 @@ pub(crate) const ASKS: &[&str] = &[
 < 200 OK {"day":19730,"done":"ask-extension","number":1}
 > 1 19730 POST /files/1/refuse-extension {"text":"No cause"}
 < 200 OK {"day":19730,"done":"refuse-extension","number":2}
+> 1 19730 GET /files/1
+~ {"author":1,"day":19730,"days":0,"number":2,"open":false,"sort":"refused","terms":"","text":"No cause"}
 > 5 19730 POST /files/1/ask-extension {"days":60,"text":"Rain"}
 < 200 OK {"day":19730,"done":"ask-extension","number":3}
 > 5 19730 POST /files/1/ask-extension {"days":10,"text":"Rain"}
@@ -127,5 +129,32 @@ pub(crate) const ASKS: &[&str] = &[
 ~ "ask":null,
 > 1 19740 POST /files/1/grant-extension
 < 409 Conflict {"reason":"nothing-pending","refused":"not-admitted"}
+"#,
+];
+
+/// Plans that are returned, resubmitted and rejected.
+pub(crate) const REJECTION: &[&str] = &[
+    r#"
+> 5 19723 POST /files {"parcel":1,"kind":"construct","valuation":25000000,"description":"House"}
+< 200 OK {"day":19723,"done":"file","number":1}
+> 2 19723 POST /files/1/assign-reviewer {"party":3}
+< 200 OK {"day":19723,"done":"assign-reviewer","number":null}
+> 3 19724 POST /files/1/start-review
+< 200 OK {"day":19724,"done":"start-review","number":null}
+> 3 19725 POST /files/1/return {"text":"Stairs"}
+< 200 OK {"day":19725,"done":"return","number":1}
+> 5 19726 POST /files/1/resubmit {"text":"Stairs drawn anew"}
+< 200 OK {"day":19726,"done":"resubmit","number":2}
+> 1 19726 GET /files/1
+~ "stage":"review",
+~ "deadline":19903,
+~ {"author":5,"day":19726,"days":0,"number":2,"open":false,"sort":"resubmitted","terms":"","text":"Stairs drawn anew"}
+> 3 19727 POST /files/1/reject {"text":"Too high"}
+< 200 OK {"day":19727,"done":"reject","number":3}
+> 1 19727 GET /files/1
+~ "stage":"rejected",
+~ "timing":"none",
+~ "deadline":null,
+~ {"author":3,"day":19727,"days":0,"number":3,"open":false,"sort":"rejected","terms":"","text":"Too high"}
 "#,
 ];

@@ -34,6 +34,7 @@ const APPLICATIONS: &[Scenario] = &[
     plans::POLICY_FIRST,
     plans::OWN_WORK,
     plans::ASKS,
+    plans::REJECTION,
 ];
 
 const INSPECTIONS: &[Scenario] = &[
@@ -42,6 +43,7 @@ const INSPECTIONS: &[Scenario] = &[
     work::STEPS_OF_ALTERATION,
     work::ENERGY_AFTER_FRAME,
     work::NOTICE,
+    work::ACTIVITY,
 ];
 
 const ORDERS: &[Scenario] = &[work::STOP, work::LAST_DAY, work::DAY_BEHIND, work::REVOKED];

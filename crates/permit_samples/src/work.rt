@@ -210,6 +210,34 @@ pub(crate) const NOTICE: &[&str] = &[
 "#,
 ];
 
+/// What counts as activity: a request, a notice and an approval each move the deadline, and a notice cleared doesn't.
+pub(crate) const ACTIVITY: &[&str] = &[
+    CONSTRUCT,
+    APPROVED,
+    ISSUED,
+    BEGUN,
+    r#"
+> 6 19820 POST /files/1/request-inspection {"step":"footing"}
+< 200 OK {"day":19820,"done":"request-inspection","number":null}
+> 1 19820 GET /files/1
+~ "deadline":20000,
+> 4 19825 POST /files/1/notice {"text":"Nails"}
+< 200 OK {"day":19825,"done":"notice","number":2}
+> 1 19825 GET /files/1
+~ "deadline":20005,
+> 6 19830 POST /files/1/request-inspection {"step":"footing"}
+< 200 OK {"day":19830,"done":"request-inspection","number":null}
+> 4 19832 POST /files/1/clear-notice {"paper":2}
+< 200 OK {"day":19832,"done":"clear-notice","number":null}
+> 1 19832 GET /files/1
+~ "deadline":20010,
+> 4 19835 POST /files/1/approve-step {"step":"footing"}
+< 200 OK {"day":19835,"done":"approve-step","number":null}
+> 1 19835 GET /files/1
+~ "deadline":20015,
+"#,
+];
+
 /// A stop work order, and its lifting.
 pub(crate) const STOP: &[&str] = &[
     CONSTRUCT,
@@ -314,6 +342,7 @@ pub(crate) const TEMPORARY: &[&str] = &[
 > 1 19850 POST /files/1/temporary {"days":60,"text":"Ground floor"}
 < 200 OK {"day":19850,"done":"temporary","number":2}
 > 1 19850 GET /files/1
+~ {"author":1,"day":19850,"days":60,"number":2,"open":false,"sort":"temporary","terms":"","text":"Ground floor"}
 ~ "temporary":19910,
 ~ "deadline":19990,
 > 1 19860 POST /files/1/temporary {"days":30,"text":"Ground floor"}
@@ -340,6 +369,7 @@ pub(crate) const REVOKED: &[&str] = &[
 > 1 19981 POST /files/1/revoke {"text":"Lapsed"}
 < 200 OK {"day":19981,"done":"revoke","number":2}
 > 1 19981 GET /files/1
+~ {"author":1,"day":19981,"days":0,"number":2,"open":false,"sort":"revoked","terms":"","text":"Lapsed"}
 ~ "stage":"revoked",
 ~ "deadline":null,
 ~ "timing":"none",

@@ -2,11 +2,11 @@
 
 ghost use Rattle.std.specs.Prelude.{◌≡◌, All, IfOk, length, List, OnErr};
 ghost use Rattle.permit_base.specs.declared.request.Asked.{Asked};
-ghost use Rattle.permit_hall.specs.declared.dated.Dated.{Dated};
+ghost use Rattle.permit_wire.specs.declared.service.Dated.{Dated};
 ghost use Rattle.permit_hall.specs.Runs.{Entry};
 ghost use Rattle.permit_hall.specs.OneHistory.{OneHistory};
 
-use crate::connections::{Connections, doors};
+use crate::connections::{Connections, Flag, doors};
 use permit_args::plan::ServeWords;
 use permit_base::values::Day;
 use permit_hall::doors::run_hall;
@@ -22,13 +22,22 @@ use std::thread::Threads;
 fn doors_at(
     rt: &HostRuntime,
     words: &ServeWords<'_>,
+    shut: &Flag,
 ) -> io::Result<(Vec<Connections<HostRuntime>>, SocketAddr)>
     ensures count { IfOk result (λ taken. length taken.0.items ≡ words.now.workers) }
     ensures left { IfOk result (λ taken. All (λ d. d.left ≡ words.now.connections) taken.0.items) }
 {
     let listener = TcpListener::bind(rt, words.listen)?;
     let address = listener.local_addr()?;
-    let doors = doors(rt.alloc(), *rt, &listener, words.workers, words.connections)?;
+    let doors = doors(
+        rt.alloc(),
+        *rt,
+        &listener,
+        address,
+        shut,
+        words.workers,
+        words.connections,
+    )?;
     Ok((doors, address))
 }
 
@@ -47,19 +56,21 @@ fn say<O: Write>(out: &mut O, address: SocketAddr) -> Result<(), Failure> {
 fn listen<O: Write>(
     rt: &HostRuntime,
     words: &ServeWords<'_>,
+    shut: &Flag,
     out: &mut O,
 ) -> Result<Vec<Connections<HostRuntime>>, Failure>
     ensures count { IfOk result (λ doors. length doors.items ≡ words.now.workers) }
     ensures left { IfOk result (λ doors. All (λ d. d.left ≡ words.now.connections) doors.items) }
 {
-    let Ok((doors, address)) = doors_at(rt, words) else {
+    let Ok((doors, address)) = doors_at(rt, words, shut) else {
         return Err(Failure::unheard(rt.alloc(), words.listen));
     };
     say(out, address)?;
     Ok(doors)
 }
 
-/// Serves an office until its workers have ended, on the days of a clock that is asked once for each request as it is
+/// Serves an office until its workers have ended, each by its count of connections or with the connection behind which it
+/// finds the flag set, on the days of a clock that is asked once for each request as it is
 /// taken, and gives it back: what its clients asked is one history of it. With a failure it is as it was.
 pub fn serve<S, T, R, O>(
     rt: &HostRuntime,
@@ -67,6 +78,7 @@ pub fn serve<S, T, R, O>(
     office: Office<S>,
     words: &ServeWords<'_>,
     today: &mut T,
+    shut: &Flag,
     out: &mut O,
 ) -> (Office<S>, Result<(), Failure>)
 where
@@ -78,7 +90,7 @@ where
     ensures run { IfOk result.1 (λ _. (served : List (Entry Asked Dated)) × OneHistory S.view T.step words.now.workers office result.0 today.old today.new served) }
     ensures same { OnErr result.1 (result.0 ≡ office) }
 {
-    let doors = match listen(rt, words, out) {
+    let doors = match listen(rt, words, shut, out) {
         Ok(doors) => doors,
         Err(failure) => return (office, Err(failure)),
     };

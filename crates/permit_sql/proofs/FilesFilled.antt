@@ -23,7 +23,7 @@ use Rattle.permit_sql.proofs.Soundness.{all_true, true_all, all_by_two, all_by_o
 use Rattle.permit_sql.proofs.Tallies.{AreLeft, of_file}
 
 -- the file at a place, and what is told of it
-file_at : (fs : List FileRow) (n : ℕ) → IsNumbered (λ f. f.id) n fs → (i : ℕ) (u : Tally) → slice_get (map (λ f. first_tally f.state) fs) i ≡ Some u →
+pub file_at : (fs : List FileRow) (n : ℕ) → IsNumbered (λ f. f.id) n fs → (i : ℕ) (u : Tally) → slice_get (map (λ f. first_tally f.state) fs) i ≡ Some u →
     (f : FileRow) × (slice_get fs i ≡ Some f) × (u ≡ first_tally f.state) × (f.id ≡ n + i)
 file_at [] n up i u got = absurd (let e = got in cc)
 file_at (f ∷ fs) n up zero u got = let e : n ≡ n + 0 = omega arith in (f, refl, cc, up.0 ∙ e)
@@ -49,7 +49,7 @@ each_at P (f ∷ fs) n up each =
 module _ (t : Tables) (typed : AreTyped t) (keyed : AreKeyed t) (xs : List Paper) (same : IsPermutation t.papers xs) (up : IsRising 0 0 xs)
     (few : list_all (λ (f : FileRow). nat_le f.state.papers most_papers) t.files ≡ true) where
   -- the papers of a file stand in one order
-  in_file : (id : ℕ) → papers_in t id ≡ of_file id xs
+  pub in_file : (id : ℕ) → papers_in t id ≡ of_file id xs
   in_file id = same_rising (papers_in t id) (of_file id xs) (keyed.papers id) (rise_in 0 0 xs up id) (IsPermutation-filter (λ p. eqb p.file id) _ _ same)
 
   abbrev is_filled : FileRow → Bool

@@ -21,3 +21,7 @@ mod SameOrder
 mod FilesFilled
 mod Passing
 mod SoundUpgrade
+mod Followed
+mod Naming
+mod PapersNamed
+mod DeskNamed

@@ -1,5 +1,5 @@
 -- What the tests of soundness tell of typed tables.
-use Rattle.std.proofs.Common.{◌≡◌, inl, inr, ℕ, zero, suc, ◌-◌, ◌<◌, ◌≤◌, Bool, true, false, Some, None, Option, List}
+use Rattle.std.proofs.Common.{◌≡◌, inl, inr, ℕ, zero, suc, ◌-◌, ◌<◌, ◌≤◌, Bool, true, false, Some, None, List}
 use Rattle.std.proofs.Common.{[], ◌∷◌, ◌++◌, map, length, refl, sym, ap, subst}
 use Rattle.std.proofs.Common.{◌∙◌, arith, append-nil, append_assoc, true≢false, IsPermutation}
 use Rattle.std.specs.Prelude.{◌⊎◌, ◌&&◌, IsTrue, MatchBool, slice_get, slice_set, nat_le, if◌then◌else◌}
@@ -37,7 +37,7 @@ use Rattle.permit_sql.proofs.Answered.{parties_shown, parcels_shown, files_shown
 use Rattle.permit_sql.proofs.PapersAnswered.{interests_shown, papers_shown}
 use Rattle.permit_sql.proofs.Refused.{all_or_stopped}
 use Rattle.permit_sql.proofs.Soundness.{all_true, true_all}
-use Rattle.permit_sql.proofs.Tallies.{AreLeft, next_left, left_after, left_before, all_ended, ended_left}
+use Rattle.permit_sql.proofs.Tallies.{next_is, long_set, AreLeft, next_left, left_after, left_before, all_ended, ended_left}
 use Rattle.permit_sql.proofs.FilesFilled.{left_first, first_left}
 
 abbrev pub role_took : Roles → Row → Roles → Bool → Type 0
@@ -241,15 +241,6 @@ module _ (edition : Edition) {S : Type 0} (g : Ghosts S) (old new : Held S) (t :
 
   -- ---- papers
 
-  next_is : (p : Paper) (o : Option Tally) (n : Tally) → next_tally p o ≡ Some n → (u : Tally) × (o ≡ Some u) × (is_next u p ≡ true) × (n ≡ tally_after u p)
-  next_is p None n h = absurd (let e = h in cc)
-  next_is p (Some u) n h = go (is_next u p) refl h
-    where
-      go : (b : Bool) → is_next u p ≡ b → (if b then Some (tally_after u p) else None) ≡ Some n →
-          (v : Tally) × (Some u ≡ Some v) × (is_next v p ≡ true) × (n ≡ tally_after v p)
-      go true is h = (u, refl, is, let e : tally_after u p ≡ n = cc in sym e)
-      go false is h = absurd (let e = h in cc)
-
   no_next : (p : Paper) (u : Tally) → is_next u p ≡ true → next_tally p (Some u) ≡ None → ⊥
   no_next p u is none = go (is_next u p) is none
     where
@@ -266,11 +257,6 @@ module _ (edition : Edition) {S : Type 0} (g : Ghosts S) (old new : Held S) (t :
   some_at [] i low = absurd (omega (arith, low))
   some_at (x ∷ ts) zero low = (x, refl)
   some_at (x ∷ ts) (suc i) low = some_at ts i (omega (arith, low))
-
-  long_set : (ts : List Tally) (i : ℕ) (u : Tally) → length (slice_set ts i u) ≡ length ts
-  long_set [] i u = refl
-  long_set (x ∷ ts) zero u = refl
-  long_set (x ∷ ts) (suc i) u = ap suc (long_set ts i u)
 
   long_first : (fs : List FileRow) → length (first_of fs) ≡ length fs
   long_first [] = refl

@@ -84,7 +84,7 @@ module _ (t : Tables) (typed : AreTyped t) where
       ∙ role_at role (slice_get t.parties (id - 1))
       ∙ ap (Tested.is_that_role role) (sym (get_map (λ (p : Party). p.role) t.parties (id - 1)))
 
-  parcel_there : (id : ℕ) → IsObject id → has_parcel t id ≡ nat_le id t.desk.parcels
+  pub parcel_there : (id : ℕ) → IsObject id → has_parcel t id ≡ nat_le id t.desk.parcels
   parcel_there id is = there_numbered (λ p. p.id) t.parcels typed.parcel_numbers id is.0 ∙ ap (nat_le id) typed.parcel_count
 
   pub file_there : (id : ℕ) → IsObject id → has_file t id ≡ nat_le id t.desk.files
@@ -137,13 +137,13 @@ module _ (t : Tables) (typed : AreTyped t) (keyed : AreKeyed t) where
   long_roles [] = refl
   long_roles (p ∷ ps) = ap suc (long_roles ps)
 
-  by_roles : (id : ℕ) → IsObject id → has_party t id ≡ nat_le id (length roles)
+  pub by_roles : (id : ℕ) → IsObject id → has_party t id ≡ nat_le id (length roles)
   by_roles id is = party_there t typed id is ∙ ap (nat_le id) (sym (long_roles t.parties))
 
-  contractor_there : (s : State) → IfSome s.contractor IsObject → if_any (has_party t) s.contractor ≡ if_any (λ id. nat_le id (length roles)) s.contractor
+  pub contractor_there : (s : State) → IfSome s.contractor IsObject → if_any (has_party t) s.contractor ≡ if_any (λ id. nat_le id (length roles)) s.contractor
   contractor_there s is = any_same (has_party t) (λ id. nat_le id (length roles)) s.contractor (λ n e. by_roles n (object_in s.contractor is n e))
 
-  of_role_there : (role : Role) (o : Option ℕ) → IfSome o IsObject → if_any (has_party_of t role) o ≡ if_any (Tested.has_role_at roles role) o
+  pub of_role_there : (role : Role) (o : Option ℕ) → IfSome o IsObject → if_any (has_party_of t role) o ≡ if_any (Tested.has_role_at roles role) o
   of_role_there role o is = any_same (has_party_of t role) (Tested.has_role_at roles role) o (λ n e. role_there t typed role n (object_in o is n e).0)
 
   abbrev IsSoundFile : FileRow → Type 0

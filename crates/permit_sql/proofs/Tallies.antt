@@ -1,14 +1,14 @@
 -- What the tallies tell once papers were read.
 use Rattle.std.proofs.Common.{◌≡◌, inl, inr, ℕ, zero, suc, ◌+◌, ◌-◌, ◌≤◌, Bool, true, false, cond, not, eqb, List, [], ◌∷◌, map, filter, length, refl, sym}
 use Rattle.std.proofs.Common.{ap, ap₂, subst, ◌∙◌, arith, true≢false}
-use Rattle.std.specs.Prelude.{◌&&◌, ◌||◌, ◌==◌, nat_lt, nat_le, Some, slice_get, slice_set}
+use Rattle.std.specs.Prelude.{◌&&◌, ◌||◌, ◌==◌, nat_lt, nat_le, if◌then◌else◌, Option, None, Some, slice_get, slice_set}
 use Rattle.std.specs.List.{list_all, AllByRecursion}
 use Rattle.std.proofs.lemmas.Bool.{cases_Bool, and_parts, and_from, eqb-true, eqb-false, eq-eqb, ne_eqb, lt-ltb, ltb-true}
 use Rattle.std.proofs.lemmas.Bool.Decides.{nat_tests}
 use Rattle.permit_model.specs.Numbering.{is_numbered_from}
 use Rattle.permit_model.specs.Tables.{Paper}
 use Rattle.permit_model.specs.Sound.{never_fall}
-use Rattle.permit_sql.specs.Tested.{fits_paper, is_next, tally_after, is_ended, are_left}
+use Rattle.permit_sql.specs.Tested.{fits_paper, is_next, tally_after, next_tally, is_ended, are_left}
 use Rattle.permit_sql.specs.declared.tally.Tally.{Tally}
 
 -- ---- one file
@@ -76,19 +76,34 @@ left_none t =
     go true = refl
     go false = refl
 
+-- the tally that a paper moves on
+pub next_is : (p : Paper) (o : Option Tally) (n : Tally) → next_tally p o ≡ Some n → (u : Tally) × (o ≡ Some u) × (is_next u p ≡ true) × (n ≡ tally_after u p)
+next_is p None n h = absurd (let e = h in cc)
+next_is p (Some u) n h = go (is_next u p) refl h
+  where
+    go : (b : Bool) → is_next u p ≡ b → (if b then Some (tally_after u p) else None) ≡ Some n →
+        (v : Tally) × (Some u ≡ Some v) × (is_next v p ≡ true) × (n ≡ tally_after v p)
+    go true is h = (u, refl, is, let e : tally_after u p ≡ n = cc in sym e)
+    go false is h = absurd (let e = h in cc)
+
 -- ---- all files
 
-set_here : {A : Type 0} (xs : List A) (i : ℕ) (x y : A) → slice_get xs i ≡ Some y → slice_get (slice_set xs i x) i ≡ Some x
+pub set_here : {A : Type 0} (xs : List A) (i : ℕ) (x y : A) → slice_get xs i ≡ Some y → slice_get (slice_set xs i x) i ≡ Some x
 set_here [] i x y h = absurd (let e = h in cc)
 set_here (z ∷ xs) zero x y h = refl
 set_here (z ∷ xs) (suc i) x y h = set_here xs i x y h
 
-set_other : {A : Type 0} (xs : List A) (i j : ℕ) (x : A) → (j ≡ i → ⊥) → slice_get (slice_set xs i x) j ≡ slice_get xs j
+pub set_other : {A : Type 0} (xs : List A) (i j : ℕ) (x : A) → (j ≡ i → ⊥) → slice_get (slice_set xs i x) j ≡ slice_get xs j
 set_other [] i j x other = refl
 set_other (z ∷ xs) zero zero x other = absurd (other refl)
 set_other (z ∷ xs) zero (suc j) x other = refl
 set_other (z ∷ xs) (suc i) zero x other = refl
 set_other (z ∷ xs) (suc i) (suc j) x other = set_other xs i j x (λ e. other (ap suc e))
+
+pub long_set : (ts : List Tally) (i : ℕ) (u : Tally) → length (slice_set ts i u) ≡ length ts
+long_set [] i u = refl
+long_set (x ∷ ts) zero u = refl
+long_set (x ∷ ts) (suc i) u = ap suc (long_set ts i u)
 
 abbrev pub of_file : ℕ → List Paper → List Paper
 of_file file = filter (λ p. p.file == file)

@@ -8,3 +8,4 @@ pub mod Found
 pub mod Seen
 pub mod Reopening
 pub mod Frames
+pub mod Named

@@ -16,6 +16,7 @@
 mod check;
 mod check_files;
 mod each;
+pub mod fault;
 mod open;
 pub mod reopen;
 mod sound;
@@ -24,3 +25,8 @@ mod sound_row;
 pub mod store;
 mod tally;
 mod texts;
+mod unread;
+mod unsound;
+mod unsound_papers;
+mod untyped;
+pub mod why;

@@ -41,7 +41,7 @@ fn is_other(edition: Edition, row: &Row, at: usize) -> bool
 }
 
 /// The rows of the desk's table, which is the first.
-fn desk_seen<S: Alter>(conn: &mut Connection<S>) -> Got<Vec<Row>>
+pub(crate) fn desk_seen<S: Alter>(conn: &mut Connection<S>) -> Got<Vec<Row>>
     requires not_in_transaction { conn.old.in_transaction ≡ false }
     requires desk { slice_get (state S.Store conn.old).now.schema.tables 0 ≡ Some desk_table }
     ensures rows { HasCleanDisk (state S.Store conn.new)
@@ -106,7 +106,7 @@ fn only_desk(edition: Edition, rows: &[Row]) -> Option<Desk>
 }
 
 /// The desk, where it has one row, of number 1 and the edition's version, within its limits.
-fn find_desk<S: Alter>(conn: &mut Connection<S>, edition: Edition) -> Got<Option<Desk>>
+pub(crate) fn find_desk<S: Alter>(conn: &mut Connection<S>, edition: Edition) -> Got<Option<Desk>>
     requires not_in_transaction { conn.old.in_transaction ≡ false }
     requires desk { slice_get (state S.Store conn.old).now.schema.tables 0 ≡ Some desk_table }
     ensures good { IsFine (state S.Store conn.new) → (state S.Store conn.old).now.schema ≡ schema_of edition
@@ -125,7 +125,7 @@ fn find_desk<S: Alter>(conn: &mut Connection<S>, edition: Edition) -> Got<Option
 }
 
 /// The rows of the upgrade's table.
-fn upgrade_seen<S: Alter>(conn: &mut Connection<S>) -> Got<Vec<Row>>
+pub(crate) fn upgrade_seen<S: Alter>(conn: &mut Connection<S>) -> Got<Vec<Row>>
     requires not_in_transaction { conn.old.in_transaction ≡ false }
     requires office { (state S.Store conn.old).now.schema ≡ schema_of Second }
     ensures rows { HasCleanDisk (state S.Store conn.new)
@@ -164,7 +164,7 @@ fn upgrade_within(row: &Row, files: u32) -> Option<u32>
 
 /// The count of files at the upgrade, which the tables have under the second edition, where the table of the upgrade is
 /// sound.
-fn find_upgrade<S: Alter>(
+pub(crate) fn find_upgrade<S: Alter>(
     conn: &mut Connection<S>,
     edition: Edition,
     files: u32,
@@ -250,7 +250,7 @@ pub(crate) struct Sound {
 }
 
 /// What the rows tell, where they are sound tables: they are read twice, for their types and for what they say together.
-fn find_sound<S: Alter>(
+pub(crate) fn find_sound<S: Alter>(
     conn: &mut Connection<S>,
     alloc: Global,
     edition: Edition,

@@ -1,6 +1,8 @@
 //! Tests of one row, beyond the limits of its types.
 
-ghost use Rattle.std.specs.Prelude.{◌≡◌, nat_le};
+ghost use Rattle.std.specs.Prelude.{◌≡◌, nat_le, false, is_none, IfSome, ℕ, List};
+ghost use Rattle.permit_sql.specs.Named.{fits_desk_rule, fits_file_rule, fits_paper_rule};
+ghost use Rattle.permit_base.specs.declared.words.Role.{Role as TheRole};
 ghost use Rattle.permit_base.specs.declared.words.Role.TheVariants.{Official};
 ghost use Rattle.std.specs.List.{list_all};
 ghost use Rattle.permit_base.specs.Texts.{is_long, is_printable_letter, is_printable as is_printable_text};
@@ -12,6 +14,7 @@ ghost use Rattle.permit_model.specs.Tables.{is_notice as is_notice_sort};
 ghost use Rattle.permit_model.specs.Sound;
 ghost use Rattle.permit_sql.specs.Tested;
 
+use crate::fault::{DeskRule, FileRule, PaperRule};
 use permit_base::limits::{
     LATEST_DEADLINE, LONGEST_PERMIT_EXTENSION, LONGEST_REVIEW_EXTENSION, LONGEST_TEMPORARY,
     MOST_PAPERS, MOST_RECORDS, TERM,
@@ -22,15 +25,30 @@ use permit_core::state::FileState;
 use permit_core::steps::required_steps;
 use permit_store::rows::{Desk, Paper};
 
-/// Whether the last day is one that the office takes, and there is a party, and no more records than the most.
+/// The first rule that the desk breaks: the last day is one that the office takes, and there is a party, and no more
+/// records than the most.
+pub(crate) fn desk_rule(desk: Desk) -> Option<DeskRule>
+    ensures none { is_none result ≡ Tested.fits_desk desk }
+    ensures broken { IfSome result (λ rule. fits_desk_rule desk rule ≡ false) }
+{
+    if desk.last.get() < 1 {
+        Some(DeskRule::Last)
+    } else if desk.parties < 1
+        || desk.parties > MOST_RECORDS
+        || desk.parcels > MOST_RECORDS
+        || desk.files > MOST_RECORDS
+    {
+        Some(DeskRule::Records)
+    } else {
+        None
+    }
+}
+
+/// Whether the desk breaks no rule.
 pub(crate) fn fits_desk(desk: Desk) -> bool
     ensures { result ≡ Tested.fits_desk desk }
 {
-    1 <= desk.last.get()
-        && 1 <= desk.parties
-        && desk.parties <= MOST_RECORDS
-        && desk.parcels <= MOST_RECORDS
-        && desk.files <= MOST_RECORDS
+    desk_rule(desk).is_none()
 }
 
 /// Whether the first party is there, and an official.
@@ -83,15 +101,44 @@ fn is_none_or_between(low: u32, high: u32, number: Option<u32>) -> bool
     }
 }
 
-/// Whether the parcel and the people of the file are there, of their roles.
-fn names_known(roles: &[Role], parcels: u32, state: &FileState) -> bool
-    ensures { result ≡ Tested.names_known roles.now parcels state.now }
+/// Whether there is no number, or one that is `low` at least.
+fn is_none_or_least(low: u32, number: Option<u32>) -> bool
+    ensures { result ≡ Sound.if_any (nat_le low) number }
 {
-    state.parcel().get() <= parcels
-        && state.applicant().get() as usize <= roles.len()
-        && is_none_or_among(roles.len(), state.contractor())
-        && is_none_or_of_role(roles, Role::Reviewer, state.reviewer())
-        && is_none_or_of_role(roles, Role::Inspector, state.inspector())
+    match number {
+        Some(number) => low <= number,
+        None => true,
+    }
+}
+
+/// Whether there is no number, or one that is `high` at most.
+fn is_none_or_most(high: u32, number: Option<u32>) -> bool
+    ensures { result ≡ Sound.if_any (λ n. nat_le n high) number }
+{
+    match number {
+        Some(number) => number <= high,
+        None => true,
+    }
+}
+
+/// The first rule on names that the file breaks: its parcel and its people are there, of their roles.
+fn names_rule(roles: &[Role], parcels: u32, state: &FileState) -> Option<FileRule>
+    ensures none { is_none result ≡ Tested.names_known roles.now parcels state.now }
+    ensures broken { IfSome result (λ rule. (last : ℕ) → fits_file_rule roles.now parcels last rule state.now ≡ false) }
+{
+    if state.parcel().get() > parcels {
+        Some(FileRule::Parcel)
+    } else if state.applicant().get() as usize > roles.len() {
+        Some(FileRule::Applicant)
+    } else if !is_none_or_among(roles.len(), state.contractor()) {
+        Some(FileRule::Contractor)
+    } else if !is_none_or_of_role(roles, Role::Reviewer, state.reviewer()) {
+        Some(FileRule::Reviewer)
+    } else if !is_none_or_of_role(roles, Role::Inspector, state.inspector()) {
+        Some(FileRule::Inspector)
+    } else {
+        None
+    }
 }
 
 /// The number of a day, if there is one.
@@ -104,20 +151,29 @@ fn number_of_day(day: Option<Day>) -> Option<u32>
     }
 }
 
-/// Whether the days of the file stand in their order, where the office's last day is this.
-fn fits_days(last: Day, state: &FileState) -> bool
-    ensures { result ≡ Tested.fits_days last state.now }
+/// The first rule on days that the file breaks: they stand in their order, where the office's last day is this.
+fn days_rule(last: Day, state: &FileState) -> Option<FileRule>
+    ensures none { is_none result ≡ Tested.fits_days last state.now }
+    ensures broken { IfSome result (λ rule. (roles : List TheRole) (parcels : ℕ) → fits_file_rule roles parcels last rule state.now ≡ false) }
 {
     let filed = state.filed().get();
-    1 <= filed
-        && filed <= last.get()
-        && is_none_or_between(filed + TERM, LATEST_DEADLINE, state.deadline())
-        && is_none_or_between(filed, last.get(), number_of_day(state.requested()))
-        && is_none_or_between(filed + 1, last.get() + LONGEST_TEMPORARY, state.temporary())
+    if filed < 1 || filed > last.get() {
+        Some(FileRule::Filed)
+    } else if !is_none_or_least(filed + TERM, state.deadline()) {
+        Some(FileRule::EarlyDeadline)
+    } else if !is_none_or_most(LATEST_DEADLINE, state.deadline()) {
+        Some(FileRule::LateDeadline)
+    } else if !is_none_or_between(filed, last.get(), number_of_day(state.requested())) {
+        Some(FileRule::Requested)
+    } else if !is_none_or_between(filed + 1, last.get() + LONGEST_TEMPORARY, state.temporary()) {
+        Some(FileRule::Temporary)
+    } else {
+        None
+    }
 }
 
 /// Whether work began in the stage, or its permit was revoked.
-fn is_begun(stage: Stage) -> bool
+pub(crate) fn is_begun(stage: Stage) -> bool
     ensures { result ≡ is_stage_among Sound.begun_stages stage }
 {
     match stage {
@@ -159,7 +215,7 @@ fn is_completed(stage: Stage) -> bool
 }
 
 /// Whether a stop work order may stand in the stage.
-fn is_stoppable(stage: Stage) -> bool
+pub(crate) fn is_stoppable(stage: Stage) -> bool
     ensures { result ≡ is_stage_among Sound.stopped_stages stage }
 {
     match stage {
@@ -227,7 +283,7 @@ fn has_certificates(kind: Kind) -> bool
 }
 
 /// Whether so many steps may be done of those required in the stage.
-fn is_done_in(stage: Stage, required: usize, done: usize) -> bool
+pub(crate) fn is_done_in(stage: Stage, required: usize, done: usize) -> bool
     ensures { result ≡ Sound.is_done_in stage required done }
 {
     if is_begun(stage) {
@@ -249,28 +305,63 @@ fn fits_ask(state: &FileState) -> bool
     }
 }
 
-/// Whether what is kept of the work stands in its stage.
-fn fits_work(state: &FileState) -> bool
-    ensures { result ≡ Tested.fits_work state.now }
+/// The first rule on the work that the file breaks: what is kept of it stands in its stage.
+fn work_rule(state: &FileState) -> Option<FileRule>
+    ensures none { is_none result ≡ Tested.fits_work state.now }
+    ensures broken { IfSome result (λ rule. (roles : List TheRole) (parcels last : ℕ) → fits_file_rule roles parcels last rule state.now ≡ false) }
 {
     let stage = state.stored_stage();
     let required = required_steps(state.edition(), state.kind()).len();
-    is_done_in(stage, required, state.done() as usize)
-        && (state.request().is_none() || is_begun(stage))
-        && (!state.is_stopped() || is_stoppable(stage))
-        && fits_ask(state)
-        && (state.temporary().is_none() || (is_occupied(stage) && has_certificates(state.kind())))
-        && (state.notices() == 0 || is_begun(stage))
+    if !is_done_in(stage, required, state.done() as usize) {
+        Some(FileRule::Done)
+    } else if state.request().is_some() && !is_begun(stage) {
+        Some(FileRule::RequestStage)
+    } else if state.is_stopped() && !is_stoppable(stage) {
+        Some(FileRule::Stopped)
+    } else if !fits_ask(state) {
+        Some(FileRule::Ask)
+    } else if state.temporary().is_some()
+        && !(is_occupied(stage) && has_certificates(state.kind()))
+    {
+        Some(FileRule::TemporaryStage)
+    } else if state.notices() != 0 && !is_begun(stage) {
+        Some(FileRule::NoticesStage)
+    } else {
+        None
+    }
 }
 
-/// Whether the file is sound without its papers, by the roles of the parties, the count of parcels and the last day.
+/// The first rule that the file breaks without its papers, by the roles of the parties, the count of parcels and the
+/// last day.
+pub(crate) fn file_rule(
+    roles: &[Role],
+    parcels: u32,
+    last: Day,
+    state: &FileState,
+) -> Option<FileRule>
+    ensures none { is_none result ≡ Tested.fits_file roles.now parcels last state.now }
+    ensures broken { IfSome result (λ rule. fits_file_rule roles.now parcels last rule state.now ≡ false) }
+{
+    if let Some(rule) = names_rule(roles, parcels, state) {
+        return Some(rule);
+    }
+    if let Some(rule) = days_rule(last, state) {
+        return Some(rule);
+    }
+    if let Some(rule) = work_rule(state) {
+        return Some(rule);
+    }
+    if state.papers() > MOST_PAPERS {
+        return Some(FileRule::Papers);
+    }
+    None
+}
+
+/// Whether the file breaks no rule without its papers.
 pub(crate) fn fits_file(roles: &[Role], parcels: u32, last: Day, state: &FileState) -> bool
     ensures { result ≡ Tested.fits_file roles.now parcels last state.now }
 {
-    names_known(roles, parcels, state)
-        && fits_days(last, state)
-        && fits_work(state)
-        && state.papers() <= MOST_PAPERS
+    file_rule(roles, parcels, last, state).is_none()
 }
 
 /// Whether there are from 1 to 2000 bytes.
@@ -288,7 +379,7 @@ fn are_printable(bytes: &[u8]) -> bool
 }
 
 /// Whether the text is of a length and letters that the office takes.
-fn is_printable(text: &str) -> bool
+pub(crate) fn is_printable(text: &str) -> bool
     ensures { result ≡ is_printable_text text.now }
 {
     let bytes = text.as_bytes();
@@ -379,14 +470,31 @@ fn is_notice(sort: PaperSort) -> bool
     }
 }
 
-/// Whether the paper is sound without those before it, by the count of parties and the last day.
+/// The first rule that the paper breaks without those before it, by the count of parties and the last day.
+pub(crate) fn paper_rule(parties: u32, last: Day, paper: &Paper) -> Option<PaperRule>
+    ensures none { is_none result ≡ Tested.fits_paper parties last paper.now }
+    ensures broken { IfSome result (λ rule. fits_paper_rule parties last rule paper.now ≡ false) }
+{
+    if paper.author.get() > parties {
+        Some(PaperRule::Author)
+    } else if paper.day > last {
+        Some(PaperRule::LateDay)
+    } else if !has_sound_days(paper) {
+        Some(PaperRule::Days)
+    } else if !has_sound_text(paper) {
+        Some(PaperRule::Text)
+    } else if !has_sound_terms(paper) {
+        Some(PaperRule::Terms)
+    } else if paper.is_open && !is_notice(paper.sort) {
+        Some(PaperRule::Open)
+    } else {
+        None
+    }
+}
+
+/// Whether the paper breaks no rule without those before it.
 pub(crate) fn fits_paper(parties: u32, last: Day, paper: &Paper) -> bool
     ensures { result ≡ Tested.fits_paper parties last paper.now }
 {
-    paper.author.get() <= parties
-        && paper.day <= last
-        && has_sound_days(paper)
-        && has_sound_text(paper)
-        && has_sound_terms(paper)
-        && (!paper.is_open || is_notice(paper.sort))
+    paper_rule(parties, last, paper).is_none()
 }

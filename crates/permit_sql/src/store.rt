@@ -38,6 +38,8 @@ use permit_store::rows::{Change, Desk, FileRow, Found, Paper, Parcel, Party};
 use permit_store::store::{Got, OpenError, Store, StoreError};
 use sqlite::{Alter, Connection};
 use std::alloc::Global;
+use std::sync::Arc;
+use std::sync::atomic::{AtomicBool, Ordering};
 
 /// The tables of the office in a database, over a connection that the store owns.
 #[derive(Drop)]
@@ -49,6 +51,10 @@ pub struct SqlStore<S: Alter> {
     handed: u64,
     failed: u64,
     commits: u64,
+    /// Whether the last commit failed, and no request has begun with a success since.
+    is_suspect: bool,
+    /// What is set once the connection is shut.
+    shut: Option<Arc<AtomicBool, Global>>,
     ghost not_in_transaction: { conn.in_transaction ≡ false },
 }
 
@@ -86,6 +92,32 @@ impl<S: Alter> SqlStore<S> {
     {
         self.failed = self.failed.wrapping_add(1);
         Err(StoreError)
+    }
+
+    /// The answer of the call that each request begins with, where it failed. Behind a commit that failed it shows that a
+    /// fault of the disk has shut the connection, which only an opening of the file mends.
+    fn fail_first<T>(&mut self) -> Got<T>
+        ensures error { IsErr result }
+        ensures counted { self.new.failed ≡ next_count self.old.failed }
+        ensures others { (self.new.handed ≡ self.old.handed) × (self.new.commits ≡ self.old.commits) × (self.new.upgrade ≡ self.old.upgrade) }
+        ensures conn { self.new.conn ≡ self.old.conn }
+    {
+        if self.is_suspect
+            && let Some(shut) = &self.shut
+        {
+            shut.store(true, Ordering::SeqCst);
+        }
+        self.fail()
+    }
+
+    /// Sets the flag once a request can't begin behind a commit that failed: a fault of the disk has shut the connection
+    /// then, or memory was refused to both. The tables and the counts stay.
+    pub fn tell_when_shut(&mut self, shut: Arc<AtomicBool, Global>)
+        ensures conn { self.new.conn ≡ self.old.conn }
+        ensures upgrade { self.new.upgrade ≡ self.old.upgrade }
+        ensures counts { (self.new.handed ≡ self.old.handed) × (self.new.failed ≡ self.old.failed) × (self.new.commits ≡ self.old.commits) }
+    {
+        self.shut = Some(shut);
     }
 
     /// Makes the tables in an empty database, with one party, number 1, an official, on the founding day, all in
@@ -132,6 +164,8 @@ impl<S: Alter> SqlStore<S> {
                 handed: 0,
                 failed: 0,
                 commits: 0,
+                is_suspect: false,
+                shut: None,
             }),
             Err(_) => Err((conn, OpenError::Store)),
         }
@@ -172,6 +206,8 @@ impl<S: Alter> SqlStore<S> {
                 handed: 0,
                 failed: 0,
                 commits: 0,
+                is_suspect: false,
+                shut: None,
             }),
             Err(why) => Err((conn, why)),
         }
@@ -224,6 +260,8 @@ impl<S: Alter> SqlStore<S> {
             handed: _,
             failed: _,
             commits: _,
+            is_suspect: _,
+            shut: _,
         } = self;
         let _settled = conn.is_autocommit();
         conn
@@ -247,8 +285,11 @@ impl<S: Alter> Store for SqlStore<S> {
 
     fn party_by_token(&mut self, digest: &Digest) -> Got<Option<Party>> {
         match find_party(&mut self.conn, digest) {
-            Ok(party) => Ok(party),
-            Err(_) => self.fail(),
+            Ok(party) => {
+                self.is_suspect = false;
+                Ok(party)
+            }
+            Err(_) => self.fail_first(),
         }
     }
 
@@ -392,7 +433,10 @@ impl<S: Alter> Store for SqlStore<S> {
         self.commits = self.commits.wrapping_add(1);
         match commit_in(&mut self.conn, change, day) {
             Ok(()) => Ok(()),
-            Err(_) => self.fail(),
+            Err(_) => {
+                self.is_suspect = true;
+                self.fail()
+            }
         }
     }
 }

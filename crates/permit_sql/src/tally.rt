@@ -1,9 +1,11 @@
 //! What is told of a file while its papers are read.
 
-ghost use Rattle.std.specs.Prelude.{◌≡◌, Some};
+ghost use Rattle.std.specs.Prelude.{◌≡◌, Some, IfSome};
 ghost use Rattle.std.specs.List.{list_all};
 ghost use Rattle.permit_sql.specs.Tested.{first_tally, next_tally, is_ended};
+ghost use Rattle.permit_sql.specs.Named.{fault_at, fault_at_end, IsUnended};
 
+use crate::fault::{Fault, FileRule, PaperRule};
 use permit_core::state::FileState;
 use permit_store::rows::Paper;
 
@@ -56,6 +58,36 @@ impl Tally {
         })
     }
 
+    /// What is wrong where the paper isn't the next one of its file.
+    pub(crate) fn fault_at(self, paper: &Paper) -> Fault
+        ensures { result ≡ fault_at self paper.now }
+    {
+        let file = Some(paper.file.get());
+        let number = Some(paper.number.get());
+        if paper.number.get() - 1 != self.number {
+            let rule = PaperRule::Number;
+            Fault::Paper { file, number, rule }
+        } else if paper.day.get() < self.day {
+            let rule = PaperRule::EarlyDay;
+            Fault::Paper { file, number, rule }
+        } else {
+            let rule = FileRule::Notices;
+            Fault::File { number: file, rule }
+        }
+    }
+
+    /// What is wrong of the file where not all papers or not all open notices were read.
+    fn fault_at_end(self, file: Option<u32>) -> Fault
+        ensures { result ≡ fault_at_end self file }
+    {
+        let rule = if self.number == u32::from(self.papers) {
+            FileRule::Notices
+        } else {
+            FileRule::Papers
+        };
+        Fault::File { number: file, rule }
+    }
+
     /// Whether all papers and all open notices were read.
     fn is_ended(self) -> bool
         ensures { result ≡ is_ended self }
@@ -69,4 +101,12 @@ pub(crate) fn are_ended(tallies: &[Tally]) -> bool
     ensures { result ≡ list_all is_ended tallies.now }
 {
     tallies.iter().all(|tally| tally.is_ended())
+}
+
+/// What is wrong of the first file of which not all papers or not all open notices were read.
+pub(crate) fn first_unended(tallies: &[Tally]) -> Option<Fault>
+    ensures { IfSome result (IsUnended tallies.now) }
+{
+    let at = tallies.iter().position(|tally| !tally.is_ended())?;
+    Some(tallies[at].fault_at_end(u32::try_from(at + 1).ok()))
 }

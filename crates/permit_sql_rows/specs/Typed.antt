@@ -1,7 +1,7 @@
 -- Rows within the limits of the program's types.
 use Rattle.std.specs.Prelude.{◌≡◌, ℕ, zero, suc, ◌<◌, ◌≤◌, ◌^◌, IsTrue, IfSome, IsUtf8, [], ◌∷◌}
 use Rattle.sqlite_value.specs.Order.{Row, column}
-use Rattle.permit_base.specs.Limits.{latest_day, most_cents, most_records, most_papers}
+use Rattle.permit_base.specs.Limits.{latest_day, most_cents, most_records, most_papers, most_days}
 use Rattle.permit_base.specs.Texts.{is_printable, is_lot, is_digest}
 use Rattle.permit_model.specs.Codes.{kind_code, stage_code}
 use Rattle.permit_model.specs.Caller.{Party}
@@ -57,7 +57,7 @@ pub record IsState (s : State) : Type 0 where
   pub deadline : IfSome s.deadline IsCount
   pub done : s.done < 2 ^ 8
   pub requested : IfSome s.requested (λ day. day ≤ latest_day)
-  pub ask : IfSome s.ask (λ days. (0 < days) × (days ≤ 365))
+  pub ask : IfSome s.ask (λ days. (0 < days) × (days ≤ most_days))
   pub notices : s.notices < 2 ^ 16
   pub papers : s.papers < 2 ^ 16
   pub temporary : IfSome s.temporary IsCount

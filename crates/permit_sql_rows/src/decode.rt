@@ -101,13 +101,6 @@ pub fn party_of(row: &Row) -> Read<Party>
     })
 }
 
-/// The same, or none.
-pub fn party_in(row: &Row) -> Option<Party>
-    ensures { (is : TheParty) → row.now ≡ shown_party is → IfSome result (λ p. p ≡ is) }
-{
-    party_of(row).ok()
-}
-
 /// The role in a party's row.
 pub fn role_in(row: &Row) -> Option<Role>
     ensures read { (is : TheParty) → row.now ≡ shown_party is → IfSome result (λ r. r ≡ is.role) }
@@ -130,13 +123,6 @@ pub fn parcel_of(row: &Row) -> Read<Parcel>
         address: text(row, 2)?,
         owner: readable(party_number(row, 3))?,
     })
-}
-
-/// The same, or none.
-pub fn parcel_in(row: &Row) -> Option<Parcel>
-    ensures { (is : TheParcel) → row.now ≡ shown_parcel is → IfSome result (λ p. p ≡ is) }
-{
-    parcel_of(row).ok()
 }
 
 /// The owner in a parcel's row.
@@ -188,13 +174,6 @@ pub fn paper_of(row: &Row) -> Read<Paper>
     })
 }
 
-/// The same, or none.
-pub fn paper_in(row: &Row) -> Option<Paper>
-    ensures { (is : ThePaper) → row.now ≡ shown_paper is → IfSome result (λ p. p ≡ is) }
-{
-    paper_of(row).ok()
-}
-
 /// What of a file's row its state keeps, of a file of the edition.
 fn fields_in(row: &Row, edition: Edition) -> Option<StateFields>
     ensures read { (upgrade : Option ℕ) (is : TheRow) (more : List Value) → IsNamed upgrade is.id is.state → is.state.edition ≡ edition
@@ -202,7 +181,7 @@ fn fields_in(row: &Row, edition: Edition) -> Option<StateFields>
     ensures back { IfSome result (ShowsState row.now) }
     ensures named { (upgrade : Option ℕ) (id : ℕ) → edition ≡ edition_by_number upgrade id → IfSome result (IsNamed upgrade id) }
     ensures typed { IfSome result IsState }
-    ensures some { (is : TheRow) → IsState is.state → row.now ≡ shown_file is → IsSome result }
+    ensures some { (is : TheRow) (more : List Value) → IsState is.state → row.now ≡ shown_file is ++ more → IsSome result }
 {
     Some(StateFields {
         parcel: parcel_number(row, 1)?,
@@ -234,8 +213,8 @@ fn state_under(row: &Row, edition: Edition) -> Option<FileState>
     ensures named { (upgrade : Option ℕ) (id : ℕ) → edition ≡ edition_by_number upgrade id → IfSome result (IsNamed upgrade id) }
     ensures typed { IfSome result IsState }
     ensures sound { IfSome result IsSoundState }
-    ensures some { (upgrade : Option ℕ) (is : TheRow) → IsFile is → IsNamed upgrade is.id is.state → is.state.edition ≡ edition
-        → row.now ≡ shown_file is → IsSome result }
+    ensures some { (upgrade : Option ℕ) (is : TheRow) (more : List Value) → IsFile is → IsNamed upgrade is.id is.state → is.state.edition ≡ edition
+        → row.now ≡ shown_file is ++ more → IsSome result }
 {
     FileState::restore(fields_in(row, edition)?)
 }
@@ -247,7 +226,7 @@ pub fn state_in(row: &Row, upgrade: Option<u32>) -> Option<FileState>
     ensures named { IfSome result (λ s. (id : ℕ) × ((column row.now 0 ≡ int id) × IsNamed upgrade id s)) }
     ensures typed { IfSome result IsState }
     ensures sound { IfSome result IsSoundState }
-    ensures some { (is : TheRow) → IsFile is → IsNamed upgrade is.id is.state → row.now ≡ shown_file is → IsSome result }
+    ensures some { (is : TheRow) (more : List Value) → IsFile is → IsNamed upgrade is.id is.state → row.now ≡ shown_file is ++ more → IsSome result }
 {
     let id = file_number(row, 0)?;
     state_under(row, edition_numbered(upgrade, id))
@@ -259,7 +238,8 @@ pub fn file_of(row: &Row, upgrade: Option<u32>) -> Read<FileRow>
     ensures back { IfOk result (λ f. firsts 20 0 row.now ≡ shown_file f) }
     ensures named { IfOk result (λ f. IsNamed upgrade f.id f.state) }
     ensures typed { IfOk result IsFile }
-    ensures some { (is : TheRow) → IsFile is → IsNamed upgrade is.id is.state → row.now ≡ shown_file is → IfErr result (λ e. e ≡ RowFault.NoMemory) }
+    ensures some { (is : TheRow) (more : List Value) → IsFile is → IsNamed upgrade is.id is.state → row.now ≡ shown_file is ++ more
+        → IfErr result (λ e. e ≡ RowFault.NoMemory) }
 {
     let id = readable(file_number(row, 0))?;
     Ok(FileRow {
@@ -270,20 +250,15 @@ pub fn file_of(row: &Row, upgrade: Option<u32>) -> Read<FileRow>
     })
 }
 
-/// The same, or none.
-pub fn file_in(row: &Row, upgrade: Option<u32>) -> Option<FileRow>
-    ensures { (is : TheRow) → IsNamed upgrade is.id is.state → row.now ≡ shown_file is → IfSome result (λ f. f ≡ is) }
-{
-    file_of(row, upgrade).ok()
-}
-
 /// A file's row as a selection shows it, with its parcel's owner and whether the caller has an interest in the parcel.
-pub fn found_in(row: &Row, upgrade: Option<u32>) -> Option<Found>
-    ensures { (is : TheFound) → IsNamed upgrade is.row.id is.row.state → row.now ≡ shown_found is → IfSome result (λ f. f ≡ is) }
+pub fn found_of(row: &Row, upgrade: Option<u32>) -> Read<Found>
+    ensures read { (is : TheFound) → IsNamed upgrade is.row.id is.row.state → row.now ≡ shown_found is → IfOk result (λ f. f ≡ is) }
+    ensures some { (is : TheFound) → IsFile is.row → IfSome is.owner IsObject → IsNamed upgrade is.row.id is.row.state → row.now ≡ shown_found is
+        → IfErr result (λ e. e ≡ RowFault.NoMemory) }
 {
-    Some(Found {
-        row: file_of(row, upgrade).ok()?,
-        owner: party_or_null(row, 20)?,
-        conflict: truth(row, 21)?,
+    Ok(Found {
+        row: file_of(row, upgrade)?,
+        owner: readable(party_or_null(row, 20))?,
+        conflict: readable(truth(row, 21))?,
     })
 }

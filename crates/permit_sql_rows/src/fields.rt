@@ -1,9 +1,9 @@
 //! A field of a row as a typed value, or none where the field isn't one.
 
-ghost use Rattle.std.specs.Prelude.{◌≡◌, ◌≢◌, ◌<◌, ◌≤◌, ◌^◌, ℕ, ℤ, IsUtf8, List, IfOk, IsSome, IsTrue, IfErr, Bool, Option, Some, None, IfSome, string_bytes, slice_get, option_map};
+ghost use Rattle.std.specs.Prelude.{◌≡◌, ◌≢◌, ◌<◌, ◌≤◌, ◌^◌, ℕ, ℤ, IsUtf8, List, IfOk, IsSome, IsTrue, IfErr, Bool, Option, Some, None, IfSome, string_bytes, slice_get, option_map, length};
 ghost use Rattle.sqlite.specs.declared.types.Value.TheVariants.{Int, Text as TextValue};
 ghost use Rattle.sqlite_value.specs.Order.{column};
-ghost use Rattle.permit_base.specs.Limits.{latest_day, most_cents, most_papers};
+ghost use Rattle.permit_base.specs.Limits.{latest_day, most_cents, most_days, most_papers};
 ghost use Rattle.permit_base.specs.Texts.{is_printable, is_lot, is_digest};
 ghost use Rattle.permit_base.specs.declared.words.Step.{Step as TheStep};
 ghost use Rattle.permit_sql_rows.specs.Rows.{int, or_zero, or_minus_one, or_null, step_value, flag};
@@ -170,7 +170,8 @@ pub(crate) fn party_or_zero(row: &Row, at: usize) -> Option<Option<PartyId>>
 
 /// The number of a party, where Null stands for none.
 pub(crate) fn party_or_null(row: &Row, at: usize) -> Option<Option<PartyId>>
-    ensures { (o : Option ℕ) → column row.now at ≡ or_null o → IfSome result (λ x. x ≡ o) }
+    ensures read { (o : Option ℕ) → column row.now at ≡ or_null o → IfSome result (λ x. x ≡ o) }
+    ensures some { (o : Option ℕ) → IfSome o IsObject → at < length row.now → column row.now at ≡ or_null o → IsSome result }
 {
     match row.get_ref(at) {
         Ok(ValueRef::Null) => Some(None),
@@ -182,7 +183,7 @@ pub(crate) fn party_or_null(row: &Row, at: usize) -> Option<Option<PartyId>>
 pub(crate) fn days_or_zero(row: &Row, at: usize) -> Option<Option<Days>>
     ensures read { (o : Option ℕ) → o ≢ Some 0 → column row.now at ≡ or_zero o → IfSome result (λ x. x ≡ o) }
     ensures back { IfSome result (λ x. (column row.now at ≡ or_zero x) × (x ≢ Some 0)) }
-    ensures some { (o : Option ℕ) → IfSome o (λ n. (0 < n) × (n ≤ 365)) → column row.now at ≡ or_zero o → IsSome result }
+    ensures some { (o : Option ℕ) → IfSome o (λ n. (0 < n) × (n ≤ most_days)) → column row.now at ≡ or_zero o → IsSome result }
 {
     match number_or_zero(row, at)? {
         None => Some(None),

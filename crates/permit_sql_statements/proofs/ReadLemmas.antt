@@ -1,7 +1,8 @@
 -- What the texts that read show of the tables.
 use Rattle.std.proofs.Common.{◌≡◌, get_or, take, ℕ, zero, suc, ◌+◌, ◌<◌, Bool, true, false, cond, eqb, not, List, [], ◌∷◌, ◌++◌, map, filter, find, drop}
 use Rattle.std.proofs.Common.{length, slice_get, Some, option_map, refl, sym, ap, ap₂, subst, ◌∙◌, arith, IsPermutation, Less}
-use Rattle.std.specs.Prelude.{◌&&◌, bytes_eq, IfSome}
+use Rattle.std.specs.Prelude.{◌&&◌, bytes_eq, IfSome, IfOk, Result, Ok, Err}
+use Rattle.std.specs.Result.{result_ok}
 use Rattle.std.specs.List.{flat_map, list_all, list_any, AllByRecursion}
 use Rattle.std.proofs.lemmas.Bool.Decides.{nat_tests}
 use Rattle.std.proofs.lemmas.List.Sorted.{length_permutation, IsPermutation-trans}
@@ -198,6 +199,14 @@ module _ (old new : State) (t : Tables) (rows : List Row) (k : Keeps t old.now) 
       cut : (file : ℕ) (r : Row) → put_out read_papers_query (int file ∷ []) r ≡ put_out read_papers_query (int file ∷ []) (Null ∷ drop 1 r)
       cut file [] = refl
       cut file (x ∷ r) = refl
+
+-- ---- what was read of a row
+
+-- what is said of a value that was read holds of what is given for it
+pub got_same : {A E F : Type 0} (given : Result A E) (read : Result A F) (P : A → Type 0) → result_ok given ≡ result_ok read → IfOk read P → IfOk given P
+got_same (Ok a) (Ok b) P e h = let same : a ≡ b = cc in subst P (sym same) h
+got_same (Ok a) (Err fault) P e h = absurd cc
+got_same (Err error) read P e h = tt
 
 -- ---- the first row of an answer
 

@@ -13,6 +13,7 @@ use Rattle.permit_base.specs.declared.route.By.{By}
 use Rattle.permit_base.specs.declared.route.By.TheVariants.{Whole, One, Two}
 use Rattle.permit_base.specs.declared.route.Route.{Route}
 use Rattle.permit_base.specs.declared.route.Route.TheVariants.{Every, Cell}
+use Rattle.permit_model.specs.Days.{near_days}
 use Rattle.permit_model.specs.Codes.{stage_code, relation_code}
 use Rattle.permit_model.specs.Tables.{Tables}
 use Rattle.permit_model.specs.Routes.{Found}
@@ -64,12 +65,12 @@ abbrev pub first_deadline : Timing → ℕ → Value
 first_deadline Untimed day = Int (negsuc 0)
 first_deadline Past day = int 0
 first_deadline Near day = int day
-first_deadline Ahead day = int (day + 31)
+first_deadline Ahead day = int (day + suc near_days)
 
 abbrev pub next_deadline : Timing → ℕ → Value
 next_deadline Untimed day = int 0
 next_deadline Past day = int day
-next_deadline Near day = int (day + 31)
+next_deadline Near day = int (day + suc near_days)
 next_deadline Ahead day = Blob []
 
 -- the parameters for a cell

@@ -9,6 +9,7 @@ ghost use Rattle.permit_model.specs.Codes.{stage_code, relation_code};
 ghost use Rattle.permit_sql_statements.specs.Selected;
 ghost use Rattle.permit_sql_statements.specs.Selected.{ShowsEach, ShowsEachWithout};
 
+use permit_base::limits::NEAR_DAYS;
 use permit_base::route::{By, Route};
 use permit_base::values::{Day, PartyId};
 use permit_base::words::{Relation, Stage, Timing};
@@ -268,7 +269,7 @@ fn first_deadline<'a>(timing: Timing, day: Day) -> ValueRef<'a>
         Timing::Untimed => ValueRef::Int(-1),
         Timing::Past => number(0),
         Timing::Near => number(day.get()),
-        Timing::Ahead => number(day.get() + 31),
+        Timing::Ahead => number(day.get() + (NEAR_DAYS + 1)),
     }
 }
 
@@ -280,7 +281,7 @@ fn next_deadline<'a>(timing: Timing, day: Day) -> ValueRef<'a>
     match timing {
         Timing::Untimed => number(0),
         Timing::Past => number(day.get()),
-        Timing::Near => number(day.get() + 31),
+        Timing::Near => number(day.get() + (NEAR_DAYS + 1)),
         Timing::Ahead => ValueRef::Blob(b""),
     }
 }

@@ -1,7 +1,8 @@
 //! What is read of the tables, over a connection.
 
 ghost use Rattle.std.specs.Prelude.{◌≡◌, ◌==◌, ◌&&◌, Bool, false, not, List, [], ◌∷◌, ◌++◌, map, filter, find, length};
-ghost use Rattle.std.specs.Prelude.{Option, option_map, slice_get, bytes_eq, IfOk, OnOk, IfSome};
+ghost use Rattle.std.specs.Prelude.{Option, option_map, slice_get, bytes_eq, IfOk, IfErr, OnOk, IfSome, IsSome, IsOk};
+ghost use Rattle.std.specs.Result.{result_ok};
 ghost use Rattle.std.specs.List.{list_any};
 ghost use Rattle.sqlite.specs.Held.{state};
 ghost use Rattle.permit_model.specs.Caller.{Party as TheParty};
@@ -9,6 +10,7 @@ ghost use Rattle.permit_model.specs.Parcels.{Parcel as TheParcel};
 ghost use Rattle.permit_model.specs.Tables.{Desk as TheDesk, FileRow as TheRow, Paper as ThePaper};
 ghost use Rattle.permit_sql_rows.specs.Rows.{flag, shown_desk, shown_party, shown_parcel, shown_file, shown_paper};
 ghost use Rattle.permit_sql_rows.specs.Kept.{IsNamed};
+ghost use Rattle.permit_sql_rows.specs.Typed.{IsObject, IsDesk, IsParty, IsParcel, IsFile};
 ghost use Rattle.permit_sql_statements.specs.Frames.{OverShown, LeavesTables, IsOpenAfter, KeepsDoubt, ReadSurvives};
 
 use crate::query::rows_of;
@@ -20,8 +22,9 @@ use permit_base::values::{Digest, FileId, Lot, PaperNumber, ParcelId, PartyId};
 use permit_base::words::Role;
 use permit_core::state::FileState;
 use permit_sql_rows::decode::{
-    desk_in, file_in, owner_in, paper_in, parcel_in, party_in, role_in, state_in, truth_in,
+    desk_in, file_of, owner_in, paper_of, parcel_of, party_of, role_in, state_in, truth_in,
 };
+use permit_sql_rows::fields::{Read, RowFault};
 use permit_store::rows::{Desk, FileRow, Paper, Parcel, Party};
 use permit_store::store::{Got, StoreError};
 use sqlite::{Alter, Connection, Row, params};
@@ -177,57 +180,74 @@ fn notice_rows<S: Alter>(
     rows_of(conn, FIND_NOTICE, params![file.get(), number.get()])
 }
 
-/// The first row as a typed value, if there is a row.
-fn first_party(rows: &[Row]) -> Got<Option<Party>>
-    ensures { (found : Option TheParty) → slice_get rows.now 0 ≡ option_map shown_party found → IfOk result (λ x. x ≡ found) }
+/// What was read of a row; a fault of the row is one of the store's call.
+fn got<T>(read: Read<T>) -> Got<T>
+    ensures { result_ok result ≡ result_ok read }
 {
-    match rows.get(0) {
-        None => Ok(None),
-        Some(row) => match party_in(row) {
-            Some(value) => Ok(Some(value)),
-            None => Err(StoreError),
-        },
+    match read {
+        Ok(value) => Ok(value),
+        Err(_) => Err(StoreError),
     }
 }
 
 /// The first row as a typed value, if there is a row.
-fn first_parcel(rows: &[Row]) -> Got<Option<Parcel>>
-    ensures { (found : Option TheParcel) → slice_get rows.now 0 ≡ option_map shown_parcel found → IfOk result (λ x. x ≡ found) }
+fn first_party(rows: &[Row]) -> Read<Option<Party>>
+    ensures read { (found : Option TheParty) → slice_get rows.now 0 ≡ option_map shown_party found → IfOk result (λ x. x ≡ found) }
+    ensures some { (found : Option TheParty) → IfSome found IsParty → slice_get rows.now 0 ≡ option_map shown_party found
+        → IfErr result (λ e. e ≡ RowFault.NoMemory) }
 {
     match rows.get(0) {
         None => Ok(None),
-        Some(row) => match parcel_in(row) {
-            Some(value) => Ok(Some(value)),
-            None => Err(StoreError),
-        },
+        Some(row) => Ok(Some(party_of(row)?)),
     }
 }
 
 /// The first row as a typed value, if there is a row.
-fn first_file(rows: &[Row], upgrade: Option<u32>) -> Got<Option<FileRow>>
-    ensures { (found : Option TheRow) → IfSome found (λ f. IsNamed upgrade f.id f.state) → slice_get rows.now 0 ≡ option_map shown_file found
+fn first_parcel(rows: &[Row]) -> Read<Option<Parcel>>
+    ensures read { (found : Option TheParcel) → slice_get rows.now 0 ≡ option_map shown_parcel found → IfOk result (λ x. x ≡ found) }
+    ensures some { (found : Option TheParcel) → IfSome found IsParcel → slice_get rows.now 0 ≡ option_map shown_parcel found
+        → IfErr result (λ e. e ≡ RowFault.NoMemory) }
+{
+    match rows.get(0) {
+        None => Ok(None),
+        Some(row) => Ok(Some(parcel_of(row)?)),
+    }
+}
+
+/// A file's row that has no further columns.
+fn file_alone(row: &Row, upgrade: Option<u32>) -> Read<FileRow>
+    ensures read { (is : TheRow) → IsNamed upgrade is.id is.state → row.now ≡ shown_file is → IfOk result (λ f. f ≡ is) }
+    ensures some { (is : TheRow) → IsFile is → IsNamed upgrade is.id is.state → row.now ≡ shown_file is → IfErr result (λ e. e ≡ RowFault.NoMemory) }
+{
+    file_of(row, upgrade)
+}
+
+/// The first row as a typed value, if there is a row.
+fn first_file(rows: &[Row], upgrade: Option<u32>) -> Read<Option<FileRow>>
+    ensures read { (found : Option TheRow) → IfSome found (λ f. IsNamed upgrade f.id f.state) → slice_get rows.now 0 ≡ option_map shown_file found
         → IfOk result (λ x. x ≡ found) }
+    ensures some { (found : Option TheRow) → IfSome found (λ f. IsFile f × IsNamed upgrade f.id f.state)
+        → slice_get rows.now 0 ≡ option_map shown_file found → IfErr result (λ e. e ≡ RowFault.NoMemory) }
 {
     match rows.get(0) {
         None => Ok(None),
-        Some(row) => match file_in(row, upgrade) {
-            Some(value) => Ok(Some(value)),
-            None => Err(StoreError),
-        },
+        Some(row) => Ok(Some(file_alone(row, upgrade)?)),
     }
 }
 
 /// The state in a file's row that has no further columns.
 fn file_state(row: &Row, upgrade: Option<u32>) -> Option<FileState>
-    ensures { (is : TheRow) → IsNamed upgrade is.id is.state → row.now ≡ shown_file is → IfSome result (λ s. s ≡ is.state) }
+    ensures read { (is : TheRow) → IsNamed upgrade is.id is.state → row.now ≡ shown_file is → IfSome result (λ s. s ≡ is.state) }
+    ensures some { (is : TheRow) → IsFile is → IsNamed upgrade is.id is.state → row.now ≡ shown_file is → IsSome result }
 {
     state_in(row, upgrade)
 }
 
 /// The role in the first row, if there is a row.
 fn first_role(rows: &[Row]) -> Got<Option<Role>>
-    ensures { (found : Option TheParty) → slice_get rows.now 0 ≡ option_map shown_party found
+    ensures read { (found : Option TheParty) → slice_get rows.now 0 ≡ option_map shown_party found
         → IfOk result (λ x. x ≡ option_map (λ p. p.role) found) }
+    ensures ok { (found : Option TheParty) → slice_get rows.now 0 ≡ option_map shown_party found → IsOk result }
 {
     match rows.get(0) {
         None => Ok(None),
@@ -240,8 +260,9 @@ fn first_role(rows: &[Row]) -> Got<Option<Role>>
 
 /// The owner in the first row, if there is a row.
 fn first_owner(rows: &[Row]) -> Got<Option<PartyId>>
-    ensures { (found : Option TheParcel) → slice_get rows.now 0 ≡ option_map shown_parcel found
+    ensures read { (found : Option TheParcel) → slice_get rows.now 0 ≡ option_map shown_parcel found
         → IfOk result (λ x. x ≡ option_map (λ p. p.owner) found) }
+    ensures ok { (found : Option TheParcel) → IfSome found (λ p. IsObject p.owner) → slice_get rows.now 0 ≡ option_map shown_parcel found → IsOk result }
 {
     match rows.get(0) {
         None => Ok(None),
@@ -254,7 +275,8 @@ fn first_owner(rows: &[Row]) -> Got<Option<PartyId>>
 
 /// The truth value in the one row.
 fn first_truth(rows: &[Row]) -> Got<bool>
-    ensures { (is : Bool) → rows.now ≡ (flag is ∷ []) ∷ [] → IfOk result (λ b. b ≡ is) }
+    ensures read { (is : Bool) → rows.now ≡ (flag is ∷ []) ∷ [] → IfOk result (λ b. b ≡ is) }
+    ensures ok { (is : Bool) → rows.now ≡ (flag is ∷ []) ∷ [] → IsOk result }
 {
     match rows.get(0) {
         None => Err(StoreError),
@@ -267,8 +289,10 @@ fn first_truth(rows: &[Row]) -> Got<bool>
 
 /// The state in the first row, if there is a row.
 fn first_state(rows: &[Row], upgrade: Option<u32>) -> Got<Option<FileState>>
-    ensures { (found : Option TheRow) → IfSome found (λ f. IsNamed upgrade f.id f.state) → slice_get rows.now 0 ≡ option_map shown_file found
+    ensures read { (found : Option TheRow) → IfSome found (λ f. IsNamed upgrade f.id f.state) → slice_get rows.now 0 ≡ option_map shown_file found
         → IfOk result (λ x. x ≡ option_map (λ f. f.state) found) }
+    ensures ok { (found : Option TheRow) → IfSome found (λ f. IsFile f × IsNamed upgrade f.id f.state)
+        → slice_get rows.now 0 ≡ option_map shown_file found → IsOk result }
 {
     match rows.get(0) {
         None => Ok(None),
@@ -281,7 +305,8 @@ fn first_state(rows: &[Row], upgrade: Option<u32>) -> Got<Option<FileState>>
 
 /// The desk.
 fn first_desk(rows: &[Row]) -> Got<Desk>
-    ensures { (is : TheDesk) → rows.now ≡ shown_desk is ∷ [] → IfOk result (λ d. d ≡ is) }
+    ensures read { (is : TheDesk) → rows.now ≡ shown_desk is ∷ [] → IfOk result (λ d. d ≡ is) }
+    ensures ok { (is : TheDesk) → IsDesk is → rows.now ≡ shown_desk is ∷ [] → IsOk result }
 {
     match rows.get(0) {
         None => Err(StoreError),
@@ -318,7 +343,7 @@ pub fn read_party<S: Alter>(conn: &mut Connection<S>, party: PartyId) -> Got<Opt
     ensures not_in_transaction { conn.new.in_transaction ≡ false }
 {
     let rows = party_rows(conn, party)?;
-    first_party(&rows)
+    got(first_party(&rows))
 }
 
 /// The role of the party with the number, read of its row without a copy of its name.
@@ -348,7 +373,7 @@ pub fn find_party<S: Alter>(conn: &mut Connection<S>, digest: &Digest) -> Got<Op
     ensures not_in_transaction { conn.new.in_transaction ≡ false }
 {
     let rows = digest_rows(conn, digest)?;
-    first_party(&rows)
+    got(first_party(&rows))
 }
 
 /// The parcel with the number.
@@ -363,7 +388,7 @@ pub fn read_parcel<S: Alter>(conn: &mut Connection<S>, parcel: ParcelId) -> Got<
     ensures not_in_transaction { conn.new.in_transaction ≡ false }
 {
     let rows = parcel_rows(conn, parcel)?;
-    first_parcel(&rows)
+    got(first_parcel(&rows))
 }
 
 /// The owner of the parcel with the number, read of its row without a copy of its texts.
@@ -393,7 +418,7 @@ pub fn find_parcel<S: Alter>(conn: &mut Connection<S>, lot: &Lot) -> Got<Option<
     ensures not_in_transaction { conn.new.in_transaction ≡ false }
 {
     let rows = lot_rows(conn, lot)?;
-    first_parcel(&rows)
+    got(first_parcel(&rows))
 }
 
 /// Whether the party has declared an interest in the parcel.
@@ -446,7 +471,7 @@ pub fn read_file<S: Alter>(
     ensures not_in_transaction { conn.new.in_transaction ≡ false }
 {
     let rows = file_rows(conn, file)?;
-    first_file(&rows, upgrade)
+    got(first_file(&rows, upgrade))
 }
 
 /// The state of the file with the number, read of its row without a copy of its description.
@@ -503,7 +528,7 @@ fn all_papers(alloc: Global, rows: &[Row]) -> Got<Vec<Paper>>
 {
     let mut papers = Vec::new(alloc);
     'rows: for row in rows {
-        let Some(paper) = paper_in(row) else {
+        let Ok(paper) = paper_of(row) else {
             return Err(StoreError);
         };
         push_paper(&mut papers, paper)?;

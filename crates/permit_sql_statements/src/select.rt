@@ -24,7 +24,7 @@ use crate::read::is_interested;
 use permit_base::route::Route;
 use permit_base::values::{Day, PartyId};
 use permit_core::taker::Taker;
-use permit_sql_rows::decode::found_in;
+use permit_sql_rows::decode::found_of;
 use permit_sql_rows::values::number;
 use permit_store::rows::Found;
 use permit_store::sieve::Sieve;
@@ -71,7 +71,7 @@ fn all_found(alloc: Global, rows: &[Row], upgrade: Option<u32>) -> Got<Vec<Found
 {
     let mut all = Vec::new(alloc);
     'rows: for row in rows {
-        let Some(found) = found_in(row, upgrade) else {
+        let Ok(found) = found_of(row, upgrade) else {
             return Err(StoreError);
         };
         push_found(&mut all, found)?;
@@ -137,7 +137,7 @@ fn hand_rows<S: Alter, T: Taker<Found>>(
         let Some(row) = next else {
             return Ok(true);
         };
-        let Some(found) = found_in(row, upgrade) else {
+        let Ok(found) = found_of(row, upgrade) else {
             return Err(StoreError);
         };
         *handed = handed.wrapping_add(1);

@@ -1,6 +1,6 @@
 //! Doors whose connections are in memory, and the hall over them.
 
-ghost use Rattle.std.specs.Prelude.{◌≡◌, []};
+ghost use Rattle.std.specs.Prelude.{◌≡◌, [], ◌∷◌, ◌++◌, MatchOption};
 
 use permit_base::values::Day;
 use permit_hall::doors::{Door, HallEnd, run_hall};
@@ -153,6 +153,8 @@ impl<R: Wait + Drop + Send> Door for MemoryDoor<R> {
     type Out = Answers<R>;
 
     ghost spent = { λ d. d.connections.items ≡ [] };
+
+    ghost gave = { λ d given e. MatchOption given (e.connections.items ≡ []) (λ c. d.connections.items ≡ e.connections.items ++ c ∷ []) };
 
     fn next(&mut self) -> Option<(Requests, Answers<R>)> {
         if let Some(record) = &self.waits_for {

@@ -28,24 +28,51 @@ impl<'a> Read for Trickle<'a> {
     }
 }
 
-/// A writer that takes at most so many bytes in one write, and fails once it holds so many.
+/// A reader that gives its bytes in two pieces.
+#[derive(Drop)]
+pub struct Pieces<'a> {
+    pub first: &'a [u8],
+    pub second: &'a [u8],
+}
+
+impl<'a> Read for Pieces<'a> {
+    fn read(&mut self, buf: &mut [u8]) -> io::Result<usize> {
+        if self.first.is_empty() {
+            self.second.read(buf)
+        } else {
+            self.first.read(buf)
+        }
+    }
+}
+
+/// A writer that takes at most so many bytes in one write, and fails, or takes no more, once it holds so many.
 #[derive(Drop)]
 pub struct Narrow {
     bytes: [u8; 1024],
     len: usize,
     at_once: usize,
-    fails_at: usize,
+    room: usize,
+    stalls: bool,
     ghost within: { len ≤ 1024 },
 }
 
 impl Narrow {
-    pub fn new(at_once: usize, fails_at: usize) -> Narrow {
+    /// It fails behind so many bytes.
+    pub fn new(at_once: usize, room: usize) -> Narrow {
         Narrow {
             bytes: [0; 1024],
             len: 0,
             at_once,
-            fails_at,
+            room,
+            stalls: false,
         }
+    }
+
+    /// It takes no byte behind so many.
+    pub fn stalling(at_once: usize, room: usize) -> Narrow {
+        let mut narrow = Narrow::new(at_once, room);
+        narrow.stalls = true;
+        narrow
     }
 
     /// What was written.
@@ -56,8 +83,8 @@ impl Narrow {
 
 impl Write for Narrow {
     fn write(&mut self, bytes: &[u8]) -> io::Result<usize> {
-        let free = self.bytes.len().min(self.fails_at).saturating_sub(self.len);
-        if free == 0 {
+        let free = self.bytes.len().min(self.room).saturating_sub(self.len);
+        if free == 0 && !self.stalls {
             return Err(io::Error::from(ErrorKind::BrokenPipe));
         }
         let count = bytes.len().min(self.at_once).min(free);

@@ -1,3 +1,6 @@
 pub mod Asked
 pub mod Reading
 pub mod Serving
+pub mod Conversation
+pub mod Requests
+pub mod Written

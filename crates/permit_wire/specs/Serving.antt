@@ -14,6 +14,7 @@ use Rattle.permit_http.specs.declared.fault.Fault.{Fault}
 use Rattle.permit_answer.specs.AnswerText.{AnswerData, Replied, Faulted}
 use Rattle.permit_answer.specs.Outgoing.{WroteAnswer, WroteFrontOfAnswer}
 use Rattle.permit_wire.specs.Reading.{AskedFrom, Nothing, RequestRead, FaultRead, is_kept}
+use Rattle.permit_wire.specs.declared.service.Dated.{Dated}
 use Rattle.permit_wire.specs.declared.serve.Served.{Served}
 use Rattle.permit_wire.specs.declared.serve.Served.TheVariants.{Kept, Closed, Ended, ReadFailed, WriteFailed}
 
@@ -35,15 +36,19 @@ pub record Steps {S : Type 0} (view : S → StoreView) (day : ℕ) (asked : Aske
   pub step : IsStep view (digest_of asked.token) asked.request day office office' reply
   pub model : OverHistory (view office.store) (view office'.store) (λ h. Answers (view office'.store).holds reply (machine_step office.policy h asked day) h)
 
--- a request was read, the office made one step for it, and the reply's text went out
-pub record ServesRequest {S : Type 0} (view : S → StoreView) (day : ℕ) (office office' : OfficeView S) (bytes : List ℕ) (old new : InboxData)
+-- the office made that step on the day, which its reply has
+abbrev pub StepsOn : {S : Type 0} → (S → StoreView) → ℕ → OfficeView S → Asked → Dated → OfficeView S → Type 0
+StepsOn view day office asked dated office' = Steps view day asked dated.reply office office' × (dated.day ≡ day)
+
+-- a request was read, the service served it, and its reply's text went out
+pub record ServesRequest {T : Type 0} (serves : T → Asked → Dated → T → Type 0) (service service' : T) (bytes : List ℕ) (old new : InboxData)
     (left before after : Option (List ℕ)) (served : Served) : Type 0 where
   pub asked : Asked
-  pub reply : Reply
+  pub dated : Dated
   pub between : InboxData
   pub comes_in : RequestRead bytes old between left (Ok (Some asked))
-  pub steps : Steps view day asked reply office office'
-  pub goes_out : GoesOutAs (Replied (reply_of reply) (action_of asked.request) day) between.closed before after served
+  pub done : serves service asked dated service'
+  pub goes_out : GoesOutAs (Replied (reply_of dated.reply) (action_of asked.request) dated.day) between.closed before after served
   pub shut : new ≡ record between { closed = is_shut served }
 
 -- a fault was read, and its text went out; one that isn't kept closes the connection
@@ -55,20 +60,31 @@ pub record ServesFault (bytes : List ℕ) (old new : InboxData) (left before aft
   pub goes_out : GoesOutAs (Faulted fault) between.closed before after served
   pub shut : new ≡ record between { closed = is_shut served }
 
--- a request was served, or a fault, which leaves the office
-abbrev pub ServesEither : {S : Type 0} → (S → StoreView) → ℕ → OfficeView S → OfficeView S → List ℕ → InboxData → InboxData
+-- a request was served, or a fault, which leaves the service
+abbrev pub ServesEither : {T : Type 0} → (T → Asked → Dated → T → Type 0) → T → T → List ℕ → InboxData → InboxData
     → Option (List ℕ) → Option (List ℕ) → Option (List ℕ) → Served → Type 0
-ServesEither view day office office' bytes old new left before after served =
-    ServesRequest view day office office' bytes old new left before after served
-    ⊎ (ServesFault bytes old new left before after served × (office' ≡ office))
+ServesEither serves service service' bytes old new left before after served =
+    ServesRequest serves service service' bytes old new left before after served
+    ⊎ (ServesFault bytes old new left before after served × (service' ≡ service))
 
--- what was served of a stream of these bytes
+-- what a service served of a stream of these bytes
+abbrev pub ServesBy : {T : Type 0} → (T → Asked → Dated → T → Type 0) → T → T → List ℕ → InboxData → InboxData
+    → Option (List ℕ) → Option (List ℕ) → Option (List ℕ) → Served → Type 0
+ServesBy serves service service' bytes old new left before after Ended = AskedFrom old.closed bytes Nothing
+ServesBy serves service service' bytes old new left before after ReadFailed = Unit {0}
+ServesBy serves service service' bytes old new left before after served =
+    ServesEither serves service service' bytes old new left before after served
+
+-- what the office served of it
 abbrev pub Serves : {S : Type 0} → (S → StoreView) → ℕ → OfficeView S → OfficeView S → List ℕ → InboxData → InboxData
     → Option (List ℕ) → Option (List ℕ) → Option (List ℕ) → Served → Type 0
-Serves view day office office' bytes old new left before after Ended = AskedFrom old.closed bytes Nothing
-Serves view day office office' bytes old new left before after ReadFailed = Unit {0}
 Serves view day office office' bytes old new left before after served =
-    ServesEither view day office office' bytes old new left before after served
+    ServesBy (StepsOn view day) office office' bytes old new left before after served
+
+-- whatever the reader gave, the service was asked once, or is as it was
+abbrev pub AsksOnce : {T : Type 0} → (T → Asked → Dated → T → Type 0) → T → T → Bool → Type 0
+AsksOnce serves service service' true = (asked : Asked) × (dated : Dated) × serves service asked dated service'
+AsksOnce serves service service' false = service' ≡ service
 
 -- whatever the reader gave, the office is as it was, or made one step
 abbrev pub Moves : {S : Type 0} → (S → StoreView) → ℕ → OfficeView S → OfficeView S → Type 0

@@ -1,14 +1,15 @@
 //! HTTP in front of the office: from the bytes of a connection to the bytes of its answers (RFC 9110, RFC 9112).
 //!
-//! `read_request` reads the next request of a connection from an inbox and a reader, `serve_one` also has the office
-//! serve it and writes the answer. What a stream's beginning asks is `AskedOf` (specs/Reading.antt): a request and the
-//! rest, a fault, or the end. What serving does is `Serves` (specs/Serving.antt): one step of the machine for the
-//! request that the stream asks, and its reply's text goes out.
+//! `read_request` reads the next request of a connection from an inbox and a reader, `serve_by` also has a service serve
+//! it and writes the answer, and `serve_one` does so for an office. What a stream's beginning asks is `AskedOf`
+//! (specs/Reading.antt): a request and the rest, a fault, or the end. What serving does is `Serves` (specs/Serving.antt):
+//! one step of the machine for the request that the stream asks, and its reply's text goes out.
 #![tactic(auto)]
 
 pub mod laws;
 pub mod read;
 pub mod serve;
+pub mod service;
 
 pub use permit_answer::answer::Answer;
 pub use permit_answer::{WriteFault, write_reply};
@@ -16,4 +17,5 @@ pub use permit_http::error::{self, WireError};
 pub use permit_http::fault::Fault;
 pub use permit_http::inbox::Inbox;
 pub use read::read_request;
-pub use serve::{Served, answer_with, serve_one};
+pub use serve::{Served, Turn, answer_with, serve_by, serve_one};
+pub use service::{Dated, Service};

@@ -5,9 +5,10 @@ ghost use Rattle.std.specs.Io.KnownBytes.{Keeps};
 ghost use Rattle.permit_http.specs.Message.{IsUnfinished};
 ghost use Rattle.permit_http.specs.Stream.{stream};
 ghost use Rattle.permit_answer.specs.AnswerText.{answer_data};
-ghost use Rattle.permit_wire.specs.Serving.{GoesOutAs, Moves, Serves, is_shut, is_silent};
+ghost use Rattle.permit_wire.specs.Serving.{AsksOnce, GoesOutAs, Moves, Serves, ServesBy, is_shut, is_silent};
 
 use crate::read::read_request;
+use crate::service::{Dated, Service};
 use permit_answer::answer::Answer;
 use permit_answer::write_reply;
 use permit_base::request::action;
@@ -34,6 +35,22 @@ pub enum Served {
     WriteFailed,
 }
 
+impl Served {
+    /// Whether nothing more is served of the connection.
+    pub fn is_shut(self) -> bool
+        ensures { result ≡ is_shut self }
+    {
+        !matches!(self, Served::Kept)
+    }
+}
+
+/// How serving one request ended, and whether the service was asked.
+#[derive(Clone, Copy, PartialEq, Eq)]
+pub struct Turn {
+    pub served: Served,
+    pub asked: bool,
+}
+
 /// Writes the answer to the request that was read last from the connection, or to its fault, and closes the connection
 /// where the text that went out closes it, or none went out whole.
 pub fn answer_with<W: Write>(
@@ -55,6 +72,63 @@ pub fn answer_with<W: Write>(
             inbox.close();
             Served::WriteFailed
         }
+    }
+}
+
+/// Reads one request of a connection, has the service serve it, and writes the answer, or that to the fault that was
+/// read.
+///
+/// The bytes behind the request stay in the inbox. A fault leaves the service as it was; a request is answered by the one
+/// reply that the service gave to it. After `Closed`, `ReadFailed` and `WriteFailed` the connection is closed: a further
+/// call reads nothing and answers `Ended`.
+pub fn serve_by<C, T: Service<C>, R: Read, W: Write>(
+    alloc: Global,
+    service: &mut T,
+    by: &C,
+    inbox: &mut Inbox,
+    reader: &mut R,
+    writer: &mut W,
+) -> Turn
+    requires { T.ready service.old }
+    ensures ready { T.ready service.new }
+    ensures serves { (bytes : List ℕ) → stream inbox.old (R.remaining reader.old) ≡ Some bytes
+        → ServesBy (T.did by.now) service.old service.new bytes inbox.old inbox.new (R.remaining reader.new) (W.contents writer.old) (W.contents writer.new) result.served }
+    ensures asks { AsksOnce (T.did by.now) service.old service.new result.asked }
+    ensures silent { is_silent result.served ≡ true → (service.new ≡ service.old) × (W.contents writer.new ≡ W.contents writer.old) }
+    ensures unread { result.served ≡ Served.ReadFailed
+        → IsUnfinished inbox.new.bytes × Keeps (stream inbox.old (R.remaining reader.old)) (stream inbox.new (R.remaining reader.new)) }
+    ensures grown { result.served ≡ Served.ReadFailed → (more : List ℕ) × (inbox.new.bytes ≡ inbox.old.bytes ++ more) }
+    ensures ended { result.served ≡ Served.Ended → inbox.new ≡ inbox.old }
+    ensures shut { result.served ≢ Served.Ended → inbox.new.closed ≡ is_shut result.served }
+{
+    match read_request(alloc, inbox, reader) {
+        Ok(Some(asked)) => {
+            let action = action(&asked.request);
+            let Dated { day, reply } = service.serve(by, asked);
+            let answer = Answer::Replied { reply, action, day };
+            let served = answer_with(alloc, inbox, &answer, writer);
+            // Dropped by a call, so that the proof does not go through what each variant owns.
+            drop(answer);
+            Turn {
+                served,
+                asked: true,
+            }
+        }
+        Ok(None) => Turn {
+            served: Served::Ended,
+            asked: false,
+        },
+        Err(WireError::Fault(fault)) => {
+            let served = answer_with(alloc, inbox, &Answer::Fault(fault), writer);
+            Turn {
+                served,
+                asked: false,
+            }
+        }
+        Err(WireError::ReadFailed | WireError::Ended) => Turn {
+            served: Served::ReadFailed,
+            asked: false,
+        },
     }
 }
 
@@ -83,19 +157,5 @@ pub fn serve_one<S: Store + Drop, R: Read, W: Write>(
     ensures ended { result ≡ Served.Ended → inbox.new ≡ inbox.old }
     ensures shut { result ≢ Served.Ended → inbox.new.closed ≡ is_shut result }
 {
-    match read_request(alloc, inbox, reader) {
-        Ok(Some(asked)) => {
-            let reply = office.step(&asked, day);
-            let action = action(&asked.request);
-            // Both values are dropped by a call, so that the proof does not go through what each variant owns.
-            drop(asked);
-            let answer = Answer::Replied { reply, action, day };
-            let served = answer_with(alloc, inbox, &answer, writer);
-            drop(answer);
-            served
-        }
-        Ok(None) => Served::Ended,
-        Err(WireError::Fault(fault)) => answer_with(alloc, inbox, &Answer::Fault(fault), writer),
-        Err(WireError::ReadFailed | WireError::Ended) => Served::ReadFailed,
-    }
+    serve_by(alloc, office, &day, inbox, reader, writer).served
 }

@@ -52,3 +52,11 @@ returns-clause-model g c = λ doubt h is held time party.
     ∙ allowed_outcome a.policy.now h a.day a.caller.now (OnFile a.file a.command.now)
     (decision a.policy.now (file_facts h a.day a.caller.now file (command_action a.command.now))) allowed)
     (rw caller at done)
+
+pub returns-clause-sound : goal.returns-clause-sound
+returns-clause-sound g c = λ doubt t held sound may.
+    let late : (g.S.Store.view c.state.new.self).doubt ≡ 0 = omega arith in
+    let caller = ap (λ (p : Party). p.id) c.caller.view_is in
+    let there = sym (sym c.in-Some.is ∙ c.in_ok-state.ensures.found late t held) in
+    let kept = c.facts_on_file.ensures.read.kept t (c.owner_on.ensures.read.kept t (c.state.ensures.read.kept t held)) in
+    c.perform.ensures.sound doubt t kept sound there (record { there = rw caller may.there; in_time = may.in_time; early = may.early })

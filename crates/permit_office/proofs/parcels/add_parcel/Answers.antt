@@ -1,5 +1,8 @@
 use Rattle.std.proofs.Common.{◌≡◌, ◌+◌, ap, ◌∙◌, sym, refl, inl, arith}
-use Rattle.std.specs.Prelude.{Some}
+use Rattle.std.specs.Prelude.{Some, nat_lt}
+use Rattle.std.proofs.lemmas.Bool.{ltb-true, and_parts}
+use Rattle.permit_base.specs.Limits.{most_records}
+use Rattle.permit_model.specs.Sound.{has_party}
 use Rattle.permit_base.specs.declared.request.Request.TheVariants.{AddParcel}
 use Rattle.permit_base.specs.declared.words.Action.TheVariants as action
 use Rattle.permit_model.specs.Caller.{Party}
@@ -9,6 +12,7 @@ use Rattle.permit_model.specs.Policy.{decision}
 use Rattle.permit_model.specs.Machine.{entry_of}
 use Rattle.permit_office.proofs.Deciding.{denied_outcome, allowed_outcome, parcel_suits, none_against, number_is}
 use Rattle.permit_office.proofs.Tables.{parcel_more}
+use Rattle.permit_office.proofs.SoundChanges.{on_ok, parcel_sound}
 use Rattle.permit_office.proofs.parcels.add_parcel.Goals as goal
 
 pub returns-in-Some-clause-model : goal.returns-in-Some-clause-model
@@ -38,3 +42,18 @@ returns-clause-model g c = λ doubt h is held e t.
     rw (allowed_outcome a.policy.now h a.day a.caller.now (AddParcel a.lot.now a.address.now a.owner)
     (decision a.policy.now (office_facts a.caller.now.role action.AddParcel)) allowed)
     (rw reason at done)
+
+pub returns-clause-sound : goal.returns-clause-sound
+returns-clause-sound g c = λ doubt t held sound e may.
+    let late : (g.S.Store.view c.admit_parcel.new.store).doubt ≡ 0 = omega arith in
+    let a = c.args in
+    let suits = c.in_ok-admitted.ensures.suits late t held e in
+    c.carry_out.ensures.sound t (c.admit_parcel.ensures.read.kept t held)
+    (λ number is_ok.
+    let fits = on_ok _ c.in_ok-admitted.admitted number is_ok suits in
+    let owner = and_parts _ (has_party t a.owner) fits in (
+      record { suits = fits; in_time = may.in_time },
+      parcel_sound t a.day a.lot.now a.address.now a.owner sound may.in_time may.early
+          (ltb-true t.desk.parcels most_records (and_parts (nat_lt t.desk.parcels most_records) _ owner.0).0) c.parcel_within.ensures.lot
+          c.parcel_within.ensures.address owner.1,
+    ))

@@ -1,4 +1,7 @@
-use Rattle.std.proofs.Common.{◌≡◌, ap, ◌∙◌, sym, refl, inl, arith}
+use Rattle.std.proofs.Common.{◌≡◌, ◌==◌, ◌∙◌, sym, refl, inl, arith}
+use Rattle.std.specs.Prelude.{find}
+use Rattle.std.proofs.lemmas.Bool.{and_from}
+use Rattle.permit_model.specs.Parcels.{Parcel}
 use Rattle.permit_base.specs.declared.request.Request.TheVariants.{Transfer}
 use Rattle.permit_base.specs.declared.words.Stage.TheVariants.{Office}
 use Rattle.permit_base.specs.declared.words.Action.TheVariants as action
@@ -9,6 +12,7 @@ use Rattle.permit_model.specs.Machine.{entry_of}
 use Rattle.permit_office.proofs.Deciding.{denied_outcome, allowed_outcome, transfer_suits, none_against, number_is}
 use Rattle.permit_office.proofs.Finding.{parcel_owned, transfer_judged}
 use Rattle.permit_office.proofs.Tables.{transfer_more}
+use Rattle.permit_office.proofs.SoundChanges.{on_ok, owned_there, owner_sound}
 use Rattle.permit_office.proofs.parcels.transfer.Goals as goal
 
 pub returns-in-Some-denial-clause-model : goal.returns-in-Some-denial-clause-model
@@ -45,3 +49,18 @@ returns-clause-model g c = λ doubt h held t.
     ∙ allowed_outcome a.policy.now h a.day a.caller.now (Transfer a.parcel a.to)
     (decision a.policy.now (parcel_facts h a.caller.now a.parcel Office action.Transfer)) allowed)
     (rw reason at done)
+
+pub returns-clause-sound : goal.returns-clause-sound
+returns-clause-sound g c = λ doubt t held sound may.
+    let late : (g.S.Store.view c.owner.new.self).doubt ≡ 0 = omega arith in
+    let latest : (g.S.Store.view c.admit_transfer.new.store).doubt ≡ 0 = omega arith in
+    let a = c.args in
+    let placed = owned_there (find (λ (p : Parcel). p.id == a.parcel) t.parcels) c.in-Some.owner
+    (sym c.in-Some.is ∙ c.in_ok-owner.ensures.found late t held) in
+    let kept = c.facts_on_parcel.ensures.read.kept t (c.owner.ensures.read.kept t held) in
+    let receiver = c.in_ok-admitted.ensures.receiver latest t kept in
+    c.carry_out.ensures.sound t (c.admit_transfer.ensures.read.kept t kept)
+    (λ number is_ok. let there = on_ok _ c.in_ok-admitted.admitted number is_ok receiver in (
+      record { suits = and_from _ _ placed there; in_time = may.in_time },
+      owner_sound t a.day a.parcel a.to sound may.in_time may.early there,
+    ))

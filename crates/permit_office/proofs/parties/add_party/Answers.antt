@@ -1,7 +1,9 @@
 use Rattle.std.proofs.Common.{◌≡◌, ◌+◌, ap, ◌∙◌, sym, refl, inl, arith}
 use Rattle.permit_base.specs.declared.request.Request.TheVariants.{AddParty}
-use Rattle.std.specs.Prelude.{Some, Result, Ok}
+use Rattle.std.specs.Prelude.{Some, Result, Ok, nat_lt}
 use Rattle.permit_base.specs.Actions.{adding_action}
+use Rattle.std.proofs.lemmas.Bool.{ltb-true, and_parts}
+use Rattle.permit_base.specs.Limits.{most_records}
 use Rattle.permit_model.specs.Caller.{Party}
 use Rattle.permit_model.specs.Tables.{Desk, tables}
 use Rattle.permit_model.specs.Facts.{office_facts}
@@ -9,6 +11,7 @@ use Rattle.permit_model.specs.Policy.{decision}
 use Rattle.permit_model.specs.Machine.{entry_of}
 use Rattle.permit_office.proofs.Deciding.{denied_outcome, allowed_outcome, party_suits, none_against, number_is}
 use Rattle.permit_office.proofs.Tables.{party_more}
+use Rattle.permit_office.proofs.SoundChanges.{on_ok, party_sound}
 use Rattle.permit_office.proofs.parties.add_party.Goals as goal
 
 same_ok : {A E : Type 0} (r : Result A E) (a b : A) → r ≡ Ok a → r ≡ Ok b → a ≡ b
@@ -42,3 +45,16 @@ returns-clause-model g c = λ doubt h is held e t.
     rw (allowed_outcome a.policy.now h a.day a.caller.now (AddParty a.name.now a.role a.token.now)
     (decision a.policy.now (office_facts a.caller.now.role (adding_action a.role))) allowed)
     (rw reason at done)
+
+pub returns-clause-sound : goal.returns-clause-sound
+returns-clause-sound g c = λ doubt t held sound e may.
+    let late : (g.S.Store.view c.admit_party.new.store).doubt ≡ 0 = omega arith in
+    let a = c.args in
+    let suits = c.in_ok-admitted.ensures.suits late t held e in
+    c.carry_out.ensures.sound t (c.admit_party.ensures.read.kept t held)
+    (λ number is_ok. let fits = on_ok _ c.in_ok-admitted.admitted number is_ok suits in (
+      record { suits = fits; in_time = may.in_time },
+      party_sound t a.day a.name.now a.role _ sound may.in_time may.early
+          (ltb-true t.desk.parties most_records (and_parts (nat_lt t.desk.parties most_records) _ fits).0) c.party_within.ensures.name
+          c.party_within.ensures.digest,
+    ))

@@ -49,65 +49,65 @@ returns-clause-named c = λ upgrade id under. record {
 }
 
 pub returns-in_err-parcel_number-clause-some : goal.returns-in_err-parcel_number-clause-some
-returns-in_err-parcel_number-clause-some c = λ is good e. not_some _ c.in_err-parcel_number.was
+returns-in_err-parcel_number-clause-some c = λ is more good e. not_some _ c.in_err-parcel_number.was
     (c.parcel_number.ensures.some is.state.parcel good.parcel (ap (λ r. column r 1) e))
 
 pub returns-in_err-party_number-clause-some : goal.returns-in_err-party_number-clause-some
-returns-in_err-party_number-clause-some c = λ is good e. not_some _ c.in_err-party_number.was
+returns-in_err-party_number-clause-some c = λ is more good e. not_some _ c.in_err-party_number.was
     (c.party_number.ensures.some is.state.applicant good.applicant (ap (λ r. column r 2) e))
 
 pub returns-in_err-party_or_zero-clause-some : goal.returns-in_err-party_or_zero-clause-some
-returns-in_err-party_or_zero-clause-some c = λ is good e. not_some _ c.in_err-party_or_zero.was
+returns-in_err-party_or_zero-clause-some c = λ is more good e. not_some _ c.in_err-party_or_zero.was
     (c.party_or_zero.ensures.some is.state.contractor good.contractor (ap (λ r. column r 3) e))
 
 pub returns-in_err-party_or_zero-2-clause-some : goal.returns-in_err-party_or_zero-2-clause-some
-returns-in_err-party_or_zero-2-clause-some c = λ is good e. not_some _ c.in_err-party_or_zero-2.was
+returns-in_err-party_or_zero-2-clause-some c = λ is more good e. not_some _ c.in_err-party_or_zero-2.was
     (c.party_or_zero-2.ensures.some is.state.reviewer good.reviewer (ap (λ r. column r 4) e))
 
 pub returns-in_err-party_or_zero-3-clause-some : goal.returns-in_err-party_or_zero-3-clause-some
-returns-in_err-party_or_zero-3-clause-some c = λ is good e. not_some _ c.in_err-party_or_zero-3.was
+returns-in_err-party_or_zero-3-clause-some c = λ is more good e. not_some _ c.in_err-party_or_zero-3.was
     (c.party_or_zero-3.ensures.some is.state.inspector good.inspector (ap (λ r. column r 5) e))
 
 pub returns-in_err-kind-clause-some : goal.returns-in_err-kind-clause-some
-returns-in_err-kind-clause-some c = λ is good e. not_some _ c.in_err-kind.was (c.kind.ensures.some is.state.kind (ap (λ r. column r 6) e))
+returns-in_err-kind-clause-some c = λ is more good e. not_some _ c.in_err-kind.was (c.kind.ensures.some is.state.kind (ap (λ r. column r 6) e))
 
 pub returns-in_err-day-clause-some : goal.returns-in_err-day-clause-some
-returns-in_err-day-clause-some c = λ is good e. not_some _ c.in_err-day.was (c.day.ensures.some is.state.filed good.filed (ap (λ r. column r 9) e))
+returns-in_err-day-clause-some c = λ is more good e. not_some _ c.in_err-day.was (c.day.ensures.some is.state.filed good.filed (ap (λ r. column r 9) e))
 
 pub returns-in_err-stage-clause-some : goal.returns-in_err-stage-clause-some
-returns-in_err-stage-clause-some c = λ is good e. not_some _ c.in_err-stage.was (c.stage.ensures.some is.state.stage (ap (λ r. column r 10) e))
+returns-in_err-stage-clause-some c = λ is more good e. not_some _ c.in_err-stage.was (c.stage.ensures.some is.state.stage (ap (λ r. column r 10) e))
 
 pub returns-in_err-number_or_minus_one-clause-some : goal.returns-in_err-number_or_minus_one-clause-some
-returns-in_err-number_or_minus_one-clause-some c = λ is good e. not_some _ c.in_err-number_or_minus_one.was
+returns-in_err-number_or_minus_one-clause-some c = λ is more good e. not_some _ c.in_err-number_or_minus_one.was
     (c.number_or_minus_one.ensures.some is.state.deadline good.deadline (ap (λ r. column r 11) e))
 
 pub returns-in_err-small_number-clause-some : goal.returns-in_err-small_number-clause-some
-returns-in_err-small_number-clause-some c = λ is good e. not_some _ c.in_err-small_number.was
+returns-in_err-small_number-clause-some c = λ is more good e. not_some _ c.in_err-small_number.was
     (c.small_number.ensures.some is.state.done good.done (ap (λ r. column r 12) e))
 
 pub returns-in_err-step_or_minus_one-clause-some : goal.returns-in_err-step_or_minus_one-clause-some
-returns-in_err-step_or_minus_one-clause-some c = λ is good e. not_some _ c.in_err-step_or_minus_one.was
+returns-in_err-step_or_minus_one-clause-some c = λ is more good e. not_some _ c.in_err-step_or_minus_one.was
     (c.step_or_minus_one.ensures.some is.state.request (ap (λ r. column r 13) e))
 
 pub returns-in_err-day_or_minus_one-clause-some : goal.returns-in_err-day_or_minus_one-clause-some
-returns-in_err-day_or_minus_one-clause-some c = λ is good e. not_some _ c.in_err-day_or_minus_one.was
+returns-in_err-day_or_minus_one-clause-some c = λ is more good e. not_some _ c.in_err-day_or_minus_one.was
     (c.day_or_minus_one.ensures.some is.state.requested good.requested (ap (λ r. column r 14) e))
 
 pub returns-in_err-days_or_zero-clause-some : goal.returns-in_err-days_or_zero-clause-some
-returns-in_err-days_or_zero-clause-some c = λ is good e. not_some _ c.in_err-days_or_zero.was
+returns-in_err-days_or_zero-clause-some c = λ is more good e. not_some _ c.in_err-days_or_zero.was
     (c.days_or_zero.ensures.some is.state.ask good.ask (ap (λ r. column r 15) e))
 
 pub returns-in_err-truth-clause-some : goal.returns-in_err-truth-clause-some
-returns-in_err-truth-clause-some c = λ is good e. not_some _ c.in_err-truth.was (c.truth.ensures.some is.state.stopped (ap (λ r. column r 16) e))
+returns-in_err-truth-clause-some c = λ is more good e. not_some _ c.in_err-truth.was (c.truth.ensures.some is.state.stopped (ap (λ r. column r 16) e))
 
 pub returns-in_err-short_number-clause-some : goal.returns-in_err-short_number-clause-some
-returns-in_err-short_number-clause-some c = λ is good e. not_some _ c.in_err-short_number.was
+returns-in_err-short_number-clause-some c = λ is more good e. not_some _ c.in_err-short_number.was
     (c.short_number.ensures.some is.state.notices good.notices (ap (λ r. column r 17) e))
 
 pub returns-in_err-short_number-2-clause-some : goal.returns-in_err-short_number-2-clause-some
-returns-in_err-short_number-2-clause-some c = λ is good e. not_some _ c.in_err-short_number-2.was
+returns-in_err-short_number-2-clause-some c = λ is more good e. not_some _ c.in_err-short_number-2.was
     (c.short_number-2.ensures.some is.state.papers good.papers (ap (λ r. column r 18) e))
 
 pub returns-in_err-number_or_minus_one-2-clause-some : goal.returns-in_err-number_or_minus_one-2-clause-some
-returns-in_err-number_or_minus_one-2-clause-some c = λ is good e. not_some _ c.in_err-number_or_minus_one-2.was
+returns-in_err-number_or_minus_one-2-clause-some c = λ is more good e. not_some _ c.in_err-number_or_minus_one-2.was
     (c.number_or_minus_one-2.ensures.some is.state.temporary good.temporary (ap (λ r. column r 19) e))

@@ -18,7 +18,7 @@ returns-clause-named c = if_named c.state_under.result (λ s is. (c.in_ok-id.id,
     (c.state_under.ensures.named c.args.upgrade c.in_ok-id.id c.edition_numbered.ensures)
 
 pub returns-clause-some : goal.returns-clause-some
-returns-clause-some c = λ is good named e.
+returns-clause-some c = λ is more good named e.
     let here : c.in_ok-id.id ≡ is.id = c.in_ok-id.ensures.read is.id (ap (λ r. column r 0) e) in
-    c.state_under.ensures.some c.args.upgrade is good named
+    c.state_under.ensures.some c.args.upgrade is more good named
     (named.edition ∙ ap (edition_numbered c.args.upgrade) (sym here) ∙ sym c.edition_numbered.ensures) e

@@ -4,5 +4,5 @@ use Rattle.permit_sql_statements.proofs.read.all_papers.Goals as goal
 
 pub rows-preserved : goal.rows-preserved
 rows-preserved c = λ papers are.
-    c.in_ok-push_paper.ensures ∙ ap (λ l. l ++ c.in-Some.paper ∷ []) (c.rows.invariant papers are)
-    ∙ one_more papers c.args.rows.now c.rows.row-index c.row-item.result c.in-Some.paper are (omega (arith, c.rows-test.true)) c.row-item.is c.in-Some.ensures
+    c.in_ok-push_paper.ensures ∙ ap (λ l. l ++ c.in-Ok.paper ∷ []) (c.rows.invariant papers are)
+    ∙ one_more papers c.args.rows.now c.rows.row-index c.row-item.result c.in-Ok.paper are (omega (arith, c.rows-test.true)) c.row-item.is c.in-Ok.ensures.read

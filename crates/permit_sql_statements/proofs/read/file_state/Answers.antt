@@ -1,5 +1,8 @@
 use Rattle.std.proofs.Common.{[]}
 use Rattle.permit_sql_statements.proofs.read.file_state.Goals as goal
 
-pub returns : goal.returns
-returns c = λ is named shown. c.state_in.ensures.read is [] named shown
+pub returns-clause-read : goal.returns-clause-read
+returns-clause-read c = λ is named shown. c.state_in.ensures.read is [] named shown
+
+pub returns-clause-some : goal.returns-clause-some
+returns-clause-some c = λ is good named shown. c.state_in.ensures.some is [] good named shown

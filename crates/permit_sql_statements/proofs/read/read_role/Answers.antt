@@ -2,4 +2,4 @@ use Rattle.std.proofs.Common.{◌∙◌, ap, slice_get}
 use Rattle.permit_sql_statements.proofs.read.read_role.Goals as goal
 
 pub returns-clause-found : goal.returns-clause-found
-returns-clause-found g c t clean there = c.first_role.ensures _ (ap (λ l. slice_get l 0) c.deref.ensures.value ∙ c.in_ok-rows.ensures.found t clean there)
+returns-clause-found g c t clean there = c.first_role.ensures.read _ (ap (λ l. slice_get l 0) c.deref.ensures.value ∙ c.in_ok-rows.ensures.found t clean there)

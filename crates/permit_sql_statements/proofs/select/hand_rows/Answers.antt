@@ -142,8 +142,8 @@ returns-in_default-next-2-clause-handed g c =
           record { rows = it.1; are = subst (λ h. Shown sql params old (state g.S.Store h) it.1) same whole; shown = it.3 },
     )
 
-pub returns-in_default-found_in-clause-handed : goal.returns-in_default-found_in-clause-handed
-returns-in_default-found_in-clause-handed g c =
+pub returns-in_default-found_of-clause-handed : goal.returns-in_default-found_of-clause-handed
+returns-in_default-found_of-clause-handed g c =
     let was = c.rows.invariant in
     let moved = c.next.follows.holds-at-none in (
       was.4,
@@ -172,7 +172,7 @@ returns-then-not-take-clause-handed g c =
     let was = c.rows.invariant in
     let moved = c.next.follows.holds-at-none in
     let now = c.next.follows.lender-at-none.conn.now in
-    let found = c.in-Some-found_in.found in
+    let found = c.in-Ok-found_of.found in
     let row = c.in-Some.row.now in (
       was.4 ++ found ∷ [],
       (was.4, found, refl, c.rows.taker, was.5, rw c.if-not-take.true at c.take.ensures),
@@ -191,7 +191,7 @@ returns-then-not-take-clause-handed g c =
           record {
             rows = it.1 ++ row ∷ [];
             are = (here.0, begins_since sql params old (state g.S.Store now) (it.1 ++ row ∷ []) still.0.now_is begins);
-            shown = read_more c.args.upgrade it.1 was.4 row found it.3 c.in-Some-found_in.ensures;
+            shown = read_more c.args.upgrade it.1 was.4 row found it.3 c.in-Ok-found_of.ensures.read;
           },
     )
 
@@ -209,10 +209,10 @@ returns-in_default-next-2-clause-crash g c plain =
     ended c.args.sql.now (bound c.args.params.now) (state g.S.Store c.args.conn.now) (state g.S.Store c.rows.rows.conn.now)
     (state g.S.Store now) _ c.rows.invariant.2 c.next.follows.holds-at-none.survives (ap (state g.S.Store) same) plain
 
-pub returns-in_default-found_in-clause-crash : goal.returns-in_default-found_in-clause-crash
-returns-in_default-found_in-clause-crash g c plain =
+pub returns-in_default-found_of-clause-crash : goal.returns-in_default-found_of-clause-crash
+returns-in_default-found_of-clause-crash g c plain =
     let now = c.next.follows.lender-at-none.conn.now in
-    let same : now ≡ c.conn-in_default-found_in-1.given.0 = search rules in
+    let same : now ≡ c.conn-in_default-found_of-1.given.0 = search rules in
     ended c.args.sql.now (bound c.args.params.now) (state g.S.Store c.args.conn.now) (state g.S.Store c.rows.rows.conn.now)
     (state g.S.Store now) _ c.rows.invariant.2 c.next.follows.holds-at-none.survives (ap (state g.S.Store) same) plain
 
@@ -230,7 +230,7 @@ rows-preserved g c =
     let now = c.next.follows.lender-at-none.conn.now in
     let old = state g.S.Store c.args.conn.now in
     let mid = state g.S.Store c.rows.rows.conn.now in
-    let found = c.in-Some-found_in.found in
+    let found = c.in-Ok-found_of.found in
     let row = c.in-Some.row.now in (
       search rules,
       omega (arith, was.1, moved.survives.clean),
@@ -252,7 +252,7 @@ rows-preserved g c =
                   unchanged_then old mid (state g.S.Store now) it.0 kept,
                   it.1 ++ row ∷ [],
                   given,
-                  read_more c.args.upgrade it.1 was.4 row found it.3 c.in-Some-found_in.ensures,
+                  read_more c.args.upgrade it.1 was.4 row found it.3 c.in-Ok-found_of.ensures.read,
                 ),
           ),
     )

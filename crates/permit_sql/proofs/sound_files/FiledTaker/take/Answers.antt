@@ -1,4 +1,4 @@
-use Rattle.std.proofs.Common.{[], ◌∷◌, ◌++◌, inl, refl, sym, ap, ap₂, ◌∙◌}
+use Rattle.std.proofs.Common.{[], ◌∷◌, ◌++◌, inl, refl, sym, ap, ap₂, ◌∙◌, rules}
 use Rattle.permit_sql.specs.Tested.{fits_file as fits_state, first_tally}
 use Rattle.permit_sql.proofs.sound_files.FiledTaker.take.Goals as goal
 
@@ -18,3 +18,6 @@ returns-in-Ok c = (
       ),
   (refl, (refl, (refl, refl))),
 )
+
+pub returns-in_default : goal.returns-in_default
+returns-in_default c = λ f good named is. let was = c.state_in.ensures.some f [] good named is in search rules

@@ -13,6 +13,6 @@ returns-in-Ok-clause-read g c =
 pub returns-in-Err-clause-read : goal.returns-in-Err-clause-read
 returns-in-Err-clause-read g c =
     let s = c.args.self.now in
-    let n = c.fail.new.self in
-    read_err g.S.Store s.conn c.find_party.new.conn s.upgrade s.handed s.failed s.commits n.conn n.upgrade n.handed n.failed n.commits _ c.fail.ensures.error c.fail.ensures.conn c.fail.ensures.counted c.fail.ensures.others
+    let n = c.fail_first.new.self in
+    read_err g.S.Store s.conn c.find_party.new.conn s.upgrade s.handed s.failed s.commits n.conn n.upgrade n.handed n.failed n.commits _ c.fail_first.ensures.error c.fail_first.ensures.conn c.fail_first.ensures.counted c.fail_first.ensures.others
     c.find_party.ensures.kept c.find_party.ensures.doubt

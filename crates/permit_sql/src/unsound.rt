@@ -1,0 +1,186 @@
+//! The first of typed parcels, interests and files that isn't sound.
+
+ghost use Rattle.std.specs.Prelude.{◌≡◌, false, map, is_none, IsTrue, MatchBool, IfOk, IfSome};
+ghost use Rattle.std.specs.List.{list_all};
+ghost use Rattle.sqlite.specs.State.{HasCleanDisk};
+ghost use Rattle.sqlite.specs.Held.{state};
+ghost use Rattle.permit_sql.specs.Tested.{fits_parcel, fits_interest, fits_file as fits_state};
+ghost use Rattle.permit_sql.specs.Named.{breaks, NamesParcel, NamesInterest, NamesFile};
+ghost use Rattle.permit_sql.specs.Frames.{OverTyped, LeavesRows, LeavesOverCrash};
+
+use crate::check::takes_all;
+use crate::each::Taker;
+use crate::fault::{Fault, InterestRule, ParcelRule};
+use crate::sound_row::file_rule;
+use crate::texts::{EACH_FILE, EACH_INTEREST, EACH_PARCEL};
+use crate::unread::number_in;
+use permit_base::values::Day;
+use permit_base::words::{Edition, Role};
+use permit_sql_rows::decode::{interest_in, owner_in, state_in};
+use permit_store::store::Got;
+use sqlite::{Alter, Connection, Row};
+
+/// How many parties there are, and the parcel whose owner isn't among them.
+#[derive(Drop)]
+struct Owned {
+    parties: u32,
+    fault: Option<Fault>,
+}
+
+impl Taker for Owned {
+    ghost took = { λ a row b good. MatchBool good (b.parties ≡ a.parties) (NamesParcel a.parties row b.fault) };
+
+    fn take(&mut self, row: &Row) -> bool {
+        let Some(owner) = owner_in(row) else {
+            return false;
+        };
+        if owner.get() <= self.parties {
+            return true;
+        }
+        self.fault = Some(Fault::Parcel {
+            number: number_in(row, 0),
+            rule: ParcelRule::Owner,
+        });
+        false
+    }
+}
+
+/// The first of the typed parcels whose owner isn't among so many parties.
+pub(crate) fn parcel_fault<S: Alter>(
+    conn: &mut Connection<S>,
+    edition: Edition,
+    parties: u32,
+) -> Got<Option<Fault>>
+    requires not_in_transaction { conn.old.in_transaction ≡ false }
+    ensures named { HasCleanDisk (state S.Store conn.new)
+        → OverTyped S.Store edition conn.old (λ t. parties ≡ t.desk.parties → IfOk result (λ o. IfSome o (λ fault. IsTrue (breaks t fault)))) }
+    ensures left { LeavesRows S.Store conn.old conn.new }
+    ensures crash { LeavesOverCrash S.Store conn.old conn.new }
+    ensures not_in_transaction { conn.new.in_transaction ≡ false }
+{
+    let mut owned = Owned {
+        parties,
+        fault: None,
+    };
+    if takes_all(conn, edition, EACH_PARCEL, &mut owned)? {
+        return Ok(None);
+    }
+    Ok(owned.fault)
+}
+
+/// How many parcels and parties there are, and the interest whose parcel or party isn't among them.
+#[derive(Drop)]
+struct Declared {
+    parcels: u32,
+    parties: u32,
+    fault: Option<Fault>,
+}
+
+impl Taker for Declared {
+    ghost took = { λ a row b good. MatchBool good ((b.parcels ≡ a.parcels) × (b.parties ≡ a.parties)) (NamesInterest a.parcels a.parties row b.fault) };
+
+    fn take(&mut self, row: &Row) -> bool {
+        let Some((parcel, party)) = interest_in(row) else {
+            return false;
+        };
+        let rule = if parcel.get() > self.parcels {
+            InterestRule::Parcel
+        } else if party.get() > self.parties {
+            InterestRule::Party
+        } else {
+            return true;
+        };
+        self.fault = Some(Fault::Interest {
+            parcel: number_in(row, 0),
+            party: number_in(row, 1),
+            rule,
+        });
+        false
+    }
+}
+
+/// The first of the typed interests whose parcel or party isn't among so many.
+pub(crate) fn interest_fault<S: Alter>(
+    conn: &mut Connection<S>,
+    edition: Edition,
+    parcels: u32,
+    parties: u32,
+) -> Got<Option<Fault>>
+    requires not_in_transaction { conn.old.in_transaction ≡ false }
+    ensures named { HasCleanDisk (state S.Store conn.new)
+        → OverTyped S.Store edition conn.old (λ t. parcels ≡ t.desk.parcels → parties ≡ t.desk.parties
+        → IfOk result (λ o. IfSome o (λ fault. IsTrue (breaks t fault)))) }
+    ensures left { LeavesRows S.Store conn.old conn.new }
+    ensures crash { LeavesOverCrash S.Store conn.old conn.new }
+    ensures not_in_transaction { conn.new.in_transaction ≡ false }
+{
+    let mut declared = Declared {
+        parcels,
+        parties,
+        fault: None,
+    };
+    if takes_all(conn, edition, EACH_INTEREST, &mut declared)? {
+        return Ok(None);
+    }
+    Ok(declared.fault)
+}
+
+/// What files are tested against, and the file that breaks a rule.
+#[derive(Drop)]
+struct Tested {
+    upgrade: Option<u32>,
+    roles: Vec<Role>,
+    parcels: u32,
+    last: Day,
+    fault: Option<Fault>,
+}
+
+impl Taker for Tested {
+    ghost took = { λ a row b good. MatchBool good
+        ((b.upgrade ≡ a.upgrade) × ((b.roles.items ≡ a.roles.items) × ((b.parcels ≡ a.parcels) × (b.last ≡ a.last))))
+        (NamesFile a.upgrade a.roles.items a.parcels a.last row b.fault) };
+
+    fn take(&mut self, row: &Row) -> bool {
+        let Some(state) = state_in(row, self.upgrade) else {
+            return false;
+        };
+        let Some(rule) = file_rule(&self.roles, self.parcels, self.last, &state) else {
+            return true;
+        };
+        self.fault = Some(Fault::File {
+            number: number_in(row, 0),
+            rule,
+        });
+        false
+    }
+}
+
+/// The first of the typed files that breaks a rule without its papers.
+pub(crate) fn file_fault<S: Alter>(
+    conn: &mut Connection<S>,
+    edition: Edition,
+    upgrade: Option<u32>,
+    roles: Vec<Role>,
+    parcels: u32,
+    last: Day,
+) -> Got<Option<Fault>>
+    requires not_in_transaction { conn.old.in_transaction ≡ false }
+    ensures named { HasCleanDisk (state S.Store conn.new)
+        → OverTyped S.Store edition conn.old (λ t. t.upgrade ≡ upgrade → roles.items ≡ map (λ p. p.role) t.parties → parcels ≡ t.desk.parcels
+        → last ≡ t.desk.last → IfOk result (λ o. IfSome o (λ fault. IsTrue (breaks t fault)))) }
+    ensures left { LeavesRows S.Store conn.old conn.new }
+    ensures crash { LeavesOverCrash S.Store conn.old conn.new }
+    ensures not_in_transaction { conn.new.in_transaction ≡ false }
+{
+    let mut tested = Tested {
+        upgrade,
+        roles,
+        parcels,
+        last,
+        fault: None,
+    };
+    if takes_all(conn, edition, EACH_FILE, &mut tested)? {
+        return Ok(None);
+    }
+    Ok(tested.fault)
+}

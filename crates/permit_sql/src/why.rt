@@ -1,0 +1,350 @@
+//! The first place at which the tables of a database aren't sound.
+//!
+//! The tables are read in their order, desk, upgrade, party, parcel, interest, file and paper: first for rows that aren't
+//! of their table's type, numbers with gaps, and counts; and then, where they are typed, for what they say together.
+
+ghost use Rattle.std.specs.Prelude.{◌≡◌, false, true, map, None, Some, IsTrue, IfOk, IfSome, IsSome};
+ghost use Rattle.sqlite.specs.Held.{state};
+ghost use Rattle.permit_base.specs.declared.words.Edition.TheVariants.{Second};
+ghost use Rattle.permit_sql_rows.specs.Kept.{IsFine};
+ghost use Rattle.permit_sql.specs.Found.{KeepsSound};
+ghost use Rattle.permit_sql.specs.Tested.{fits_desk};
+ghost use Rattle.permit_sql.specs.Named.{breaks};
+ghost use Rattle.permit_sql.specs.Frames.{OverTyped, LeavesRows, LeavesOverCrash};
+
+use crate::check::{check_interests, check_parcels, check_parties};
+use crate::check_files::{check_files, check_papers, check_rowids};
+use crate::fault::{DeskRule, Fault, PaperRule, PartyRule, UpgradeRule};
+use crate::open::{desk_seen, find_desk, find_sound, find_upgrade, upgrade_seen};
+use crate::sound::roles_of;
+use crate::sound_row::{desk_rule, has_official};
+use crate::unread;
+use crate::unsound::{file_fault, interest_fault, parcel_fault};
+use crate::unsound_papers::papers_fault;
+use crate::untyped::{Table, first_untyped};
+use permit_base::words::{Edition, Role};
+use permit_sql_rows::schema::{has_desk, is_office};
+use permit_store::rows::Desk;
+use permit_store::store::{Got, StoreError};
+use sqlite::{Alter, Connection};
+use std::alloc::Global;
+
+/// What the rows of the desk break, which aren't one row of a desk.
+fn desk_fault<S: Alter>(conn: &mut Connection<S>) -> Got<Fault>
+    requires not_in_transaction { conn.old.in_transaction ≡ false }
+    ensures left { LeavesRows S.Store conn.old conn.new }
+    ensures crash { LeavesOverCrash S.Store conn.old conn.new }
+    ensures not_in_transaction { conn.new.in_transaction ≡ false }
+{
+    if !has_desk(conn.schema()) {
+        return Err(StoreError);
+    }
+    let rows = desk_seen(conn)?;
+    Ok(Fault::Desk(match rows.as_slice() {
+        [row] => unread::desk_rule(row),
+        _ => DeskRule::Row,
+    }))
+}
+
+/// What the rows of the upgrade break, which aren't one row of an upgrade, of at most the files of the desk.
+fn upgrade_fault<S: Alter>(conn: &mut Connection<S>) -> Got<Fault>
+    requires not_in_transaction { conn.old.in_transaction ≡ false }
+    ensures left { LeavesRows S.Store conn.old conn.new }
+    ensures crash { LeavesOverCrash S.Store conn.old conn.new }
+    ensures not_in_transaction { conn.new.in_transaction ≡ false }
+{
+    if !is_office(Edition::Second, conn.schema()) {
+        return Err(StoreError);
+    }
+    let rows = upgrade_seen(conn)?;
+    Ok(Fault::Upgrade(match rows.as_slice() {
+        [row] => unread::upgrade_rule(row),
+        _ => UpgradeRule::Row,
+    }))
+}
+
+/// The first row of a table that isn't typed, or else the other fault.
+fn untyped_or<S: Alter>(
+    conn: &mut Connection<S>,
+    table: Table,
+    upgrade: Option<u32>,
+    counts: Vec<u16>,
+    other: Fault,
+) -> Got<Option<Fault>>
+    requires not_in_transaction { conn.old.in_transaction ≡ false }
+    ensures left { LeavesRows S.Store conn.old conn.new }
+    ensures crash { LeavesOverCrash S.Store conn.old conn.new }
+    ensures not_in_transaction { conn.new.in_transaction ≡ false }
+{
+    match first_untyped(conn, table, upgrade, counts)? {
+        Some(fault) => Ok(Some(fault)),
+        None => Ok(Some(other)),
+    }
+}
+
+/// The first of the parties, parcels and interests that isn't typed, or isn't counted by the desk.
+fn untyped_objects<S: Alter>(
+    conn: &mut Connection<S>,
+    alloc: Global,
+    desk: Desk,
+) -> Got<Option<Fault>>
+    requires not_in_transaction { conn.old.in_transaction ≡ false }
+    ensures typed { IsFine (state S.Store conn.new)
+        → OverTyped S.Store Second conn.old (λ t. desk ≡ t.desk → IfOk result (λ o. o ≡ None)) }
+    ensures left { LeavesRows S.Store conn.old conn.new }
+    ensures crash { LeavesOverCrash S.Store conn.old conn.new }
+    ensures not_in_transaction { conn.new.in_transaction ≡ false }
+{
+    if !check_parties(conn, Edition::Second, desk.parties)? {
+        let other = Fault::Desk(DeskRule::Parties);
+        return untyped_or(conn, Table::Party, None, Vec::new(alloc), other);
+    }
+    if !check_parcels(conn, Edition::Second, desk.parcels)? {
+        let other = Fault::Desk(DeskRule::Parcels);
+        return untyped_or(conn, Table::Parcel, None, Vec::new(alloc), other);
+    }
+    if !check_interests(conn, Edition::Second)? {
+        return first_untyped(conn, Table::Interest, None, Vec::new(alloc));
+    }
+    Ok(None)
+}
+
+/// The first of the files that isn't typed, or isn't counted by the desk.
+fn untyped_files<S: Alter>(
+    conn: &mut Connection<S>,
+    alloc: Global,
+    desk: Desk,
+    upgrade: Option<u32>,
+) -> Got<Option<Fault>>
+    requires not_in_transaction { conn.old.in_transaction ≡ false }
+    ensures typed { IsFine (state S.Store conn.new)
+        → OverTyped S.Store Second conn.old (λ t. desk ≡ t.desk → t.upgrade ≡ upgrade → IfOk result (λ o. o ≡ None)) }
+    ensures left { LeavesRows S.Store conn.old conn.new }
+    ensures crash { LeavesOverCrash S.Store conn.old conn.new }
+    ensures not_in_transaction { conn.new.in_transaction ≡ false }
+{
+    match check_files(conn, alloc, Edition::Second, upgrade, desk.files)? {
+        Some(_) => Ok(None),
+        None => {
+            let other = Fault::Desk(DeskRule::Files);
+            untyped_or(conn, Table::File, upgrade, Vec::new(alloc), other)
+        }
+    }
+}
+
+/// The first of the papers that isn't typed, or isn't counted by its file.
+fn untyped_papers<S: Alter>(
+    conn: &mut Connection<S>,
+    alloc: Global,
+    desk: Desk,
+    upgrade: Option<u32>,
+) -> Got<Option<Fault>>
+    requires not_in_transaction { conn.old.in_transaction ≡ false }
+    ensures typed { IsFine (state S.Store conn.new)
+        → OverTyped S.Store Second conn.old (λ t. desk ≡ t.desk → t.upgrade ≡ upgrade → IfOk result (λ o. o ≡ None)) }
+    ensures left { LeavesRows S.Store conn.old conn.new }
+    ensures crash { LeavesOverCrash S.Store conn.old conn.new }
+    ensures not_in_transaction { conn.new.in_transaction ≡ false }
+{
+    let Some(counts) = check_files(conn, alloc, Edition::Second, upgrade, desk.files)? else {
+        return Err(StoreError);
+    };
+    if !check_papers(conn, Edition::Second, counts)? {
+        let Some(counts) = check_files(conn, alloc, Edition::Second, upgrade, desk.files)? else {
+            return Err(StoreError);
+        };
+        return first_untyped(conn, Table::Paper, None, counts);
+    }
+    if !check_rowids(conn, Edition::Second)? {
+        return Ok(Some(Fault::Paper {
+            file: None,
+            number: None,
+            rule: PaperRule::Rowid,
+        }));
+    }
+    Ok(None)
+}
+
+/// The first row that isn't typed, or isn't counted, by the desk and the upgrade. Typed tables have none.
+fn untyped<S: Alter>(
+    conn: &mut Connection<S>,
+    alloc: Global,
+    desk: Desk,
+    upgrade: Option<u32>,
+) -> Got<Option<Fault>>
+    requires not_in_transaction { conn.old.in_transaction ≡ false }
+    ensures typed { IsFine (state S.Store conn.new)
+        → OverTyped S.Store Second conn.old (λ t. desk ≡ t.desk → t.upgrade ≡ upgrade → IfOk result (λ o. o ≡ None)) }
+    ensures left { LeavesRows S.Store conn.old conn.new }
+    ensures crash { LeavesOverCrash S.Store conn.old conn.new }
+    ensures not_in_transaction { conn.new.in_transaction ≡ false }
+{
+    if let Some(fault) = untyped_objects(conn, alloc, desk)? {
+        return Ok(Some(fault));
+    }
+    if let Some(fault) = untyped_files(conn, alloc, desk, upgrade)? {
+        return Ok(Some(fault));
+    }
+    untyped_papers(conn, alloc, desk, upgrade)
+}
+
+/// The first of typed parcels and interests that isn't sound.
+fn unsound_parcels<S: Alter>(conn: &mut Connection<S>, desk: Desk) -> Got<Option<Fault>>
+    requires not_in_transaction { conn.old.in_transaction ≡ false }
+    ensures named { IsFine (state S.Store conn.new)
+        → OverTyped S.Store Second conn.old (λ t. desk ≡ t.desk → IfOk result (λ o. IfSome o (λ fault. IsTrue (breaks t fault)))) }
+    ensures left { LeavesRows S.Store conn.old conn.new }
+    ensures crash { LeavesOverCrash S.Store conn.old conn.new }
+    ensures not_in_transaction { conn.new.in_transaction ≡ false }
+{
+    if let Some(fault) = parcel_fault(conn, Edition::Second, desk.parties)? {
+        return Ok(Some(fault));
+    }
+    interest_fault(conn, Edition::Second, desk.parcels, desk.parties)
+}
+
+/// The first of typed files that isn't sound, by the roles of the parties, and then of their papers.
+fn unsound_cases<S: Alter>(
+    conn: &mut Connection<S>,
+    alloc: Global,
+    desk: Desk,
+    upgrade: Option<u32>,
+    roles: Vec<Role>,
+) -> Got<Option<Fault>>
+    requires not_in_transaction { conn.old.in_transaction ≡ false }
+    ensures named { IsFine (state S.Store conn.new)
+        → OverTyped S.Store Second conn.old (λ t. desk ≡ t.desk → t.upgrade ≡ upgrade → roles.items ≡ map (λ p. p.role) t.parties
+        → IfOk result (λ o. IfSome o (λ fault. IsTrue (breaks t fault)))) }
+    ensures left { LeavesRows S.Store conn.old conn.new }
+    ensures crash { LeavesOverCrash S.Store conn.old conn.new }
+    ensures not_in_transaction { conn.new.in_transaction ≡ false }
+{
+    if let Some(fault) = file_fault(
+        conn,
+        Edition::Second,
+        upgrade,
+        roles,
+        desk.parcels,
+        desk.last,
+    )? {
+        return Ok(Some(fault));
+    }
+    papers_fault(conn, alloc, desk, upgrade)
+}
+
+/// The first place at which typed tables of a sound desk aren't sound.
+fn unsound_rows<S: Alter>(
+    conn: &mut Connection<S>,
+    alloc: Global,
+    desk: Desk,
+    upgrade: Option<u32>,
+) -> Got<Option<Fault>>
+    requires not_in_transaction { conn.old.in_transaction ≡ false }
+    requires fits { fits_desk desk ≡ true }
+    ensures named { IsFine (state S.Store conn.new)
+        → OverTyped S.Store Second conn.old (λ t. desk ≡ t.desk → t.upgrade ≡ upgrade
+        → IfOk result (λ o. IfSome o (λ fault. IsTrue (breaks t fault)))) }
+    ensures left { LeavesRows S.Store conn.old conn.new }
+    ensures crash { LeavesOverCrash S.Store conn.old conn.new }
+    ensures not_in_transaction { conn.new.in_transaction ≡ false }
+{
+    let roles = roles_of(conn, alloc, Edition::Second)?;
+    if !has_official(&roles) {
+        return Ok(Some(Fault::Party {
+            number: Some(1),
+            rule: PartyRule::Official,
+        }));
+    }
+    if let Some(fault) = unsound_parcels(conn, desk)? {
+        return Ok(Some(fault));
+    }
+    unsound_cases(conn, alloc, desk, upgrade, roles)
+}
+
+/// The first place at which typed tables aren't sound.
+fn unsound<S: Alter>(
+    conn: &mut Connection<S>,
+    alloc: Global,
+    desk: Desk,
+    upgrade: Option<u32>,
+) -> Got<Option<Fault>>
+    requires not_in_transaction { conn.old.in_transaction ≡ false }
+    ensures named { IsFine (state S.Store conn.new)
+        → OverTyped S.Store Second conn.old (λ t. desk ≡ t.desk → t.upgrade ≡ upgrade
+        → IfOk result (λ o. IfSome o (λ fault. IsTrue (breaks t fault)))) }
+    ensures left { LeavesRows S.Store conn.old conn.new }
+    ensures crash { LeavesOverCrash S.Store conn.old conn.new }
+    ensures not_in_transaction { conn.new.in_transaction ≡ false }
+{
+    match desk_rule(desk) {
+        Some(rule) => Ok(Some(Fault::Desk(rule))),
+        None => unsound_rows(conn, alloc, desk, upgrade),
+    }
+}
+
+/// The first place at which tables aren't sound, by their desk and upgrade.
+fn fault_under<S: Alter>(
+    conn: &mut Connection<S>,
+    alloc: Global,
+    desk: Desk,
+    upgrade: Option<u32>,
+) -> Got<Option<Fault>>
+    requires not_in_transaction { conn.old.in_transaction ≡ false }
+    ensures named { IsFine (state S.Store conn.new)
+        → OverTyped S.Store Second conn.old (λ t. desk ≡ t.desk → t.upgrade ≡ upgrade
+        → IfOk result (λ o. IfSome o (λ fault. IsTrue (breaks t fault)))) }
+    ensures left { LeavesRows S.Store conn.old conn.new }
+    ensures crash { LeavesOverCrash S.Store conn.old conn.new }
+    ensures not_in_transaction { conn.new.in_transaction ≡ false }
+{
+    match untyped(conn, alloc, desk, upgrade)? {
+        Some(fault) => Ok(Some(fault)),
+        None => unsound(conn, alloc, desk, upgrade),
+    }
+}
+
+/// The first place at which tables aren't sound.
+fn place<S: Alter>(conn: &mut Connection<S>, alloc: Global) -> Got<Option<Fault>>
+    requires not_in_transaction { conn.old.in_transaction ≡ false }
+    ensures named { IsFine (state S.Store conn.new)
+        → OverTyped S.Store Second conn.old (λ t. IfOk result (λ o. IfSome o (λ fault. IsTrue (breaks t fault)))) }
+    ensures left { LeavesRows S.Store conn.old conn.new }
+    ensures crash { LeavesOverCrash S.Store conn.old conn.new }
+    ensures not_in_transaction { conn.new.in_transaction ≡ false }
+{
+    if !has_desk(conn.schema()) {
+        return Err(StoreError);
+    }
+    let Some(desk) = find_desk(conn, Edition::Second)? else {
+        return Ok(Some(desk_fault(conn)?));
+    };
+    let Some(upgrade) = find_upgrade(conn, Edition::Second, desk.files)? else {
+        return Ok(Some(upgrade_fault(conn)?));
+    };
+    fault_under(conn, alloc, desk, upgrade)
+}
+
+/// Where the tables of a database aren't sound, the first place. It names one only where the database keeps no sound
+/// tables, and none only where it keeps such; and what it names of typed tables is false of them.
+pub fn first_fault<S: Alter>(conn: &mut Connection<S>, alloc: Global) -> Got<Option<Fault>>
+    ensures none { IsFine (state S.Store conn.new) → IfOk result (λ o. o ≡ None → KeepsSound (state S.Store conn.old).now) }
+    ensures some { IsFine (state S.Store conn.new) → IfOk result (λ o. IsSome o → ¬ KeepsSound (state S.Store conn.old).now) }
+    ensures named { IsFine (state S.Store conn.new)
+        → OverTyped S.Store Second conn.old (λ t. IfOk result (λ o. IfSome o (λ fault. IsTrue (breaks t fault)))) }
+    ensures left { LeavesRows S.Store conn.old conn.new }
+    ensures crash { LeavesOverCrash S.Store conn.old conn.new }
+{
+    if !conn.is_autocommit() {
+        return Err(StoreError);
+    }
+    if !is_office(Edition::Second, conn.schema()) {
+        return Err(StoreError);
+    }
+    if let Some(_) = find_sound(conn, alloc, Edition::Second)? {
+        return Ok(None);
+    }
+    match place(conn, alloc)? {
+        Some(fault) => Ok(Some(fault)),
+        None => Err(StoreError),
+    }
+}

@@ -1,0 +1,18 @@
+-- What an office that was asked once, or not at all, is.
+use Rattle.std.proofs.Common.{◌≡◌, ◌≤◌, ℕ, Bool, true, false, inl, inr, refl, ap, subst, arith}
+use Rattle.permit_store.specs.Frames.{StoreView}
+use Rattle.permit_office.specs.Office.{OfficeView}
+use Rattle.permit_wire.specs.Serving.{AsksOnce, Moves, StepsOn}
+
+module _ {S : Type 0} (view : S → StoreView) (day : ℕ) (office office' : OfficeView S) where
+  pub moves : (asked : Bool) → AsksOnce (StepsOn view day) office office' asked → Moves view day office office'
+  moves true h = inr (h.0, h.1.reply, h.2.0)
+  moves false same = inl same
+
+  pub policy : Moves view day office office' → office'.policy ≡ office.policy
+  policy (inl same) = ap (λ (o : OfficeView S). o.policy) same
+  policy (inr h) = h.2.step.policy
+
+  pub doubt : Moves view day office office' → (view office.store).doubt ≤ (view office'.store).doubt
+  doubt (inl same) = let e = ap (λ (o : OfficeView S). (view o.store).doubt) same in omega arith
+  doubt (inr h) = h.2.step.doubt
