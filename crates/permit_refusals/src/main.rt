@@ -7,10 +7,12 @@
 
 mod calls;
 mod failing;
+mod lists;
 mod others;
 mod serving;
 mod tables;
 
+use lists::listed;
 use others::{hall, imported, made, passed};
 use permit_samples::offices::over_vectors;
 use permit_samples::opening::OPENING;
@@ -22,7 +24,7 @@ use std::test::Fail;
 
 /// The words that say what is played, each with the words behind it.
 const USAGE: &str =
-    "calls, scenarios, steps SCENARIO LEFT-OUT, bytes SCENARIO LEFT-OUT, made, hall LEFT-OUT, import LEFT-OUT RECORDS, rows";
+    "calls, scenarios, steps SCENARIO LEFT-OUT, bytes SCENARIO LEFT-OUT, made, hall LEFT-OUT, lists LEFT-OUT, import LEFT-OUT RECORDS, rows";
 
 /// The number at a place, 0 where there is none.
 fn number(words: &[String], at: usize) -> usize {
@@ -82,6 +84,7 @@ fn main(rt: HostRuntime) -> Result<(), Fail> {
             "bytes" => serve_all(&rt, Way::Bytes, first, second),
             "made" => made(&rt),
             "hall" => hall(&rt, first),
+            "lists" => listed(rt, first),
             "import" => imported(&rt, first, second),
             "rows" => passed(&rt),
             _ => Ok(println!(rt; "{USAGE}")?),

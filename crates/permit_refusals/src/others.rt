@@ -12,6 +12,7 @@ use permit_http::inbox::Inbox;
 use permit_import::fault::ImportFault;
 use permit_import::importing::import;
 use permit_office::office::Office;
+use permit_office::reply::Reply;
 use permit_office::showing::RowsEnd;
 use permit_policy::text::read_policy;
 use permit_report::RegisterWriter;
@@ -80,7 +81,7 @@ pub fn made(rt: &(impl Print + AllocGlobal)) -> Result<(), Fail> {
 }
 
 /// What a line of a script asks.
-fn asked(alloc: Global, line: &str) -> Result<Asked, Fail> {
+pub fn asked(alloc: Global, line: &str) -> Result<Asked, Fail> {
     let bytes = request(alloc, &read_ask(line)?)?;
     let mut inbox = Inbox::new();
     let mut reader = bytes.as_str().as_bytes();
@@ -91,7 +92,7 @@ fn asked(alloc: Global, line: &str) -> Result<Asked, Fail> {
 }
 
 /// The requests of the hall, one of each of three sessions.
-const SESSIONS: [&str; 3] = [
+pub const SESSIONS: [&str; 3] = [
     "5 19723 POST /files {\"parcel\":1,\"kind\":\"construct\",\"valuation\":1,\"description\":\"House\"}",
     "1 19723 GET /files",
     "6 19723 GET /registers/files",
@@ -116,11 +117,29 @@ fn events(alloc: Global, left_out: usize) -> Result<Vec<Event>, Fail> {
     Ok(events)
 }
 
+/// Prints the reply to the request of the number, as it is answered on the day of the hall.
+pub fn print_reply(
+    rt: &(impl Print + AllocGlobal),
+    number: usize,
+    reply: Reply,
+) -> Result<(), Fail> {
+    let alloc = rt.alloc();
+    let actions = [Action::File, Action::List, Action::List];
+    let answer = Answer::Replied {
+        reply,
+        action: *actions.get(number.wrapping_sub(1)).ok_or("a session")?,
+        day: day(19723)?,
+    };
+    let mut written = Vec::new(alloc);
+    let _ = write_reply(alloc, &answer, false, &mut written);
+    drop(answer);
+    print_answer(rt, number, "kept", written)
+}
+
 /// Runs a hall of three sessions without the request of the number, and prints the answers and the tables.
 pub fn hall(rt: &(impl Print + AllocGlobal), left_out: usize) -> Result<(), Fail> {
     let alloc = rt.alloc();
     let mut office = opened(alloc)?;
-    let actions = [Action::File, Action::List, Action::List];
     let events = events(alloc, left_out)?;
     println!(rt; "{COUNT}")?;
     let ran = hall_run(alloc, &mut office, events.as_slice());
@@ -128,16 +147,7 @@ pub fn hall(rt: &(impl Print + AllocGlobal), left_out: usize) -> Result<(), Fail
     match ran {
         Ok(answers) => {
             for (session, reply) in answers {
-                let number = usize::from(session);
-                let answer = Answer::Replied {
-                    reply,
-                    action: *actions.get(number.wrapping_sub(1)).ok_or("a session")?,
-                    day: day(19723)?,
-                };
-                let mut written = Vec::new(alloc);
-                let _ = write_reply(alloc, &answer, false, &mut written);
-                drop(answer);
-                print_answer(rt, number, "kept", written)?;
+                print_reply(rt, usize::from(session), reply)?;
             }
         }
         Err(_) => println!(rt; "0 memory")?,
@@ -212,7 +222,11 @@ fn play_all(alloc: Global, office: &mut Office<PlainStore>, scenario: &[&str]) -
 pub fn passed(rt: &(impl Print + AllocGlobal)) -> Result<(), Fail> {
     let alloc = rt.alloc();
     let mut office = opened(alloc)?;
-    play_all(alloc, &mut office, listings().get(1).ok_or("who lists which files")?)?;
+    play_all(
+        alloc,
+        &mut office,
+        listings().get(1).ok_or("who lists which files")?,
+    )?;
     let on = day(19723)?;
     for party in [1usize, 2, 5] {
         let token = token(alloc, TOKENS.get(party.wrapping_sub(1)).ok_or("a party")?)?;
