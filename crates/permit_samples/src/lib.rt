@@ -3,6 +3,7 @@
 #![tactic(auto)]
 
 pub mod ask;
+pub mod each_change;
 pub mod exchange;
 pub mod filing;
 pub mod found;
@@ -15,6 +16,7 @@ mod plans;
 pub mod scenarios;
 pub mod script;
 pub mod standard;
+pub mod tables;
 mod unknown_and_missing;
 pub mod upgrade;
 mod work;

@@ -10,6 +10,17 @@ use permit_store::store::Store;
 use std::alloc::Global;
 use std::test::Fail;
 
+/// The requests of a script, in order.
+pub fn requests<'x>(alloc: Global, script: &'x str) -> Result<Vec<&'x str>, Fail> {
+    let mut requests = Vec::new(alloc);
+    for line in script.lines() {
+        if let Some(request) = line.strip_prefix("> ") {
+            requests.push(request)?;
+        }
+    }
+    Ok(requests)
+}
+
 /// The answer that is written as `STATUS BODY`.
 fn read_answer(alloc: Global, text: &str) -> Result<String, Fail> {
     let (status, members) = text.split_once(" {").ok_or("an answer")?;

@@ -6,9 +6,17 @@ mod calls;
 #[cfg(test)]
 mod changes;
 #[cfg(test)]
+mod commands;
+#[cfg(test)]
 mod damage;
 #[cfg(test)]
 mod database;
+#[cfg(test)]
+mod disk_calls;
+#[cfg(test)]
+mod disk_upgrade;
+#[cfg(test)]
+mod disks;
 #[cfg(test)]
 mod opening;
 #[cfg(test)]
@@ -17,5 +25,7 @@ mod reopening;
 mod rows;
 #[cfg(test)]
 mod several;
+#[cfg(test)]
+mod trials;
 #[cfg(test)]
 mod upgrading;

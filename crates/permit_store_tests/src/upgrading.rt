@@ -13,12 +13,12 @@ use std::alloc::Global;
 use std::test::Fail;
 
 /// What makes of a database of version 2 the one of version 1 with the same rows.
-const VERSION_1: [&str; 2] = ["DROP TABLE upgrade", "UPDATE desk SET version = 1"];
+pub(crate) const VERSION_1: [&str; 2] = ["DROP TABLE upgrade", "UPDATE desk SET version = 1"];
 
 /// What the databases of either version show of the desk, and of the upgrade.
 const DESK: &str = "SELECT version || ' ' || last || ' ' || files FROM desk";
 
-const UPGRADE: &str = "SELECT id || ' ' || files FROM upgrade";
+pub(crate) const UPGRADE: &str = "SELECT id || ' ' || files FROM upgrade";
 
 /// A statement that is run in a database of version 1, and why it then isn't upgraded.
 const REFUSED: [(&str, OpenError); 5] = [

@@ -1,0 +1,134 @@
+//! Commands, and what they are answered and leave where nothing fails.
+
+use permit_office::office::Office;
+use permit_samples::ask::read_ask;
+use permit_samples::each_change::{FIRST_CHANGES, LATER_CHANGES};
+use permit_samples::exchange::asked;
+use permit_samples::offices::{over_vectors, under};
+use permit_samples::opening::OPENING;
+use permit_samples::script::{play, requests};
+use permit_samples::tables::tables_text;
+use permit_samples::upgrade::BEFORE;
+use permit_store::plain::PlainStore;
+use permit_store::store::Store;
+use std::alloc::Global;
+use std::test::Fail;
+
+/// A policy under which each command is allowed. It is read faster than the standard one.
+pub(crate) const ANY: &str = "[[rule]]\nname = \"any\"\neffect = \"allow\"\n";
+
+/// Behind what the commands come.
+#[derive(Clone, Copy)]
+pub(crate) enum Begin {
+    /// Behind the founding.
+    New,
+    /// Behind a construction whose frame is approved.
+    Framed,
+}
+
+/// The answers to commands, and the tables behind them.
+#[derive(Drop)]
+pub(crate) struct Behind {
+    pub(crate) answers: String,
+    pub(crate) tables: String,
+}
+
+impl Behind {
+    fn copy(&self, alloc: Global) -> Result<Behind, Fail> {
+        Ok(Behind {
+            answers: String::from_str(alloc, self.answers.as_str())?,
+            tables: String::from_str(alloc, self.tables.as_str())?,
+        })
+    }
+}
+
+/// The commands of a script.
+#[derive(Drop)]
+pub(crate) struct Commands {
+    pub(crate) begin: Begin,
+    pub(crate) requests: Vec<&'static str>,
+    /// What is behind none of them, behind the first, behind the first two, and so on.
+    behind: Vec<Behind>,
+}
+
+/// Plays what comes before the commands.
+pub(crate) fn play_before<S: Store + Drop>(
+    alloc: Global,
+    office: &mut Office<S>,
+    begin: Begin,
+) -> Result<(), Fail> {
+    if let Begin::Framed = begin {
+        play(alloc, office, OPENING)?;
+        for script in BEFORE {
+            play(alloc, office, script)?;
+        }
+    }
+    Ok(())
+}
+
+/// An office over vectors, in which nothing fails.
+fn begun(alloc: Global, begin: Begin) -> Result<Office<PlainStore>, Fail> {
+    let mut office = under(alloc, over_vectors(alloc)?, ANY)?;
+    play_before(alloc, &mut office, begin)?;
+    Ok(office)
+}
+
+/// What is behind these requests.
+fn behind_of(alloc: Global, begin: Begin, lines: &[&str]) -> Result<Behind, Fail> {
+    let mut office = begun(alloc, begin)?;
+    let mut answers = String::new(alloc);
+    for line in lines {
+        answers.push_str(asked(alloc, &mut office, &read_ask(line)?)?.as_str())?;
+    }
+    let tables = tables_text(alloc, &mut office.into_store())?;
+    Ok(Behind { answers, tables })
+}
+
+/// Whether the numbers are 0, 1, 2 and so on.
+fn are_first(numbers: &[usize]) -> bool {
+    for (place, number) in numbers.iter().enumerate() {
+        if *number != place {
+            return false;
+        }
+    }
+    true
+}
+
+impl Commands {
+    /// The commands that come behind this beginning. Fails where they aren't answered as their script wants.
+    pub(crate) fn new(alloc: Global, begin: Begin) -> Result<Commands, Fail> {
+        let script = match begin {
+            Begin::New => FIRST_CHANGES,
+            Begin::Framed => LATER_CHANGES,
+        };
+        play(alloc, &mut begun(alloc, begin)?, script)?;
+        let requests = requests(alloc, script)?;
+        let mut lines = Vec::new(alloc);
+        let mut behind = vec![in alloc; behind_of(alloc, begin, lines.as_slice())?]?;
+        for line in &requests {
+            lines.push(*line)?;
+            behind.push(behind_of(alloc, begin, lines.as_slice())?)?;
+        }
+        Ok(Commands {
+            begin,
+            requests,
+            behind,
+        })
+    }
+
+    /// What is behind the commands of these numbers.
+    pub(crate) fn behind(&self, alloc: Global, numbers: &[usize]) -> Result<Behind, Fail> {
+        if are_first(numbers) {
+            return self
+                .behind
+                .get(numbers.len())
+                .ok_or("commands")?
+                .copy(alloc);
+        }
+        let mut lines = Vec::new(alloc);
+        for number in numbers {
+            lines.push(*self.requests.get(*number).ok_or("a command")?)?;
+        }
+        behind_of(alloc, self.begin, lines.as_slice())
+    }
+}

@@ -1,0 +1,184 @@
+//! Databases over disks that fail: opened, closed, and opened again on what is left.
+
+use crate::commands::{ANY, Begin, play_before};
+use crate::disks::{Bytes, Fault, Trial, Trouble, sound_files};
+use permit_office::office::Office;
+use permit_policy::text::read_policy;
+use permit_samples::offices::founder;
+use permit_samples::tables::tables_text;
+use permit_sql::store::SqlStore;
+use sqlite::{Connection, FileStore, Options};
+use sqlite_disk::Files;
+use std::alloc::Global;
+use std::test::Fail;
+
+/// A connection over the disks.
+pub(crate) type Conn = Connection<FileStore<Trial>>;
+
+/// A store over the disks.
+pub(crate) type Database = SqlStore<FileStore<Trial>>;
+
+/// More calls than any run makes of a disk.
+const MOST_CALLS: u64 = 5000;
+
+/// So few pages are kept in memory that some are read again and some go to the log early, and the log is copied into the
+/// database file within a run.
+fn options() -> Options {
+    let mut options = Options::new(1);
+    options.cache_pages = 16;
+    options.spill_pages = 16;
+    options.checkpoint_frames = 16;
+    options
+}
+
+/// The database in the files, or the files where a call failed.
+pub(crate) fn connected(alloc: Global, files: Files<Trial>) -> Result<Conn, Files<Trial>> {
+    if !files.may_be_used() {
+        return Err(files);
+    }
+    match Connection::open_files(alloc, files, options()) {
+        Ok(conn) => Ok(conn),
+        Err((_, left)) => Err(left.into_files()),
+    }
+}
+
+/// The files of a database that is closed, or whose closing failed.
+pub(crate) fn closed(conn: Conn) -> Files<Trial> {
+    match conn.close_files() {
+        Ok(files) => files,
+        Err((_, store)) => store.close(),
+    }
+}
+
+/// The files of a database that is closed, or of one that was left as it was where the power was cut.
+pub(crate) fn ended(conn: Conn, fault: Fault) -> Files<Trial> {
+    match fault {
+        Fault::Cut => conn.into_store().close(),
+        Fault::Lasting | Fault::Single => closed(conn),
+    }
+}
+
+/// Why no office was opened: a call failed. The database or its files are given back.
+#[derive(Drop)]
+pub(crate) enum Unopened {
+    Files(Files<Trial>),
+    /// No store was founded in it, or found.
+    Conn(Conn),
+    /// A store was, and its desk wasn't read.
+    Store(Database),
+}
+
+impl Unopened {
+    /// The files of what came back, and whether an office was founded.
+    pub(crate) fn into_files(self, fault: Fault) -> (Files<Trial>, bool) {
+        match self {
+            Unopened::Files(files) => (files, false),
+            Unopened::Conn(conn) => (ended(conn, fault), false),
+            Unopened::Store(store) => (ended(store.into_connection(), fault), true),
+        }
+    }
+}
+
+/// The store in a database, which is founded there if it is to be new.
+fn stored(alloc: Global, conn: Conn, begin: Begin) -> Result<Result<Database, Unopened>, Fail> {
+    let store = match begin {
+        Begin::New => SqlStore::create(alloc, conn, &founder(alloc)?),
+        Begin::Framed => SqlStore::open(alloc, conn),
+    };
+    Ok(match store {
+        Ok(store) => Ok(store),
+        Err((conn, _)) => Err(Unopened::Conn(conn)),
+    })
+}
+
+/// The office in the files, which is founded there if it is to be new.
+pub(crate) fn begun(
+    alloc: Global,
+    files: Files<Trial>,
+    begin: Begin,
+) -> Result<Result<Office<Database>, Unopened>, Fail> {
+    let conn = match connected(alloc, files) {
+        Ok(conn) => conn,
+        Err(files) => return Ok(Err(Unopened::Files(files))),
+    };
+    let store = match stored(alloc, conn, begin)? {
+        Ok(store) => store,
+        Err(unopened) => return Ok(Err(unopened)),
+    };
+    Ok(match Office::open(store, read_policy(alloc, ANY)?) {
+        Ok(office) => Ok(office),
+        Err((store, _)) => Err(Unopened::Store(store)),
+    })
+}
+
+/// The database of a new office, behind what comes before the commands.
+pub(crate) fn prepared(alloc: Global, begin: Begin) -> Result<Conn, Fail> {
+    let files = sound_files(alloc, &Bytes::none(alloc))?;
+    let mut office = match begun(alloc, files, Begin::New)? {
+        Ok(office) => office,
+        Err(_) => return Err(Fail::new("no new office")),
+    };
+    play_before(alloc, &mut office, begin)?;
+    Ok(office.into_store().into_connection())
+}
+
+/// The database that is found where files are opened again.
+pub(crate) fn found(alloc: Global, bytes: &Bytes) -> Result<Conn, Fail> {
+    match connected(alloc, sound_files(alloc, bytes)?) {
+        Ok(conn) => Ok(conn),
+        Err(_) => Err(Fail::new("files that can't be opened again")),
+    }
+}
+
+/// The tables in a database, which are sound. None where there is none of them, so that an office can be founded there.
+pub(crate) fn tables_in(alloc: Global, conn: Conn) -> Result<Option<String>, Fail> {
+    match SqlStore::open(alloc, conn) {
+        Ok(store) => {
+            let mut store = store;
+            Ok(Some(tables_text(alloc, &mut store)?))
+        }
+        Err((conn, why)) => match SqlStore::create(alloc, conn, &founder(alloc)?) {
+            Ok(_) => Ok(None),
+            Err((_, _)) => Err(why)?,
+        },
+    }
+}
+
+/// What is tried over disks of which one fails.
+pub(crate) trait Tried {
+    /// Whether the disk failed. Fails itself where something else is found behind the trouble than may be.
+    fn outlasts(&self, alloc: Global, trouble: Trouble) -> Result<bool, Fail>;
+}
+
+/// Tries with a trouble at each call of one of the files in turn, until a run meets none. How many calls failed.
+fn count_outlasted<T: Tried>(
+    alloc: Global,
+    tried: &T,
+    fault: Fault,
+    is_in_log: bool,
+) -> Result<u64, Fail> {
+    for before in 0..MOST_CALLS {
+        let trouble = Trouble {
+            fault,
+            is_in_log,
+            before,
+        };
+        if !tried.outlasts(alloc, trouble)? {
+            return Ok(before);
+        }
+    }
+    Err(Fail::new("no run without a failure"))
+}
+
+/// The same. Fails where no call failed.
+pub(crate) fn outlasts_each<T: Tried>(
+    alloc: Global,
+    tried: &T,
+    fault: Fault,
+    is_in_log: bool,
+) -> Result<(), Fail> {
+    if count_outlasted(alloc, tried, fault, is_in_log)? == 0 {
+        return Err(Fail::new("no call that fails"));
+    }
+    Ok(())
+}
