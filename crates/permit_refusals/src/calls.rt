@@ -2,7 +2,6 @@
 
 use crate::failing::Failing;
 use crate::serving::{opened, requests, scenarios};
-use crate::tables::tables_text;
 use permit_office::office::Office;
 use permit_policy::text::read_policy;
 use permit_samples::ask::read_ask;
@@ -10,6 +9,7 @@ use permit_samples::exchange::asked;
 use permit_samples::scenarios::Scenario;
 use permit_samples::script::agree;
 use permit_samples::standard::POLICY;
+use permit_samples::tables::tables_text;
 use permit_store::plain::PlainStore;
 use std::alloc::Global;
 use std::test::Fail;

@@ -10,7 +10,6 @@ mod failing;
 mod lists;
 mod others;
 mod serving;
-mod tables;
 
 use lists::listed;
 use others::{hall, imported, made, passed};

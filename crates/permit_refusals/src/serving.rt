@@ -1,6 +1,5 @@
 //! The requests of the scenarios, served while memory may be refused.
 
-use crate::tables::tables_text;
 use permit_answer::answer::Answer;
 use permit_answer::write_reply;
 use permit_base::request::action;
@@ -16,7 +15,8 @@ use permit_samples::opening::OPENING;
 use permit_samples::scenarios::{
     Scenario, applications, certificates, filings, inspections, listings, orders,
 };
-use permit_samples::script::play;
+use permit_samples::script::{self, play};
+use permit_samples::tables::tables_text;
 use permit_store::plain::PlainStore;
 use permit_wire::read::read_request;
 use permit_wire::serve::{Served, serve_one};
@@ -56,13 +56,11 @@ pub fn scenarios(alloc: Global) -> Result<Vec<Scenario>, AllocError> {
 }
 
 /// The requests of a scenario, in order.
-pub fn requests(alloc: Global, scenario: Scenario) -> Result<Vec<&'static str>, AllocError> {
+pub fn requests(alloc: Global, scenario: Scenario) -> Result<Vec<&'static str>, Fail> {
     let mut requests = Vec::new(alloc);
     for script in scenario {
-        for line in script.lines() {
-            if let Some(request) = line.strip_prefix("> ") {
-                requests.push(request)?;
-            }
+        for request in script::requests(alloc, script)? {
+            requests.push(request)?;
         }
     }
     Ok(requests)

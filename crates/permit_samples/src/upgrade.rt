@@ -1,5 +1,11 @@
 //! A file that was filed before the upgrade to the second edition of the inspections, and files behind it.
 
+/// The statements that make of a database of version 2 the one of version 1 with the same rows.
+pub const VERSION_1: [&str; 2] = ["DROP TABLE upgrade", "UPDATE desk SET version = 1"];
+
+/// A query of the number of the upgrade's row and the files that it counts, in one text.
+pub const UPGRADE: &str = "SELECT id || ' ' || files FROM upgrade";
+
 use crate::scenarios::Scenario;
 use crate::work;
 

@@ -6,17 +6,9 @@ mod calls;
 #[cfg(test)]
 mod changes;
 #[cfg(test)]
-mod commands;
-#[cfg(test)]
 mod damage;
 #[cfg(test)]
 mod database;
-#[cfg(test)]
-mod disk_calls;
-#[cfg(test)]
-mod disk_upgrade;
-#[cfg(test)]
-mod disks;
 #[cfg(test)]
 mod opening;
 #[cfg(test)]
@@ -25,7 +17,5 @@ mod reopening;
 mod rows;
 #[cfg(test)]
 mod several;
-#[cfg(test)]
-mod trials;
 #[cfg(test)]
 mod upgrading;

@@ -5,20 +5,15 @@ use permit_samples::offices::office_over;
 use permit_samples::opening::OPENING;
 use permit_samples::script::play;
 use permit_samples::standard::POLICY;
-use permit_samples::upgrade::{BEFORE, BEHIND};
+use permit_samples::upgrade::{BEFORE, BEHIND, UPGRADE, VERSION_1};
 use permit_sql::store::SqlStore;
 use permit_store::store::OpenError;
 use sqlite::{Connection, MemStore};
 use std::alloc::Global;
 use std::test::Fail;
 
-/// What makes of a database of version 2 the one of version 1 with the same rows.
-pub(crate) const VERSION_1: [&str; 2] = ["DROP TABLE upgrade", "UPDATE desk SET version = 1"];
-
-/// What the databases of either version show of the desk, and of the upgrade.
+/// A query of what the databases of either version show of the desk.
 const DESK: &str = "SELECT version || ' ' || last || ' ' || files FROM desk";
-
-pub(crate) const UPGRADE: &str = "SELECT id || ' ' || files FROM upgrade";
 
 /// A statement that is run in a database of version 1, and why it then isn't upgraded.
 const REFUSED: [(&str, OpenError); 5] = [

@@ -6,7 +6,7 @@ use crate::disks::{Bytes, Fault, Told, Trial, Trouble, failing_files, left_by, u
 use crate::trials::{
     Conn, Tried, closed, connected, ended, found, outlasts_each, prepared, tables_in,
 };
-use crate::upgrading::{UPGRADE, VERSION_1};
+use permit_samples::upgrade::{UPGRADE, VERSION_1};
 use permit_sql::store::SqlStore;
 use permit_store::store::OpenError;
 use sqlite_disk::Files;
@@ -91,36 +91,36 @@ impl Tried for Old {
 }
 
 /// Upgrades with a fault at each call of one of the files in turn.
-fn hold(alloc: Global, fault: Fault, is_in_log: bool) -> Result<(), Fail> {
-    outlasts_each(alloc, &Old::new(alloc)?, fault, is_in_log)
+fn hold(rt: &(impl Print + AllocGlobal), fault: Fault, is_in_log: bool) -> Result<(), Fail> {
+    outlasts_each(rt, &Old::new(rt.alloc())?, fault, is_in_log)
 }
 
 #[test]
 fn an_upgrade_outlasts_a_log_that_fails(rt: HostRuntime) -> Result<(), Fail> {
-    hold(rt.alloc(), Fault::Lasting, true)
+    hold(&rt, Fault::Lasting, true)
 }
 
 #[test]
 fn an_upgrade_outlasts_a_file_that_fails(rt: HostRuntime) -> Result<(), Fail> {
-    hold(rt.alloc(), Fault::Lasting, false)
+    hold(&rt, Fault::Lasting, false)
 }
 
 #[test]
 fn an_upgrade_outlasts_a_call_of_the_log_that_fails(rt: HostRuntime) -> Result<(), Fail> {
-    hold(rt.alloc(), Fault::Single, true)
+    hold(&rt, Fault::Single, true)
 }
 
 #[test]
 fn an_upgrade_outlasts_a_call_of_the_file_that_fails(rt: HostRuntime) -> Result<(), Fail> {
-    hold(rt.alloc(), Fault::Single, false)
+    hold(&rt, Fault::Single, false)
 }
 
 #[test]
 fn an_upgrade_outlasts_a_power_cut_at_the_log(rt: HostRuntime) -> Result<(), Fail> {
-    hold(rt.alloc(), Fault::Cut, true)
+    hold(&rt, Fault::Cut, true)
 }
 
 #[test]
 fn an_upgrade_outlasts_a_power_cut_at_the_file(rt: HostRuntime) -> Result<(), Fail> {
-    hold(rt.alloc(), Fault::Cut, false)
+    hold(&rt, Fault::Cut, false)
 }

@@ -169,66 +169,71 @@ impl Tried for Play {
 }
 
 /// Plays the commands behind a beginning with a fault at each call of one of the files in turn.
-fn hold(alloc: Global, begin: Begin, fault: Fault, is_in_log: bool) -> Result<(), Fail> {
-    outlasts_each(alloc, &Play::new(alloc, begin)?, fault, is_in_log)
+fn hold(
+    rt: &(impl Print + AllocGlobal),
+    begin: Begin,
+    fault: Fault,
+    is_in_log: bool,
+) -> Result<(), Fail> {
+    outlasts_each(rt, &Play::new(rt.alloc(), begin)?, fault, is_in_log)
 }
 
 #[test]
 fn a_founding_outlasts_a_log_that_fails(rt: HostRuntime) -> Result<(), Fail> {
-    hold(rt.alloc(), Begin::New, Fault::Lasting, true)
+    hold(&rt, Begin::New, Fault::Lasting, true)
 }
 
 #[test]
 fn a_founding_outlasts_a_file_that_fails(rt: HostRuntime) -> Result<(), Fail> {
-    hold(rt.alloc(), Begin::New, Fault::Lasting, false)
+    hold(&rt, Begin::New, Fault::Lasting, false)
 }
 
 #[test]
 fn a_founding_outlasts_a_call_of_the_log_that_fails(rt: HostRuntime) -> Result<(), Fail> {
-    hold(rt.alloc(), Begin::New, Fault::Single, true)
+    hold(&rt, Begin::New, Fault::Single, true)
 }
 
 #[test]
 fn a_founding_outlasts_a_call_of_the_file_that_fails(rt: HostRuntime) -> Result<(), Fail> {
-    hold(rt.alloc(), Begin::New, Fault::Single, false)
+    hold(&rt, Begin::New, Fault::Single, false)
 }
 
 #[test]
 fn a_founding_outlasts_a_power_cut_at_the_log(rt: HostRuntime) -> Result<(), Fail> {
-    hold(rt.alloc(), Begin::New, Fault::Cut, true)
+    hold(&rt, Begin::New, Fault::Cut, true)
 }
 
 #[test]
 fn a_founding_outlasts_a_power_cut_at_the_file(rt: HostRuntime) -> Result<(), Fail> {
-    hold(rt.alloc(), Begin::New, Fault::Cut, false)
+    hold(&rt, Begin::New, Fault::Cut, false)
 }
 
 #[test]
 fn commands_outlast_a_log_that_fails(rt: HostRuntime) -> Result<(), Fail> {
-    hold(rt.alloc(), Begin::Framed, Fault::Lasting, true)
+    hold(&rt, Begin::Framed, Fault::Lasting, true)
 }
 
 #[test]
 fn commands_outlast_a_file_that_fails(rt: HostRuntime) -> Result<(), Fail> {
-    hold(rt.alloc(), Begin::Framed, Fault::Lasting, false)
+    hold(&rt, Begin::Framed, Fault::Lasting, false)
 }
 
 #[test]
 fn commands_outlast_a_call_of_the_log_that_fails(rt: HostRuntime) -> Result<(), Fail> {
-    hold(rt.alloc(), Begin::Framed, Fault::Single, true)
+    hold(&rt, Begin::Framed, Fault::Single, true)
 }
 
 #[test]
 fn commands_outlast_a_call_of_the_file_that_fails(rt: HostRuntime) -> Result<(), Fail> {
-    hold(rt.alloc(), Begin::Framed, Fault::Single, false)
+    hold(&rt, Begin::Framed, Fault::Single, false)
 }
 
 #[test]
 fn commands_outlast_a_power_cut_at_the_log(rt: HostRuntime) -> Result<(), Fail> {
-    hold(rt.alloc(), Begin::Framed, Fault::Cut, true)
+    hold(&rt, Begin::Framed, Fault::Cut, true)
 }
 
 #[test]
 fn commands_outlast_a_power_cut_at_the_file(rt: HostRuntime) -> Result<(), Fail> {
-    hold(rt.alloc(), Begin::Framed, Fault::Cut, false)
+    hold(&rt, Begin::Framed, Fault::Cut, false)
 }

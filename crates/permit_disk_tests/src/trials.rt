@@ -170,15 +170,18 @@ fn count_outlasted<T: Tried>(
     Err(Fail::new("no run without a failure"))
 }
 
-/// The same. Fails where no call failed.
+/// The same, and prints how many calls failed. Fails where none did.
 pub(crate) fn outlasts_each<T: Tried>(
-    alloc: Global,
+    rt: &(impl Print + AllocGlobal),
     tried: &T,
     fault: Fault,
     is_in_log: bool,
 ) -> Result<(), Fail> {
-    if count_outlasted(alloc, tried, fault, is_in_log)? == 0 {
+    let calls = count_outlasted(rt.alloc(), tried, fault, is_in_log)?;
+    if calls == 0 {
         return Err(Fail::new("no call that fails"));
     }
+    let file = if is_in_log { "log" } else { "file" };
+    println!(rt; "{calls} calls of the {file} failed in turn")?;
     Ok(())
 }
