@@ -1,12 +1,13 @@
 //! The hall with ample memory: over events, over lists of requests, and over doors whose connections are in memory.
 
+use crate::calendar::{Calendar, always, midnight_after};
 use crate::memory_doors::{
     MemoryDoor, NO_TROUBLE, Shared, collected, connection, hall, new_record, written,
 };
 use permit_base::refusal::{Reason, Refusal};
 use permit_base::request::{Asked, Command, Request};
-use permit_base::values::{Cents, Day};
-use permit_base::words::{Kind, Step};
+use permit_base::values::Cents;
+use permit_base::words::{Kind, Stage, Step, Timing};
 use permit_hall::error::HallError;
 use permit_hall::events::{Event, hall_run};
 use permit_hall::lists::{ListsEnd, run_lists};
@@ -14,6 +15,7 @@ use permit_office::office::Office;
 use permit_office::reply::Reply;
 use permit_samples::ask::{Ask, TOKENS};
 use permit_samples::exchange::{answer, request};
+use permit_samples::filing::FILED;
 use permit_samples::makers::{day, file, parcel, text, token};
 use permit_samples::offices::over_vectors;
 use permit_samples::opening::OPENING;
@@ -117,16 +119,17 @@ fn hall_events_that_do_nothing(rt: HostRuntime) -> Result<(), Fail> {
     Ok(())
 }
 
-/// How the hall over the lists ends, each request served on the day. The tests share this one call of `run_lists`, since
-/// each further one, with a closure of its own type, takes long to prove.
+/// How the hall over the lists ends, each request served on its day of the calendar. The tests share this one call of
+/// `run_lists`, since each further one, with a closure of its own type, takes long to prove.
 fn hall_of_lists<R: Threads + Wait + Copy + Drop + Send + 'static>(
     rt: R,
     alloc: Global,
     office: Office<PlainStore>,
     lists: Vec<Vec<Asked>>,
-    on: Day,
+    calendar: Calendar,
 ) -> Result<ListsEnd<PlainStore>, HallError> {
-    match run_lists(rt, alloc, office, lists, &mut || on) {
+    let mut calendar = calendar;
+    match run_lists(rt, alloc, office, lists, &mut || calendar.next()) {
         Ok(end) => Ok(end),
         Err((_, error)) => Err(error),
     }
@@ -140,7 +143,7 @@ fn two_approvals_of_one_request(rt: HostRuntime) -> Result<(), Fail> {
         vec![in alloc; approval(alloc, 1)?]?,
         vec![in alloc; approval(alloc, 4)?]?,
     ]?;
-    let Ok(end) = hall_of_lists(rt, alloc, office, lists, day(REQUESTED)?) else {
+    let Ok(end) = hall_of_lists(rt, alloc, office, lists, always(REQUESTED)?) else {
         return Err(Fail::new("a hall"));
     };
     let [Some(first), Some(second)] = end.answers.as_slice() else {
@@ -172,7 +175,7 @@ fn filing_and_reading(alloc: Global) -> Result<Vec<Asked>, Fail> {
 fn a_filing_and_then_its_reading(rt: HostRuntime) -> Result<(), Fail> {
     let alloc = rt.alloc();
     let lists = vec![in alloc; filing_and_reading(alloc)?]?;
-    let Ok(end) = hall_of_lists(rt, alloc, opened(alloc)?, lists, day(19723)?) else {
+    let Ok(end) = hall_of_lists(rt, alloc, opened(alloc)?, lists, always(19723)?) else {
         return Err(Fail::new("a hall"));
     };
     let [Some(answers)] = end.answers.as_slice() else {
@@ -182,6 +185,31 @@ fn a_filing_and_then_its_reading(rt: HostRuntime) -> Result<(), Fail> {
         return Err(Fail::new("a filing and the file"));
     };
     assert!(rt; view.row.id.get() == 1 && papers.is_empty());
+    Ok(())
+}
+
+/// A file is read twice, with a midnight between that leaves its last day behind.
+#[test]
+fn midnight_in_a_list(rt: HostRuntime) -> Result<(), Fail> {
+    let alloc = rt.alloc();
+    let mut office = opened(alloc)?;
+    play(alloc, &mut office, FILED)?;
+    let (once, again) = (
+        Request::ReadFile { file: file(1)? },
+        Request::ReadFile { file: file(1)? },
+    );
+    let lists = vec![in alloc; vec![in alloc; by(alloc, 1, once)?, by(alloc, 1, again)?]?]?;
+    let Ok(end) = hall_of_lists(rt, alloc, office, lists, midnight_after(1, 19903)?) else {
+        return Err(Fail::new("a hall"));
+    };
+    let [Some(answers)] = end.answers.as_slice() else {
+        return Err(Fail::new("a list of answers"));
+    };
+    let [Reply::File(before, _), Reply::File(after, _)] = answers.as_slice() else {
+        return Err(Fail::new("the file twice"));
+    };
+    assert!(rt; before.stage == Stage::Filed && before.timing == Timing::Near);
+    assert!(rt; after.stage == Stage::Abandoned && after.timing == Timing::Past);
     Ok(())
 }
 
@@ -226,7 +254,7 @@ fn two_approvals_over_doors(rt: HostRuntime) -> Result<(), Fail> {
         approving_door(rt, alloc, &one, 1, None)?,
         approving_door(rt, alloc, &other, 4, None)?,
     ]?;
-    let counts = collected(rt, alloc, office, doors, day(REQUESTED)?)?;
+    let counts = collected(rt, alloc, office, doors, always(REQUESTED)?)?;
     assert!(rt; counts.as_slice() == [1, 1].as_slice());
     let done = answer(alloc, "200 OK", DONE)?;
     let refused = answer(alloc, "409 Conflict", NOT_ADMITTED)?;
@@ -245,7 +273,7 @@ fn doors_are_served_at_once(rt: HostRuntime) -> Result<(), Fail> {
         approving_door(rt, alloc, &late, 1, Some(Arc::try_clone(&early)?))?,
         approving_door(rt, alloc, &early, 4, None)?,
     ]?;
-    let counts = collected(rt, alloc, office, doors, day(REQUESTED)?)?;
+    let counts = collected(rt, alloc, office, doors, always(REQUESTED)?)?;
     assert!(rt; counts.as_slice() == [1, 1].as_slice());
     assert!(rt; written(&rt, alloc, &early)? == answer(alloc, "200 OK", DONE)?);
     assert!(rt; written(&rt, alloc, &late)? == answer(alloc, "409 Conflict", NOT_ADMITTED)?);
@@ -255,16 +283,16 @@ fn doors_are_served_at_once(rt: HostRuntime) -> Result<(), Fail> {
 #[test]
 fn a_hall_has_one_to_eight_sessions(rt: HostRuntime) -> Result<(), Fail> {
     let alloc = rt.alloc();
-    let on = day(REQUESTED)?;
+    let calendar = always(REQUESTED)?;
     for count in [0usize, 9] {
         let mut lists = Vec::new(alloc);
         for _ in 0..count {
             lists.push(Vec::new(alloc))?;
         }
-        let error = hall_of_lists(rt, alloc, opened(alloc)?, lists, on).err();
+        let error = hall_of_lists(rt, alloc, opened(alloc)?, lists, calendar).err();
         assert!(rt; error == Some(HallError::Count));
     }
-    let error = hall(rt, alloc, opened(alloc)?, Vec::new(alloc), on).err();
+    let error = hall(rt, alloc, opened(alloc)?, Vec::new(alloc), calendar).err();
     assert!(rt; error == Some(HallError::Count));
     Ok(())
 }

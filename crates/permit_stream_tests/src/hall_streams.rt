@@ -1,13 +1,13 @@
 //! Connections with hostile bytes, and with readers and writers that fail. Whatever one does, its door goes on with the
 //! next one, which is served as if it were alone.
 
+use crate::calendar::always;
 use crate::hall::{DONE, NOT_ADMITTED, REQUESTED, approval_text, with_pending_frame};
 use crate::memory_doors::{
     MemoryDoor, NO_TROUBLE, Trouble, collected, connection, new_record, written,
 };
 use crate::messages::{fields, padded};
 use permit_samples::exchange::answer;
-use permit_samples::makers::day;
 use permit_samples::script::agree;
 use std::alloc::Global;
 use std::sync::Wait;
@@ -110,7 +110,7 @@ fn is_followed<R: Threads + Wait + Copy + Drop + Send + 'static>(
         connections,
         waits_for: None,
     };
-    let counts = collected(rt, alloc, office, vec![in alloc; door]?, day(REQUESTED)?)?;
+    let counts = collected(rt, alloc, office, vec![in alloc; door]?, always(REQUESTED)?)?;
     let (count, after) = if case.approves {
         (2, answer(alloc, "409 Conflict", NOT_ADMITTED)?)
     } else {

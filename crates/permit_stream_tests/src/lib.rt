@@ -5,11 +5,17 @@
 #[cfg(test)]
 mod answers;
 #[cfg(test)]
+mod calendar;
+#[cfg(test)]
 mod hall;
+#[cfg(test)]
+mod hall_commands;
 #[cfg(test)]
 mod hall_streams;
 #[cfg(test)]
 mod imports;
+#[cfg(test)]
+mod limits;
 #[cfg(test)]
 mod memory_doors;
 #[cfg(test)]

@@ -2,7 +2,7 @@
 
 ghost use Rattle.std.specs.Prelude.{◌≡◌, [], ◌∷◌, ◌++◌, MatchOption};
 
-use permit_base::values::Day;
+use crate::calendar::Calendar;
 use permit_hall::doors::{Door, HallEnd, run_hall};
 use permit_hall::error::HallError;
 use permit_office::office::Office;
@@ -59,6 +59,8 @@ pub struct Trouble {
     pub at_once: usize,
     /// How many bytes the writer takes before it fails.
     pub fails_at: usize,
+    /// Whether it then takes no byte, and doesn't fail.
+    pub stalls: bool,
 }
 
 /// Streams that do as memory does.
@@ -66,6 +68,7 @@ pub const NO_TROUBLE: Trouble = Trouble {
     reader_fails: false,
     at_once: usize::MAX,
     fails_at: usize::MAX,
+    stalls: false,
 };
 
 /// The requests of a connection, behind which its input ends, or fails.
@@ -95,11 +98,12 @@ pub struct Answers<R: Wait + Drop> {
     record: Shared,
     at_once: usize,
     free: usize,
+    stalls: bool,
 }
 
 impl<R: Wait + Drop> Write for Answers<R> {
     fn write(&mut self, bytes: &[u8]) -> io::Result<usize> {
-        if self.free == 0 {
+        if self.free == 0 && !self.stalls {
             return Err(io::Error::from(ErrorKind::BrokenPipe));
         }
         let count = bytes.len().min(self.at_once).min(self.free);
@@ -135,6 +139,7 @@ pub fn connection<R: Wait + Drop>(
         record: Arc::try_clone(record)?,
         at_once: trouble.at_once,
         free: trouble.fails_at,
+        stalls: trouble.stalls,
     };
     Ok((requests, answers))
 }
@@ -166,30 +171,31 @@ impl<R: Wait + Drop + Send> Door for MemoryDoor<R> {
     }
 }
 
-/// How the hall over the doors ends, each request served on the day. The tests share this one call of `run_hall`, since
-/// each further one, with a closure of its own type, takes long to prove.
+/// How the hall over the doors ends, each request served on its day of the calendar. The tests share this one call of
+/// `run_hall`, since each further one, with a closure of its own type, takes long to prove.
 pub fn hall<R: Threads + Wait + Copy + Drop + Send + 'static>(
     rt: R,
     alloc: Global,
     office: Office<PlainStore>,
     doors: Vec<MemoryDoor<R>>,
-    on: Day,
+    calendar: Calendar,
 ) -> Result<HallEnd<PlainStore, MemoryDoor<R>>, HallError> {
-    match run_hall(rt, alloc, office, doors, &mut || on) {
+    let mut calendar = calendar;
+    match run_hall(rt, alloc, office, doors, &mut || calendar.next()) {
         Ok(end) => Ok(end),
         Err((_, error)) => Err(error),
     }
 }
 
-/// How many answers the session of each door has collected. Fails where a connection is left.
-pub fn collected<R: Threads + Wait + Copy + Drop + Send + 'static>(
+/// The office, and how many answers the session of each door has collected. Fails where a connection is left.
+pub fn closed<R: Threads + Wait + Copy + Drop + Send + 'static>(
     rt: R,
     alloc: Global,
     office: Office<PlainStore>,
     doors: Vec<MemoryDoor<R>>,
-    on: Day,
-) -> Result<Vec<u64>, Fail> {
-    let Ok(end) = hall(rt, alloc, office, doors, on) else {
+    calendar: Calendar,
+) -> Result<(Office<PlainStore>, Vec<u64>), Fail> {
+    let Ok(end) = hall(rt, alloc, office, doors, calendar) else {
         return Err(Fail::new("a hall"));
     };
     let mut counts = Vec::new(alloc);
@@ -202,5 +208,17 @@ pub fn collected<R: Threads + Wait + Copy + Drop + Send + 'static>(
         }
         counts.push(door.collected)?;
     }
+    Ok((end.office, counts))
+}
+
+/// How many answers the session of each door has collected. Fails where a connection is left.
+pub fn collected<R: Threads + Wait + Copy + Drop + Send + 'static>(
+    rt: R,
+    alloc: Global,
+    office: Office<PlainStore>,
+    doors: Vec<MemoryDoor<R>>,
+    calendar: Calendar,
+) -> Result<Vec<u64>, Fail> {
+    let (_, counts) = closed(rt, alloc, office, doors, calendar)?;
     Ok(counts)
 }
