@@ -1,14 +1,18 @@
 //! Commands over two disks of which one fails, at each of its calls in turn: the tables that are found again are those of
 //! the commands that were acknowledged, or of these and the one in which the disk failed.
 
-use crate::commands::{Begin, Behind, Commands};
+use crate::commands::{ANY, Begin, Behind, Commands};
 use crate::disks::{Bytes, Fault, Told, Trial, Trouble, failing_files, left_by, untold};
 use crate::trials::{
-    Database, Tried, begun, closed, ended, found, outlasts_each, prepared, tables_in,
+    Tried, closed, connected, ended, found, outlasts_each, prepared, stored, tables_in,
 };
 use permit_office::office::Office;
+use permit_policy::text::read_policy;
 use permit_samples::ask::read_ask;
 use permit_samples::exchange::asked;
+use permit_sql::store::SqlStore;
+use permit_store::store::Store;
+use sqlite::{Alter, Connection};
 use sqlite_disk::Files;
 use std::alloc::Global;
 use std::sync::atomic::Ordering;
@@ -44,9 +48,9 @@ impl Answered {
 }
 
 /// Serves the commands. Fails where one is refused for the store and no disk has failed.
-fn serve_all(
+fn serve_all<S: Store + Drop>(
     alloc: Global,
-    office: &mut Office<Database>,
+    office: &mut Office<S>,
     commands: &Commands,
     told: &Told,
 ) -> Result<Answered, Fail> {
@@ -63,6 +67,24 @@ fn serve_all(
         }
     }
     Ok(answered)
+}
+
+/// Opens the office over a store, and serves the commands. The database comes back; nothing was answered where the office
+/// wasn't opened.
+fn served<S: Alter + Drop>(
+    alloc: Global,
+    store: SqlStore<S>,
+    commands: &Commands,
+    told: &Told,
+) -> Result<(Connection<S>, Option<Answered>), Fail> {
+    match Office::open(store, read_policy(alloc, ANY)?) {
+        Ok(office) => {
+            let mut office = office;
+            let answered = serve_all(alloc, &mut office, commands, told)?;
+            Ok((office.into_store().into_connection(), Some(answered)))
+        }
+        Err((store, _)) => Ok((store.into_connection(), None)),
+    }
 }
 
 /// What may be found when files are opened again.
@@ -130,6 +152,20 @@ impl Play {
         })
     }
 
+    /// The files in which no office was opened, with what may be found in them. Fails where no disk has failed.
+    fn unopened(
+        &self,
+        alloc: Global,
+        files: Files<Trial>,
+        is_founded: bool,
+        told: &Told,
+    ) -> Result<(Files<Trial>, Wanted), Fail> {
+        if !told.load(Ordering::SeqCst) {
+            return Err(Fail::new("an office refused without cause"));
+        }
+        Ok((files, Wanted::unopened(alloc, &self.commands, is_founded)?))
+    }
+
     /// Plays over files. They come back, with what may be found in them.
     fn run(
         &self,
@@ -138,18 +174,20 @@ impl Play {
         fault: Fault,
         told: &Told,
     ) -> Result<(Files<Trial>, Wanted), Fail> {
-        let mut office = match begun(alloc, files, self.commands.begin)? {
-            Ok(office) => office,
-            Err(unopened) if told.load(Ordering::SeqCst) => {
-                let (files, is_founded) = unopened.into_files(fault);
-                let wanted = Wanted::unopened(alloc, &self.commands, is_founded)?;
-                return Ok((files, wanted));
-            }
-            Err(_) => return Err(Fail::new("an office refused without cause")),
+        let conn = match connected(alloc, files) {
+            Ok(conn) => conn,
+            Err(files) => return self.unopened(alloc, files, false, told),
         };
-        let answered = serve_all(alloc, &mut office, &self.commands, told)?;
-        let files = ended(office.into_store().into_connection(), fault);
-        Ok((files, Wanted::behind(alloc, &self.commands, &answered)?))
+        let store = match stored(alloc, conn, self.commands.begin)? {
+            Ok(store) => store,
+            Err(conn) => return self.unopened(alloc, ended(conn, fault), false, told),
+        };
+        let (conn, answered) = served(alloc, store, &self.commands, told)?;
+        let files = ended(conn, fault);
+        match answered {
+            Some(answered) => Ok((files, Wanted::behind(alloc, &self.commands, &answered)?)),
+            None => self.unopened(alloc, files, true, told),
+        }
     }
 }
 

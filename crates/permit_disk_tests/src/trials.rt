@@ -1,22 +1,19 @@
 //! Databases over disks that fail: opened, closed, and opened again on what is left.
+//!
+//! What works on an office is generic over the store of its database: a call of it at the disks' own takes the prover long.
 
 use crate::commands::{ANY, Begin, play_before};
 use crate::disks::{Bytes, Fault, Trial, Trouble, sound_files};
-use permit_office::office::Office;
-use permit_policy::text::read_policy;
-use permit_samples::offices::founder;
+use permit_samples::offices::{founder, office_over};
 use permit_samples::tables::tables_text;
 use permit_sql::store::SqlStore;
-use sqlite::{Connection, FileStore, Options};
+use sqlite::{Alter, Connection, FileStore, Options};
 use sqlite_disk::Files;
 use std::alloc::Global;
 use std::test::Fail;
 
 /// A connection over the disks.
 pub(crate) type Conn = Connection<FileStore<Trial>>;
-
-/// A store over the disks.
-pub(crate) type Database = SqlStore<FileStore<Trial>>;
 
 /// More calls than any run makes of a disk.
 const MOST_CALLS: u64 = 5000;
@@ -58,68 +55,43 @@ pub(crate) fn ended(conn: Conn, fault: Fault) -> Files<Trial> {
     }
 }
 
-/// Why no office was opened: a call failed. The database or its files are given back.
-#[derive(Drop)]
-pub(crate) enum Unopened {
-    Files(Files<Trial>),
-    /// No store was founded in it, or found.
-    Conn(Conn),
-    /// A store was, and its desk wasn't read.
-    Store(Database),
-}
-
-impl Unopened {
-    /// The files of what came back, and whether an office was founded.
-    pub(crate) fn into_files(self, fault: Fault) -> (Files<Trial>, bool) {
-        match self {
-            Unopened::Files(files) => (files, false),
-            Unopened::Conn(conn) => (ended(conn, fault), false),
-            Unopened::Store(store) => (ended(store.into_connection(), fault), true),
-        }
-    }
-}
-
-/// The store in a database, which is founded there if it is to be new.
-fn stored(alloc: Global, conn: Conn, begin: Begin) -> Result<Result<Database, Unopened>, Fail> {
+/// The store in a database, which is founded there if it is to be new. Where that was refused, the database.
+pub(crate) fn stored<S: Alter + Drop>(
+    alloc: Global,
+    conn: Connection<S>,
+    begin: Begin,
+) -> Result<Result<SqlStore<S>, Connection<S>>, Fail> {
     let store = match begin {
         Begin::New => SqlStore::create(alloc, conn, &founder(alloc)?),
         Begin::Framed => SqlStore::open(alloc, conn),
     };
     Ok(match store {
         Ok(store) => Ok(store),
-        Err((conn, _)) => Err(Unopened::Conn(conn)),
-    })
-}
-
-/// The office in the files, which is founded there if it is to be new.
-pub(crate) fn begun(
-    alloc: Global,
-    files: Files<Trial>,
-    begin: Begin,
-) -> Result<Result<Office<Database>, Unopened>, Fail> {
-    let conn = match connected(alloc, files) {
-        Ok(conn) => conn,
-        Err(files) => return Ok(Err(Unopened::Files(files))),
-    };
-    let store = match stored(alloc, conn, begin)? {
-        Ok(store) => store,
-        Err(unopened) => return Ok(Err(unopened)),
-    };
-    Ok(match Office::open(store, read_policy(alloc, ANY)?) {
-        Ok(office) => Ok(office),
-        Err((store, _)) => Err(Unopened::Store(store)),
+        Err((conn, _)) => Err(conn),
     })
 }
 
 /// The database of a new office, behind what comes before the commands.
-pub(crate) fn prepared(alloc: Global, begin: Begin) -> Result<Conn, Fail> {
-    let files = sound_files(alloc, &Bytes::none(alloc))?;
-    let mut office = match begun(alloc, files, Begin::New)? {
-        Ok(office) => office,
-        Err(_) => return Err(Fail::new("no new office")),
+fn played<S: Alter + Drop>(
+    alloc: Global,
+    conn: Connection<S>,
+    begin: Begin,
+) -> Result<Connection<S>, Fail> {
+    let store = match stored(alloc, conn, Begin::New)? {
+        Ok(store) => store,
+        Err(_) => return Err(Fail::new("no new store")),
     };
+    let mut office = office_over(alloc, store, ANY)?;
     play_before(alloc, &mut office, begin)?;
     Ok(office.into_store().into_connection())
+}
+
+/// The same over disks that don't fail.
+pub(crate) fn prepared(alloc: Global, begin: Begin) -> Result<Conn, Fail> {
+    match connected(alloc, sound_files(alloc, &Bytes::none(alloc))?) {
+        Ok(conn) => played(alloc, conn, begin),
+        Err(_) => Err(Fail::new("no new database")),
+    }
 }
 
 /// The database that is found where files are opened again.
