@@ -75,7 +75,8 @@ fn has_days<R: Threads + Wait + Copy + Drop + Send + 'static>(
     let record = new_record(alloc)?;
     let mut bytes = adding(alloc, 1)?.into_bytes();
     bytes.extend_from_slice(adding(alloc, 2)?.as_bytes())?;
-    let connections = vec![in alloc; connection(rt, &record, bytes, NO_TROUBLE)?]?;
+    let mut connections = Vec::new(alloc);
+    connections.push(connection(rt, &record, bytes, NO_TROUBLE)?)?;
     let mut wanted = added(alloc, first, 1)?;
     wanted.push_str(added(alloc, second, 2)?.as_str())?;
     let calendar = midnight_after(requests, TODAY)?;

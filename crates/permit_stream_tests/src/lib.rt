@@ -15,8 +15,6 @@ mod hall_streams;
 #[cfg(test)]
 mod imports;
 #[cfg(test)]
-mod limits;
-#[cfg(test)]
 mod memory_doors;
 #[cfg(test)]
 mod messages;

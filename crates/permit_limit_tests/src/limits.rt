@@ -65,56 +65,80 @@ const REGISTER: &str = r#"
 /// What stands before the last five digits of a digest.
 const ZEROS: &str = "00000000000000000000000000000000000000000000000000000000000";
 
-/// Parties of the public, up to the last but one.
+/// Commits a change.
+fn make(store: &mut PlainStore, change: &Change<'_>, on: Day) -> Result<(), Fail> {
+    Ok(store.commit(change, on)?)
+}
+
+/// A party of the public, with a digest of its own.
+fn add_party(
+    alloc: Global,
+    store: &mut PlainStore,
+    name: &Text,
+    number: u32,
+    on: Day,
+) -> Result<(), Fail> {
+    let letters = format!(in alloc; "{ZEROS}{number:05}")?;
+    let digest = Digest::read(letters.as_str()).ok_or("a digest")?;
+    let change = Change::NewParty {
+        name,
+        role: Role::Public,
+        digest: &digest,
+    };
+    make(store, &change, on)
+}
+
+/// Parties, up to the last but one.
 fn add_parties(alloc: Global, store: &mut PlainStore, on: Day) -> Result<(), Fail> {
     let name = text(alloc, "Party")?;
     for number in 8..RECORDS {
-        let letters = format!(in alloc; "{ZEROS}{number:05}")?;
-        let digest = Digest::read(letters.as_str()).ok_or("a digest")?;
-        store.commit(
-            &Change::NewParty {
-                name: &name,
-                role: Role::Public,
-                digest: &digest,
-            },
-            on,
-        )?;
+        add_party(alloc, store, &name, number, on)?;
     }
     Ok(())
+}
+
+/// A parcel with a lot of its own.
+fn add_parcel(
+    alloc: Global,
+    store: &mut PlainStore,
+    address: &Text,
+    number: u32,
+    on: Day,
+) -> Result<(), Fail> {
+    let letters = format!(in alloc; "LOT-{number}")?;
+    let lot = lot(alloc, letters.as_str())?;
+    let change = Change::NewParcel {
+        lot: &lot,
+        address,
+        owner: party(5)?,
+    };
+    make(store, &change, on)
 }
 
 /// Parcels, up to the last but one.
 fn add_parcels(alloc: Global, store: &mut PlainStore, on: Day) -> Result<(), Fail> {
     let address = text(alloc, "1 Main Street")?;
-    let owner = party(5)?;
     for number in 3..RECORDS {
-        let letters = format!(in alloc; "LOT-{number}")?;
-        store.commit(
-            &Change::NewParcel {
-                lot: &lot(alloc, letters.as_str())?,
-                address: &address,
-                owner,
-            },
-            on,
-        )?;
+        add_parcel(alloc, store, &address, number, on)?;
     }
     Ok(())
 }
 
-/// So many files of party 5 on parcel 1.
+/// A file of party 5 on parcel 1.
+fn add_file(store: &mut PlainStore, description: &Text, on: Day) -> Result<(), Fail> {
+    let change = Change::NewFile {
+        state: FileState::file(party(5)?, parcel(1)?, Kind::Repair, Edition::Second, on),
+        valuation: Cents::new(100).ok_or("cents")?,
+        description,
+    };
+    make(store, &change, on)
+}
+
+/// So many files.
 fn add_files(alloc: Global, store: &mut PlainStore, count: u32, on: Day) -> Result<(), Fail> {
     let description = text(alloc, "Roof")?;
-    let valuation = Cents::new(100).ok_or("cents")?;
-    let state = FileState::file(party(5)?, parcel(1)?, Kind::Repair, Edition::Second, on);
     for _ in 0..count {
-        store.commit(
-            &Change::NewFile {
-                state,
-                valuation,
-                description: &description,
-            },
-            on,
-        )?;
+        add_file(store, &description, on)?;
     }
     Ok(())
 }
@@ -144,36 +168,32 @@ fn reviewed(stage: Stage, papers: u16, on: Day) -> Result<FileState, Fail> {
     Ok(FileState::restore(fields).ok_or("a state")?)
 }
 
-/// The paper of a number and the stage behind it: file 1 is returned and resubmitted in turn.
-fn turn<'x>(number: u16, text: &'x Text) -> Result<(Stage, NewPaper<'x>), Fail> {
+/// A paper of file 1, which is returned and resubmitted in turn, and the stage behind it.
+fn add_paper(store: &mut PlainStore, text: &Text, number: u16, on: Day) -> Result<(), Fail> {
     let (stage, author, sort) = if number % 2 == 1 {
         (Stage::Returned, 3, PaperSort::Returned)
     } else {
         (Stage::Review, 5, PaperSort::Resubmitted)
     };
-    let paper = NewPaper {
-        author: party(author)?,
-        sort,
-        days: 0,
-        text: Some(text),
-        terms: None,
+    let change = Change::NewRow {
+        file: file(1)?,
+        state: reviewed(stage, number, on)?,
+        effect: RowEffect::Paper(NewPaper {
+            author: party(author)?,
+            sort,
+            days: 0,
+            text: Some(text),
+            terms: None,
+        }),
     };
-    Ok((stage, paper))
+    make(store, &change, on)
 }
 
 /// Papers of file 1, up to the last but one.
 fn add_papers(alloc: Global, store: &mut PlainStore, on: Day) -> Result<(), Fail> {
     let text = text(alloc, "Set-backs")?;
     for number in 1..PAPERS {
-        let (stage, paper) = turn(number, &text)?;
-        store.commit(
-            &Change::NewRow {
-                file: file(1)?,
-                state: reviewed(stage, number, on)?,
-                effect: RowEffect::Paper(paper),
-            },
-            on,
-        )?;
+        add_paper(store, &text, number, on)?;
     }
     Ok(())
 }
