@@ -21,7 +21,7 @@ use std::test::*;
 const RECORDS: u32 = 99999;
 
 /// How many papers a file can have.
-const PAPERS: u16 = 9999;
+const PAPERS: u32 = 9999;
 
 /// How many files are listed.
 const LISTED: u32 = 12000;
@@ -57,91 +57,13 @@ const LAST: &str = r#"
 /// The register of the files that are listed.
 const REGISTER: &str = r#"
 > 1 19723 GET /registers/files
-~     1      1 repair    filed     ahead  2024-06-29           100
+~     2      1 repair    filed     ahead  2024-06-29           100
 ~ 12000      1 repair    filed     ahead  2024-06-29           100
 ~ files 12000
 "#;
 
 /// What stands before the last five digits of a digest.
 const ZEROS: &str = "00000000000000000000000000000000000000000000000000000000000";
-
-/// Commits a change.
-fn make(store: &mut PlainStore, change: &Change<'_>, on: Day) -> Result<(), Fail> {
-    Ok(store.commit(change, on)?)
-}
-
-/// A party of the public, with a digest of its own.
-fn add_party(
-    alloc: Global,
-    store: &mut PlainStore,
-    name: &Text,
-    number: u32,
-    on: Day,
-) -> Result<(), Fail> {
-    let letters = format!(in alloc; "{ZEROS}{number:05}")?;
-    let digest = Digest::read(letters.as_str()).ok_or("a digest")?;
-    let change = Change::NewParty {
-        name,
-        role: Role::Public,
-        digest: &digest,
-    };
-    make(store, &change, on)
-}
-
-/// Parties, up to the last but one.
-fn add_parties(alloc: Global, store: &mut PlainStore, on: Day) -> Result<(), Fail> {
-    let name = text(alloc, "Party")?;
-    for number in 8..RECORDS {
-        add_party(alloc, store, &name, number, on)?;
-    }
-    Ok(())
-}
-
-/// A parcel with a lot of its own.
-fn add_parcel(
-    alloc: Global,
-    store: &mut PlainStore,
-    address: &Text,
-    number: u32,
-    on: Day,
-) -> Result<(), Fail> {
-    let letters = format!(in alloc; "LOT-{number}")?;
-    let lot = lot(alloc, letters.as_str())?;
-    let change = Change::NewParcel {
-        lot: &lot,
-        address,
-        owner: party(5)?,
-    };
-    make(store, &change, on)
-}
-
-/// Parcels, up to the last but one.
-fn add_parcels(alloc: Global, store: &mut PlainStore, on: Day) -> Result<(), Fail> {
-    let address = text(alloc, "1 Main Street")?;
-    for number in 3..RECORDS {
-        add_parcel(alloc, store, &address, number, on)?;
-    }
-    Ok(())
-}
-
-/// A file of party 5 on parcel 1.
-fn add_file(store: &mut PlainStore, description: &Text, on: Day) -> Result<(), Fail> {
-    let change = Change::NewFile {
-        state: FileState::file(party(5)?, parcel(1)?, Kind::Repair, Edition::Second, on),
-        valuation: Cents::new(100).ok_or("cents")?,
-        description,
-    };
-    make(store, &change, on)
-}
-
-/// So many files.
-fn add_files(alloc: Global, store: &mut PlainStore, count: u32, on: Day) -> Result<(), Fail> {
-    let description = text(alloc, "Roof")?;
-    for _ in 0..count {
-        add_file(store, &description, on)?;
-    }
-    Ok(())
-}
 
 /// The state of file 1 with so many papers: party 3 reviews it, or has returned it.
 fn reviewed(stage: Stage, papers: u16, on: Day) -> Result<FileState, Fail> {
@@ -168,32 +90,99 @@ fn reviewed(stage: Stage, papers: u16, on: Day) -> Result<FileState, Fail> {
     Ok(FileState::restore(fields).ok_or("a state")?)
 }
 
-/// A paper of file 1, which is returned and resubmitted in turn, and the stage behind it.
-fn add_paper(store: &mut PlainStore, text: &Text, number: u16, on: Day) -> Result<(), Fail> {
-    let (stage, author, sort) = if number % 2 == 1 {
-        (Stage::Returned, 3, PaperSort::Returned)
-    } else {
-        (Stage::Review, 5, PaperSort::Resubmitted)
-    };
-    let change = Change::NewRow {
-        file: file(1)?,
-        state: reviewed(stage, number, on)?,
-        effect: RowEffect::Paper(NewPaper {
+/// The texts of what is made.
+#[derive(Drop)]
+struct Texts {
+    name: Text,
+    address: Text,
+    description: Text,
+    reason: Text,
+}
+
+/// The party, the parcel, the file and the paper of file 1 of a number, but for those that are there or are to come last.
+/// File 1 is returned and resubmitted in turn. They are made in one place: a change that is built where the types of
+/// another aren't named is none that the prover takes.
+fn add(
+    alloc: Global,
+    store: &mut PlainStore,
+    texts: &Texts,
+    number: u32,
+    on: Day,
+) -> Result<(), Fail> {
+    let letters = format!(in alloc; "{ZEROS}{number:05}")?;
+    let digest = Digest::read(letters.as_str()).ok_or("a digest")?;
+    let letters = lot(alloc, format!(in alloc; "LOT-{number}")?.as_str())?;
+    let (owner, land) = (party(5)?, parcel(1)?);
+    if number > 7 {
+        let (name, role) = (&texts.name, Role::Public);
+        store.commit(
+            &Change::NewParty {
+                name,
+                role,
+                digest: &digest,
+            },
+            on,
+        )?;
+    }
+    if number > 2 {
+        let (lot, address) = (&letters, &texts.address);
+        store.commit(
+            &Change::NewParcel {
+                lot,
+                address,
+                owner,
+            },
+            on,
+        )?;
+    }
+    let state = FileState::file(owner, land, Kind::Repair, Edition::Second, on);
+    let (valuation, description) = (Cents::new(100).ok_or("cents")?, &texts.description);
+    store.commit(
+        &Change::NewFile {
+            state,
+            valuation,
+            description,
+        },
+        on,
+    )?;
+    if number < PAPERS {
+        let is_returned = number % 2 == 1;
+        let (stage, author, sort) = if is_returned {
+            (Stage::Returned, 3, PaperSort::Returned)
+        } else {
+            (Stage::Review, 5, PaperSort::Resubmitted)
+        };
+        let paper = NewPaper {
             author: party(author)?,
             sort,
             days: 0,
-            text: Some(text),
+            text: Some(&texts.reason),
             terms: None,
-        }),
-    };
-    make(store, &change, on)
+        };
+        let (file, state) = (file(1)?, reviewed(stage, number as u16, on)?);
+        store.commit(
+            &Change::NewRow {
+                file,
+                state,
+                effect: RowEffect::Paper(paper),
+            },
+            on,
+        )?;
+    }
+    Ok(())
 }
 
-/// Papers of file 1, up to the last but one.
-fn add_papers(alloc: Global, store: &mut PlainStore, on: Day) -> Result<(), Fail> {
-    let text = text(alloc, "Set-backs")?;
-    for number in 1..PAPERS {
-        add_paper(store, &text, number, on)?;
+/// Adds what has the numbers from 1 up to this one, which isn't among them.
+fn add_below(alloc: Global, store: &mut PlainStore, end: u32) -> Result<(), Fail> {
+    let texts = Texts {
+        name: text(alloc, "Party")?,
+        address: text(alloc, "1 Main Street")?,
+        description: text(alloc, "Roof")?,
+        reason: text(alloc, "Set-backs")?,
+    };
+    let on = day(FILED)?;
+    for number in 1..end {
+        add(alloc, store, &texts, number, on)?;
     }
     Ok(())
 }
@@ -208,11 +197,7 @@ fn opened(alloc: Global) -> Result<PlainStore, Fail> {
 /// The office with all but the last of each.
 fn nearly_full(alloc: Global) -> Result<Office<PlainStore>, Fail> {
     let mut store = opened(alloc)?;
-    let on = day(FILED)?;
-    add_parties(alloc, &mut store, on)?;
-    add_parcels(alloc, &mut store, on)?;
-    add_files(alloc, &mut store, RECORDS.wrapping_sub(1), on)?;
-    add_papers(alloc, &mut store, on)?;
+    add_below(alloc, &mut store, RECORDS)?;
     office_over(alloc, store, POLICY)
 }
 
@@ -245,7 +230,7 @@ fn has_all(listing: &str) -> Result<(), Fail> {
 fn thousands_of_files_are_listed(rt: HostRuntime) -> Result<(), Fail> {
     let alloc = rt.alloc();
     let mut store = opened(alloc)?;
-    add_files(alloc, &mut store, LISTED, day(FILED)?)?;
+    add_below(alloc, &mut store, LISTED.wrapping_add(1))?;
     let mut office = office_over(alloc, store, POLICY)?;
     play(alloc, &mut office, REGISTER)?;
     let listing = play(alloc, &mut office, "> 1 19723 GET /files\n")?;
