@@ -5,10 +5,11 @@ ghost use Rattle.permit_base.specs.declared.words.Kind.TheVariants.{Construct, E
 ghost use Rattle.permit_base.specs.declared.words.Step.TheVariants.{Footing, Slab, Frame, Lath, Final};
 ghost use Rattle.permit_base.specs.declared.words.Stage.TheVariants as stage;
 ghost use Rattle.permit_base.specs.declared.words.Timing.TheVariants as timing;
+ghost use Rattle.permit_base.specs.declared.words.PaperSort.TheVariants as sort;
 ghost use Rattle.permit_base.specs.declared.refusal.Reason.TheVariants as reason;
 ghost use Rattle.permit_base.specs.declared.request.Command.TheVariants.{RequestInspection, ApproveStep, Notice, Temporary, Certify};
 ghost use Rattle.permit_model.specs.Tables.{State, Paper, next_in_row, tables};
-ghost use Rattle.permit_model.specs.Examples.{opening, on_one, replies, after, last_reply, done, made, denied, not_admitted, read_after, state_after, begun_file, inspected, interest_turns, notice_given, notice_cleared, one_of_two_cleared, other_cleared, finaled_file, by_official, by_inspector, pending_repair};
+ghost use Rattle.permit_model.specs.Examples.{opening, on_one, replies, after, last_reply, done, made, denied, not_admitted, read_after, state_after, papers_after, begun_file, inspected, interest_turns, notice_given, notice_cleared, one_of_two_cleared, other_cleared, finaled_file, by_official, by_inspector, pending_repair};
 
 /// An inspector with a declared interest isn't assigned; one who declares an interest later may not approve.
 pub fn interested_inspector_conflict_at_approval()
@@ -71,11 +72,12 @@ pub fn temporary_certificates_by_kind()
     ensures demolish { last_reply (begun_file Demolish) (on_one 1 19820 (Temporary 30 (codes "Floor 1"))) opening ≡ not_admitted reason.Kind }
 {}
 
-/// With its five steps approved a construction is finaled, and then certified, without a timing. A demolition gets no
-/// certificate.
+/// With its five steps approved a construction is finaled, and then certified, without a timing: the certificate is a
+/// paper behind the permit. A demolition gets none.
 pub fn certificates_by_kind()
     ensures finaled { read_after finaled_file 19824 ≡ Some (stage.Finaled, timing.Untimed, None) }
     ensures certified { read_after (finaled_file ++ on_one 1 19825 Certify ∷ []) 19825 ≡ Some (stage.Certified, timing.Untimed, None) }
+    ensures papers { papers_after (finaled_file ++ on_one 1 19825 Certify ∷ []) ≡ (sort.Permit, 0, [], []) ∷ (sort.Certificate, 0, [], []) ∷ [] }
     ensures demolish { last_reply (begun_file Demolish ++ inspected 19820 Final) (on_one 1 19820 Certify) opening ≡ not_admitted reason.Kind }
 {}
 

@@ -11,13 +11,14 @@ ghost use Rattle.permit_base.specs.declared.request.Command.TheVariants.{Request
 ghost use Rattle.permit_model.specs.Tables.{State};
 ghost use Rattle.permit_model.specs.Examples.{opening, on_one, replies, after, last_reply, made, not_admitted, read_after, state_after, papers_after, begun_file, house_state, stopped_file, lifted_file, issued_file, temporary_turns, revoking_turns, paper_turns};
 
-/// A stop work order and its lift leave the deadline 19990; an inspection is refused while it stands, and activity
-/// after the lift moves the deadline to 20010.
+/// A stop work order and its lift leave the deadline 19990, and each makes a paper of its sort; an inspection is refused
+/// while the order stands, and activity after the lift moves the deadline to 20010.
 pub fn stop_order_leaves_the_deadline()
     ensures before { read_after (begun_file Construct) 19810 ≡ Some (stage.Working, timing.Ahead, Some 19990) }
     ensures stopped { last_reply stopped_file (on_one 6 19820 (RequestInspection Footing)) opening ≡ not_admitted reason.Stopped }
     ensures lifted { read_after lifted_file 19830 ≡ Some (stage.Working, timing.Ahead, Some 19990) }
     ensures active { read_after (lifted_file ++ on_one 6 19830 (RequestInspection Footing) ∷ []) 19830 ≡ Some (stage.Working, timing.Ahead, Some 20010) }
+    ensures papers { papers_after lifted_file ≡ (sort.Permit, 0, [], []) ∷ (sort.Stop, 0, codes "Unsafe", codes "Shore it") ∷ (sort.Lifted, 0, [], []) ∷ [] }
 {}
 
 /// The last temporary certificate counts, also where it ends earlier; none is for more than 180 days, and none moves
