@@ -233,6 +233,17 @@ ask_turns =
     ∷ on_one 5 19730 (AskExtension 10 (codes "Ill"))
     ∷ on_one 2 19740 (AssignReviewer 3) ∷ on_one 3 19740 StartReview ∷ on_one 3 19740 ApprovePlans ∷ on_one 1 19740 Issue ∷ on_one 1 19740 GrantExtension ∷ []
 
+-- 90 days are asked when the application is filed, and its plans are reviewed, returned, sent again and approved
+abbrev pub reviewed_with_ask : List Turn
+reviewed_with_ask =
+    file_house ∷ on_one 5 19723 (AskExtension 90 (codes "Ill")) ∷ on_one 2 19730 (AssignReviewer 3) ∷ on_one 5 19730 (NameContractor 6)
+    ∷ on_one 3 19730 StartReview ∷ on_one 3 19735 (Return (codes "No plan")) ∷ on_one 5 19740 (Resubmit (codes "Plan")) ∷ on_one 3 19745 ApprovePlans
+    ∷ on_one 2 19745 (AssignInspector 4) ∷ []
+
+-- the same, with the days granted
+abbrev pub reviewed_and_granted : List Turn
+reviewed_and_granted = reviewed_with_ask ++ on_one 1 19745 GrantExtension ∷ []
+
 -- a permit issued on 19800
 abbrev pub issued_file : List Turn
 issued_file = approved_file Construct 19790 ++ on_one 1 19800 Issue ∷ []
@@ -332,6 +343,19 @@ paper_turns =
     on_one 5 19811 (AskExtension 5 (codes "Ill")) ∷ on_one 1 19811 (RefuseExtension (codes "No")) ∷ on_one 1 19812 (Temporary 60 (codes "Floor 1"))
     ∷ on_one 6 19820 (RequestInspection Footing) ∷ on_one 4 19830 (Notice (codes "Cracks"))
     ∷ on_one 4 19831 (Stop (codes "Unsafe") (codes "Shore it")) ∷ on_one 1 19840 (Revoke (codes "Void")) ∷ []
+
+-- ten days are asked at work, a step is approved, a notice given, and the inspection requested anew; on a later day the
+-- notice is cleared, people are named, a part is occupied, and the work stopped and released
+abbrev pub worked_with_ask : List Turn
+worked_with_ask =
+    on_one 5 19815 (AskExtension 10 (codes "Ill")) ∷ inspected 19816 Frame
+    ++ on_one 6 19820 (RequestInspection Lath) ∷ on_one 4 19820 (Notice (codes "Cracks")) ∷ on_one 6 19820 (RequestInspection Lath)
+    ∷ on_one 4 19850 (ClearNotice 3) ∷ on_one 2 19850 (AssignInspector 4) ∷ on_one 5 19850 (NameContractor 6) ∷ on_one 1 19850 (Temporary 30 (codes "Floor 1"))
+    ∷ on_one 4 19850 (Stop (codes "Unsafe") (codes "Shore it")) ∷ on_one 1 19850 Lift ∷ []
+
+-- the days are granted, and 20 more asked and refused
+abbrev pub answered_asks : List Turn
+answered_asks = on_one 1 19850 GrantExtension ∷ on_one 5 19850 (AskExtension 20 (codes "Ill")) ∷ on_one 1 19850 (RefuseExtension (codes "No")) ∷ []
 
 -- work begun on a day that no type allows, which stands for many extensions
 abbrev pub far_turns : List Turn

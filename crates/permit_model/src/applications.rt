@@ -8,12 +8,12 @@ ghost use Rattle.permit_base.specs.declared.words.Stage.TheVariants as stage;
 ghost use Rattle.permit_base.specs.declared.words.Timing.TheVariants as timing;
 ghost use Rattle.permit_base.specs.declared.words.PaperSort.TheVariants as sort;
 ghost use Rattle.permit_base.specs.declared.refusal.Reason.TheVariants as reason;
-ghost use Rattle.permit_base.specs.declared.request.Command.TheVariants.{ApprovePlans, AskExtension, GrantExtension, BeginWork, RequestInspection, Temporary};
+ghost use Rattle.permit_base.specs.declared.request.Command.TheVariants.{ApprovePlans, Issue, AskExtension, GrantExtension, BeginWork, RequestInspection, Temporary};
 ghost use Rattle.permit_base.specs.declared.request.Request.TheVariants.{ReadFile};
 ghost use Rattle.permit_model.specs.Days.{timing_on};
 ghost use Rattle.permit_model.specs.Tables.{State, tables};
 ghost use Rattle.permit_model.specs.Machine.{IsHistory};
-ghost use Rattle.permit_model.specs.Examples.{opening, asks, on_one, replies, after, last_reply, done, made, denied, not_admitted, shown, turn, read_after, state_after, begun_file, file_house, house_state, house_shown, extended_house, ask_turns, issued_file, extended_file, begun_extended_file, requested_file, late_grant, returned_file, resubmitted_file, rejected_file, review_of_own, far_file};
+ghost use Rattle.permit_model.specs.Examples.{opening, asks, on_one, replies, after, last_reply, done, made, denied, not_admitted, shown, turn, read_after, state_after, begun_file, file_house, house_state, house_shown, extended_house, ask_turns, reviewed_with_ask, reviewed_and_granted, issued_file, extended_file, begun_extended_file, requested_file, late_grant, returned_file, resubmitted_file, rejected_file, review_of_own, far_file};
 
 /// An application filed on 19723 (2024-01-01) has the deadline 19903 (2024-06-29). On that day it is open, also for
 /// its applicant; from the next day on it is abandoned and closed to the public.
@@ -62,6 +62,22 @@ pub fn asks_grants_and_issue()
     ensures replies { replies ask_turns opening ≡ made 1 ∷ made 1 ∷ made 2 ∷ made 3 ∷ not_admitted reason.Pending ∷ done ∷ done ∷ done ∷ made 4 ∷ not_admitted reason.NothingPending ∷ [] }
     ensures filed { read_after (file_house ∷ []) 19723 ≡ Some (stage.Filed, timing.Ahead, Some 19903) }
     ensures row { state_after ask_turns 19740 ≡ Some (record house_state { reviewer = Some 3; stage = stage.Issued; deadline = Some 19920; ask = None; papers = 4 }) }
+{}
+
+/// An ask stays pending while the plans are reviewed. Its grant moves the application's deadline from 19903 to 19993, and
+/// none of its days goes to the permit: issued on 19750, that runs to 19930.
+pub fn days_granted_before_issuance()
+    ensures replies { replies reviewed_and_granted opening ≡ made 1 ∷ made 1 ∷ done ∷ done ∷ done ∷ made 2 ∷ made 3 ∷ done ∷ done ∷ made 4 ∷ [] }
+    ensures reviewed { state_after reviewed_with_ask 19745 ≡ Some (record house_state {
+      contractor = Some 6;
+      reviewer = Some 3;
+      inspector = Some 4;
+      stage = stage.Approved;
+      ask = Some 90;
+      papers = 3;
+    }) }
+    ensures granted { read_after reviewed_and_granted 19745 ≡ Some (stage.Approved, timing.Ahead, Some 19993) }
+    ensures issued { read_after (reviewed_and_granted ++ on_one 1 19750 Issue ∷ []) 19750 ≡ Some (stage.Issued, timing.Ahead, Some 19930) }
 {}
 
 /// A reviewer returns an application, its applicant resubmits it, and the reviewer rejects it: each makes a paper with

@@ -1,15 +1,15 @@
 //! Worked examples of stop work orders, temporary certificates and revocation.
 
 ghost use Rattle.std.specs.Prelude.{◌≡◌, ◌∷◌, [], ◌++◌, None, Some, codes, option_map};
-ghost use Rattle.permit_base.specs.declared.words.Kind.TheVariants.{Construct};
-ghost use Rattle.permit_base.specs.declared.words.Step.TheVariants.{Footing};
+ghost use Rattle.permit_base.specs.declared.words.Kind.TheVariants.{Construct, Alter};
+ghost use Rattle.permit_base.specs.declared.words.Step.TheVariants.{Footing, Lath};
 ghost use Rattle.permit_base.specs.declared.words.Stage.TheVariants as stage;
 ghost use Rattle.permit_base.specs.declared.words.Timing.TheVariants as timing;
 ghost use Rattle.permit_base.specs.declared.words.PaperSort.TheVariants as sort;
 ghost use Rattle.permit_base.specs.declared.refusal.Reason.TheVariants as reason;
 ghost use Rattle.permit_base.specs.declared.request.Command.TheVariants.{RequestInspection, Revoke, Temporary};
 ghost use Rattle.permit_model.specs.Tables.{State};
-ghost use Rattle.permit_model.specs.Examples.{opening, on_one, replies, after, last_reply, made, not_admitted, read_after, state_after, papers_after, begun_file, house_state, stopped_file, lifted_file, issued_file, temporary_turns, revoking_turns, paper_turns};
+ghost use Rattle.permit_model.specs.Examples.{opening, on_one, replies, after, last_reply, done, made, not_admitted, read_after, state_after, papers_after, begun_file, house_state, stopped_file, lifted_file, issued_file, worked_with_ask, answered_asks, temporary_turns, revoking_turns, paper_turns};
 
 /// A stop work order and its lift leave the deadline 19990, and each makes a paper of its sort; an inspection is refused
 /// while the order stands, and activity after the lift moves the deadline to 20010.
@@ -36,6 +36,48 @@ pub fn temporary_certificates()
       papers = 3;
       temporary = Some 19890;
     }) }
+{}
+
+/// What is done on 19850 is no activity and closes nothing: the deadline stays the 20000 of a request on 19820, and that
+/// request and the ask of 19815 stay pending. The ask's grant adds its ten days and no more, and a refused ask none.
+pub fn what_is_no_activity()
+    ensures replies { replies (worked_with_ask ++ answered_asks) (after (begun_file Alter) opening) ≡
+        made 2 ∷ done ∷ done ∷ done ∷ made 3 ∷ done ∷ done ∷ done ∷ done ∷ made 4 ∷ made 5 ∷ made 6 ∷ made 7 ∷ made 8 ∷ made 9 ∷ [] }
+    ensures asked { state_after (begun_file Alter ++ worked_with_ask) 19850 ≡ Some (record house_state {
+      filed = 19790;
+      kind = Alter;
+      contractor = Some 6;
+      reviewer = Some 3;
+      inspector = Some 4;
+      stage = stage.Working;
+      deadline = Some 20000;
+      done = 1;
+      request = Some Lath;
+      requested = Some 19820;
+      ask = Some 10;
+      papers = 6;
+      temporary = Some 19880;
+    }) }
+    ensures answered { state_after (begun_file Alter ++ worked_with_ask ++ answered_asks) 19850 ≡ Some (record house_state {
+      filed = 19790;
+      kind = Alter;
+      contractor = Some 6;
+      reviewer = Some 3;
+      inspector = Some 4;
+      stage = stage.Working;
+      deadline = Some 20010;
+      done = 1;
+      request = Some Lath;
+      requested = Some 19820;
+      papers = 9;
+      temporary = Some 19880;
+    }) }
+{}
+
+/// A revocation leaves the pending request and the pending ask.
+pub fn revocation_closes_nothing()
+    ensures request { option_map (λ (s : State). s.request) (state_after (begun_file Alter ++ worked_with_ask ++ on_one 1 19850 (Revoke (codes "Void")) ∷ []) 19850) ≡ Some (Some Lath) }
+    ensures ask { option_map (λ (s : State). s.ask) (state_after (begun_file Alter ++ worked_with_ask ++ on_one 1 19850 (Revoke (codes "Void")) ∷ []) 19850) ≡ Some (Some 10) }
 {}
 
 /// A paper has the days, the text and the terms that its command gives.
