@@ -76,8 +76,10 @@ pub fn what_is_no_activity()
 
 /// A revocation leaves the pending request and the pending ask.
 pub fn revocation_closes_nothing()
-    ensures request { option_map (λ (s : State). s.request) (state_after (begun_file Alter ++ worked_with_ask ++ on_one 1 19850 (Revoke (codes "Void")) ∷ []) 19850) ≡ Some (Some Lath) }
-    ensures ask { option_map (λ (s : State). s.ask) (state_after (begun_file Alter ++ worked_with_ask ++ on_one 1 19850 (Revoke (codes "Void")) ∷ []) 19850) ≡ Some (Some 10) }
+    ensures request { option_map (λ (s : State). s.request)
+        (state_after (begun_file Alter ++ worked_with_ask ++ on_one 1 19850 (Revoke (codes "Void")) ∷ []) 19850) ≡ Some (Some Lath) }
+    ensures ask { option_map (λ (s : State). s.ask)
+        (state_after (begun_file Alter ++ worked_with_ask ++ on_one 1 19850 (Revoke (codes "Void")) ∷ []) 19850) ≡ Some (Some 10) }
 {}
 
 /// A paper has the days, the text and the terms that its command gives.
