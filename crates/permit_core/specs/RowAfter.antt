@@ -1,5 +1,5 @@
 -- What an admitted command makes of a file's row.
-use Rattle.std.specs.Prelude.{◌≡◌, ℕ, Bool, true, not, ◌&&◌, ◌||◌, ◌+◌, ◌-◌, ◌<◌, ◌^◌, max, ◌∷◌, Option, None, Some, unwrap_or, option_map, is_some}
+use Rattle.std.specs.Prelude.{◌≡◌, ℕ, Bool, true, not, ◌&&◌, ◌||◌, ◌+◌, ◌-◌, ◌<◌, ◌^◌, max, min, ◌∷◌, Option, None, Some, unwrap_or, option_map, is_some}
 use Rattle.std.specs.Prelude.{if◌then◌else◌}
 use Rattle.permit_base.specs.declared.words.Step.{Step}
 use Rattle.permit_base.specs.declared.words.Stage.{Stage}
@@ -68,6 +68,10 @@ row_after day command s = let e = effects command in record s {
   papers = papers_after command s.papers;
   temporary = option_or (option_map (λ days. day + days) e.temporary) s.temporary;
 }
+
+-- the row with the count of notices that a row can keep
+abbrev pub with_most_notices : State → State
+with_most_notices s = record s { notices = min 65535 s.notices }
 
 -- the file after a command of the caller on the day, with the number of the paper that it makes
 abbrev pub file_after : ℕ → Command → ℕ → CaseFile → CaseFile

@@ -1,6 +1,6 @@
 //! What an admitted command makes of a file's state.
 
-ghost use Rattle.std.specs.Prelude.{◌≡◌, ◌≤◌, ◌<◌, ◌+◌, ◌^◌, ◌∷◌, ℕ, true, None, Some, unwrap_or, option_map, not, ◌||◌, ◌&&◌};
+ghost use Rattle.std.specs.Prelude.{◌≡◌, ◌≤◌, ◌<◌, ◌+◌, ◌^◌, ◌∷◌, ℕ, true, None, Some, unwrap_or, option_map, not, min, ◌||◌, ◌&&◌};
 ghost use Rattle.permit_base.specs.declared.request.Request.TheVariants.{OnFile};
 ghost use Rattle.std.specs.Option.{option_or};
 ghost use Rattle.permit_model.specs.History.{History, last_day};
@@ -12,7 +12,7 @@ ghost use Rattle.permit_model.specs.Machine.{IsHistory, entry_of};
 ghost use Rattle.permit_model.specs.Tables.{state_of};
 ghost use Rattle.permit_core.specs.RowTests.{IsAdmitted};
 ghost use Rattle.permit_core.specs.RowAfter;
-ghost use Rattle.permit_core.specs.RowAfter.{row_after, file_after, FitsGrant, FitsNotice};
+ghost use Rattle.permit_core.specs.RowAfter.{row_after, with_most_notices, file_after, FitsGrant, FitsNotice};
 
 use crate::paper::paper_sort;
 use crate::restore::StateFields;
@@ -173,9 +173,10 @@ fn stopped_after(stopped: bool, command: &Command) -> bool
     }
 }
 
-/// How many notices are open after a command: no more than papers.
+/// How many notices are open after a command: no more than papers, and at most 65535 where there were more than these.
 fn notices_after(notices: u16, command: &Command) -> u16
-    ensures { FitsNotice (effects command.now).notice notices → result ≡ RowAfter.notices_after (effects command.now).notice (effects command.now).cleared notices }
+    ensures fits { FitsNotice (effects command.now).notice notices → result ≡ RowAfter.notices_after (effects command.now).notice (effects command.now).cleared notices }
+    ensures most { result ≡ min 65535 (RowAfter.notices_after (effects command.now).notice (effects command.now).cleared notices) }
 {
     match command {
         Command::Notice { .. } => notices.saturating_add(1),
@@ -208,7 +209,8 @@ impl FileState {
     /// The state after a command of the day.
     fn after(&self, day: Day, command: &Command) -> FileState
         requires admitted { IsAdmitted day self.now command.now }
-        ensures { self.now.notices ≤ self.now.papers → result ≡ row_after day command.now self.now }
+        ensures row { self.now.notices ≤ self.now.papers → result ≡ row_after day command.now self.now }
+        ensures most { result ≡ with_most_notices (row_after day command.now self.now) }
     {
         let before = self.0;
         FileState(StateFields {
@@ -235,6 +237,9 @@ impl FileState {
 
         // Every open notice is a paper, and a file has at most 9999 of these.
         ensures row { self.old.notices ≤ self.old.papers → self.new ≡ row_after day command.now self.old }
+
+        // The count of notices stays at 65535 where it would pass that.
+        ensures most { self.new ≡ with_most_notices (row_after day command.now self.old) }
         ensures model { (h : History) (id : ℕ) (file : CaseFile) → IsHistory h → case_numbered h id ≡ Some file → last_day h ≤ day
             → self.old ≡ state_of file → reason_against h day caller (OnFile id command.now) ≡ None
             → self.new ≡ state_of (file_after day command.now caller file) }

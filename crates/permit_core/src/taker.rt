@@ -8,6 +8,6 @@ pub trait Taker<I> {
     ghost took: { Self → I → Self → Bool → Type 0 };
 
     /// Takes an item. False asks to stop.
-    fn take(&mut self, item: &I) -> bool
-        ensures { took self.old item.now self.new result };
+    fn take(&mut self, item: I) -> bool
+        ensures { took self.old item self.new result };
 }

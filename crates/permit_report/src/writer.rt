@@ -74,6 +74,24 @@ impl<'w, W: Write> RegisterWriter<'w, W> {
         }
     }
 
+    /// Writes a file's line, after the header where it is the first. False where a write failed or took no byte, or
+    /// where the lines would be more than the greatest u64.
+    fn write_line(&mut self, file: &FileView) -> bool
+        ensures { TakesFile W.contents self.old file.now self.new result }
+    {
+        let Some(lines) = self.lines.checked_add(1) else {
+            return false;
+        };
+        let line = file_line(self.kind, self.day, file);
+        match write_part(self.writer, self.kind, self.lines, line.as_bytes()) {
+            Ok(()) => {
+                self.lines = lines;
+                true
+            }
+            Err(_) => false,
+        }
+    }
+
     /// Writes the foot, after the header where no line came.
     ///
     /// On an error a beginning of that is out, and not the whole.
@@ -95,20 +113,10 @@ impl<'w, W: Write> RegisterWriter<'w, W> {
 impl<W: Write> Taker<FileView> for RegisterWriter<'_, W> {
     ghost took = { TakesFile W.contents };
 
-    /// Writes a file's line, after the header where it is the first. False where a write failed or took no byte, or
-    /// where the lines would be more than the greatest u64.
-    fn take(&mut self, file: &FileView) -> bool {
-        let Some(lines) = self.lines.checked_add(1) else {
-            return false;
-        };
-        let line = file_line(self.kind, self.day, file);
-        match write_part(self.writer, self.kind, self.lines, line.as_bytes()) {
-            Ok(()) => {
-                self.lines = lines;
-                true
-            }
-            Err(_) => false,
-        }
+    /// Writes the file's line, as `register` does. False where a write failed or took no byte, or where the lines would be
+    /// more than the greatest u64.
+    fn take(&mut self, file: FileView) -> bool {
+        self.write_line(&file)
     }
 }
 
@@ -127,7 +135,7 @@ pub fn register<W: Write>(
 {
     let mut writer = RegisterWriter::new(kind, day, out);
     for file in files {
-        if !writer.take(file) {
+        if !writer.write_line(file) {
             return Err(ReportError::Write);
         }
     }

@@ -10,24 +10,24 @@ use Rattle.permit_report.proofs.writer.register.Goals as goal
 pub loop-file-preserved : goal.loop-file-preserved
 loop-file-preserved g c =
     let next = took_more (TakesFile g.W.Write.contents)
-    (take c.loop-file.file-index c.args.files.now) c.new-writer.result c.loop-file.writer c.take.new.self c.file-item.result c.loop-file.invariant
-    (rw c.if-not-take.false at c.take.ensures) in
-    let P : List FileView → Type 0 = λ fs. TookAll (TakesFile g.W.Write.contents) fs c.new-writer.result c.take.new.self in
+    (take c.loop-file.file-index c.args.files.now) c.new-writer.result c.loop-file.writer c.write_line.new.self c.file-item.result c.loop-file.invariant
+    (rw c.if-not-write_line.false at c.write_line.ensures) in
+    let P : List FileView → Type 0 = λ fs. TookAll (TakesFile g.W.Write.contents) fs c.new-writer.result c.write_line.new.self in
     subst P (sym (take_next c.args.files.now c.loop-file.file-index c.file-item.result c.loop-file-test.true c.file-item.is)) next
 
-pub returns-then-not-take-clause-front : goal.returns-then-not-take-clause-front
-returns-then-not-take-clause-front g c =
+pub returns-then-not-write_line-clause-front : goal.returns-then-not-write_line-clause-front
+returns-then-not-write_line-clause-front g c =
     let apart = taken_apart c.args.files.now c.loop-file.file-index c.file-item.result c.loop-file-test.true c.file-item.is in
-    let ends : StoppedIn (TakesFile g.W.Write.contents) c.args.files.now c.new-writer.result c.take.new.self = (
+    let ends : StoppedIn (TakesFile g.W.Write.contents) c.args.files.now c.new-writer.result c.write_line.new.self = (
       take c.loop-file.file-index c.args.files.now,
       c.file-item.result,
       drop (c.loop-file.file-index + 1) c.args.files.now,
       apart,
       c.loop-file.writer,
       c.loop-file.invariant,
-      rw c.if-not-take.true at c.take.ensures,
+      rw c.if-not-write_line.true at c.write_line.ensures,
     ) in
-    let is = stopped g.W.Write.contents c.args.kind c.args.day c.args.files.now c.new-writer.result c.take.new.self c.new-writer.ensures.begun ends in
+    let is = stopped g.W.Write.contents c.args.kind c.args.day c.args.files.now c.new-writer.result c.write_line.new.self c.new-writer.ensures.begun ends in
     let named = is.1 ∙ c.new-writer.ensures.same_reference in
     front_between g.W.Write.contents _ _ _ _ _ c.new-writer.ensures.nothing_out is.0 (search rules)
 

@@ -7,7 +7,7 @@ use Rattle.permit_core.proofs.state.FileState.apply.Goals as goal
 pub returns-clause-model : goal.returns-clause-model
 returns-clause-model c h id file is there later row admitted =
     let few : c.args.self.now.notices ≤ c.args.self.now.papers = subst (λ (s : State). s.notices ≤ s.papers) (sym row) (notices_within h id file is there) in
-    c.after.ensures few ∙ ap (row_after c.args.day c.args.command.now) row
+    c.after.ensures.row few ∙ ap (row_after c.args.day c.args.command.now) row
     ∙ sym (row_more h id c.args.day c.args.caller file c.args.command.now is there later admitted)
 
 pub returns-clause-recorded : goal.returns-clause-recorded
