@@ -8,7 +8,7 @@ use permit_base::values::{Day, Digest, FileId, Lot, PaperNumber, ParcelId, Party
 use permit_base::words::Role;
 use permit_core::state::FileState;
 use permit_core::taker::Taker;
-use permit_store::rows::{Change, Desk, FileRow, Found, Paper, Parcel, Party};
+use permit_store::rows::{Change, Desk, FileRow, Found, Interest, Paper, Parcel, Party};
 use permit_store::store::{Got, Store, StoreError};
 
 /// A store over another that keeps its tables in memory. One of its calls fails: the other is not called then, or, where
@@ -153,6 +153,10 @@ impl<S: Store> Store for Failing<S> {
 
     fn interest(&mut self, parcel: ParcelId, party: PartyId) -> Got<bool> {
         answer!(self, interest(parcel, party))
+    }
+
+    fn interests(&mut self) -> Got<Vec<Interest>> {
+        answer!(self, interests())
     }
 
     fn file(&mut self, file: FileId) -> Got<Option<FileRow>> {

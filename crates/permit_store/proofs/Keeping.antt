@@ -1,6 +1,8 @@
 -- What is kept after a change keeps the tables with the change.
 use Rattle.std.proofs.Common.{◌≡◌, ◌+◌, ℕ, ◌==◌, List, [], ◌∷◌, ◌++◌, length, map, filter, sym, ◌∙◌, ap, length-append}
-use Rattle.std.specs.Prelude.{if◌then◌else◌}
+use Rattle.std.specs.Prelude.{if◌then◌else◌, Bool, ◌&&◌, ◌||◌}
+use Rattle.std.specs.List.{list_any}
+use Rattle.std.proofs.lemmas.List.Folds.{list_any-append}
 use Rattle.std.specs.Borrow.{Bor}
 use Rattle.std.proofs.lemmas.List.{length-map, map-append}
 use Rattle.permit_base.specs.declared.words.Edition.TheVariants.{Second}
@@ -76,7 +78,8 @@ keeps_owner upgrade last day parties parcels later interests files t parcel owne
     }
 
 -- an interest more
-pub keeps_interest : (upgrade last day : ℕ) (parties : List Party) (parcels : List Parcel) (interests later : List Interest) (files : List KeptFile) (t : Tables)
+pub keeps_interest : (upgrade last day : ℕ) (parties : List Party) (parcels : List Parcel) (interests later : List Interest) (files : List KeptFile)
+    (t : Tables)
     (parcel party : ℕ) →
     later ≡ interests ++ (record { parcel = parcel; party = party }) ∷ [] →
     Keeps upgrade last parties parcels interests files t → Keeps upgrade day parties parcels later files (changed t (NewInterest parcel party) day)
@@ -85,7 +88,10 @@ keeps_interest upgrade last day parties parcels interests later files t parcel p
   upgrade = k.upgrade;
   parties = k.parties;
   parcels = k.parcels;
-  interests = ap (λ is. is ++ (record { parcel = parcel; party = party }) ∷ []) k.interests ∙ sym e;
+  interests = λ a b.
+      let p : Interest → Bool = λ i. (i.parcel == a) && (i.party == b) in
+      let new : List Interest = record { parcel = parcel; party = party } ∷ [] in
+      list_any-append p t.interests new ∙ ap (λ x. x || list_any p new) (k.interests a b) ∙ sym (list_any-append p interests new) ∙ ap (list_any p) (sym e);
   files = k.files;
   papers = k.papers;
 }
@@ -95,7 +101,8 @@ pub keeps_file : (upgrade last day : ℕ) (parties : List Party) (parcels : List
     (state : State) (valuation : ℕ) (description : Bor (List ℕ)) →
     later ≡ files ++ (record { row = record { id = length files + 1; state = state; valuation = valuation; description = description.now }; papers = [] })
     ∷ [] →
-    Keeps upgrade last parties parcels interests files t → Keeps upgrade day parties parcels interests later (changed t (NewFile state valuation description) day)
+    Keeps upgrade last parties parcels interests files t →
+    Keeps upgrade day parties parcels interests later (changed t (NewFile state valuation description) day)
 keeps_file upgrade last day parties parcels interests files later t state valuation description e k =
     let new : ℕ → FileRow = λ n. record { id = n + 1; state = state; valuation = valuation; description = description.now } in
     let kept : KeptFile = record { row = new (length files); papers = [] } in
@@ -113,14 +120,16 @@ keeps_file upgrade last day parties parcels interests files later t state valuat
     }
 
 -- a file's new row
-pub keeps_row : (upgrade last day : ℕ) (parties : List Party) (parcels : List Parcel) (interests : List Interest) (files later : List KeptFile) (t : Tables) (file : ℕ)
+pub keeps_row : (upgrade last day : ℕ) (parties : List Party) (parcels : List Parcel) (interests : List Interest) (files later : List KeptFile)
+    (t : Tables) (file : ℕ)
     (state : State) (effect : RowEffect) →
     map (λ k. k.row) later ≡ map (with_state file state) (map (λ k. k.row) files) →
     ((f : ℕ) → papers_at f later ≡ (if file == f then papers_after file state.papers day effect (papers_at file files) else papers_at f files)) →
     length later ≡ length files →
     Keeps upgrade last parties parcels interests files t → Keeps upgrade day parties parcels interests later (changed t (NewRow file state effect) day)
 keeps_row upgrade last day parties parcels interests files later t file state effect rows papers count k = record {
-  desk = ap (λ (d : Desk). record d { last = day }) k.desk ∙ ap (λ n. record { edition = Second; last = day; parties = length parties; parcels = length parcels; files = n })
+  desk = ap (λ (d : Desk). record d { last = day }) k.desk
+      ∙ ap (λ n. record { edition = Second; last = day; parties = length parties; parcels = length parcels; files = n })
       (sym count);
   upgrade = k.upgrade;
   parties = k.parties;

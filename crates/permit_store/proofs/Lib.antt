@@ -6,3 +6,5 @@ pub mod Sifting
 pub mod Sieving
 mod Passing
 mod Places
+pub mod Marks
+pub mod Loading

@@ -1,6 +1,6 @@
 -- Where a record lies in a list that is numbered without a gap.
-use Rattle.std.proofs.Common.{◌≡◌, ◌<◌, ℕ, zero, suc, ◌+◌, ◌==◌, Bool, true, false, cond, List, [], ◌∷◌, ◌++◌, length, map, find, get_or, slice_get, set, refl}
-use Rattle.std.proofs.Common.{sym, ◌∙◌, ap, arith}
+use Rattle.std.proofs.Common.{◌≡◌, ◌<◌, ℕ, zero, suc, ◌+◌, ◌==◌, Bool, true, false, cond, List, [], ◌∷◌, ◌++◌, length, map, find, take, get_or, slice_get, set}
+use Rattle.std.proofs.Common.{◌≤◌, ◌⊎◌, inl, inr, refl, add-one, sym, ◌∙◌, ap, arith}
 use Rattle.std.specs.Prelude.{Some, if◌then◌else◌}
 use Rattle.std.proofs.lemmas.Bool.Decides.{nat_tests}
 use Rattle.std.specs.List.{position_or_len, range_with_len}
@@ -103,3 +103,43 @@ pub in_place_pushed : (b : Bool) (files later : List KeptFile) (new : KeptFile) 
     new.row.id ≡ 1 + length files → AreInPlace files → AreInPlace later
 in_place_pushed true files later new e number all = rw e (numbers_more (λ k. k.row.id) 1 files new number all)
 in_place_pushed false files later new e number all = rw e all
+
+-- ---- the records before a place, and the one at it
+
+take_get : {A : Type 0} (xs : List A) (n : ℕ) (x : A) → slice_get xs n ≡ Some x → take n xs ++ x ∷ [] ≡ take (suc n) xs
+take_get [] n x e = cc
+take_get (y ∷ xs) zero x e = let same : y ≡ x = cc in ap (λ z. z ∷ []) (sym same)
+take_get (y ∷ xs) (suc n) x e = ap (λ ys. y ∷ ys) (take_get xs n x e)
+
+-- the record of the next number
+pub taken_more : {A : Type 0} (number : A → ℕ) (xs : List A) (n id : ℕ) (x : A) → id ≡ 1 + n → IsNumberedFrom number 1 xs →
+    Some x ≡ find (λ x. number x == id) xs → take n xs ++ x ∷ [] ≡ take (n + 1) xs
+taken_more number xs n id x e numbered found = rw add-one (take_get xs n x (sym (found_at number 1 id n xs e numbered) ∙ sym found))
+
+-- ---- a record that is changed
+
+none_changed : {A : Type 0} (number : A → ℕ) (change : A → A) (id first : ℕ) (xs : List A) → ((x : A) → (number x == id) ≡ false → change x ≡ x) →
+    (id < first) ⊎ (first + length xs ≤ id) → IsNumberedFrom number first xs → map change xs ≡ xs
+none_changed number change id first [] others past numbered = refl
+none_changed number change id first (x ∷ xs) others past numbered =
+    let other : (number x == id) ≡ false = grind (arith, nat_tests, past, numbered.0) in
+    let rest : (id < first + 1) ⊎ (first + 1 + length xs ≤ id) = grind (arith, past) in
+    ap (λ y. y ∷ map change xs) (others x other) ∙ ap (λ ys. x ∷ ys) (none_changed number change id (first + 1) xs others rest numbered.1)
+
+-- a change of the records of a number that no record has changes none
+pub changed_nowhere : {A : Type 0} (number : A → ℕ) (change : A → A) (id : ℕ) (xs : List A) → ((x : A) → (number x == id) ≡ false → change x ≡ x) →
+    length xs < id → IsNumberedFrom number 1 xs → xs ≡ map change xs
+changed_nowhere number change id xs others past numbered = sym (none_changed number change id 1 xs others (inr (omega arith)) numbered)
+
+-- a change of the records of a number changes the one at its place alone
+pub changed_at : {A : Type 0} (number : A → ℕ) (change : A → A) (id first place : ℕ) (xs : List A) (d new : A) →
+    ((x : A) → (number x == id) ≡ false → change x ≡ x) →
+    ((number (get_or xs place d) == id) ≡ true → new ≡ change (get_or xs place d)) → id ≡ first + place → place < length xs → IsNumberedFrom number first xs →
+    set xs place new ≡ map change xs
+changed_at number change id first place [] d new others this e within numbered = absurd (omega arith)
+changed_at number change id first zero (x ∷ xs) d new others this e within numbered =
+    ap (λ y. y ∷ xs) (this (same_test (number x) id (omega (arith, e, numbered.0))))
+    ∙ ap (λ ys. change x ∷ ys) (sym (none_changed number change id (first + 1) xs others (inl (omega (arith, e))) numbered.1))
+changed_at number change id first (suc place) (x ∷ xs) d new others this e within numbered =
+    ap (λ ys. x ∷ ys) (changed_at number change id (first + 1) place xs d new others this (omega (arith, e)) (omega arith) numbered.1)
+    ∙ ap (λ y. y ∷ map change xs) (sym (others x (other_test (number x) id (omega (arith, e, numbered.0)))))

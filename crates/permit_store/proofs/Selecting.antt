@@ -1,7 +1,8 @@
 -- What a selection finds in a row and in a list of files, and what a taker took of it.
 use Rattle.std.proofs.Common.{◌≡◌, ◌<◌, ◌≤◌, ◌+◌, ◌^◌, ◌%◌, ℕ, Bool, true, false, cond, List, [], ◌∷◌, ◌++◌, length, map, filter, get_or, take, drop, refl, sym}
 use Rattle.std.proofs.Common.{◌∙◌, ap, subst, arith, length-append}
-use Rattle.std.specs.Prelude.{◌&&◌, ⊤, IsPermutation, Option, Some, None, option_to_list, Result, Ok, Err, IsErr}
+use Rattle.std.specs.List.{list_any}
+use Rattle.std.specs.Prelude.{◌&&◌, ◌||◌, ⊤, IsPermutation, Option, Some, None, option_to_list, Result, Ok, Err, IsErr}
 use Rattle.std.proofs.lemmas.List.{take_more, map-append, append-nil, take-append-drop}
 use Rattle.std.proofs.lemmas.List.Elements.{filter-append}
 use Rattle.std.proofs.lemmas.List.Sorted.{IsPermutation-refl}
@@ -10,18 +11,15 @@ use Rattle.permit_base.specs.declared.route.Route.{Route}
 use Rattle.permit_base.specs.declared.route.Route.TheVariants as route
 use Rattle.permit_core.specs.Taking.{TookAll}
 use Rattle.permit_model.specs.Caller.{Party}
-use Rattle.permit_model.specs.Parcels.{Parcel, Interest}
 use Rattle.permit_model.specs.Routes.{Found, is_found, relations_found, found_row, found_by}
-use Rattle.permit_model.specs.Tables.{FileRow, Tables}
+use Rattle.permit_model.specs.Tables.{State, FileRow, Tables}
 use Rattle.permit_store.specs.declared.plain.select.Selection.{Selection}
-use Rattle.permit_store.specs.declared.sieve.Sieve.{Sieve}
 use Rattle.permit_store.specs.Counts.{next_count}
 use Rattle.permit_store.specs.Frames.{StoreView, Reads}
-use Rattle.permit_store.specs.Handing.{more_handed, Took, AreFound, AreHanded, AreAmong, Hands, is_found_by_any, found_by_any}
+use Rattle.permit_store.specs.Handing.{more_handed, AreFound, AreHanded, AreAmong, Hands, is_found_by_any, found_by_any}
 use Rattle.permit_store.specs.Finding.{lies_in, is_wanted}
+use Rattle.permit_store.specs.Interests.{DeclareSame}
 use Rattle.permit_store.specs.Plain.{KeptFile, Keeps, row_seen, rows_found, HandsOut}
-use Rattle.permit_store.specs.Sieving.{Sieves}
-use Rattle.permit_store.proofs.Sieving.{IsSieveOf, sifted, passed_on, among}
 
 -- a row is found where it lies in the cell and is wanted
 found_parts : (r : Route) (caller day : ℕ) (found : Found) → is_found r caller day found
@@ -29,38 +27,53 @@ found_parts : (r : Route) (caller day : ℕ) (found : Found) → is_found r call
 found_parts route.Every caller day found = refl
 found_parts (route.Cell files s b t) caller day found = refl
 
-and-false : (b : Bool) → (b && false) ≡ false
-and-false true = refl
-and-false false = refl
+-- one of the selections finds a row where it lies in its cell and is wanted by it
+any_found : (routes : List Route) (caller day : ℕ) (found : Found) → is_found_by_any routes caller day found
+    ≡ list_any (λ r. lies_in r day found.row.state && is_wanted r (relations_found caller found)) routes
+any_found [] caller day found = refl
+any_found (r ∷ routes) caller day found =
+    ap (λ b. b || is_found_by_any routes caller day found) (found_parts r caller day found)
+    ∙ ap (λ b. (lies_in r day found.row.state && is_wanted r (relations_found caller found)) || b) (any_found routes caller day found)
 
--- what the selection finds of one row
+or-neither : (a b : Bool) → (a || b) ≡ false → (a ≡ false) × (b ≡ false)
+or-neither true b e = cc
+or-neither false b e = (refl, e)
+
+-- where a row lies in the cell of none, none finds it
+none_lies : (day : ℕ) (state : State) (set : Relations) (routes : List Route) → list_any (λ r. lies_in r day state) routes ≡ false →
+    list_any (λ r. lies_in r day state && is_wanted r set) routes ≡ false
+none_lies day state set [] e = refl
+none_lies day state set (r ∷ routes) e =
+    let neither = or-neither (lies_in r day state) (list_any (λ r. lies_in r day state) routes) e in
+    ap (λ b. (b && is_wanted r set) || list_any (λ r. lies_in r day state && is_wanted r set) routes) neither.0
+    ∙ none_lies day state set routes neither.1
+
+-- what the selections find of one row
 abbrev pub found_one : Selection → FileRow → List Found
-found_one s row = filter (is_found s.route s.caller s.day) (row_seen s row ∷ [])
+found_one s row = filter (is_found_by_any s.routes.now s.caller s.day) (row_seen s row ∷ [])
 
-found_by_parts : (s : Selection) (row : FileRow) (lies wanted : Bool) → lies_in s.route s.day row.state ≡ lies →
-    is_wanted s.route (relations_found s.caller (row_seen s row)) ≡ wanted
-    → found_one s row ≡ cond (lies && wanted) (row_seen s row ∷ []) []
-found_by_parts s row lies wanted el ew =
-    ap (λ b. cond b (row_seen s row ∷ []) []) (found_parts s.route s.caller s.day (row_seen s row)
-    ∙ ap (λ b. b && is_wanted s.route (relations_found s.caller (row_seen s row))) el ∙ ap (λ b. lies && b) ew)
+found_by_parts : (s : Selection) (row : FileRow) (set : Relations) (wanted : Bool) → set ≡ relations_found s.caller (row_seen s row) →
+    list_any (λ r. lies_in r s.day row.state && is_wanted r set) s.routes.now ≡ wanted → found_one s row ≡ cond wanted (row_seen s row ∷ []) []
+found_by_parts s row set wanted es ew =
+    ap (λ b. cond b (row_seen s row ∷ []) []) (any_found s.routes.now s.caller s.day (row_seen s row)
+    ∙ ap (λ set. list_any (λ r. lies_in r s.day row.state && is_wanted r set) s.routes.now) (sym es) ∙ ew)
 
--- a row outside the cell isn't found
-pub found_outside : (s : Selection) (row : FileRow) (lies : Bool) → lies ≡ lies_in s.route s.day row.state → lies ≡ false → [] ≡ found_one s row
-found_outside s row lies e f = sym (found_by_parts s row false _ (sym e ∙ f) refl)
+-- a row outside the cells isn't found
+pub found_outside : (s : Selection) (row : FileRow) (lies : Bool) → lies ≡ list_any (λ r. lies_in r s.day row.state) s.routes.now → lies ≡ false →
+    [] ≡ found_one s row
+found_outside s row lies e f =
+    let set = relations_found s.caller (row_seen s row) in
+    sym (found_by_parts s row set false refl (none_lies s.day row.state set s.routes.now (sym e ∙ f)))
 
 -- a row that isn't wanted isn't found
 pub found_unwanted : (s : Selection) (row : FileRow) (set : Relations) (wanted : Bool) → set ≡ relations_found s.caller (row_seen s row) →
-    wanted ≡ is_wanted s.route set → wanted ≡ false → [] ≡ found_one s row
-found_unwanted s row set wanted es e f =
-    let lies = lies_in s.route s.day row.state in
-    sym (found_by_parts s row lies false refl (ap (is_wanted s.route) (sym es) ∙ sym e ∙ f) ∙ ap (λ b. cond b (row_seen s row ∷ []) []) (and-false lies))
+    wanted ≡ list_any (λ r. lies_in r s.day row.state && is_wanted r set) s.routes.now → wanted ≡ false → [] ≡ found_one s row
+found_unwanted s row set wanted es e f = sym (found_by_parts s row set false es (sym e ∙ f))
 
--- a row that lies in the cell and is wanted is found
-pub found_wanted : (s : Selection) (row : FileRow) (lies : Bool) (set : Relations) (wanted : Bool) (found : Found) → lies ≡ lies_in s.route s.day row.state →
-    lies ≡ true
-    → set ≡ relations_found s.caller (row_seen s row) → wanted ≡ is_wanted s.route set → wanted ≡ true → found ≡ row_seen s row → found ∷ [] ≡ found_one s row
-found_wanted s row lies set wanted found el fl es e f ef =
-    ap (λ x. x ∷ []) ef ∙ sym (found_by_parts s row true true (sym el ∙ fl) (ap (is_wanted s.route) (sym es) ∙ sym e ∙ f))
+-- a row that is wanted by a selection in whose cell it lies is found
+pub found_wanted : (s : Selection) (row : FileRow) (set : Relations) (wanted : Bool) (found : Found) → set ≡ relations_found s.caller (row_seen s row) →
+    wanted ≡ list_any (λ r. lies_in r s.day row.state && is_wanted r set) s.routes.now → wanted ≡ true → found ≡ row_seen s row → found ∷ [] ≡ found_one s row
+found_wanted s row set wanted found es e f ef = ap (λ x. x ∷ []) ef ∙ sym (found_by_parts s row set true es (sym e ∙ f))
 
 -- what is found of a row, of one that is the same
 pub found_some : (s : Selection) (row later : FileRow) (answer : Option Found) (found : Found) → answer ≡ Some found → option_to_list answer ≡ found_one s row →
@@ -75,8 +88,8 @@ found_none s row later answer e f same = ap option_to_list (sym e) ∙ f ∙ ap 
 
 rows_append : (s : Selection) (before after : List KeptFile) → rows_found s (before ++ after) ≡ rows_found s before ++ rows_found s after
 rows_append s before after =
-    ap (filter (is_found s.route s.caller s.day)) (map-append (λ (k : KeptFile). row_seen s k.row) before after)
-    ∙ filter-append (is_found s.route s.caller s.day) (map (λ k. row_seen s k.row) before) (map (λ k. row_seen s k.row) after)
+    ap (filter (is_found_by_any s.routes.now s.caller s.day)) (map-append (λ (k : KeptFile). row_seen s k.row) before after)
+    ∙ filter-append (is_found_by_any s.routes.now s.caller s.day) (map (λ k. row_seen s k.row) before) (map (λ k. row_seen s k.row) after)
 
 -- the rows of one file more
 pub rows_more : (s : Selection) (files : List KeptFile) (i : ℕ) (d : KeptFile) (found : List Found) → i < length files →
@@ -163,25 +176,42 @@ module _ {T : Type 0} (took : T → Found → T → Bool → Type 0) (s : Select
 
 -- ---- the tables
 
-row_same : (s : Selection) (t : Tables) (row : FileRow) → s.parcels.now ≡ t.parcels → s.interests.now ≡ t.interests → row_seen s row ≡ found_row t s.caller row
-row_same s t row ep ei = rw (ep, ei) refl
+row_same : (s : Selection) (t : Tables) (row : FileRow) → s.parcels.now.rows.items ≡ t.parcels → DeclareSame s.interests.now.rows.items t.interests →
+    row_seen s row ≡ found_row t s.caller row
+row_same s t row ep ei = rw (ep, ei row.state.parcel s.caller) refl
 
-rows_same : (s : Selection) (t : Tables) (files : List KeptFile) → s.parcels.now ≡ t.parcels → s.interests.now ≡ t.interests
+rows_same : (s : Selection) (t : Tables) (files : List KeptFile) → s.parcels.now.rows.items ≡ t.parcels → DeclareSame s.interests.now.rows.items t.interests
     → map (λ k. row_seen s k.row) files ≡ map (found_row t s.caller) (map (λ k. k.row) files)
 rows_same s t [] ep ei = refl
 rows_same s t (k ∷ files) ep ei =
     ap (λ found. found ∷ map (λ k. row_seen s k.row) files) (row_same s t k.row ep ei)
     ∙ ap (λ rows. found_row t s.caller k.row ∷ rows) (rows_same s t files ep ei)
 
--- what the selection finds of the files that are kept is what it finds in the tables
-pub found_in_tables : (upgrade last : ℕ) (parties : List Party) (s : Selection) (parcels : List Parcel) (interests : List Interest) (files seen : List KeptFile)
-    (t : Tables)
-    → s.parcels.now ≡ parcels → s.interests.now ≡ interests → seen ≡ files → Keeps upgrade last parties parcels interests files t →
-    rows_found s seen ≡ found_by s.route s.caller s.day t
-found_in_tables upgrade last parties s parcels interests files seen t ep ei ef k =
-    let p : Found → Bool = is_found s.route s.caller s.day in
-    ap (rows_found s) ef ∙ ap (filter p) (rows_same s t files (ep ∙ sym k.parcels) (ei ∙ sym k.interests))
+-- what the selections find of the files that are kept is what they find in the tables
+pub found_in_tables : (upgrade last : ℕ) (parties : List Party) (s : Selection) (files seen : List KeptFile) (t : Tables)
+    → seen ≡ files → Keeps upgrade last parties s.parcels.now.rows.items s.interests.now.rows.items files t →
+    rows_found s seen ≡ found_by_any s.routes.now s.caller s.day t
+found_in_tables upgrade last parties s files seen t ef k =
+    let p : Found → Bool = is_found_by_any s.routes.now s.caller s.day in
+    ap (rows_found s) ef
+    ∙ ap (filter p) (rows_same s t files (sym k.parcels) (λ a b. sym (k.interests a b)))
     ∙ ap (λ rows. filter p (map (found_row t s.caller) rows)) (sym k.files)
+
+or-false : (b : Bool) → (b || false) ≡ b
+or-false true = refl
+or-false false = refl
+
+-- one selection finds what it finds among none others
+one_of_one : (r : Route) (caller day : ℕ) (rows : List Found) → filter (is_found_by_any (r ∷ []) caller day) rows ≡ filter (is_found r caller day) rows
+one_of_one r caller day [] = refl
+one_of_one r caller day (row ∷ rows) =
+    ap (λ b. cond b (row ∷ filter (is_found_by_any (r ∷ []) caller day) rows) (filter (is_found_by_any (r ∷ []) caller day) rows))
+    (or-false (is_found r caller day row))
+    ∙ ap (λ found. cond (is_found r caller day row) (row ∷ found) found) (one_of_one r caller day rows)
+
+-- what a single selection finds
+pub found_by_one : (r : Route) (caller day : ℕ) (t : Tables) → found_by_any (r ∷ []) caller day t ≡ found_by r caller day t
+found_by_one r caller day t = one_of_one r caller day (map (found_row t caller) t.files)
 
 -- rows that are those found, in their order
 pub are_found : (t : Tables) (given found : List Found) → given ≡ found → AreFound t given found
@@ -249,48 +279,13 @@ hands took found found_in old new a b result same r p = (
   λ _ t h. (p.rest, p.left, are_found t (p.given ++ p.rest) (found_in t) (p.whole ∙ same t h)),
 )
 
--- ---- several selections
-
--- the selection of each row finds each
-pub found_every : (caller day : ℕ) (rows : List Found) → filter (is_found route.Every caller day) rows ≡ rows
-found_every caller day [] = refl
-found_every caller day (row ∷ rows) = ap (λ found. row ∷ found) (found_every caller day rows)
-
-module _ {T E : Type 0} (took : T → Found → T → Bool → Type 0) (routes : List Route) (caller day : ℕ) (found : List Found) (n m : ℕ) (before after : Sieve T)
-    (result : Result Bool E) where
-  few_yet : before.passed ≡ 0 → before.passed < 2 ^ 64
-  few_yet none = omega arith
-
-  -- the sieve passed on to the taker that it had
-  pub same_taker : IsSieveOf routes caller day before → before.passed ≡ 0 → HandsOut (Sieves took) found n m before after result →
-      after.taker.ghost_name ≡ before.taker.ghost_name
-  same_taker own none p = (passed_on took routes caller day result p.given before after (few_yet none) own p.taken).same
-
-  -- what a sieve passed on of the rows that it was handed, which are all those of each of the tables that a store holds
-  pub hands_of_any : (old new : StoreView) (last : T) → IsSieveOf routes caller day before → before.passed ≡ 0 → last ≡ after.taker.now
-      → ((t : Tables) → old.holds t → found ≡ map (found_row t caller) t.files) → Reads ⊤ new.handed old new result →
-      new.handed ≡ more_handed after.passed old.handed
-      → HandsOut (Sieves took) found n m before after result
-      → (given : List Found) × Hands took given old new before.taker.now last result
-      × (new.doubt ≡ 0 → (t : Tables) → old.holds t → AreAmong result given (found_by_any routes caller day t))
-  hands_of_any old new last own none is same r count p =
-      let on = passed_on took routes caller day result p.given before after (few_yet none) own p.taken in
-      let given = sifted took routes caller day p.given in (
-        given,
-        record {
-          taken = subst (λ (x : T). Took took given before.taker.now x result) (sym is) on.taken;
-          read = record {
-            kept = r.kept;
-            one = r.one;
-            doubt = r.doubt;
-            failed = r.failed;
-            commits = r.commits;
-            handed = counted (length given) before.passed after.passed old.handed new.handed none on.passed count;
-          };
-        },
-        λ _ t h. among result (is_found_by_any routes caller day) p.given p.rest (map (found_row t caller) t.files) p.left
-            (subst (IsPermutation (p.given ++ p.rest)) (p.whole ∙ same t h) (IsPermutation-refl (p.given ++ p.rest))),
-      )
-    where
-      counted : (k a b c d : ℕ) → a ≡ 0 → b ≡ more_handed k a → d ≡ more_handed b c → d ≡ more_handed k c
-      counted k a b c d none e f = omega arith
+-- the same, where the order isn't told
+pub hands_among : {T E : Type 0} (took : T → Found → T → Bool → Type 0) (found : List Found) (found_in : Tables → List Found) (old new : StoreView) (a b : T)
+    (result : Result Bool E)
+    → ((t : Tables) → old.holds t → found ≡ found_in t) → Reads ⊤ new.handed old new result → HandsOut took found old.handed new.handed a b result
+    → (given : List Found) × Hands took given old new a b result × (new.doubt ≡ 0 → (t : Tables) → old.holds t → AreAmong result given (found_in t))
+hands_among took found found_in old new a b result same r p = (
+  p.given,
+  record { taken = p.taken; read = record { kept = r.kept; one = r.one; doubt = r.doubt; failed = r.failed; commits = r.commits; handed = p.count } },
+  λ _ t h. (p.rest, p.left, (are_found t (p.given ++ p.rest) (found_in t) (p.whole ∙ same t h)).same),
+)

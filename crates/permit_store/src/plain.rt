@@ -1,9 +1,8 @@
 //! A store over vectors.
 
-ghost use Rattle.std.specs.Prelude.{◌≡◌, ◌≤◌, ◌==◌, ℕ, length, IfOk, IfErr, IsErr, IsTrue, false, map, if◌then◌else◌};
-ghost use Rattle.permit_store.specs.Changes.{with_state, papers_after};
+ghost use Rattle.std.specs.Prelude.{◌≡◌, ◌≤◌, length, IfOk, IfErr, IsErr};
 ghost use Rattle.permit_base.specs.Limits.{most_records};
-ghost use Rattle.permit_store.specs.Plain.{papers_at, AreInPlace};
+ghost use Rattle.permit_store.specs.Plain.{AreInPlace};
 ghost use Rattle.permit_store.specs.Counts.{next_count};
 ghost use Rattle.permit_store.specs.Founding.{founding};
 ghost use Rattle.permit_store.specs.declared.store.OpenError.TheVariants as open_error;
@@ -11,15 +10,25 @@ ghost use Rattle.permit_model.specs.Tables.{tables};
 ghost use Rattle.permit_model.specs.Machine.{IsHistory};
 
 mod find;
-mod grow;
+mod interests;
 mod kept;
+mod load;
+mod marks;
+mod papers;
+mod parcels;
+mod parties;
+pub mod ready;
 mod select;
 
 use crate::founder::Founder;
+use crate::memory::Memory;
+use crate::plain::interests::Interests;
 use crate::plain::kept::Kept;
+use crate::plain::parcels::Parcels;
+use crate::plain::parties::Parties;
+use crate::plain::ready::Ready;
 use crate::plain::select::Selection;
-use crate::rows::{Change, Desk, FileRow, Found, Interest, Paper, Parcel, Party, RowEffect};
-use crate::sieve::Sieve;
+use crate::rows::{Change, Desk, FileRow, Found, Interest, Paper, Parcel, Party};
 use crate::store::{Got, OpenError, Store, StoreError};
 use permit_base::route::Route;
 use permit_base::values::{Day, Digest, FileId, Lot, PaperNumber, ParcelId, PartyId};
@@ -28,8 +37,9 @@ use permit_core::state::FileState;
 use permit_core::taker::Taker;
 use std::alloc::Global;
 
-/// The tables as vectors, in memory, each file with its papers and at the place that its number says, so that no call on a
-/// file goes over other files.
+/// The tables as vectors, in memory: parties, parcels and files at the places that their numbers say, each file with its
+/// papers. Parties are found by their tokens too, parcels by their lots, and interests by both their numbers, so that no call
+/// but a selection goes over rows that it doesn't ask for.
 /// A call fails only where memory is refused, or at a commit that doesn't fit.
 #[derive(Drop)]
 pub struct PlainStore {
@@ -37,40 +47,15 @@ pub struct PlainStore {
     /// How many files there were at the upgrade to the second edition.
     upgrade: u32,
     last: Day,
-    parties: Vec<Party>,
-    parcels: Vec<Parcel>,
-    interests: Vec<Interest>,
+    parties: Parties,
+    parcels: Parcels,
+    interests: Interests,
     files: Vec<Kept>,
     handed: u64,
     failed: u64,
     commits: u64,
-    ghost few_parties: { length parties.items ≤ most_records },
-    ghost few_parcels: { length parcels.items ≤ most_records },
     ghost few_files: { length files.items ≤ most_records },
     ghost places: { AreInPlace files.items },
-}
-
-/// A file's new row, with what else changes by it, at the file's place.
-fn put_row(
-    alloc: Global,
-    files: &mut [Kept],
-    file: FileId,
-    state: FileState,
-    effect: &RowEffect<'_>,
-    day: Day,
-) -> bool
-    requires places { AreInPlace files.old }
-    ensures rows { IsTrue result → map (λ k. k.row) files.new ≡ map (with_state file state) (map (λ k. k.row) files.old) }
-    ensures papers { IsTrue result → (f : ℕ)
-        → papers_at f files.new ≡ (if file == f then papers_after file state.papers day effect.now (papers_at file files.old) else papers_at f files.old) }
-    ensures places { AreInPlace files.new }
-    ensures count { length files.new ≡ length files.old }
-    ensures kept { result ≡ false → files.new ≡ files.old }
-{
-    let Some(place) = find::place_of(files, file) else {
-        return false;
-    };
-    grow::renew(alloc, &mut files[place], file, state, effect, day)
 }
 
 impl PlainStore {
@@ -95,17 +80,24 @@ impl PlainStore {
         ensures commits { IfOk result (λ s. (⟦<PlainStore as Store>⟧.view s).commits ≡ 0) }
         ensures refusal { IfErr result (λ e. e ≡ open_error.Store) }
     {
-        let mut parties = Vec::new(alloc);
-        if !grow::push_party(&mut parties, &founder.name, Role::Official, &founder.digest) {
+        let mut parties = Parties::new(alloc);
+        let first = ready::ready_party(
+            &mut parties,
+            &founder.name,
+            Role::Official,
+            &founder.digest,
+        );
+        let Some(official) = first else {
             return Err(OpenError::Store);
-        }
+        };
+        ready::put_party(&mut parties, official);
         Ok(PlainStore {
             alloc,
             upgrade: 0,
             last: founder.day,
             parties,
-            parcels: Vec::new(alloc),
-            interests: Vec::new(alloc),
+            parcels: Parcels::new(alloc),
+            interests: Interests::new(alloc),
             files: Vec::new(alloc),
             handed: 0,
             failed: 0,
@@ -119,7 +111,7 @@ impl Store for PlainStore {
     ghost use Rattle.permit_store.specs.Plain.{Keeps};
 
     ghost view = { λ s. record {
-      holds = Keeps s.upgrade s.last s.parties.items s.parcels.items s.interests.items s.files.items;
+      holds = Keeps s.upgrade s.last s.parties.rows.items s.parcels.rows.items s.interests.rows.items s.files.items;
       doubt = 0;
       handed = s.handed;
       failed = s.failed;
@@ -132,50 +124,57 @@ impl Store for PlainStore {
         Ok(Desk {
             edition: Edition::Second,
             last: self.last,
-            parties: self.parties.len() as u32,
-            parcels: self.parcels.len() as u32,
+            parties: self.parties.count(),
+            parcels: self.parcels.count(),
             files: self.files.len() as u32,
         })
     }
 
     fn party_by_token(&mut self, digest: &Digest) -> Got<Option<Party>> {
-        match find::find_party_with(&self.parties, digest) {
+        match find::copy_party(self.parties.with_token(digest)) {
             Ok(found) => Ok(found),
             Err(_) => self.fail(),
         }
     }
 
     fn party(&mut self, party: PartyId) -> Got<Option<Party>> {
-        match find::find_party(&self.parties, party) {
+        match find::copy_party(self.parties.numbered(party)) {
             Ok(found) => Ok(found),
             Err(_) => self.fail(),
         }
     }
 
     fn role(&mut self, party: PartyId) -> Got<Option<Role>> {
-        Ok(find::role_of(&self.parties, party))
+        Ok(self.parties.role(party))
     }
 
     fn parcel(&mut self, parcel: ParcelId) -> Got<Option<Parcel>> {
-        match find::find_parcel(&self.parcels, parcel) {
+        match find::copy_parcel(self.parcels.numbered(parcel)) {
             Ok(found) => Ok(found),
             Err(_) => self.fail(),
         }
     }
 
     fn owner(&mut self, parcel: ParcelId) -> Got<Option<PartyId>> {
-        Ok(find::owner_of(&self.parcels, parcel))
+        Ok(self.parcels.owner(parcel))
     }
 
     fn parcel_by_lot(&mut self, lot: &Lot) -> Got<Option<Parcel>> {
-        match find::find_parcel_with(&self.parcels, lot) {
+        match find::copy_parcel(self.parcels.with_lot(lot)) {
             Ok(found) => Ok(found),
             Err(_) => self.fail(),
         }
     }
 
     fn interest(&mut self, parcel: ParcelId, party: PartyId) -> Got<bool> {
-        Ok(find::has_interest(&self.interests, parcel, party))
+        Ok(self.interests.has(parcel, party))
+    }
+
+    fn interests(&mut self) -> Got<Vec<Interest>> {
+        match self.interests.all(self.alloc) {
+            Ok(interests) => Ok(interests),
+            Err(_) => self.fail(),
+        }
     }
 
     fn file(&mut self, file: FileId) -> Got<Option<FileRow>> {
@@ -209,8 +208,9 @@ impl Store for PlainStore {
     }
 
     fn select(&mut self, route: &Route, caller: PartyId, day: Day) -> Got<Vec<Found>> {
+        let routes = [*route];
         let selection = Selection {
-            route: *route,
+            routes: &routes,
             caller,
             day,
             parcels: &self.parcels,
@@ -232,8 +232,9 @@ impl Store for PlainStore {
         day: Day,
         taker: &mut T,
     ) -> Got<bool> {
+        let routes = [*route];
         let selection = Selection {
-            route: *route,
+            routes: &routes,
             caller,
             day,
             parcels: &self.parcels,
@@ -256,22 +257,15 @@ impl Store for PlainStore {
         taker: &mut T,
     ) -> Got<bool> {
         let selection = Selection {
-            route: Route::Every,
+            routes,
             caller,
             day,
             parcels: &self.parcels,
             interests: &self.interests,
         };
-        let mut sieve = Sieve {
-            routes,
-            caller,
-            day,
-            taker,
-            passed: 0,
-        };
-        let mut seen = 0;
-        let outcome = selection.hand(&self.files, &mut sieve, &mut seen);
-        self.handed = self.handed.wrapping_add(sieve.passed);
+        let mut handed = self.handed;
+        let outcome = selection.hand(&self.files, taker, &mut handed);
+        self.handed = handed;
         match outcome {
             Ok(all) => Ok(all),
             Err(_) => self.fail(),
@@ -280,8 +274,26 @@ impl Store for PlainStore {
 
     fn commit(&mut self, change: &Change<'_>, day: Day) -> Got<()> {
         self.commits = self.commits.wrapping_add(1);
-        let done = match change {
-            Change::NewParty { name, role, digest } => grow::push_party(
+        let Ok(ready) = self.prepare(change, day) else {
+            return self.fail();
+        };
+        self.make(ready, change, day);
+        Ok(())
+    }
+}
+
+impl Memory for PlainStore {
+    ghost use Rattle.std.specs.Prelude.{vec_capacity, refl};
+    ghost use Rattle.std.proofs.Common.{sym, ◌∙◌};
+    ghost use Rattle.permit_store.specs.Preparing.{IsReady};
+
+    type Ready = Ready;
+
+    ghost is_ready = { λ s ready change day. IsReady s.parties s.parcels s.interests s.files.items (vec_capacity s.files) ready change day };
+
+    fn prepare(&mut self, change: &Change<'_>, day: Day) -> Got<Ready> {
+        let made = match change {
+            Change::NewParty { name, role, digest } => ready::ready_party(
                 &mut self.parties,
                 name,
                 *role,
@@ -291,31 +303,68 @@ impl Store for PlainStore {
                 lot,
                 address,
                 owner,
-            } => grow::push_parcel(&mut self.parcels, lot, address, *owner),
-            Change::NewOwner { parcel, owner } => {
-                grow::give_parcel(&mut self.parcels, *parcel, *owner);
-                true
-            }
-            Change::NewInterest { parcel, party } => grow::push_interest(
-                &mut self.interests,
-                *parcel,
-                *party,
-            ),
+            } => ready::ready_parcel(&mut self.parcels, lot, address, *owner),
+            Change::NewOwner {
+                parcel: _,
+                owner: _,
+            } => Some(Ready::Nothing),
+            Change::NewInterest {
+                parcel: _,
+                party: _,
+            } => ready::ready_interest(&mut self.interests),
             Change::NewFile {
                 state,
                 valuation,
                 description,
-            } => grow::push_file(self.alloc, &mut self.files, *state, *valuation, description),
+            } => ready::ready_file(&mut self.files, *state, *valuation, description),
             Change::NewRow {
                 file,
                 state,
                 effect,
-            } => put_row(self.alloc, &mut self.files, *file, *state, effect, day),
+            } => ready::ready_row(self.alloc, &self.files, *file, state.papers(), effect, day),
         };
-        if done {
-            self.last = day;
-            return Ok(());
+        match made {
+            Some(ready) => Ok(ready),
+            None => Err(StoreError),
         }
-        self.fail()
     }
+
+    fn make(&mut self, ready: Ready, change: &Change<'_>, day: Day) {
+        match change {
+            Change::NewParty {
+                name: _,
+                role: _,
+                digest: _,
+            } => ready::put_party(&mut self.parties, ready),
+            Change::NewParcel {
+                lot: _,
+                address: _,
+                owner: _,
+            } => ready::put_parcel(&mut self.parcels, ready),
+            Change::NewOwner { parcel, owner } => self.parcels.give(*parcel, *owner),
+            Change::NewInterest { parcel, party } => self.interests.add(Interest {
+                parcel: *parcel,
+                party: *party,
+            }),
+            Change::NewFile {
+                state: _,
+                valuation: _,
+                description: _,
+            } => ready::put_file(self.alloc, &mut self.files, ready),
+            Change::NewRow {
+                file,
+                state,
+                effect,
+            } => ready::put_ready_row(&mut self.files, *file, *state, effect, day, ready),
+        }
+        self.last = day;
+    }
+
+    fn handed(&self) -> u64 {
+        self.handed
+    }
+
+    ghost sure = { λ s. refl };
+
+    ghost one = { λ s t u k l. k.desk ∙ sym l.desk };
 }

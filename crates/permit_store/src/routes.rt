@@ -1,6 +1,7 @@
 //! Whether selections find a row.
 
-ghost use Rattle.std.specs.Prelude.{◌≡◌};
+ghost use Rattle.std.specs.Prelude.{◌≡◌, ◌&&◌};
+ghost use Rattle.std.specs.List.{list_any};
 ghost use Rattle.permit_model.specs.Codes.{is_stage, is_timing};
 ghost use Rattle.permit_model.specs.Routes.{is_found};
 ghost use Rattle.permit_store.specs.Finding.{lies_in, is_wanted};
@@ -55,6 +56,21 @@ pub(crate) fn asks_for(route: Route, set: &Relations) -> bool
             By::Two(first, second) => set.has(first) && set.has(second),
         },
     }
+}
+
+/// Whether the row lies in the cell of any of the selections on the day.
+pub(crate) fn is_in_any_cell(routes: &[Route], day: Day, state: &FileState) -> bool
+    ensures { result ≡ list_any (λ route. lies_in route day state.now) routes.now }
+{
+    routes.iter().any(|route| is_in_cell(*route, day, state))
+}
+
+/// Whether any of the selections in whose cell the row lies on the day asks for rows to which the caller has these
+/// relations.
+pub(crate) fn any_asks_for(routes: &[Route], day: Day, state: &FileState, set: &Relations) -> bool
+    ensures { result ≡ list_any (λ route. lies_in route day state.now && is_wanted route set.now) routes.now }
+{
+    routes.iter().any(|route| is_in_cell(*route, day, state) && asks_for(*route, set))
 }
 
 /// Whether the selection finds the row for the caller on the day.

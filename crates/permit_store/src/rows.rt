@@ -97,9 +97,9 @@ impl Clone for Parcel {
 
 /// A declared interest of a party in a parcel.
 #[derive(Clone, Copy)]
-pub(crate) struct Interest {
-    pub(crate) parcel: ParcelId,
-    pub(crate) party: PartyId,
+pub struct Interest {
+    pub parcel: ParcelId,
+    pub party: PartyId,
 }
 
 impl Model for Interest {

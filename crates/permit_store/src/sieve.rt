@@ -23,8 +23,8 @@ impl<T: Taker<Found>> Taker<Found> for Sieve<'_, T> {
     ghost took = { Sieves T.took };
 
     /// What its taker answers to a row that is passed on; true to any other.
-    fn take(&mut self, found: &Found) -> bool {
-        if !any_finds(self.routes, self.caller, self.day, found) {
+    fn take(&mut self, found: Found) -> bool {
+        if !any_finds(self.routes, self.caller, self.day, &found) {
             return true;
         }
         self.passed = self.passed.wrapping_add(1);

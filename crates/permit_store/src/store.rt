@@ -6,9 +6,10 @@ ghost use Rattle.permit_model.specs.Routes.{found_by, Found as TheFound};
 ghost use Rattle.permit_model.specs.Tables.{Tables};
 ghost use Rattle.permit_store.specs.Changes.{changed, Fits};
 ghost use Rattle.permit_store.specs.Frames.{StoreView, OverTables, Reads, IsRead, IsLookUp, IsCommit};
+ghost use Rattle.permit_store.specs.Interests.{DeclareSame};
 ghost use Rattle.permit_store.specs.Handing.{AreAmong, AreFound, AreHanded, Hands, found_by_any, selected_after};
 
-use crate::rows::{Change, Desk, FileRow, Found, Paper, Parcel, Party};
+use crate::rows::{Change, Desk, FileRow, Found, Interest, Paper, Parcel, Party};
 use permit_base::route::Route;
 use permit_base::values::{Day, Digest, FileId, Lot, PaperNumber, ParcelId, PartyId};
 use permit_base::words::Role;
@@ -107,6 +108,12 @@ pub trait Store {
     fn interest(&mut self, parcel: ParcelId, party: PartyId) -> Got<bool>
         ensures found { OverTables (view self.old) (view self.new)
             (λ t. IfOk result (λ b. b ≡ list_any (λ i. (i.parcel == parcel) && (i.party == party)) t.interests)) }
+        ensures read { IsRead (view self.old) (view self.new) result }
+        ensures crash { (t : Tables) → crash self.old self.new t (λ _. ⊥) };
+
+    /// All interests that were declared, in no promised order.
+    fn interests(&mut self) -> Got<Vec<Interest>>
+        ensures found { OverTables (view self.old) (view self.new) (λ t. IfOk result (λ v. DeclareSame v.items t.interests)) }
         ensures read { IsRead (view self.old) (view self.new) result }
         ensures crash { (t : Tables) → crash self.old self.new t (λ _. ⊥) };
 

@@ -1,26 +1,28 @@
-//! The rows that a selection finds, in the order in which they are kept.
+//! The rows that selections find, in the order in which they are kept.
 
 ghost use Rattle.std.specs.Prelude.{◌≡◌, ◌<◌, ◌^◌, IfOk, filter, option_to_list, [], ◌∷◌};
-ghost use Rattle.permit_model.specs.Routes;
+ghost use Rattle.permit_store.specs.Handing.{is_found_by_any};
 ghost use Rattle.permit_store.specs.Plain.{row_seen, rows_found, HandsOut};
 
-use crate::plain::find;
+use crate::plain::interests::Interests;
 use crate::plain::kept::Kept;
-use crate::routes::{asks_for, is_in_cell};
-use crate::rows::{FileRow, Found, Interest, Parcel};
+use crate::plain::parcels::Parcels;
+use crate::routes::{any_asks_for, is_in_any_cell};
+use crate::rows::{FileRow, Found};
 use permit_base::route::Route;
 use permit_base::values::{Day, PartyId};
 use permit_core::taker::Taker;
 use std::alloc::{AllocError, Global};
 
-/// A selection for a caller on a day, with the rows in which owners and interests are looked up.
+/// The rows that any of the selections finds for a caller on a day, with the rows in which owners and interests are looked
+/// up.
 #[derive(Clone, Copy)]
 pub(crate) struct Selection<'a> {
-    pub(crate) route: Route,
+    pub(crate) routes: &'a [Route],
     pub(crate) caller: PartyId,
     pub(crate) day: Day,
-    pub(crate) parcels: &'a [Parcel],
-    pub(crate) interests: &'a [Interest],
+    pub(crate) parcels: &'a Parcels,
+    pub(crate) interests: &'a Interests,
 }
 
 /// A copy of the row, as it is found.
@@ -36,19 +38,20 @@ fn copy_found(row: &FileRow, owner: Option<PartyId>, conflict: bool) -> Result<F
 }
 
 impl Selection<'_> {
-    /// The row with its owner and the caller's interest, where the selection finds it. What takes longer is looked up
-    /// for a row of the cell alone.
+    /// The row with its owner and the caller's interest, where a selection finds it. What takes longer is looked up for a row
+    /// of a cell alone, and only a row that is found is copied.
     fn find(&self, row: &FileRow) -> Result<Option<Found>, AllocError>
         ensures { IfOk result (λ found. option_to_list found
-            ≡ filter (Routes.is_found self.now.route self.now.caller self.now.day) (row_seen self.now row.now ∷ [])) }
+            ≡ filter (is_found_by_any self.now.routes.now self.now.caller self.now.day) (row_seen self.now row.now ∷ [])) }
     {
         let state = &row.state;
-        if !is_in_cell(self.route, self.day, state) {
+        if !is_in_any_cell(self.routes, self.day, state) {
             return Ok(None);
         }
-        let owner = find::owner_of(self.parcels, state.parcel());
-        let conflict = find::has_interest(self.interests, state.parcel(), self.caller);
-        if !asks_for(self.route, &state.relations(self.caller, owner, conflict)) {
+        let owner = self.parcels.owner(state.parcel());
+        let conflict = self.interests.has(state.parcel(), self.caller);
+        let set = state.relations(self.caller, owner, conflict);
+        if !any_asks_for(self.routes, self.day, state, &set) {
             return Ok(None);
         }
         Ok(Some(copy_found(row, owner, conflict)?))
@@ -79,7 +82,7 @@ impl Selection<'_> {
     {
         for kept in files {
             if let Some(found) = self.find(&kept.row)? {
-                let goes_on = taker.take(&found);
+                let goes_on = taker.take(found);
                 *handed = handed.wrapping_add(1);
                 if !goes_on {
                     return Ok(false);

@@ -1,22 +1,34 @@
-use Rattle.std.proofs.Common.{le_refl, refl, rules}
+use Rattle.std.proofs.Common.{◌∷◌, [], ◌∙◌, le_refl, refl, rules}
 use Rattle.permit_model.specs.Routes.{found_by}
 use Rattle.permit_store.specs.declared.plain.select.Selection.{Selection}
-use Rattle.permit_store.proofs.Selecting.{found_in_tables, told_ok, told_err, reads_failed, hands}
+use Rattle.permit_store.proofs.Selecting.{found_in_tables, found_by_one, told_ok, told_err, reads_failed, hands}
 use Rattle.permit_store.proofs.plain.PlainStoreStore.each.Goals as goal
 
 pub returns-in-Ok-clause-handed : goal.returns-in-Ok-clause-handed
 returns-in-Ok-clause-handed g c =
-    let s : Selection = record { route = c.args.route.now; caller = c.args.caller; day = c.args.day; parcels = c.deref.result; interests = c.deref-2.result } in
+    let s : Selection = record {
+      routes = record { ref_ptr = (0, 0); now = c.args.route.now ∷ [] };
+      caller = c.args.caller;
+      day = c.args.day;
+      parcels = record { ref_ptr = (0, 0); now = c.args.self.now.parcels };
+      interests = record { ref_ptr = (0, 0); now = c.args.self.now.interests };
+    } in
     hands g.T.Taker.took _ (found_by c.args.route.now c.args.caller c.args.day) _ _ c.args.taker.now c.hand-outcome.new.taker _
-    (λ t k. found_in_tables _ _ _ s _ _ _ _ t c.deref.ensures.value c.deref-2.ensures.value c.deref-3.ensures.value k)
+    (λ t k. found_in_tables _ _ _ s _ _ t c.deref.ensures.value k ∙ found_by_one c.args.route.now c.args.caller c.args.day t)
     (search rules)
     (told_ok g.T.Taker.took _ _ _ _ _ _ c.in-Ok.all c.in-Ok.is c.hand-outcome.ensures)
 
 pub returns-in-Err-clause-handed : goal.returns-in-Err-clause-handed
 returns-in-Err-clause-handed g c =
-    let s : Selection = record { route = c.args.route.now; caller = c.args.caller; day = c.args.day; parcels = c.deref.result; interests = c.deref-2.result } in
+    let s : Selection = record {
+      routes = record { ref_ptr = (0, 0); now = c.args.route.now ∷ [] };
+      caller = c.args.caller;
+      day = c.args.day;
+      parcels = record { ref_ptr = (0, 0); now = c.args.self.now.parcels };
+      interests = record { ref_ptr = (0, 0); now = c.args.self.now.interests };
+    } in
     rw c.fail.ensures.counted
     (hands g.T.Taker.took _ (found_by c.args.route.now c.args.caller c.args.day) _ _ c.args.taker.now c.hand-outcome.new.taker c.fail.result
-    (λ t k. found_in_tables _ _ _ s _ _ _ _ t c.deref.ensures.value c.deref-2.ensures.value c.deref-3.ensures.value k)
+    (λ t k. found_in_tables _ _ _ s _ _ t c.deref.ensures.value k ∙ found_by_one c.args.route.now c.args.caller c.args.day t)
     (reads_failed _ _ c.fail.result c.fail.ensures.error (λ t k. k) (le_refl _) refl refl)
     (told_err g.T.Taker.took _ _ _ _ _ c.hand-outcome.result c.in-Err.field-0 c.fail.result c.in-Err.is c.fail.ensures.error c.hand-outcome.ensures))
