@@ -1,6 +1,6 @@
 -- The calls of a store over SQLite leave what the trait says.
-use Rattle.std.proofs.Common.{◌≡◌, ◌≤◌, ℕ, false, true, List, [], ◌∷◌, Result, Ok, Err, ap, sym, ◌∙◌, refl, subst, arith}
-use Rattle.std.specs.Prelude.{IsTrue, IfSome, Option, None, Some, IsErr, ⊤, pos, slice_index_or}
+use Rattle.std.proofs.Common.{◌≡◌, ◌≤◌, ℕ, List, [], ◌∷◌, Result, Ok, Err, ap, sym, ◌∙◌, refl, subst, arith}
+use Rattle.std.specs.Prelude.{IsTrue, IfSome, Option, None, Some, OnOk, OnErr, ⊤, pos, slice_index_or}
 use Rattle.sqlite.specs.declared.types.Value.{Value}
 use Rattle.sqlite.specs.declared.types.Value.TheVariants.{Null, Int}
 use Rattle.sqlite_value.specs.Order.{Row}
@@ -15,9 +15,8 @@ use Rattle.permit_model.specs.Tables.{Tables, Desk, edition_by}
 use Rattle.permit_store.specs.Changes.{changed}
 use Rattle.permit_store.specs.declared.change.Change.{Change}
 use Rattle.permit_store.specs.declared.change.Change.TheVariants.{NewParty, NewParcel, NewOwner, NewInterest, NewFile, NewRow}
-use Rattle.permit_store.specs.Counts.{next_count, handed_after}
+use Rattle.permit_store.specs.Counts.{next_count, failed_after}
 use Rattle.permit_store.specs.Frames.{HasOneDesk, Reads, IsCommit}
-use Rattle.permit_store.specs.Handing.{selected_after}
 use Rattle.permit_sql_rows.specs.Rows.{upgrade_row}
 use Rattle.permit_sql_rows.specs.Kept.{KeepsUnder, Keeps, Shows}
 use Rattle.permit_sql.specs.Seen.{seen}
@@ -74,112 +73,68 @@ seen_one s upgrade handed failed commits clean open_ t u one other = one_desk Se
 
 -- ---- calls
 
-never : false ≡ true → ⊥
-never e = cc
-
-module _ {S : Type 0} (g : Ghosts S) (old new : Held S) (upgrade : Option ℕ) (handed failed commits : ℕ) where
+-- a call of the connection, and what the store then holds and counts
+module _ {S : Type 0} (g : Ghosts S) (old new : Held S) (upgrade : Option ℕ) (handed failed commits : ℕ)
+    (store : Held S) (upgrade' : Option ℕ) (handed' failed' commits' : ℕ) where
   abbrev KeepsShown : Type 0
   KeepsShown = (t : Tables) → HasCleanDisk (state g new) → Shows t (state g old) → Shows t (state g new)
 
   abbrev Doubts : Type 0
   Doubts = disk_doubt (state g old).is_clean ≤ disk_doubt (state g new).is_clean
 
-  still : (t : Tables) → (t.upgrade ≡ upgrade) × Shows t (state g old) → (Shows t (state g old) → Shows t (state g new)) →
-      (t.upgrade ≡ upgrade) × Shows t (state g new)
-  still t h kept = (h.0, kept h.1)
+  module _ {A E : Type 0} (got r : Result A E) (same : r ≡ got) (conn : store ≡ new) (kept : upgrade' ≡ upgrade) (doubts : Doubts)
+      (open_ : HasCleanDisk (state g new) → OnOk got (IsTrue (state g new).is_open)) where
+    clean_was : HasCleanDisk (state g new) → HasCleanDisk (state g old)
+    clean_was clean = omega (arith, doubts, clean)
 
-  -- a read that answers, where the connection is open then
-  pub read_ok : {A E : Type 0} (x : A) (count : ℕ) → KeepsShown → Doubts → (HasCleanDisk (state g new) → IsTrue (state g new).is_open) →
-      Reads {A = A} {E = E} ⊤ count (seen (state g old) upgrade handed failed commits) (seen (state g new) upgrade count failed commits) (Ok x)
-  read_ok x count kept doubt open_ = record {
-    kept = λ t held clean. still t (held (omega (arith, doubt, clean))) (kept t clean);
-    one = λ clean _. seen_one (state g new) upgrade count failed commits clean (open_ clean);
-    doubt = doubt;
-    failed = refl;
-    commits = refl;
-    handed = refl;
-  }
+    still : (t : Tables) → ((t.upgrade ≡ upgrade) × Shows t (state g old) → Shows t (state g new)) → (t.upgrade ≡ upgrade) × Shows t (state g old) →
+        (t.upgrade ≡ upgrade') × Shows t (state g new)
+    still t stays h = (h.0 ∙ sym kept, stays h)
 
-  -- a read that hands rows out: one that answers, where the connection is open then, and one that fails
-  pub hand_ok : {A E : Type 0} (x : A) (count now : ℕ) → now ≡ count → KeepsShown → Doubts → (HasCleanDisk (state g new) → IsTrue (state g new).is_open) →
-      Reads {A = A} {E = E} ⊤ count (seen (state g old) upgrade handed failed commits) (seen (state g new) upgrade now failed commits) (Ok x)
-  hand_ok x count now is kept doubt open_ = record {
-    kept = λ t held clean. still t (held (omega (arith, doubt, clean))) (kept t clean);
-    one = λ clean _. seen_one (state g new) upgrade now failed commits clean (open_ clean);
-    doubt = doubt;
-    failed = refl;
-    commits = refl;
-    handed = is;
-  }
+    one_desk_after : HasCleanDisk (state g store) → OnOk r (HasOneDesk (seen (state g store) upgrade' handed' failed' commits'))
+    one_desk_after =
+        subst (λ x. HasCleanDisk (state g store) → OnOk x (HasOneDesk (seen (state g store) upgrade' handed' failed' commits'))) (sym same)
+        (subst (λ h. HasCleanDisk (state g h) → OnOk got (HasOneDesk (seen (state g h) upgrade' handed' failed' commits'))) (sym conn)
+        (λ clean. go got clean (open_ clean)))
+      where
+        go : (x : Result A E) → HasCleanDisk (state g new) → OnOk x (IsTrue (state g new).is_open) →
+            OnOk x (HasOneDesk (seen (state g new) upgrade' handed' failed' commits'))
+        go (Ok a) clean up = seen_one (state g new) upgrade' handed' failed' commits' clean up
+        go (Err e) clean up = tt
 
-  pub hand_err : {A E : Type 0} (e : E) (count now : ℕ) → now ≡ count → KeepsShown → Doubts →
-      Reads {A = A} {E = E} ⊤ count (seen (state g old) upgrade handed failed commits) (seen (state g new) upgrade now (next_count failed) commits) (Err e)
-  hand_err e count now is kept doubt = record {
-    kept = λ t held clean. still t (held (omega (arith, doubt, clean))) (kept t clean);
-    one = λ _ _. tt;
-    doubt = doubt;
-    failed = refl;
-    commits = refl;
-    handed = is;
-  }
+    doubt_stays : disk_doubt (state g old).is_clean ≤ disk_doubt (state g store).is_clean
+    doubt_stays = subst (λ h. disk_doubt (state g old).is_clean ≤ disk_doubt (state g h).is_clean) (sym conn) doubts
 
-  -- a commit that is made, where the connection is open then
-  pub commit_ok : {A E : Type 0} (x : A) → Doubts → (HasCleanDisk (state g new) → IsTrue (state g new).is_open) →
-      IsCommit {A = A} {E = E} (seen (state g old) upgrade handed failed commits) (seen (state g new) upgrade handed failed (next_count commits)) (Ok x)
-  commit_ok x doubt open_ = record {
-    kept = λ _ _. tt;
-    one = λ clean. seen_one (state g new) upgrade handed failed (next_count commits) clean (open_ clean);
-    doubt = doubt;
-    failed = refl;
-    commits = refl;
-    handed = refl;
-  }
-
-  -- a call that failed, where the store counts it and answers the error
-  module _ (store : Held S) (upgrade' : Option ℕ) (handed' failed' commits' : ℕ) where
-    -- in a read
-    pub read_err : {A E : Type 0} (r : Result A E) → IsErr r → store ≡ new → failed' ≡ next_count failed → (handed' ≡ handed) × (commits' ≡ commits) × (upgrade' ≡ upgrade) →
-        KeepsShown → Doubts →
-        Reads ⊤ handed (seen (state g old) upgrade handed failed commits) (seen (state g store) upgrade' handed' failed' commits') r
-    read_err (Ok x) is same counted others kept doubt = absurd (never is)
-    read_err (Err e) is same counted others kept doubt = record {
-      kept = λ t held. subst (λ conn. HasCleanDisk (state g conn) → (t.upgrade ≡ upgrade') × Shows t (state g conn)) (sym same)
-          (λ clean. let h = held (omega (arith, doubt, clean)) in (h.0 ∙ sym others.2, kept t clean h.1));
-      one = λ _ _. tt;
-      doubt = subst (λ conn. disk_doubt (state g old).is_clean ≤ disk_doubt (state g conn).is_clean) (sym same) doubt;
-      failed = counted;
-      commits = others.1;
-      handed = others.0;
+    -- it reads: what it shows stays, and a failure counts
+    pub read_counted : (count : ℕ) → handed' ≡ count → failed' ≡ failed_after got failed → commits' ≡ commits → KeepsShown →
+        Reads ⊤ count (seen (state g old) upgrade handed failed commits) (seen (state g store) upgrade' handed' failed' commits') r
+    read_counted count hands fails commits_stay stays = record {
+      kept = λ t held. subst (λ h. HasCleanDisk (state g h) → (t.upgrade ≡ upgrade') × Shows t (state g h)) (sym conn)
+          (λ clean. still t (λ h. stays t clean h.1) (held (clean_was clean)));
+      one = λ clean _. one_desk_after clean;
+      doubt = doubt_stays;
+      failed = fails ∙ ap (λ x. failed_after x failed) (sym same);
+      commits = commits_stay;
+      handed = hands;
     }
 
-    -- in a look-up
-    pub look_up_err : {A E : Type 0} (r : Result (Option A) E) → IsErr r → store ≡ new → failed' ≡ next_count failed → (handed' ≡ handed)
-        × (commits' ≡ commits) × (upgrade' ≡ upgrade) →
-        ((t : Tables) → HasCleanDisk (state g new) → Shows t (state g old) → Shows t (state g new)) → Doubts →
-        Reads ⊤ (handed_after r handed) (seen (state g old) upgrade handed failed commits) (seen (state g store) upgrade' handed' failed' commits') r
-    look_up_err (Ok x) is same counted others kept doubt = absurd (never is)
-    look_up_err (Err e) is same counted others kept doubt = read_err (Err e) is same counted others kept doubt
-
-    -- in a selection
-    pub select_err : {A E : Type 0} (count : A → ℕ) (r : Result A E) → IsErr r → store ≡ new → failed' ≡ next_count failed → (handed' ≡ handed)
-        × (commits' ≡ commits) × (upgrade' ≡ upgrade) →
-        ((t : Tables) → HasCleanDisk (state g new) → Shows t (state g old) → Shows t (state g new)) → Doubts →
-        Reads ⊤ (selected_after count r handed) (seen (state g old) upgrade handed failed commits) (seen (state g store) upgrade' handed' failed' commits') r
-    select_err count (Ok x) is same counted others kept doubt = absurd (never is)
-    select_err count (Err e) is same counted others kept doubt = read_err (Err e) is same counted others kept doubt
-
-    -- in a commit
-    pub commit_err : {A E : Type 0} (r : Result A E) → IsErr r → store ≡ new → failed' ≡ next_count failed → (handed' ≡ handed)
-        × (commits' ≡ next_count commits) × (upgrade' ≡ upgrade) →
-        ((t : Tables) → HasCleanDisk (state g new) → Shows t (state g old) → Shows t (state g new)) → Doubts →
+    -- it commits: a failure leaves what was shown, and counts
+    pub commit_counted : handed' ≡ handed → failed' ≡ failed_after got failed → commits' ≡ next_count commits →
+        ((t : Tables) → HasCleanDisk (state g new) → Shows t (state g old) → OnErr got (Shows t (state g new))) →
         IsCommit (seen (state g old) upgrade handed failed commits) (seen (state g store) upgrade' handed' failed' commits') r
-    commit_err (Ok x) is same counted others kept doubt = absurd (never is)
-    commit_err (Err e) is same counted others kept doubt = record {
-      kept = λ t held. subst (λ conn. HasCleanDisk (state g conn) → (t.upgrade ≡ upgrade') × Shows t (state g conn)) (sym same)
-          (λ clean. let h = held (omega (arith, doubt, clean)) in (h.0 ∙ sym others.2, kept t clean h.1));
-      one = λ _. tt;
-      doubt = subst (λ conn. disk_doubt (state g old).is_clean ≤ disk_doubt (state g conn).is_clean) (sym same) doubt;
-      failed = counted;
-      commits = others.1;
-      handed = others.0;
+    commit_counted hands fails more stays = record {
+      kept = λ t held. subst (λ x. OnErr x (HasCleanDisk (state g store) → (t.upgrade ≡ upgrade') × Shows t (state g store))) (sym same)
+          (subst (λ h. OnErr got (HasCleanDisk (state g h) → (t.upgrade ≡ upgrade') × Shows t (state g h))) (sym conn)
+          (go got (λ clean. held (clean_was clean)) (λ clean h. stays t clean h.1)));
+      one = one_desk_after;
+      doubt = doubt_stays;
+      failed = fails ∙ ap (λ x. failed_after x failed) (sym same);
+      commits = more;
+      handed = hands;
     }
+      where
+        go : {t : Tables} (x : Result A E) → (HasCleanDisk (state g new) → (t.upgrade ≡ upgrade) × Shows t (state g old)) →
+            (HasCleanDisk (state g new) → (t.upgrade ≡ upgrade) × Shows t (state g old) → OnErr x (Shows t (state g new))) →
+            OnErr x (HasCleanDisk (state g new) → (t.upgrade ≡ upgrade') × Shows t (state g new))
+        go (Ok a) held stays = tt
+        go {t} (Err e) held stays = λ clean. still t (stays clean) (held clean)

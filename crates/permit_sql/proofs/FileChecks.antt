@@ -37,7 +37,7 @@ use Rattle.permit_sql.specs.declared.check_files.Files.{Files}
 use Rattle.permit_sql.specs.declared.check_files.Papers.{Papers}
 use Rattle.permit_sql.specs.declared.check_files.Rowids.{Rowids}
 use Rattle.permit_sql.specs.declared.texts.TheConstants.{EACH_INTEREST, EACH_FILE, EACH_PAPER, EACH_ROWID}
-use Rattle.permit_sql.proofs.Wholes.{whole_shown}
+use Rattle.permit_sql_statements.proofs.Wholes.{whole_shown}
 use Rattle.permit_sql.proofs.WholeMeanings.{each_interest_query, each_interest_is, each_interest_plain, each_interest_unlisted, each_file_query, each_file_is}
 use Rattle.permit_sql.proofs.WholeMeanings.{each_file_plain, each_file_unlisted, each_paper_query, each_paper_is, each_paper_plain, each_paper_unlisted}
 use Rattle.permit_sql.proofs.WholeMeanings.{each_rowid_query, each_rowid_is, each_rowid_plain, each_rowid_unlisted}

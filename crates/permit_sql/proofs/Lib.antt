@@ -1,4 +1,3 @@
-pub mod Wholes
 pub mod Version
 pub mod Upgrades
 pub mod Reopening

@@ -89,9 +89,9 @@ tables_found edition db d upgrade counts schema now desk upgraded parties parcel
       upgraded = upgraded.within;
       edition = now ∙ upgraded.told;
       parties = once_numbered (λ p. p.id) 1 parties.all parties.numbered;
-      digests = parties.digests;
+      digests = parties.once;
       parcels = once_numbered (λ p. p.id) 1 parcels.all parcels.numbered;
-      lots = parcels.lots;
+      lots = parcels.once;
       files = once_numbered (λ f. f.id) 1 files.all files.numbered;
       named = all_of {P = IsGoodFile upgrade} {Q = λ f. IsNamed upgrade f.id f.state} (λ f h. h.1) files.all files.good;
       papers = rise_in 0 0 papers.all papers.rising;

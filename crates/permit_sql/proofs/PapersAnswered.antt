@@ -34,7 +34,7 @@ use Rattle.permit_sql_statements.proofs.Lookups.{answers}
 use Rattle.permit_sql_statements.proofs.Permuted.{no_more}
 use Rattle.permit_sql_statements.proofs.Selecting.{unmapped}
 use Rattle.permit_sql.proofs.Opened.{counts_of}
-use Rattle.permit_sql.proofs.Wholes.{whole_shown}
+use Rattle.permit_sql_statements.proofs.Wholes.{whole_shown, interests_among}
 use Rattle.permit_sql.proofs.Answered.{each_one}
 use Rattle.permit_sql.proofs.Neighbours.{First, Adjacent, one_passes, climbs, all_of_form, long_map}
 use Rattle.permit_sql.proofs.WholeMeanings.{each_interest_query, each_interest_is, each_interest_plain, each_interest_unlisted, each_paper_query, each_paper_is}
@@ -216,18 +216,8 @@ module _ (edition : Edition) (old new : State) (t : Tables) (typed : AreTyped t)
       let read = reads_as EACH_INTEREST.now [] old new (schema_of edition) k.schema _ (each_interest_is edition) (each_interest_plain edition) (each_interest_unlisted edition) rows h in
       let seen : IsPermutation (map (λ r. firsts 2 1 r) (old.now.trees 5)) rows =
       whole_shown 5 each_interest_query.project each_interest_query.order (overlay old.now.trees []) rows (read.answer Null) in
-      let moved = IsPermutation-map (firsts 2 0) _ _ k.rows.interests in
-      let here : map (firsts 2 0) (map (drop 1) (old.now.trees 5)) ≡ map (λ r. firsts 2 1 r) (old.now.trees 5) = map-map (firsts 2 0) (drop 1) _
-      ∙ map_same _ _ cut _ in
-      let same = IsPermutation-trans _ _ _ moved (subst (λ l. IsPermutation l rows) (sym here) seen) in
-      let plain : map (firsts 2 0) (map shown_interest t.interests) ≡ map shown_interest t.interests = map-map (firsts 2 0) shown_interest _
-      ∙ map_same _ _ (λ i. refl) _ in
-      let it = unmapped shown_interest t.interests rows (subst (λ l. IsPermutation l rows) plain same) in
-      (it.0, it.2, all-permutation IsInterest t.interests it.0 it.1 typed.interests, it.1)
-    where
-      cut : (r : Row) → firsts 2 0 (drop 1 r) ≡ firsts 2 1 r
-      cut [] = refl
-      cut (x ∷ r) = refl
+      let it = interests_among t.interests (old.now.trees 5) rows k.rows.interests seen in
+      (it.0, it.1, all-permutation IsInterest t.interests it.0 it.2 typed.interests, it.2)
 
   pub papers_shown : Shown EACH_PAPER.now [] old new rows → let counts = map (λ f. f.state.papers) t.files in
       (xs : List Paper) × (rows ≡ map shown_paper xs) × AllByRecursion IsPaper xs × IsRising 0 0 xs

@@ -26,8 +26,7 @@ use Rattle.permit_sql_rows.specs.Kept.{KeepsUnder, IsNamed}
 use Rattle.permit_sql_rows.specs.Typed.{IsParty, IsParcel, IsInterest, IsFile, IsPaper}
 use Rattle.permit_sql.specs.Taken.{TookAll, TookRows}
 use Rattle.permit_sql.specs.Found.{IsNumbered, IsRising, IsGoodFile, counted_in, AreTyped}
-use Rattle.permit_sql.specs.declared.check.Parties.{Parties}
-use Rattle.permit_sql.specs.declared.check.Parcels.{Parcels}
+use Rattle.permit_sql.specs.declared.check.Numbered.{Numbered}
 use Rattle.permit_sql.specs.declared.check.Interests.{Interests}
 use Rattle.permit_sql.specs.declared.check_files.Files.{Files}
 use Rattle.permit_sql.specs.declared.check_files.Papers.{Papers}
@@ -35,7 +34,7 @@ use Rattle.permit_sql.specs.declared.check_files.Rowids.{Rowids}
 use Rattle.permit_sql.specs.declared.texts.TheConstants.{EACH_PARTY, EACH_PARCEL, EACH_INTEREST, EACH_FILE, EACH_PAPER, EACH_ROWID}
 use Rattle.permit_sql_statements.proofs.QueryTexts.{alone, names_of}
 use Rattle.permit_sql.proofs.WholeMeanings.{each_party_is, each_parcel_is, each_interest_is, each_file_is, each_paper_is, each_rowid_is}
-use Rattle.permit_sql.proofs.Checks.{party_took, parcel_took}
+use Rattle.permit_sql.proofs.Checks.{numbered_took, party_took, parcel_took}
 use Rattle.permit_sql.proofs.FileChecks.{interest_took, file_took, paper_took, rowid_took}
 use Rattle.permit_sql.proofs.Neighbours.{First, Adjacent}
 use Rattle.permit_sql.proofs.Answered.{parties_shown, parcels_shown, files_shown}
@@ -116,69 +115,46 @@ took_with (inr lacks) none = absurd (true≢false (sym lacks ∙ none))
 -- ---- the six tables
 
 module _ (edition : Edition) {S : Type 0} (g : Ghosts S) (old new : Held S) (t : Tables) (typed : AreTyped t) (k : KeepsUnder edition t (state g old).now) where
-  pub parties_taken : (a b : Parties) (all : Bool) → a.count ≡ 0 → TookRows party_took g EACH_PARTY.now [] old new a b all →
+  -- a table of objects that are numbered
+  module _ {X : Type 0} (shown : X → Row) (IsGood : X → Type 0) (number : X → ℕ) (sql : List ℕ) (q : Query)
+      (means : command_of (understood (schema_of edition) sql) ≡ Select (alone q) (names_of (command_of (understood (schema_of edition) sql))))
+      (xs : List X) (count : ℕ) (good : AllByRecursion IsGood xs) (numbered : IsNumbered number 1 xs) (long : length xs ≡ count)
+      (answers : (was late : State) → KeepsUnder edition t was.now → (rows : List Row) → Shown sql [] was late rows → rows ≡ map shown xs) where
+    objects_taken : (a b : Numbered X) (all : Bool) → a.count ≡ 0 → TookRows (numbered_took shown IsGood number) g sql [] old new a b all →
+        (IsTrue all × (b.count ≡ count)) ⊎ IsTrue b.lacks_memory
+    objects_taken a b all none h =
+        after (all_or_excused edition g old new t k sql q means shown (numbered_took shown IsGood number) Fits (λ d. IsTrue d.lacks_memory) next
+        (λ a b x xs fits refuses. refuses x fits.0.0 refl fits.1.0) a b all answer h)
+      where
+        Fits : Numbered X → List X → Type 0
+        Fits d xs = AllByRecursion IsGood xs × IsNumbered number (suc d.count) xs × (d.count + length xs ≡ count)
+
+        next : (a b : Numbered X) (x : X) (xs : List X) → Fits a (x ∷ xs) → numbered_took shown IsGood number a (shown x) b true → Fits b xs
+        next a b x xs fits h =
+            let counted = h.4 in
+            let total : a.count + suc (length xs) ≡ count = fits.2 in
+            (fits.0.1, subst (λ n. IsNumbered number (suc n) xs) (sym counted) fits.1.1, omega (arith, counted, total))
+
+        answer : (was late : State) → KeepsUnder edition t was.now → (rows : List Row) → Shown sql [] was late rows → (ys : List X)
+            × (rows ≡ map shown ys) × Fits a ys
+        answer was late kept rows h =
+            (xs, answers was late kept rows h, (good, subst (λ n. IsNumbered number (suc n) xs) (sym none) numbered, omega (arith, none, long)))
+
+        after : (IsTrue all × Fits b []) ⊎ IsTrue b.lacks_memory → (IsTrue all × (b.count ≡ count)) ⊎ IsTrue b.lacks_memory
+        after (inl it) = let e : b.count + 0 ≡ count = it.1.2 in inl (it.0, omega (arith, e))
+        after (inr lacks) = inr lacks
+
+  pub parties_taken : (a b : Numbered Party) (all : Bool) → a.count ≡ 0 → TookRows party_took g EACH_PARTY.now [] old new a b all →
       (IsTrue all × (b.count ≡ t.desk.parties)) ⊎ IsTrue b.lacks_memory
-  parties_taken a b all none h =
-      after (all_or_excused edition g old new t k EACH_PARTY.now _ (each_party_is edition) shown_party party_took Fits (λ d. IsTrue d.lacks_memory) next
-      (λ a b p ps fits refuses. refuses p fits.0.0 refl fits.1.0) a b all answer h)
-    where
-      Fits : Parties → List Party → Type 0
-      Fits d ps = AllByRecursion IsParty ps × IsNumbered (λ p. p.id) (suc d.count) ps × (d.count + length ps ≡ t.desk.parties)
+  parties_taken =
+      objects_taken shown_party IsParty (λ p. p.id) EACH_PARTY.now _ (each_party_is edition) t.parties t.desk.parties typed.parties typed.party_numbers
+      typed.party_count (λ was late kept rows h. parties_shown edition was late t typed kept rows h)
 
-      next : (a b : Parties) (p : Party) (ps : List Party) → Fits a (p ∷ ps) → party_took a (shown_party p) b true → Fits b ps
-      next a b p ps fits h =
-          let counted = h.4 in
-          let total : a.count + suc (length ps) ≡ t.desk.parties = fits.2 in
-          (fits.0.1, subst (λ n. IsNumbered (λ (p : Party). p.id) (suc n) ps) (sym counted) fits.1.1, omega (arith, counted, total))
-
-      answer : (was late : State) → KeepsUnder edition t was.now → (rows : List Row) → Shown EACH_PARTY.now [] was late rows → (ps : List Party)
-          × (rows ≡ map shown_party ps) × Fits a ps
-      answer was late kept rows h =
-          let count = typed.party_count in (
-            t.parties,
-            parties_shown edition was late t typed kept rows h,
-            (
-              typed.parties,
-              subst (λ n. IsNumbered (λ (p : Party). p.id) (suc n) t.parties) (sym none) typed.party_numbers,
-              omega (arith, none, count),
-            ),
-          )
-
-      after : (IsTrue all × Fits b []) ⊎ IsTrue b.lacks_memory → (IsTrue all × (b.count ≡ t.desk.parties)) ⊎ IsTrue b.lacks_memory
-      after (inl it) = let e : b.count + 0 ≡ t.desk.parties = it.1.2 in inl (it.0, omega (arith, e))
-      after (inr lacks) = inr lacks
-
-  pub parcels_taken : (a b : Parcels) (all : Bool) → a.count ≡ 0 → TookRows parcel_took g EACH_PARCEL.now [] old new a b all →
+  pub parcels_taken : (a b : Numbered Parcel) (all : Bool) → a.count ≡ 0 → TookRows parcel_took g EACH_PARCEL.now [] old new a b all →
       (IsTrue all × (b.count ≡ t.desk.parcels)) ⊎ IsTrue b.lacks_memory
-  parcels_taken a b all none h =
-      after (all_or_excused edition g old new t k EACH_PARCEL.now _ (each_parcel_is edition) shown_parcel parcel_took Fits (λ d. IsTrue d.lacks_memory) next
-      (λ a b p ps fits refuses. refuses p fits.0.0 refl fits.1.0) a b all answer h)
-    where
-      Fits : Parcels → List Parcel → Type 0
-      Fits d ps = AllByRecursion IsParcel ps × IsNumbered (λ p. p.id) (suc d.count) ps × (d.count + length ps ≡ t.desk.parcels)
-
-      next : (a b : Parcels) (p : Parcel) (ps : List Parcel) → Fits a (p ∷ ps) → parcel_took a (shown_parcel p) b true → Fits b ps
-      next a b p ps fits h =
-          let counted = h.4 in
-          let total : a.count + suc (length ps) ≡ t.desk.parcels = fits.2 in
-          (fits.0.1, subst (λ n. IsNumbered (λ (p : Parcel). p.id) (suc n) ps) (sym counted) fits.1.1, omega (arith, counted, total))
-
-      answer : (was late : State) → KeepsUnder edition t was.now → (rows : List Row) → Shown EACH_PARCEL.now [] was late rows → (ps : List Parcel)
-          × (rows ≡ map shown_parcel ps) × Fits a ps
-      answer was late kept rows h =
-          let count = typed.parcel_count in (
-            t.parcels,
-            parcels_shown edition was late t typed kept rows h,
-            (
-              typed.parcels,
-              subst (λ n. IsNumbered (λ (p : Parcel). p.id) (suc n) t.parcels) (sym none) typed.parcel_numbers,
-              omega (arith, none, count),
-            ),
-          )
-
-      after : (IsTrue all × Fits b []) ⊎ IsTrue b.lacks_memory → (IsTrue all × (b.count ≡ t.desk.parcels)) ⊎ IsTrue b.lacks_memory
-      after (inl it) = let e : b.count + 0 ≡ t.desk.parcels = it.1.2 in inl (it.0, omega (arith, e))
-      after (inr lacks) = inr lacks
+  parcels_taken =
+      objects_taken shown_parcel IsParcel (λ p. p.id) EACH_PARCEL.now _ (each_parcel_is edition) t.parcels t.desk.parcels typed.parcels typed.parcel_numbers
+      typed.parcel_count (λ was late kept rows h. parcels_shown edition was late t typed kept rows h)
 
   pub interests_taken : (a b : Interests) (all : Bool) → TookRows interest_took g EACH_INTEREST.now [] old new a b all → IsTrue all
   interests_taken a b all h =

@@ -29,7 +29,7 @@ module _ {X : Type 0} (key : X → List ℕ) where
     | inr other ↦ rw other (once_each xs up.1 t)
   ]
 
-all_weaker : {A : Type 0} {P Q : A → Type 0} → ((x : A) → P x → Q x) → (xs : List A) → AllByRecursion P xs → AllByRecursion Q xs
+pub all_weaker : {A : Type 0} {P Q : A → Type 0} → ((x : A) → P x → Q x) → (xs : List A) → AllByRecursion P xs → AllByRecursion Q xs
 all_weaker f [] h = tt
 all_weaker f (x ∷ xs) h = (f x h.0, all_weaker f xs h.1)
 

@@ -36,7 +36,7 @@ use Rattle.permit_sql.specs.Opening.{seen_upgrade}
 use Rattle.permit_sql.proofs.Shaped.{keyed_rows, IsKeyedRow}
 use Rattle.permit_sql.proofs.Checks.{with_null}
 use Rattle.permit_sql.proofs.Version.{only_one}
-use Rattle.permit_sql.proofs.Wholes.{whole_shown}
+use Rattle.permit_sql_statements.proofs.Wholes.{whole_shown}
 
 abbrev pub read_upgrade_query : Query
 read_upgrade_query = plain_query (inner 18 end) [] (col 1 0 ∷ columns_of 1 2) []

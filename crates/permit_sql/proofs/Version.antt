@@ -30,7 +30,7 @@ use Rattle.permit_sql.proofs.Shaped.{keyed_rows, IsKeyedRow}
 use Rattle.permit_sql.proofs.Checks.{with_null}
 use Rattle.permit_sql_statements.specs.declared.texts.TheConstants.{READ_DESK}
 use Rattle.permit_sql.specs.Opening.{seen_desk, IsOther, HasOtherVersion}
-use Rattle.permit_sql.proofs.Wholes.{whole_shown}
+use Rattle.permit_sql_statements.proofs.Wholes.{whole_shown}
 use Rattle.permit_sql_statements.proofs.QueryTexts.{alone, read_desk_query, names_of}
 
 module _ (more : List Table) (indexes : List Index) (views : List View) where

@@ -9,13 +9,12 @@ use Rattle.sqlite_trees.specs.declared.store.Store.{Ghosts}
 use Rattle.sqlite.specs.Effect.{Database, IsDatabase}
 use Rattle.sqlite.specs.State.{Shown}
 use Rattle.sqlite.specs.Held.{Held, state}
-use Rattle.permit_model.specs.Caller.{Party}
-use Rattle.permit_model.specs.Parcels.{Parcel, Interest}
+use Rattle.permit_model.specs.Parcels.{Interest}
 use Rattle.permit_base.specs.declared.words.Edition.{Edition}
 use Rattle.permit_base.specs.declared.words.Edition.TheVariants.{Second}
 use Rattle.permit_model.specs.Tables.{Tables, Desk, FileRow, Paper, edition_by}
 use Rattle.permit_model.specs.Sound.{IsSoundTables}
-use Rattle.permit_sql_rows.specs.Rows.{desk_row, upgrade_row, party_row, parcel_row, file_row, shown_party, shown_parcel, shown_file, shown_interest, shown_paper}
+use Rattle.permit_sql_rows.specs.Rows.{desk_row, upgrade_row, party_row, parcel_row, file_row, shown_file, shown_interest, shown_paper}
 use Rattle.permit_sql_rows.specs.Kept.{IsNamed, KeepsUnder}
 use Rattle.permit_sql.specs.Taken.{TookAll}
 use Rattle.permit_sql_rows.specs.Typed.{firsts, IsDesk, IsParty, IsParcel, IsInterest, IsFile, IsPaper}
@@ -33,11 +32,10 @@ IsNumbered number n (x ∷ xs) = (number x ≡ n) × IsNumbered number (suc n) x
 
 -- ---- what a row is taken as, with the count of rows before it and after it
 
-abbrev pub TakesParty : ℕ → Row → ℕ → Type 0
-TakesParty before row after = (p : Party) × IsParty p × (firsts 4 0 row ≡ shown_party p) × (p.id ≡ suc before) × (after ≡ suc before)
-
-abbrev pub TakesParcel : ℕ → Row → ℕ → Type 0
-TakesParcel before row after = (p : Parcel) × IsParcel p × (firsts 4 0 row ≡ shown_parcel p) × (p.id ≡ suc before) × (after ≡ suc before)
+-- an object of a kind, of which four values are shown, with the next number
+abbrev pub TakesNumbered : {X : Type 0} → (X → Row) → (X → Type 0) → (X → ℕ) → ℕ → Row → ℕ → Type 0
+TakesNumbered {X} shown IsGood number before row after =
+    (x : X) × IsGood x × (firsts 4 0 row ≡ shown x) × (number x ≡ suc before) × (after ≡ suc before)
 
 -- a file within its limits, whose edition is that of its number where there were so many files at the upgrade
 abbrev pub IsGoodFile : Option ℕ → FileRow → Type 0
@@ -66,11 +64,8 @@ TakesPaper counts file number row next_file next_number =
 
 -- ---- what no refused row is: that of a typed value with the next number, but where memory was refused
 
-abbrev pub RefusesParty : ℕ → Row → Bool → Type 0
-RefusesParty before row lacks_memory = (p : Party) → IsParty p → row ≡ shown_party p → p.id ≡ suc before → IsTrue lacks_memory
-
-abbrev pub RefusesParcel : ℕ → Row → Bool → Type 0
-RefusesParcel before row lacks_memory = (p : Parcel) → IsParcel p → row ≡ shown_parcel p → p.id ≡ suc before → IsTrue lacks_memory
+abbrev pub RefusesNumbered : {X : Type 0} → (X → Row) → (X → Type 0) → (X → ℕ) → ℕ → Row → Bool → Type 0
+RefusesNumbered {X} shown IsGood number before row lacks_memory = (x : X) → IsGood x → row ≡ shown x → number x ≡ suc before → IsTrue lacks_memory
 
 abbrev pub RefusesFile : Option ℕ → List ℕ → Row → Bool → Type 0
 RefusesFile upgrade before row lacks_memory = (f : FileRow) → IsGoodFile upgrade f → row ≡ shown_file f → f.id ≡ suc (length before) → IsTrue lacks_memory
@@ -84,21 +79,20 @@ RefusesPaper counts file number row lacks_memory =
 
 -- ---- what a tree holds
 
-pub record HasParties (count : ℕ) (tree : List Row) : Type 0 where
-  pub all : List Party
-  pub good : AllByRecursion IsParty all
-  pub numbered : IsNumbered (λ p. p.id) 1 all
+-- so many objects, no two of which have the same text
+pub record HasNumbered {X : Type 0} (IsGood : X → Type 0) (number : X → ℕ) (row : X → Row) (text : X → List ℕ) (count : ℕ) (tree : List Row) : Type 0 where
+  pub all : List X
+  pub good : AllByRecursion IsGood all
+  pub numbered : IsNumbered number 1 all
   pub counted : length all ≡ count
-  pub here : IsPermutation (map party_row all) tree
-  pub digests : (digest : List ℕ) → length (filter (λ p. bytes_eq p.digest digest) all) ≤ 1
+  pub here : IsPermutation (map row all) tree
+  pub once : (words : List ℕ) → length (filter (λ x. bytes_eq (text x) words) all) ≤ 1
 
-pub record HasParcels (count : ℕ) (tree : List Row) : Type 0 where
-  pub all : List Parcel
-  pub good : AllByRecursion IsParcel all
-  pub numbered : IsNumbered (λ p. p.id) 1 all
-  pub counted : length all ≡ count
-  pub here : IsPermutation (map parcel_row all) tree
-  pub lots : (lot : List ℕ) → length (filter (λ p. bytes_eq p.lot lot) all) ≤ 1
+abbrev pub HasParties : ℕ → List Row → Type 0
+HasParties = HasNumbered IsParty (λ p. p.id) party_row (λ p. p.digest)
+
+abbrev pub HasParcels : ℕ → List Row → Type 0
+HasParcels = HasNumbered IsParcel (λ p. p.id) parcel_row (λ p. p.lot)
 
 pub record HasFiles (upgrade : Option ℕ) (counts : List ℕ) (tree : List Row) : Type 0 where
   pub all : List FileRow

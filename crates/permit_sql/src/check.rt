@@ -1,24 +1,28 @@
 //! The rows of the tables, tested one at a time.
 
-ghost use Rattle.std.specs.Prelude.{◌≡◌, false, [], IsTrue, MatchBool, IfOk, IfSome};
+ghost use Rattle.std.specs.Prelude.{◌≡◌, ℕ, false, [], IsTrue, MatchBool, IfOk, IfErr};
+ghost use Rattle.sqlite_value.specs.Order.{Row as SqlRow};
 ghost use Rattle.sqlite.specs.Given.{IsPlain};
 ghost use Rattle.sqlite.specs.Listing.{understood};
 ghost use Rattle.sqlite.specs.State.{HasCleanDisk};
 ghost use Rattle.sqlite.specs.Held.{state};
 ghost use Rattle.permit_sql_rows.specs.Schema.{schema_of};
+ghost use Rattle.permit_sql_rows.specs.Rows.{shown_party, shown_parcel};
+ghost use Rattle.permit_sql_rows.specs.Typed.{firsts, IsParty, IsParcel};
 ghost use Rattle.permit_sql.specs.Taken.{TookRows};
-ghost use Rattle.permit_sql.specs.Found.{TookTable, TakesParty, TakesParcel, TakesInterest};
-ghost use Rattle.permit_sql.specs.Found.{RefusesParty, RefusesParcel, RefusesInterest, HasParties, HasParcels, HasInterests};
+ghost use Rattle.permit_sql.specs.Found.{TookTable, TakesNumbered, TakesInterest, RefusesNumbered, RefusesInterest, HasParties, HasParcels, HasInterests};
 ghost use Rattle.permit_sql.specs.Frames.{OverTyped, LeavesRows, LeavesOverCrash};
 
 use crate::each::{Taker, each_row};
 use crate::texts::{EACH_INTEREST, EACH_PARCEL, EACH_PARTY};
 use permit_base::words::Edition;
 use permit_sql_rows::decode::{interest_in, parcel_of, party_of};
-use permit_sql_rows::fields::RowFault;
+use permit_sql_rows::fields::{Read, RowFault};
 use permit_sql_rows::schema::is_office;
+use permit_store::rows::{Parcel, Party};
 use permit_store::store::{Got, StoreError};
 use sqlite::{Alter, Connection, Row};
+use std::marker::PhantomData;
 
 /// Whether the taker takes all rows of an answer, in a database of the edition's schema; with another it fails. The
 /// database stays as it is.
@@ -48,32 +52,98 @@ pub(crate) fn takes_all<S: Alter, T: Taker>(
     }
 }
 
-/// How many parties were read, each with the next number.
-#[derive(Drop)]
-struct Parties {
-    count: u32,
-    lacks_memory: bool,
+/// An object of the office, whose rows are numbered from 1 and show four values.
+trait Object: Drop {
+    /// It is within its limits.
+    ghost IsGood: { Self → Type 0 };
+
+    /// What a row shows of it.
+    ghost shown: { Self → SqlRow };
+
+    ghost number_of: { Self → ℕ };
+
+    /// The object in a row.
+    fn of_row(row: &Row) -> Read<Self>
+        ensures back { IfOk result (λ x. firsts 4 0 row.now ≡ shown x) }
+        ensures typed { IfOk result IsGood }
+        ensures read { (is : Self) → row.now ≡ shown is → IfOk result (λ x. x ≡ is) }
+        ensures some { (is : Self) → IsGood is → row.now ≡ shown is → IfErr result (λ e. e ≡ RowFault.NoMemory) };
+
+    /// Its number.
+    fn number(&self) -> u32
+        ensures { result ≡ number_of self.now };
 }
 
-impl Taker for Parties {
-    ghost took = { λ a row b good. MatchBool good (TakesParty a.count row b.count) (RefusesParty a.count row b.lacks_memory) };
+impl Object for Party {
+    ghost IsGood = { IsParty };
+
+    ghost shown = { shown_party };
+
+    ghost number_of = { λ p. p.id };
+
+    fn of_row(row: &Row) -> Read<Party> {
+        party_of(row)
+    }
+
+    fn number(&self) -> u32 {
+        self.id.get()
+    }
+}
+
+impl Object for Parcel {
+    ghost IsGood = { IsParcel };
+
+    ghost shown = { shown_parcel };
+
+    ghost number_of = { λ p. p.id };
+
+    fn of_row(row: &Row) -> Read<Parcel> {
+        parcel_of(row)
+    }
+
+    fn number(&self) -> u32 {
+        self.id.get()
+    }
+}
+
+/// How many rows of a kind of objects were read, each with the next number.
+#[derive(Drop)]
+struct Numbered<X> {
+    count: u32,
+    lacks_memory: bool,
+    kind: PhantomData<X>,
+}
+
+impl<X: Object> Numbered<X> {
+    fn new() -> Self
+        ensures { result.count ≡ 0 }
+    {
+        Numbered {
+            count: 0,
+            lacks_memory: false,
+            kind: PhantomData,
+        }
+    }
+}
+
+impl<X: Object> Taker for Numbered<X> {
+    ghost took = { λ a row b good. MatchBool good (TakesNumbered X.shown X.IsGood X.number_of a.count row b.count)
+        (RefusesNumbered X.shown X.IsGood X.number_of a.count row b.lacks_memory) };
 
     fn take(&mut self, row: &Row) -> bool {
-        let party = match party_of(row) {
-            Ok(party) => party,
+        let object = match X::of_row(row) {
+            Ok(object) => object,
             Err(RowFault::NoMemory) => {
                 self.lacks_memory = true;
                 return false;
             }
             Err(RowFault::Unreadable) => return false,
         };
-        let Some(next) = self.count.checked_add(1) else {
-            return false;
-        };
-        if party.id.get() != next {
+        let number = object.number();
+        if number == 0 || number - 1 != self.count {
             return false;
         }
-        self.count = next;
+        self.count = number;
         true
     }
 }
@@ -93,45 +163,12 @@ pub(crate) fn check_parties<S: Alter>(
     ensures crash { LeavesOverCrash S.Store conn.old conn.new }
     ensures not_in_transaction { conn.new.in_transaction ≡ false }
 {
-    let mut parties = Parties {
-        count: 0,
-        lacks_memory: false,
-    };
+    let mut parties = Numbered::<Party>::new();
     let all = takes_all(conn, edition, EACH_PARTY, &mut parties)?;
     if parties.lacks_memory {
         return Err(StoreError);
     }
     Ok(all && parties.count == count)
-}
-
-/// How many parcels were read, each with the next number.
-#[derive(Drop)]
-struct Parcels {
-    count: u32,
-    lacks_memory: bool,
-}
-
-impl Taker for Parcels {
-    ghost took = { λ a row b good. MatchBool good (TakesParcel a.count row b.count) (RefusesParcel a.count row b.lacks_memory) };
-
-    fn take(&mut self, row: &Row) -> bool {
-        let parcel = match parcel_of(row) {
-            Ok(parcel) => parcel,
-            Err(RowFault::NoMemory) => {
-                self.lacks_memory = true;
-                return false;
-            }
-            Err(RowFault::Unreadable) => return false,
-        };
-        let Some(next) = self.count.checked_add(1) else {
-            return false;
-        };
-        if parcel.id.get() != next {
-            return false;
-        }
-        self.count = next;
-        true
-    }
 }
 
 /// Whether there are so many parcels, numbered from 1, each within its limits.
@@ -149,10 +186,7 @@ pub(crate) fn check_parcels<S: Alter>(
     ensures crash { LeavesOverCrash S.Store conn.old conn.new }
     ensures not_in_transaction { conn.new.in_transaction ≡ false }
 {
-    let mut parcels = Parcels {
-        count: 0,
-        lacks_memory: false,
-    };
+    let mut parcels = Numbered::<Parcel>::new();
     let all = takes_all(conn, edition, EACH_PARCEL, &mut parcels)?;
     if parcels.lacks_memory {
         return Err(StoreError);

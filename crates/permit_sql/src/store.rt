@@ -1,6 +1,6 @@
 //! The store over SQL.
 
-ghost use Rattle.std.specs.Prelude.{◌≡◌, ◌==◌, ◌≢◌, ◌⊎◌, false, IsTrue, IfOk, IfErr, IsErr, OnOk, OnErr, Err, length};
+ghost use Rattle.std.specs.Prelude.{◌≡◌, ◌==◌, ◌≢◌, ◌⊎◌, false, IsTrue, IfOk, IfErr, OnOk, OnErr, Err, length};
 ghost use Rattle.sqlite_trees.specs.View.{doubt};
 ghost use Rattle.sqlite.specs.State.{HasCleanDisk, Survives};
 ghost use Rattle.sqlite.specs.Held.{state};
@@ -11,7 +11,8 @@ ghost use Rattle.permit_model.specs.Files.{case_files};
 ghost use Rattle.permit_model.specs.Tables.{Tables, tables, with_upgrade};
 ghost use Rattle.permit_model.specs.Sound.{IsSoundTables};
 ghost use Rattle.permit_store.specs.Founding.{founding};
-ghost use Rattle.permit_store.specs.Counts.{next_count};
+ghost use Rattle.permit_store.specs.Counts.{failed_after, handed_after};
+ghost use Rattle.permit_store.specs.Handing.{selected_after};
 ghost use Rattle.permit_store.specs.declared.store.OpenError.TheVariants as open_error;
 ghost use Rattle.permit_sql_rows.specs.Schema.{empty_schema};
 ghost use Rattle.permit_sql_rows.specs.Kept.{KeepsUnder, Keeps, Shows, IsFine};
@@ -29,13 +30,13 @@ use permit_core::taker::Taker;
 use permit_sql_statements::commit::commit_in;
 use permit_sql_statements::create::{create_in, upgrade_in};
 use permit_sql_statements::read::{
-    find_parcel, find_party, has_interest, has_open_notice, read_desk, read_file, read_owner,
-    read_papers, read_parcel, read_party, read_role, read_state,
+    find_parcel, find_party, has_interest, has_open_notice, read_desk, read_file, read_interests,
+    read_owner, read_papers, read_parcel, read_party, read_role, read_state,
 };
 use permit_sql_statements::select::{each_found, each_of_any_found, select_found};
 use permit_store::founder::Founder;
-use permit_store::rows::{Change, Desk, FileRow, Found, Paper, Parcel, Party};
-use permit_store::store::{Got, OpenError, Store, StoreError};
+use permit_store::rows::{Change, Desk, FileRow, Found, Interest, Paper, Parcel, Party};
+use permit_store::store::{Got, OpenError, Store};
 use sqlite::{Alter, Connection};
 use std::alloc::Global;
 use std::sync::Arc;
@@ -83,31 +84,63 @@ fn founds_sound_tables(founder: &Founder)
 }
 
 impl<S: Alter> SqlStore<S> {
-    /// The answer of a call that failed, which counts.
-    fn fail<T>(&mut self) -> Got<T>
-        ensures error { IsErr result }
-        ensures counted { self.new.failed ≡ next_count self.old.failed }
+    /// What a call answers, where a failure counts.
+    fn counted<T>(&mut self, got: Got<T>) -> Got<T>
+        ensures same { result ≡ got }
+        ensures failed { self.new.failed ≡ failed_after got self.old.failed }
         ensures others { (self.new.handed ≡ self.old.handed) × (self.new.commits ≡ self.old.commits) × (self.new.upgrade ≡ self.old.upgrade) }
         ensures conn { self.new.conn ≡ self.old.conn }
     {
-        self.failed = self.failed.wrapping_add(1);
-        Err(StoreError)
+        if got.is_err() {
+            self.failed = self.failed.wrapping_add(1);
+        }
+        got
     }
 
-    /// The answer of the call that each request begins with, where it failed. Behind a commit that failed it shows that a
-    /// fault of the disk has shut the connection, which only an opening of the file mends.
-    fn fail_first<T>(&mut self) -> Got<T>
-        ensures error { IsErr result }
-        ensures counted { self.new.failed ≡ next_count self.old.failed }
+    /// What a look-up of a file's row answers, where a row found counts as handed out, and a failure counts.
+    fn looked_up<T>(&mut self, got: Got<Option<T>>) -> Got<Option<T>>
+        ensures same { result ≡ got }
+        ensures handed { self.new.handed ≡ handed_after got self.old.handed }
+        ensures failed { self.new.failed ≡ failed_after got self.old.failed }
+        ensures others { (self.new.commits ≡ self.old.commits) × (self.new.upgrade ≡ self.old.upgrade) }
+        ensures conn { self.new.conn ≡ self.old.conn }
+    {
+        if let Ok(Some(_)) = &got {
+            self.handed = self.handed.wrapping_add(1);
+        }
+        self.counted(got)
+    }
+
+    /// What a selection answers, where each row found counts as handed out, and a failure counts.
+    fn selected<T>(&mut self, got: Got<Vec<T>>) -> Got<Vec<T>>
+        ensures same { result ≡ got }
+        ensures handed { self.new.handed ≡ selected_after (λ v. length v.items) got self.old.handed }
+        ensures failed { self.new.failed ≡ failed_after got self.old.failed }
+        ensures others { (self.new.commits ≡ self.old.commits) × (self.new.upgrade ≡ self.old.upgrade) }
+        ensures conn { self.new.conn ≡ self.old.conn }
+    {
+        if let Ok(rows) = &got {
+            self.handed = self.handed.wrapping_add(rows.len() as u64);
+        }
+        self.counted(got)
+    }
+
+    /// What a call that a request may begin with answers, where a failure counts. A failure of it behind a commit that
+    /// failed shows that a fault of the disk has shut the connection, which only an opening of the file mends.
+    fn counted_first<T>(&mut self, got: Got<T>) -> Got<T>
+        ensures same { result ≡ got }
+        ensures failed { self.new.failed ≡ failed_after got self.old.failed }
         ensures others { (self.new.handed ≡ self.old.handed) × (self.new.commits ≡ self.old.commits) × (self.new.upgrade ≡ self.old.upgrade) }
         ensures conn { self.new.conn ≡ self.old.conn }
     {
-        if self.is_suspect
+        if got.is_ok() {
+            self.is_suspect = false;
+        } else if self.is_suspect
             && let Some(shut) = &self.shut
         {
             shut.store(true, Ordering::SeqCst);
         }
-        self.fail()
+        self.counted(got)
     }
 
     /// Sets the flag once a request can't begin behind a commit that failed: a fault of the disk has shut the connection
@@ -277,108 +310,73 @@ impl<S: Alter> Store for SqlStore<S> {
     ghost crash = { λ old new t made. Outlasts (state S.Store old.conn) (state S.Store new.conn) t made };
 
     fn desk(&mut self) -> Got<Desk> {
-        match read_desk(&mut self.conn) {
-            Ok(desk) => Ok(desk),
-            Err(_) => self.fail(),
-        }
+        let got = read_desk(&mut self.conn);
+        self.counted_first(got)
     }
 
     fn party_by_token(&mut self, digest: &Digest) -> Got<Option<Party>> {
-        match find_party(&mut self.conn, digest) {
-            Ok(party) => {
-                self.is_suspect = false;
-                Ok(party)
-            }
-            Err(_) => self.fail_first(),
-        }
+        let got = find_party(&mut self.conn, digest);
+        self.counted_first(got)
     }
 
     fn party(&mut self, party: PartyId) -> Got<Option<Party>> {
-        match read_party(&mut self.conn, party) {
-            Ok(party) => Ok(party),
-            Err(_) => self.fail(),
-        }
+        let got = read_party(&mut self.conn, party);
+        self.counted(got)
     }
 
     fn role(&mut self, party: PartyId) -> Got<Option<Role>> {
-        match read_role(&mut self.conn, party) {
-            Ok(role) => Ok(role),
-            Err(_) => self.fail(),
-        }
+        let got = read_role(&mut self.conn, party);
+        self.counted(got)
     }
 
     fn parcel(&mut self, parcel: ParcelId) -> Got<Option<Parcel>> {
-        match read_parcel(&mut self.conn, parcel) {
-            Ok(parcel) => Ok(parcel),
-            Err(_) => self.fail(),
-        }
+        let got = read_parcel(&mut self.conn, parcel);
+        self.counted(got)
     }
 
     fn owner(&mut self, parcel: ParcelId) -> Got<Option<PartyId>> {
-        match read_owner(&mut self.conn, parcel) {
-            Ok(owner) => Ok(owner),
-            Err(_) => self.fail(),
-        }
+        let got = read_owner(&mut self.conn, parcel);
+        self.counted(got)
     }
 
     fn parcel_by_lot(&mut self, lot: &Lot) -> Got<Option<Parcel>> {
-        match find_parcel(&mut self.conn, lot) {
-            Ok(parcel) => Ok(parcel),
-            Err(_) => self.fail(),
-        }
+        let got = find_parcel(&mut self.conn, lot);
+        self.counted(got)
     }
 
     fn interest(&mut self, parcel: ParcelId, party: PartyId) -> Got<bool> {
-        match has_interest(&mut self.conn, parcel, party) {
-            Ok(interest) => Ok(interest),
-            Err(_) => self.fail(),
-        }
+        let got = has_interest(&mut self.conn, parcel, party);
+        self.counted(got)
+    }
+
+    fn interests(&mut self) -> Got<Vec<Interest>> {
+        let got = read_interests(&mut self.conn, self.alloc);
+        self.counted(got)
     }
 
     fn file(&mut self, file: FileId) -> Got<Option<FileRow>> {
-        match read_file(&mut self.conn, file, self.upgrade) {
-            Ok(Some(row)) => {
-                self.handed = self.handed.wrapping_add(1);
-                Ok(Some(row))
-            }
-            Ok(None) => Ok(None),
-            Err(_) => self.fail(),
-        }
+        let got = read_file(&mut self.conn, file, self.upgrade);
+        self.looked_up(got)
     }
 
     fn state(&mut self, file: FileId) -> Got<Option<FileState>> {
-        match read_state(&mut self.conn, file, self.upgrade) {
-            Ok(Some(state)) => {
-                self.handed = self.handed.wrapping_add(1);
-                Ok(Some(state))
-            }
-            Ok(None) => Ok(None),
-            Err(_) => self.fail(),
-        }
+        let got = read_state(&mut self.conn, file, self.upgrade);
+        self.looked_up(got)
     }
 
     fn papers(&mut self, file: FileId) -> Got<Vec<Paper>> {
-        match read_papers(&mut self.conn, file, self.alloc) {
-            Ok(papers) => Ok(papers),
-            Err(_) => self.fail(),
-        }
+        let got = read_papers(&mut self.conn, file, self.alloc);
+        self.counted(got)
     }
 
     fn has_open_notice(&mut self, file: FileId, number: PaperNumber) -> Got<bool> {
-        match has_open_notice(&mut self.conn, file, number) {
-            Ok(is_open) => Ok(is_open),
-            Err(_) => self.fail(),
-        }
+        let got = has_open_notice(&mut self.conn, file, number);
+        self.counted(got)
     }
 
     fn select(&mut self, route: &Route, caller: PartyId, day: Day) -> Got<Vec<Found>> {
-        match select_found(&mut self.conn, route, caller, day, self.upgrade, self.alloc) {
-            Ok(rows) => {
-                self.handed = self.handed.wrapping_add(rows.len() as u64);
-                Ok(rows)
-            }
-            Err(_) => self.fail(),
-        }
+        let got = select_found(&mut self.conn, route, caller, day, self.upgrade, self.alloc);
+        self.selected(got)
     }
 
     fn each<T: Taker<Found>>(
@@ -388,7 +386,7 @@ impl<S: Alter> Store for SqlStore<S> {
         day: Day,
         taker: &mut T,
     ) -> Got<bool> {
-        match each_found(
+        let all = each_found(
             &mut self.conn,
             route,
             caller,
@@ -396,13 +394,8 @@ impl<S: Alter> Store for SqlStore<S> {
             self.upgrade,
             &mut self.handed,
             taker,
-        ) {
-            Ok(all) => Ok(all),
-            Err(why) => {
-                self.failed = self.failed.wrapping_add(1);
-                Err(why)
-            }
-        }
+        );
+        self.counted(all)
     }
 
     fn each_of_any<T: Taker<Found>>(
@@ -412,7 +405,7 @@ impl<S: Alter> Store for SqlStore<S> {
         day: Day,
         taker: &mut T,
     ) -> Got<bool> {
-        match each_of_any_found(
+        let took_all = each_of_any_found(
             &mut self.conn,
             routes,
             caller,
@@ -420,23 +413,14 @@ impl<S: Alter> Store for SqlStore<S> {
             self.upgrade,
             &mut self.handed,
             taker,
-        ) {
-            Ok(took_all) => Ok(took_all),
-            Err(why) => {
-                self.failed = self.failed.wrapping_add(1);
-                Err(why)
-            }
-        }
+        );
+        self.counted(took_all)
     }
 
     fn commit(&mut self, change: &Change<'_>, day: Day) -> Got<()> {
         self.commits = self.commits.wrapping_add(1);
-        match commit_in(&mut self.conn, change, day) {
-            Ok(()) => Ok(()),
-            Err(_) => {
-                self.is_suspect = true;
-                self.fail()
-            }
-        }
+        let got = commit_in(&mut self.conn, change, day);
+        self.is_suspect = got.is_err();
+        self.counted(got)
     }
 }

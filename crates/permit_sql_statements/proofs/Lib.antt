@@ -1,6 +1,7 @@
 pub mod Permuted
 pub mod Distinct
 pub mod Lookups
+pub mod Wholes
 pub mod QueryTexts
 pub mod RouteTexts
 pub mod AloneTexts

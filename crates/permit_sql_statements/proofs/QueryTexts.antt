@@ -13,7 +13,7 @@ use Rattle.sqlite_schema.specs.declared.command.Command.TheVariants.{Select}
 use Rattle.sqlite.proofs.Callers.{command_of, IsPlain}
 use Rattle.permit_sql_rows.specs.Schema.{office_schema}
 use Rattle.permit_sql_statements.specs.declared.texts.TheConstants.{READ_DESK, READ_PARTY, FIND_PARTY, READ_PARCEL, FIND_PARCEL, FIND_INTEREST, FIND_INTERESTED}
-use Rattle.permit_sql_statements.specs.declared.texts.TheConstants.{READ_FILE, READ_PAPERS, FIND_NOTICE}
+use Rattle.permit_sql_statements.specs.declared.texts.TheConstants.{READ_FILE, READ_INTERESTS, READ_PAPERS, FIND_NOTICE}
 use Rattle.permit_sql_statements.proofs.Lookups.{plain_query, equals}
 
 abbrev pub alone : Query → Program
@@ -138,6 +138,22 @@ find_interested_plain = (refl, refl)
 pub find_interested_unlisted : reads_listing office_schema FIND_INTERESTED.now ≡ false
 unfolding understood everything
 find_interested_unlisted = refl
+
+abbrev pub read_interests_query : Query
+read_interests_query = plain_query (inner 5 end) [] (columns_of 2 1) ([])
+
+pub read_interests_is : command_of (understood office_schema READ_INTERESTS.now)
+    ≡ Select (alone read_interests_query) (names_of (command_of (understood office_schema READ_INTERESTS.now)))
+unfolding understood everything
+read_interests_is = refl
+
+pub read_interests_plain : IsPlain (understood office_schema READ_INTERESTS.now)
+unfolding understood everything
+read_interests_plain = (refl, refl)
+
+pub read_interests_unlisted : reads_listing office_schema READ_INTERESTS.now ≡ false
+unfolding understood everything
+read_interests_unlisted = refl
 
 abbrev pub read_file_query : Query
 read_file_query = plain_query (inner 7 end) (equals (col 1 0) (col 0 0) ∷ []) (col 1 0 ∷ columns_of 19 2) ([])

@@ -5,7 +5,7 @@ use Rattle.std.specs.Prelude.{◌&&◌, bytes_eq, IfSome, IfOk, Result, Ok, Err}
 use Rattle.std.specs.Result.{result_ok}
 use Rattle.std.specs.List.{flat_map, list_all, list_any, AllByRecursion}
 use Rattle.std.proofs.lemmas.Bool.Decides.{nat_tests}
-use Rattle.std.proofs.lemmas.List.Sorted.{length_permutation, IsPermutation-trans}
+use Rattle.std.proofs.lemmas.List.Sorted.{length_permutation, IsPermutation-trans, IsPermutation-sym}
 use Rattle.sqlite.specs.declared.types.Value.TheVariants.{Null, Text}
 use Rattle.sqlite_value.specs.Order.{Row, column, value_cmp}
 use Rattle.sqlite_value.proofs.OrderLemmas.{value_cmp-Int}
@@ -22,15 +22,18 @@ use Rattle.sqlite_keyed.proofs.ListLemmas.{slice_get-filter, IsPermutation-same}
 use Rattle.sqlite_keyed.proofs.SortLemmas.{sorted_unique}
 use Rattle.sqlite.specs.State.{State, Shown}
 use Rattle.sqlite.proofs.Callers.{reads_as}
+use Rattle.permit_model.specs.Parcels.{Interest}
 use Rattle.permit_model.specs.Tables.{Tables, Paper}
 use Rattle.permit_sql_rows.specs.Schema.{office_schema}
 use Rattle.permit_sql_rows.specs.Rows.{int, flag, desk_row, party_row, parcel_row, file_row, shown_desk, shown_party, shown_parcel, shown_file, shown_interest}
 use Rattle.permit_sql_rows.specs.Rows.{shown_paper}
+use Rattle.permit_sql_rows.specs.Typed.{firsts}
 use Rattle.permit_sql_rows.specs.Kept.{Keeps}
 use Rattle.permit_sql_statements.specs.declared.texts.TheConstants.{READ_DESK, READ_PARTY, FIND_PARTY, READ_PARCEL, FIND_PARCEL, FIND_INTEREST, FIND_INTERESTED}
-use Rattle.permit_sql_statements.specs.declared.texts.TheConstants.{READ_FILE, READ_PAPERS, FIND_NOTICE}
+use Rattle.permit_sql_statements.specs.declared.texts.TheConstants.{READ_FILE, READ_INTERESTS, READ_PAPERS, FIND_NOTICE}
 use Rattle.permit_sql_statements.proofs.Lookups.{plain_query, answers, put_out, spread, put_all_out, put_out_is, one_test, eq_is, text_is, finds_one}
 use Rattle.permit_sql_statements.proofs.Permuted.{one_order}
+use Rattle.permit_sql_statements.proofs.Wholes.{whole_shown, interests_among}
 use Rattle.permit_sql_statements.proofs.Selecting.{counted_by}
 use Rattle.permit_sql_statements.proofs.QueryTexts.{read_desk_query, read_desk_is, read_desk_plain, read_desk_unlisted, read_party_query, read_party_is}
 use Rattle.permit_sql_statements.proofs.QueryTexts.{read_party_plain, read_party_unlisted, find_party_query, find_party_is, find_party_plain}
@@ -38,6 +41,7 @@ use Rattle.permit_sql_statements.proofs.QueryTexts.{find_party_unlisted, read_pa
 use Rattle.permit_sql_statements.proofs.QueryTexts.{find_parcel_query, find_parcel_is, find_parcel_plain, find_parcel_unlisted, find_interest_query}
 use Rattle.permit_sql_statements.proofs.QueryTexts.{find_interest_is, find_interest_plain, find_interest_unlisted, find_interested_query, find_interested_is}
 use Rattle.permit_sql_statements.proofs.QueryTexts.{find_interested_plain, find_interested_unlisted, read_file_query, read_file_is, read_file_plain}
+use Rattle.permit_sql_statements.proofs.QueryTexts.{read_interests_query, read_interests_is, read_interests_plain, read_interests_unlisted}
 use Rattle.permit_sql_statements.proofs.QueryTexts.{read_file_unlisted, read_papers_query, read_papers_is, read_papers_plain, read_papers_unlisted}
 use Rattle.permit_sql_statements.proofs.QueryTexts.{find_notice_query, find_notice_is, find_notice_plain, find_notice_unlisted}
 
@@ -151,6 +155,14 @@ module _ (old new : State) (t : Tables) (rows : List Row) (k : Keeps t old.now) 
       cut parcel party [] = refl
       cut parcel party (x ∷ r) = refl
 
+  pub interests_shown : Shown READ_INTERESTS.now [] old new rows → (given : List Interest) × (rows ≡ map shown_interest given) × IsPermutation given t.interests
+  interests_shown h =
+      let read = reads_as READ_INTERESTS.now [] old new office_schema k.schema _ read_interests_is read_interests_plain read_interests_unlisted rows h in
+      let seen : IsPermutation (map (λ r. firsts 2 1 r) (old.now.trees 5)) rows =
+      whole_shown 5 read_interests_query.project read_interests_query.order (overlay old.now.trees []) rows (read.answer Null) in
+      let it = interests_among t.interests (old.now.trees 5) rows k.rows.interests seen in
+      (it.0, it.1, IsPermutation-sym _ _ it.2)
+
   pub notice_shown : (file number : ℕ) → Shown FIND_NOTICE.now (int file ∷ int number ∷ []) old new rows →
       not (eqb (length rows) 0) ≡ list_any (λ p. eqb p.file file && (p.is_open && eqb p.number number)) t.papers
   notice_shown file number h =
@@ -225,16 +237,25 @@ all_found test P (x ∷ xs) all = go (test x) (all_found test P xs all.1)
     go true more = all.0
     go false more = more
 
--- ---- the papers that were read so far
+-- ---- the interests and the papers that were read so far
 
-pub one_more : (papers : List Paper) (rows : List Row) (at : ℕ) (row : Row) (paper : Paper) → rows ≡ map shown_paper papers → at < length rows →
-    row ≡ get_or rows at row → ((is : Paper) → row ≡ shown_paper is → paper ≡ is) → take at papers ++ paper ∷ [] ≡ take (at + 1) papers
-one_more papers rows at row paper are low here is = go at papers (subst (λ l. at < length l) are low) (subst (λ l. row ≡ get_or l at row) are here)
+-- an interest is the one of its row
+pub interest_is : (row : Row) (i : Interest) → (firsts 2 0 row ≡ int i.parcel ∷ int i.party ∷ []) → (is : Interest) → row ≡ shown_interest is → i ≡ is
+interest_is row i back is e =
+    let shown : int i.parcel ∷ int i.party ∷ [] ≡ int is.parcel ∷ int is.party ∷ [] = sym back ∙ ap (firsts 2 0) e in
+    let parcel : i.parcel ≡ is.parcel = cc in
+    let party : i.party ≡ is.party = cc in
+    let made : ℕ → ℕ → Interest = λ p q. record { parcel = p; party = q } in
+    ap₂ made parcel party
+
+pub one_more : {X : Type 0} (shown : X → Row) (xs : List X) (rows : List Row) (at : ℕ) (row : Row) (x : X) → rows ≡ map shown xs → at < length rows →
+    row ≡ get_or rows at row → ((is : X) → row ≡ shown is → x ≡ is) → take at xs ++ x ∷ [] ≡ take (at + 1) xs
+one_more {X} shown xs rows at row x are low here is = go at xs (subst (λ l. at < length l) are low) (subst (λ l. row ≡ get_or l at row) are here)
   where
-    go : (n : ℕ) (ps : List Paper) → n < length (map shown_paper ps) → row ≡ get_or (map shown_paper ps) n row → take n ps ++ paper ∷ [] ≡ take (n + 1) ps
+    go : (n : ℕ) (ys : List X) → n < length (map shown ys) → row ≡ get_or (map shown ys) n row → take n ys ++ x ∷ [] ≡ take (n + 1) ys
     go n [] low e = absurd (omega (arith, low))
-    go zero (p ∷ ps) low e = ap (λ x. x ∷ []) (is p e)
-    go (suc n) (p ∷ ps) low e =
+    go zero (y ∷ ys) low e = ap (λ z. z ∷ []) (is y e)
+    go (suc n) (y ∷ ys) low e =
         let more : n + 1 ≡ suc n = omega arith in
         let last : suc n + 1 ≡ suc (suc n) = omega arith in
-        rw last (ap (λ l. p ∷ l) (go n ps (omega (arith, low)) e ∙ ap (λ m. take m ps) more))
+        rw last (ap (λ l. y ∷ l) (go n ys (omega (arith, low)) e ∙ ap (λ m. take m ys) more))

@@ -1,14 +1,14 @@
 //! What is read of the tables, over a connection.
 
 ghost use Rattle.std.specs.Prelude.{◌≡◌, ◌==◌, ◌&&◌, Bool, false, not, List, [], ◌∷◌, ◌++◌, map, filter, find, length};
-ghost use Rattle.std.specs.Prelude.{Option, option_map, slice_get, bytes_eq, IfOk, IfErr, OnOk, IfSome, IsSome, IsOk};
+ghost use Rattle.std.specs.Prelude.{Option, option_map, slice_get, bytes_eq, IfOk, IfErr, OnOk, IfSome, IsSome, IsOk, IsPermutation};
 ghost use Rattle.std.specs.Result.{result_ok};
 ghost use Rattle.std.specs.List.{list_any};
 ghost use Rattle.sqlite.specs.Held.{state};
 ghost use Rattle.permit_model.specs.Caller.{Party as TheParty};
-ghost use Rattle.permit_model.specs.Parcels.{Parcel as TheParcel};
+ghost use Rattle.permit_model.specs.Parcels.{Interest as TheInterest, Parcel as TheParcel};
 ghost use Rattle.permit_model.specs.Tables.{Desk as TheDesk, FileRow as TheRow, Paper as ThePaper};
-ghost use Rattle.permit_sql_rows.specs.Rows.{flag, shown_desk, shown_party, shown_parcel, shown_file, shown_paper};
+ghost use Rattle.permit_sql_rows.specs.Rows.{flag, shown_desk, shown_party, shown_parcel, shown_file, shown_interest, shown_paper};
 ghost use Rattle.permit_sql_rows.specs.Kept.{IsNamed};
 ghost use Rattle.permit_sql_rows.specs.Typed.{IsObject, IsDesk, IsParty, IsParcel, IsFile};
 ghost use Rattle.permit_sql_statements.specs.Frames.{OverShown, LeavesTables, IsOpenAfter, KeepsDoubt, ReadSurvives};
@@ -16,16 +16,17 @@ ghost use Rattle.permit_sql_statements.specs.Frames.{OverShown, LeavesTables, Is
 use crate::query::rows_of;
 use crate::texts::{
     FIND_INTEREST, FIND_INTERESTED, FIND_NOTICE, FIND_PARCEL, FIND_PARTY, READ_DESK, READ_FILE,
-    READ_PAPERS, READ_PARCEL, READ_PARTY,
+    READ_INTERESTS, READ_PAPERS, READ_PARCEL, READ_PARTY,
 };
 use permit_base::values::{Digest, FileId, Lot, PaperNumber, ParcelId, PartyId};
 use permit_base::words::Role;
 use permit_core::state::FileState;
 use permit_sql_rows::decode::{
-    desk_in, file_of, owner_in, paper_of, parcel_of, party_of, role_in, state_in, truth_in,
+    desk_in, file_of, interest_in, owner_in, paper_of, parcel_of, party_of, role_in, state_in,
+    truth_in,
 };
 use permit_sql_rows::fields::{Read, RowFault};
-use permit_store::rows::{Desk, FileRow, Paper, Parcel, Party};
+use permit_store::rows::{Desk, FileRow, Interest, Paper, Parcel, Party};
 use permit_store::store::{Got, StoreError};
 use sqlite::{Alter, Connection, Row, params};
 use std::alloc::Global;
@@ -116,6 +117,20 @@ fn interest_rows<S: Alter>(
     ensures not_in_transaction { conn.new.in_transaction ≡ false }
 {
     rows_of(conn, FIND_INTEREST, params![parcel.get(), party.get()])
+}
+
+/// The rows of all interests.
+fn declared_rows<S: Alter>(conn: &mut Connection<S>) -> Got<Vec<Row>>
+    requires not_in_transaction { conn.old.in_transaction ≡ false }
+    ensures found { OverShown S.Store conn.old conn.new
+        (λ t. IfOk result (λ rows. (given : List TheInterest) × (rows.items ≡ map shown_interest given) × IsPermutation given t.interests)) }
+    ensures kept { LeavesTables S.Store conn.old conn.new }
+    ensures open { IsOpenAfter S.Store conn.new result }
+    ensures doubt { KeepsDoubt S.Store conn.old conn.new }
+    ensures crash { ReadSurvives S.Store conn.old conn.new }
+    ensures not_in_transaction { conn.new.in_transaction ≡ false }
+{
+    rows_of(conn, READ_INTERESTS, &[])
 }
 
 /// A row that says whether the party has declared an interest.
@@ -453,6 +468,48 @@ pub(crate) fn is_interested<S: Alter>(conn: &mut Connection<S>, party: PartyId) 
 {
     let rows = interested_rows(conn, party)?;
     first_truth(&rows)
+}
+
+/// An interest more.
+fn push_interest(interests: &mut Vec<Interest>, interest: Interest) -> Got<()>
+    ensures { OnOk result (interests.new.items ≡ interests.old.items ++ interest ∷ []) }
+{
+    match interests.push(interest) {
+        Ok(()) => Ok(()),
+        Err(_) => Err(StoreError),
+    }
+}
+
+/// The rows as interests.
+fn all_interests(alloc: Global, rows: &[Row]) -> Got<Vec<Interest>>
+    ensures { (interests : List TheInterest) → rows.now ≡ map shown_interest interests → IfOk result (λ v. v.items ≡ interests) }
+{
+    let mut interests = Vec::new(alloc);
+    'rows: for row in rows {
+        let Some(pair) = interest_in(row) else {
+            return Err(StoreError);
+        };
+        let interest = Interest {
+            parcel: pair.0,
+            party: pair.1,
+        };
+        push_interest(&mut interests, interest)?;
+    }
+    Ok(interests)
+}
+
+/// All interests, in any order.
+pub fn read_interests<S: Alter>(conn: &mut Connection<S>, alloc: Global) -> Got<Vec<Interest>>
+    requires not_in_transaction { conn.old.in_transaction ≡ false }
+    ensures found { OverShown S.Store conn.old conn.new (λ t. IfOk result (λ v. IsPermutation v.items t.interests)) }
+    ensures kept { LeavesTables S.Store conn.old conn.new }
+    ensures open { IsOpenAfter S.Store conn.new result }
+    ensures doubt { KeepsDoubt S.Store conn.old conn.new }
+    ensures crash { ReadSurvives S.Store conn.old conn.new }
+    ensures not_in_transaction { conn.new.in_transaction ≡ false }
+{
+    let rows = declared_rows(conn)?;
+    all_interests(alloc, &rows)
 }
 
 /// The row of the file with the number, where there were so many files at the upgrade.

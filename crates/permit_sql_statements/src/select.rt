@@ -141,7 +141,7 @@ fn hand_rows<S: Alter, T: Taker<Found>>(
             return Err(StoreError);
         };
         *handed = handed.wrapping_add(1);
-        if !taker.take(&found) {
+        if !taker.take(found) {
             return Ok(false);
         }
     }

@@ -84,6 +84,9 @@ pub const FIND_INTEREST: &str = "SELECT 1 FROM interest WHERE parcel = ?1 AND pa
 /// Whether there is an interest of the party.
 pub const FIND_INTERESTED: &str = "SELECT EXISTS (SELECT 1 FROM interest WHERE party = ?1)";
 
+/// Every interest.
+pub const READ_INTERESTS: &str = "SELECT parcel, party FROM interest";
+
 /// The file with the number.
 pub const READ_FILE: &str =
     "SELECT id, parcel, applicant, contractor, reviewer, inspector, kind, valuation, description, filed, stage, deadline, done, request, requested, ask, stopped, notices, papers, temporary FROM file WHERE id = ?1";

@@ -12,17 +12,17 @@ pub returns-then-all-clause-good : goal.returns-then-all-clause-good
 returns-then-all-clause-good g c clean same =
     let took = c.in_ok-all.ensures.all clean c.if-all.true in
     parties_are c.args.edition g.S.Store c.args.conn.now c.takes_all.new.conn took.0 c.args.count
-    (record { count = 0; lacks_memory = false }) c.takes_all.new.taker refl took.1 (eqb-true _ _ same)
+    c.new-parties.result c.takes_all.new.taker c.new-parties.ensures took.1 (eqb-true _ _ same)
 
 pub returns-then-all-clause-kept : goal.returns-then-all-clause-kept
 returns-then-all-clause-kept g c clean t typed k same =
     let took = took_with (parties_taken c.args.edition g.S.Store c.args.conn.now c.takes_all.new.conn t typed k
-    (record { count = 0; lacks_memory = false }) c.takes_all.new.taker c.in_ok-all.all refl (c.in_ok-all.ensures.handed clean)) c.if-parties.false in
+    c.new-parties.result c.takes_all.new.taker c.in_ok-all.all c.new-parties.ensures (c.in_ok-all.ensures.handed clean)) c.if-parties.false in
     let count = took.1 in
     grind (arith, nat_tests)
 
 pub returns-else-all-clause-kept : goal.returns-else-all-clause-kept
 returns-else-all-clause-kept g c clean t typed k same =
     let took = took_with (parties_taken c.args.edition g.S.Store c.args.conn.now c.takes_all.new.conn t typed k
-    (record { count = 0; lacks_memory = false }) c.takes_all.new.taker c.in_ok-all.all refl (c.in_ok-all.ensures.handed clean)) c.if-parties.false in
+    c.new-parties.result c.takes_all.new.taker c.in_ok-all.all c.new-parties.ensures (c.in_ok-all.ensures.handed clean)) c.if-parties.false in
     absurd (true≢false (sym took.0 ∙ c.if-all.false))

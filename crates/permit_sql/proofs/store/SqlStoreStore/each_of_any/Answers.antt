@@ -1,27 +1,28 @@
-use Rattle.std.proofs.Common.{arith}
-use Rattle.permit_sql.proofs.Calls.{hand_ok, hand_err}
+use Rattle.std.proofs.Common.{subst, sym, ◌∙◌, arith}
+use Rattle.sqlite.specs.State.{HasCleanDisk}
+use Rattle.sqlite.specs.Held.{state}
+use Rattle.permit_sql.proofs.Calls.{read_counted}
 use Rattle.permit_sql.proofs.store.SqlStoreStore.each_of_any.Goals as goal
 
-pub returns-in-Ok-clause-handed : goal.returns-in-Ok-clause-handed
-returns-in-Ok-clause-handed g c =
+pub returns-clause-handed : goal.returns-clause-handed
+returns-clause-handed g c =
     let s = c.args.self.now in
-    let it = c.in-Ok.ensures.handed in (
-      it.0,
+    let n = c.counted.new.self in
+    let e = c.counted.ensures in
+    let it = c.each_of_any_found-took_all.ensures in
+    let given = it.handed in (
+      given.0,
       record {
-        taken = it.1;
-        read = hand_ok g.S.Store s.conn c.each_of_any_found.new.conn s.upgrade s.handed s.failed s.commits _ _ _ it.2 c.each_of_any_found.ensures.kept c.each_of_any_found.ensures.doubt c.in-Ok.ensures.open;
+        taken = rw e.same given.1;
+        read = read_counted g.S.Store s.conn c.each_of_any_found-took_all.new.conn s.upgrade s.handed s.failed s.commits n.conn n.upgrade n.handed n.failed n.commits
+            c.each_of_any_found-took_all.result c.counted.result e.same e.conn e.others.2 it.doubt it.open _
+            (e.others.0 ∙ given.2) e.failed e.others.1 it.kept;
       },
-      λ sure t held. it.3 t sure (held (omega (arith, c.each_of_any_found.ensures.doubt, sure))).1 (held (omega (arith, c.each_of_any_found.ensures.doubt, sure))).0,
+      λ sure t held.
+          let clean = subst (λ h. HasCleanDisk (state g.S.Store h)) e.conn sure in
+          let was = held (omega (arith, it.doubt, clean)) in
+          rw e.same (given.3 t clean was.1 was.0),
     )
 
-pub returns-in-Err-clause-handed : goal.returns-in-Err-clause-handed
-returns-in-Err-clause-handed g c =
-    let s = c.args.self.now in
-    let it = c.in-Err.ensures.handed in (
-      it.0,
-      record {
-        taken = it.1;
-        read = hand_err g.S.Store s.conn c.each_of_any_found.new.conn s.upgrade s.handed s.failed s.commits _ _ _ it.2 c.each_of_any_found.ensures.kept c.each_of_any_found.ensures.doubt;
-      },
-      λ sure t held. it.3 t sure (held (omega (arith, c.each_of_any_found.ensures.doubt, sure))).1 (held (omega (arith, c.each_of_any_found.ensures.doubt, sure))).0,
-    )
+pub returns-clause-crash : goal.returns-clause-crash
+returns-clause-crash g c t keeps = rw c.counted.ensures.conn (c.each_of_any_found-took_all.ensures.crash t keeps)

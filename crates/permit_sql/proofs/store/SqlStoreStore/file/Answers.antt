@@ -1,28 +1,26 @@
-use Rattle.std.proofs.Common.{◌∙◌, sym, arith}
-use Rattle.permit_sql.proofs.Calls.{read_ok, look_up_err}
+use Rattle.std.proofs.Common.{subst, ap, sym, ◌∙◌, arith}
+use Rattle.sqlite.specs.State.{HasCleanDisk}
+use Rattle.sqlite.specs.Held.{state}
+use Rattle.permit_store.specs.Counts.{handed_after}
+use Rattle.permit_sql.proofs.Calls.{read_counted}
 use Rattle.permit_sql.proofs.store.SqlStoreStore.file.Goals as goal
 
-pub returns-in-Ok-Some-clause-found : goal.returns-in-Ok-Some-clause-found
-returns-in-Ok-Some-clause-found g c sure t held = sym c.in-Ok-Some.field-0-is
-    ∙ c.in-Ok-Some.ensures.found t sure (held (omega (arith, c.read_file.ensures.doubt, sure))).1 (held (omega (arith, c.read_file.ensures.doubt, sure))).0
+pub returns-clause-found : goal.returns-clause-found
+returns-clause-found g c sure t held =
+    let it = c.read_file-got.ensures in
+    let clean = subst (λ h. HasCleanDisk (state g.S.Store h)) c.looked_up.ensures.conn sure in
+    let was = held (omega (arith, it.doubt, clean)) in
+    rw c.looked_up.ensures.same (it.found t clean was.1 was.0)
 
-pub returns-in-Ok-Some-clause-read : goal.returns-in-Ok-Some-clause-read
-returns-in-Ok-Some-clause-read g c =
+pub returns-clause-read : goal.returns-clause-read
+returns-clause-read g c =
     let s = c.args.self.now in
-    read_ok g.S.Store s.conn c.read_file.new.conn s.upgrade s.handed s.failed s.commits _ _ c.read_file.ensures.kept c.read_file.ensures.doubt c.in-Ok-Some.ensures.open
+    let n = c.looked_up.new.self in
+    let e = c.looked_up.ensures in
+    let it = c.read_file-got.ensures in
+    read_counted g.S.Store s.conn c.read_file-got.new.conn s.upgrade s.handed s.failed s.commits n.conn n.upgrade n.handed n.failed n.commits
+    c.read_file-got.result c.looked_up.result e.same e.conn e.others.1 it.doubt it.open _
+    (e.handed ∙ ap (λ x. handed_after x s.handed) (sym e.same)) e.failed e.others.0 it.kept
 
-pub returns-in-Ok-None-clause-found : goal.returns-in-Ok-None-clause-found
-returns-in-Ok-None-clause-found g c sure t held = sym c.in-Ok-None.field-0-is
-    ∙ c.in-Ok-None.ensures.found t sure (held (omega (arith, c.read_file.ensures.doubt, sure))).1 (held (omega (arith, c.read_file.ensures.doubt, sure))).0
-
-pub returns-in-Ok-None-clause-read : goal.returns-in-Ok-None-clause-read
-returns-in-Ok-None-clause-read g c =
-    let s = c.args.self.now in
-    read_ok g.S.Store s.conn c.read_file.new.conn s.upgrade s.handed s.failed s.commits _ _ c.read_file.ensures.kept c.read_file.ensures.doubt c.in-Ok-None.ensures.open
-
-pub returns-in-Err-clause-read : goal.returns-in-Err-clause-read
-returns-in-Err-clause-read g c =
-    let s = c.args.self.now in
-    let n = c.fail.new.self in
-    look_up_err g.S.Store s.conn c.read_file.new.conn s.upgrade s.handed s.failed s.commits n.conn n.upgrade n.handed n.failed n.commits _ c.fail.ensures.error c.fail.ensures.conn c.fail.ensures.counted c.fail.ensures.others
-    c.read_file.ensures.kept c.read_file.ensures.doubt
+pub returns-clause-crash : goal.returns-clause-crash
+returns-clause-crash g c t keeps = rw c.looked_up.ensures.conn (c.read_file-got.ensures.crash t keeps)

@@ -1,18 +1,23 @@
-use Rattle.std.proofs.Common.{arith}
-use Rattle.permit_sql.proofs.Calls.{read_ok, read_err}
+use Rattle.std.proofs.Common.{subst, refl, arith}
+use Rattle.sqlite.specs.State.{HasCleanDisk}
+use Rattle.sqlite.specs.Held.{state}
+use Rattle.permit_sql.proofs.Calls.{read_counted}
 use Rattle.permit_sql.proofs.store.SqlStoreStore.owner.Goals as goal
 
-pub returns-in-Ok-clause-found : goal.returns-in-Ok-clause-found
-returns-in-Ok-clause-found g c sure t held = c.in-Ok.ensures.found t sure (held (omega (arith, c.read_owner.ensures.doubt, sure))).1
+pub returns-clause-found : goal.returns-clause-found
+returns-clause-found g c sure t held =
+    let it = c.read_owner-got.ensures in
+    let clean = subst (λ h. HasCleanDisk (state g.S.Store h)) c.counted.ensures.conn sure in
+    rw c.counted.ensures.same (it.found t clean (held (omega (arith, it.doubt, clean))).1)
 
-pub returns-in-Ok-clause-read : goal.returns-in-Ok-clause-read
-returns-in-Ok-clause-read g c =
+pub returns-clause-read : goal.returns-clause-read
+returns-clause-read g c =
     let s = c.args.self.now in
-    read_ok g.S.Store s.conn c.read_owner.new.conn s.upgrade s.handed s.failed s.commits _ _ c.read_owner.ensures.kept c.read_owner.ensures.doubt c.in-Ok.ensures.open
+    let n = c.counted.new.self in
+    let e = c.counted.ensures in
+    let it = c.read_owner-got.ensures in
+    read_counted g.S.Store s.conn c.read_owner-got.new.conn s.upgrade s.handed s.failed s.commits n.conn n.upgrade n.handed n.failed n.commits
+    c.read_owner-got.result c.counted.result e.same e.conn e.others.2 it.doubt it.open _ e.others.0 e.failed e.others.1 it.kept
 
-pub returns-in-Err-clause-read : goal.returns-in-Err-clause-read
-returns-in-Err-clause-read g c =
-    let s = c.args.self.now in
-    let n = c.fail.new.self in
-    read_err g.S.Store s.conn c.read_owner.new.conn s.upgrade s.handed s.failed s.commits n.conn n.upgrade n.handed n.failed n.commits _ c.fail.ensures.error c.fail.ensures.conn c.fail.ensures.counted c.fail.ensures.others
-    c.read_owner.ensures.kept c.read_owner.ensures.doubt
+pub returns-clause-crash : goal.returns-clause-crash
+returns-clause-crash g c t keeps = rw c.counted.ensures.conn (c.read_owner-got.ensures.crash t keeps)

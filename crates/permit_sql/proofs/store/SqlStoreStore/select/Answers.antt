@@ -1,21 +1,26 @@
-use Rattle.std.proofs.Common.{◌≡◌, ◌+◌, ◌%◌, ◌^◌, length, ap, rules, arith}
-use Rattle.permit_sql.proofs.Calls.{hand_ok, select_err}
+use Rattle.std.proofs.Common.{subst, ap, sym, length, ◌∙◌, arith}
+use Rattle.sqlite.specs.State.{HasCleanDisk}
+use Rattle.sqlite.specs.Held.{state}
+use Rattle.permit_store.specs.Handing.{selected_after}
+use Rattle.permit_sql.proofs.Calls.{read_counted}
 use Rattle.permit_sql.proofs.store.SqlStoreStore.select.Goals as goal
 
-pub returns-in-Ok-clause-found : goal.returns-in-Ok-clause-found
-returns-in-Ok-clause-found g c sure t held = c.in-Ok.ensures.found t sure (held (omega (arith, c.select_found.ensures.doubt, sure))).1 (held (omega (arith, c.select_found.ensures.doubt, sure))).0
+pub returns-clause-found : goal.returns-clause-found
+returns-clause-found g c sure t held =
+    let it = c.select_found-got.ensures in
+    let clean = subst (λ h. HasCleanDisk (state g.S.Store h)) c.selected.ensures.conn sure in
+    let was = held (omega (arith, it.doubt, clean)) in
+    rw c.selected.ensures.same (it.found t clean was.1 was.0)
 
-pub returns-in-Ok-clause-read : goal.returns-in-Ok-clause-read
-returns-in-Ok-clause-read g c =
+pub returns-clause-read : goal.returns-clause-read
+returns-clause-read g c =
     let s = c.args.self.now in
-    let long : c.len.result ≡ length c.in-Ok.rows.items = search rules in
-    hand_ok g.S.Store s.conn c.select_found.new.conn s.upgrade s.handed s.failed s.commits _ _ _
-    (ap (λ n. (s.handed + n) % 2 ^ 64) long) c.select_found.ensures.kept c.select_found.ensures.doubt c.in-Ok.ensures.open
+    let n = c.selected.new.self in
+    let e = c.selected.ensures in
+    let it = c.select_found-got.ensures in
+    read_counted g.S.Store s.conn c.select_found-got.new.conn s.upgrade s.handed s.failed s.commits n.conn n.upgrade n.handed n.failed n.commits
+    c.select_found-got.result c.selected.result e.same e.conn e.others.1 it.doubt it.open _
+    (e.handed ∙ ap (λ x. selected_after (λ v. length v.items) x s.handed) (sym e.same)) e.failed e.others.0 it.kept
 
-pub returns-in-Err-clause-read : goal.returns-in-Err-clause-read
-returns-in-Err-clause-read g c =
-    let s = c.args.self.now in
-    let n = c.fail.new.self in
-    select_err g.S.Store s.conn c.select_found.new.conn s.upgrade s.handed s.failed s.commits n.conn n.upgrade n.handed n.failed n.commits
-    (λ v. length v.items) _ c.fail.ensures.error c.fail.ensures.conn c.fail.ensures.counted c.fail.ensures.others
-    c.select_found.ensures.kept c.select_found.ensures.doubt
+pub returns-clause-crash : goal.returns-clause-crash
+returns-clause-crash g c t keeps = rw c.selected.ensures.conn (c.select_found-got.ensures.crash t keeps)

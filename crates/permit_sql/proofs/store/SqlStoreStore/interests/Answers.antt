@@ -1,0 +1,26 @@
+use Rattle.std.proofs.Common.{subst, refl, arith}
+use Rattle.std.proofs.lemmas.Result.{IfOk-weaker}
+use Rattle.std.proofs.lemmas.List.Sorted.{list_any-IsPermutation}
+use Rattle.sqlite.specs.State.{HasCleanDisk}
+use Rattle.sqlite.specs.Held.{state}
+use Rattle.permit_sql.proofs.Calls.{read_counted}
+use Rattle.permit_sql.proofs.store.SqlStoreStore.interests.Goals as goal
+
+pub returns-clause-found : goal.returns-clause-found
+returns-clause-found g c sure t held =
+    let it = c.read_interests-got.ensures in
+    let clean = subst (λ h. HasCleanDisk (state g.S.Store h)) c.counted.ensures.conn sure in
+    rw c.counted.ensures.same (IfOk-weaker c.read_interests-got.result _ _ (λ v same parcel party. list_any-IsPermutation _ _ _ same)
+    (it.found t clean (held (omega (arith, it.doubt, clean))).1))
+
+pub returns-clause-read : goal.returns-clause-read
+returns-clause-read g c =
+    let s = c.args.self.now in
+    let n = c.counted.new.self in
+    let e = c.counted.ensures in
+    let it = c.read_interests-got.ensures in
+    read_counted g.S.Store s.conn c.read_interests-got.new.conn s.upgrade s.handed s.failed s.commits n.conn n.upgrade n.handed n.failed n.commits
+    c.read_interests-got.result c.counted.result e.same e.conn e.others.2 it.doubt it.open _ e.others.0 e.failed e.others.1 it.kept
+
+pub returns-clause-crash : goal.returns-clause-crash
+returns-clause-crash g c t keeps = rw c.counted.ensures.conn (c.read_interests-got.ensures.crash t keeps)
