@@ -3,14 +3,11 @@ use Rattle.std.proofs.Common.{◌≡◌, ◌<◌, ◌≤◌, ℕ, ◌+◌, ◌*�
 use Rattle.std.proofs.Common.{append_assoc, length-append, get_or, arith}
 use Rattle.std.specs.Prelude.{filter, Result, Ok, ⊤, IsPermutation}
 use Rattle.std.specs.List.{flat_map, Contains, Any}
-use Rattle.std.proofs.Math.Path.{fun_ext}
 use Rattle.std.proofs.lemmas.List.{map-append}
 use Rattle.std.proofs.lemmas.List.Elements.{filter-append, filter_agree}
 use Rattle.std.proofs.lemmas.List.Sorted.{IsPermutation-refl, IsPermutation-sym, IsPermutation-trans, IsPermutation-append, IsPermutation-map}
 use Rattle.std.proofs.lemmas.List.Sorted.{Contains-permutation, length_permutation}
 use Rattle.permit_base.specs.Limits.{most_records}
-use Rattle.permit_base.specs.declared.words.Role.{Role}
-use Rattle.permit_base.specs.declared.words.Relations.{Relations}
 use Rattle.permit_base.specs.declared.words.Action.TheVariants as action
 use Rattle.permit_base.specs.declared.request.Filter.{Filter}
 use Rattle.permit_base.specs.declared.route.Route.{Route}
@@ -18,7 +15,7 @@ use Rattle.permit_model.specs.History.{History}
 use Rattle.permit_model.specs.Caller.{Party}
 use Rattle.permit_model.specs.Policy.{Policy}
 use Rattle.permit_model.specs.Listing.{listing}
-use Rattle.permit_model.specs.Opened.{Cell, Allowed, allowed_by, opened}
+use Rattle.permit_model.specs.Opened.{allowed_by, opened}
 use Rattle.permit_model.specs.Tables.{FileRow, FileView, Tables, tables}
 use Rattle.permit_model.specs.Routes.{Found, found_row, is_found, found_by, routes_of}
 use Rattle.permit_model.specs.Machine.{IsHistory}
@@ -235,12 +232,6 @@ gathers_whole policy caller day routes old new views count all = record {
       (flat_map (λ r. found_by r caller.id day (tables h)) (routes_of allowed wanted)) (all.found sure h is held)
       (groups_find allowed wanted caller.id day (tables h) all.groups (subst (λ (rs : List Route). CountsGroups rs rs all.groups) e all.counts)));
 }
-
--- ---- all selections
-
-pub same_allowed : (allowed : Allowed) (policy : Policy) (role : Role) →
-    ((cell : Cell) (set : Relations) → allowed cell set ≡ allowed_by policy role action.List cell set) → allowed ≡ allowed_by policy role action.List
-same_allowed allowed policy role same = fun_ext (λ cell. fun_ext (λ set. same cell set))
 
 -- ---- the files in order
 

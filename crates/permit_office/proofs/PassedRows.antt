@@ -1,9 +1,9 @@
 -- The rows that one selection finds, passed on to a taker of files.
-use Rattle.std.proofs.Common.{◌≡◌, ◌<◌, ℕ, suc, ◌+◌, ◌%◌, ◌^◌, Bool, true, false, cond, List, [], ◌∷◌, ◌++◌, length, refl, sym, ◌∙◌, ap, subst, ⊎_elim, map}
+use Rattle.std.proofs.Common.{◌≡◌, ◌<◌, ℕ, suc, ◌+◌, ◌%◌, ◌^◌, Bool, true, false, cond, List, [], ◌∷◌, ◌++◌, length, refl, sym, ◌∙◌, ap, subst, map}
 use Rattle.std.proofs.Common.{arith}
 use Rattle.std.specs.Prelude.{Result, Ok, Err, IsErr, IsTrue}
 use Rattle.permit_base.specs.declared.route.Route.{Route}
-use Rattle.permit_core.specs.Taking.{TookAll, BeganOf}
+use Rattle.permit_core.specs.Taking.{TookAll}
 use Rattle.permit_model.specs.Caller.{Party}
 use Rattle.permit_model.specs.Policy.{Policy}
 use Rattle.permit_model.specs.Tables.{FileRow, FileView, Tables, tables}
@@ -64,7 +64,6 @@ module _ {T : Type 0} (took : T → FileView → T → Bool → Type 0) (policy 
     pub own : IsFor policy caller day after
     pub same : after.taker.ghost_name ≡ before.taker.ghost_name
     pub read : after.read ≡ (before.read + length given) % 2 ^ 32
-    pub short : after.is_short ≡ before.is_short
     pub taken : TookAll took (views_found policy caller day given) before.taker.now after.taker.now
 
   pub went_on : (given : List Found) (before after : Passer T) → before.read < 2 ^ 32 → IsFor policy caller day before →
@@ -73,7 +72,6 @@ module _ {T : Type 0} (took : T → FileView → T → Bool → Type 0) (policy 
     own = subst (λ (x : Passer T). IsFor policy caller day x) (sym e) was;
     same = ap (λ (x : Passer T). x.taker.ghost_name) e;
     read = ap (λ (x : Passer T). x.read) e ∙ none before.read few;
-    short = ap (λ (x : Passer T). x.is_short) e;
     taken = ap (λ (x : Passer T). x.taker.now) e;
   }
     where
@@ -85,10 +83,9 @@ module _ {T : Type 0} (took : T → FileView → T → Bool → Type 0) (policy 
         own = rest.own;
         same = rest.same ∙ one.same;
         read = counted before.read mid.read after.read (length given) one.read rest.read;
-        short = rest.short ∙ one.went.0;
         taken = subst (λ (vs : List FileView). TookAll took vs before.taker.now after.taker.now) (sym (views_append policy caller day (found ∷ []) given))
             (took_both took (views_found policy caller day (found ∷ [])) (views_found policy caller day given) before.taker.now mid.taker.now after.taker.now
-            (went found before mid before.policy.now before.caller.now before.day was.0 was.1 was.2 one.went.1) rest.taken);
+            (went found before mid before.policy.now before.caller.now before.day was.0 was.1 was.2 one.went) rest.taken);
       }
     where
       small : (n m : ℕ) → n ≡ m % 2 ^ 32 → n < 2 ^ 32
@@ -140,64 +137,26 @@ module _ {T : Type 0} (took : T → FileView → T → Bool → Type 0) (policy 
       }
 
   -- the taker stopped at the last row's file
-  stopped_at : (given : List Found) (before after : Passer T) → IsFor policy caller day before → before.read ≡ 0 → before.is_short ≡ false →
-      after.is_short ≡ false
+  stopped_at : (given : List Found) (before after : Passer T) → IsFor policy caller day before → before.read ≡ 0
       → Took {E = StoreError} (Passes took) given before after (Ok false) → StopsAtLast took policy caller day given before.taker.now after.taker.now
-  stopped_at given before after was zero ample still (front, last, order, mid, taken, one) =
+  stopped_at given before after was zero (front, last, order, mid, taken, one) =
       let on = went_on front before mid (few before.read zero) was taken in
-      ⊎_elim
-      (λ short. absurd (clash (sym short.0 ∙ still)))
-      (λ stop. record {
+      record {
         passed = front;
         last = last;
         order = order;
         between = mid.taker.now;
         taken = on.taken;
-        listed = may last mid.policy.now mid.caller.now mid.day on.own.0 on.own.1 on.own.2 stop.1;
-        stopped = subst (λ d. took mid.taker.now (view_found d last) after.taker.now false) on.own.2 stop.2;
-      }) one.went
-    where
-      clash : true ≡ false → ⊥
-      clash e = cc
+        listed = may last mid.policy.now mid.caller.now mid.day on.own.0 on.own.1 on.own.2 one.went.0;
+        stopped = subst (λ d. took mid.taker.now (view_found d last) after.taker.now false) on.own.2 one.went.1;
+      }
 
   pub stop_passed : (number : ℕ) (route : Route) (old new : StoreView) (before after : Passer T) → number ≡ caller.id → IsFor policy caller day before →
-      before.read ≡ 0 → before.is_short ≡ false
-      → after.is_short ≡ false → HandedTo number route old new before after (Ok false) →
+      before.read ≡ 0 → HandedTo number route old new before after (Ok false) →
       PassedOn took policy caller day route old new before.taker.now after.taker.now (Ok ended.Stopped)
-  stop_passed number route old new before after same was zero ample still handed = record {
+  stop_passed number route old new before after same was zero handed = record {
     given = handed.0;
-    taken = stopped_at handed.0 before after was zero ample still handed.1.taken;
-    handed = more (length handed.0) old.handed new.handed handed.1.read.handed;
-    found = λ sure h is held.
-        let apart = found_apart (Ok false) number route (tables h) handed.0 same (rows_rising h is) (handed.2 sure (tables h) held) in
-        (apart.0, tt, apart.2);
-  }
-
-  -- memory was refused for the last row's file
-  began_before : (given : List Found) (before after : Passer T) → IsFor policy caller day before → before.read ≡ 0 → before.is_short ≡ false →
-      after.is_short ≡ true
-      → Took {E = StoreError} (Passes took) given before after (Ok false) → BeganOf took (views_found policy caller day given) before.taker.now after.taker.now
-  began_before given before after was zero ample short (front, last, order, mid, taken, one) =
-      let on = went_on front before mid (few before.read zero) was taken in
-      ⊎_elim
-      (λ (none : (after.is_short ≡ true) × (after.taker.now ≡ mid.taker.now)). (
-        views_found policy caller day front,
-        views_found policy caller day (last ∷ []),
-        ap (views_found policy caller day) order ∙ views_append policy caller day front (last ∷ []),
-        subst (TookAll took (views_found policy caller day front) before.taker.now) (sym none.1) on.taken,
-      ))
-      (λ stop. absurd (clash (sym short ∙ stop.0 ∙ on.short ∙ ample))) one.went
-    where
-      clash : true ≡ false → ⊥
-      clash e = cc
-
-  pub short_passed : (number : ℕ) (route : Route) (old new : StoreView) (before after : Passer T) → number ≡ caller.id → IsFor policy caller day before →
-      before.read ≡ 0 → before.is_short ≡ false
-      → after.is_short ≡ true → HandedTo number route old new before after (Ok false) → (e : StoreError) →
-      PassedOn took policy caller day route old new before.taker.now after.taker.now (Err e)
-  short_passed number route old new before after same was zero ample short handed e = record {
-    given = handed.0;
-    taken = began_before handed.0 before after was zero ample short handed.1.taken;
+    taken = stopped_at handed.0 before after was zero handed.1.taken;
     handed = more (length handed.0) old.handed new.handed handed.1.read.handed;
     found = λ sure h is held.
         let apart = found_apart (Ok false) number route (tables h) handed.0 same (rows_rising h is) (handed.2 sure (tables h) held) in
@@ -249,20 +208,12 @@ module _ {T : Type 0} (took : T → FileView → T → Bool → Type 0) (policy 
       (all_passed number route old new before after same was zero (was_true number route old new before after b e handed))
 
   pub passed_to_stop : (number : ℕ) (route : Route) (old new : StoreView) (before after : Passer T) → number ≡ caller.id → IsFor policy caller day before →
-      before.read ≡ 0 → before.is_short ≡ false → (b : Bool)
-      → b ≡ false → after.is_short ≡ false → HandedTo number route old new before after (Ok b) → (last : T) → last ≡ after.taker.now
+      before.read ≡ 0 → (b : Bool)
+      → b ≡ false → HandedTo number route old new before after (Ok b) → (last : T) → last ≡ after.taker.now
       → PassedOn took policy caller day route old new before.taker.now last (Ok ended.Stopped)
-  passed_to_stop number route old new before after same was zero ample b e still handed last is =
+  passed_to_stop number route old new before after same was zero b e handed last is =
       subst (λ (x : T). PassedOn took policy caller day route old new before.taker.now x (Ok ended.Stopped)) (sym is)
-      (stop_passed number route old new before after same was zero ample still (was_false number route old new before after b e handed))
-
-  pub passed_to_want : (number : ℕ) (route : Route) (old new : StoreView) (before after : Passer T) → number ≡ caller.id → IsFor policy caller day before →
-      before.read ≡ 0 → before.is_short ≡ false → (b : Bool)
-      → b ≡ false → after.is_short ≡ true → HandedTo number route old new before after (Ok b) → (error : StoreError) → (last : T) → last ≡ after.taker.now
-      → PassedOn took policy caller day route old new before.taker.now last (Err error)
-  passed_to_want number route old new before after same was zero ample b e short handed error last is =
-      subst (λ (x : T). PassedOn took policy caller day route old new before.taker.now x (Err error)) (sym is)
-      (short_passed number route old new before after same was zero ample short (was_false number route old new before after b e handed) error)
+      (stop_passed number route old new before after same was zero (was_false number route old new before after b e handed))
 
   pub passed_to_failure : (number : ℕ) (route : Route) (old new : StoreView) (before after : Passer T) → number ≡ caller.id → IsFor policy caller day before →
       before.read ≡ 0 → (e error : StoreError)

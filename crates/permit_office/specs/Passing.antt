@@ -1,5 +1,5 @@
 -- How the rows that one selection finds are passed on to a taker of files.
-use Rattle.std.specs.Prelude.{◌≡◌, ◌⊎◌, ℕ, ◌+◌, ◌%◌, ◌^◌, Bool, true, false, IsTrue, List, [], ◌∷◌, ◌++◌, length, Result, Ok, Err, ⊤}
+use Rattle.std.specs.Prelude.{◌≡◌, ℕ, ◌+◌, ◌%◌, ◌^◌, Bool, true, false, IsTrue, List, [], ◌∷◌, ◌++◌, length, Result, Ok, Err, ⊤}
 use Rattle.permit_base.specs.declared.route.Route.{Route}
 use Rattle.permit_core.specs.Taking.{TookAll, BeganOf}
 use Rattle.permit_model.specs.Caller.{Party}
@@ -15,14 +15,12 @@ use Rattle.permit_office.specs.Listings.{may_list, view_found, views_found}
 use Rattle.permit_office.specs.Reach.{HandedMore}
 use Rattle.permit_office.specs.Stops.{StopsAtLast}
 
--- It goes on: the file was taken where it may be listed. It stops: memory was refused for the file, or the taker asked to.
+-- It goes on: the file was taken where it may be listed. It stops: the taker asked to.
 abbrev pub Went : {T : Type 0} → (T → FileView → T → Bool → Type 0) → Found → Passer T → Passer T → Bool → Type 0
 Went took found before after true =
-    (after.is_short ≡ before.is_short) × TookAll took (views_found before.policy.now before.caller.now before.day (found ∷ [])) before.taker.now after.taker.now
+    TookAll took (views_found before.policy.now before.caller.now before.day (found ∷ [])) before.taker.now after.taker.now
 Went took found before after false =
-    ((after.is_short ≡ true) × (after.taker.now ≡ before.taker.now))
-    ⊎ ((after.is_short ≡ before.is_short) × IsTrue (may_list before.policy.now before.caller.now before.day found)
-    × took before.taker.now (view_found before.day found) after.taker.now false)
+    IsTrue (may_list before.policy.now before.caller.now before.day found) × took before.taker.now (view_found before.day found) after.taker.now false
 
 -- One row was taken, and the file passed on to the same taker.
 pub record Passes {T : Type 0} (took : T → FileView → T → Bool → Type 0) (before : Passer T) (found : Found) (after : Passer T) (more : Bool) : Type 0 where

@@ -29,8 +29,7 @@ use permit_base::values::{Day, PartyId};
 use permit_base::words::{Action, RegisterKind, Role};
 use permit_core::taker::Taker;
 use permit_policy::decide::decide;
-use permit_policy::masks::compile;
-use permit_policy::routes::routes;
+use permit_policy::routes::routes_by_policy;
 use permit_policy::{Facts, Policy};
 use permit_store::rows::{FileView, Found, Party};
 use permit_store::store::{Got, Store, StoreError};
@@ -63,14 +62,14 @@ pub(crate) fn facts_on(caller: &Party, day: Day, found: &Found) -> Facts
     }
 }
 
-/// A copy of the file, as it is shown on the day.
-pub(crate) fn view_on(day: Day, found: &Found) -> Result<FileView, AllocError>
-    ensures { IfOk result (λ view. view ≡ view_found day found.now) }
+/// The file, as it is shown on the day.
+pub(crate) fn view_on(day: Day, found: Found) -> FileView
+    ensures { result ≡ view_found day found }
 {
-    let row = found.row.clone()?;
+    let row = found.row;
     let stage = row.state.stage(day);
     let timing = row.state.timing(day);
-    Ok(FileView { row, stage, timing })
+    FileView { row, stage, timing }
 }
 
 impl Taker<Found> for Lister<'_> {
@@ -78,16 +77,13 @@ impl Taker<Found> for Lister<'_> {
 
     /// Decides by the policy's first match on the full set of the caller's relations, whatever selection found the
     /// row, and keeps the file where it may be listed. False where memory is refused.
-    fn take(&mut self, found: &Found) -> bool {
+    fn take(&mut self, found: Found) -> bool {
         self.read = self.read.wrapping_add(1);
-        let facts = facts_on(self.caller, self.day, found);
+        let facts = facts_on(self.caller, self.day, &found);
         if !decide(self.policy, &facts).is_allow() {
             return true;
         }
-        match view_on(self.day, found) {
-            Ok(view) => self.files.push(view).is_ok(),
-            Err(_) => false,
-        }
+        self.files.push(view_on(self.day, found)).is_ok()
     }
 }
 
@@ -167,14 +163,10 @@ fn in_order(mut files: Vec<FileView>) -> Vec<FileView>
 pub(crate) fn listing_routes(policy: &Policy, role: Role, wanted: Filter) -> Got<Vec<Route>>
     ensures { IfOk result (λ routes. routes.items ≡ routes_of (allowed_by policy.now role action.List) wanted) }
 {
-    let alloc = policy.allocator();
-    let Ok(masks) = compile(alloc, policy, role, Action::List) else {
-        return Err(StoreError);
-    };
-    let Ok(routes) = routes(alloc, &masks, wanted) else {
-        return Err(StoreError);
-    };
-    Ok(routes)
+    match routes_by_policy(policy.allocator(), policy, role, wanted) {
+        Ok(routes) => Ok(routes),
+        Err(AllocError) => Err(StoreError),
+    }
 }
 
 /// Makes the listing whose files the selections find, as far as memory and the store's calls allow.

@@ -11,7 +11,7 @@ use permit_core::taker::Taker;
 use permit_policy::Policy;
 use permit_policy::decide::decide;
 use permit_store::rows::{FileView, Found, Party};
-use permit_store::store::{Got, Store, StoreError};
+use permit_store::store::{Got, Store};
 
 /// Passes on the files that the caller may list among the rows found.
 #[derive(Drop)]
@@ -22,8 +22,6 @@ struct Passer<'a, T> {
     taker: &'a mut T,
     /// How many rows it took; the count wraps.
     read: u32,
-    /// Whether memory was refused for a file, which then wasn't passed on.
-    is_short: bool,
 }
 
 impl<T: Taker<FileView>> Taker<Found> for Passer<'_, T> {
@@ -32,20 +30,14 @@ impl<T: Taker<FileView>> Taker<Found> for Passer<'_, T> {
     ghost took = { Passes T.took };
 
     /// Decides by the policy's first match on the full set of the caller's relations, as a listing does. False where the
-    /// taker asks to stop, or where memory is refused.
-    fn take(&mut self, found: &Found) -> bool {
+    /// taker asks to stop.
+    fn take(&mut self, found: Found) -> bool {
         self.read = self.read.wrapping_add(1);
-        let facts = facts_on(self.caller, self.day, found);
+        let facts = facts_on(self.caller, self.day, &found);
         if !decide(self.policy, &facts).is_allow() {
             return true;
         }
-        match view_on(self.day, found) {
-            Ok(view) => self.taker.take(&view),
-            Err(_) => {
-                self.is_short = true;
-                false
-            }
-        }
+        self.taker.take(view_on(self.day, found))
     }
 }
 
@@ -67,14 +59,11 @@ pub(crate) fn pass_on<S: Store, T: Taker<FileView>>(
         day,
         taker,
         read: 0,
-        is_short: false,
     };
     let is_whole = store.each(route, caller.id, day, &mut passer)?;
     if is_whole {
-        return Ok(RowsEnd::All { read: passer.read });
+        Ok(RowsEnd::All { read: passer.read })
+    } else {
+        Ok(RowsEnd::Stopped)
     }
-    if passer.is_short {
-        return Err(StoreError);
-    }
-    Ok(RowsEnd::Stopped)
 }

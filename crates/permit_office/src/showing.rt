@@ -81,8 +81,8 @@ fn only_route(routes: &[Route]) -> Option<Route>
 }
 
 /// Hands the files to the taker until it asks to stop: whether each answer was true.
-fn hand_out<T: Taker<FileView>>(files: &[FileView], taker: &mut T) -> bool
-    ensures { TakesUp T.took files.now taker.old taker.new result }
+fn hand_out<T: Taker<FileView>>(files: Vec<FileView>, taker: &mut T) -> bool
+    ensures { TakesUp T.took files.items taker.old taker.new result }
 {
     for view in files {
         if !taker.take(view) {
@@ -117,7 +117,7 @@ fn hand_files<S: Store, T: Taker<FileView>>(
         return pass_on(store, policy, caller, day, &route, taker);
     }
     let listing = list_by_routes(store, policy, caller, day, &routes)?;
-    if hand_out(&listing.files, taker) {
+    if hand_out(listing.files, taker) {
         Ok(RowsEnd::All { read: listing.read })
     } else {
         Ok(RowsEnd::Stopped)

@@ -1,19 +1,24 @@
 //! The selections by which the rows of a listing are found.
 
-ghost use Rattle.std.specs.Prelude.{◌≡◌, ◌++◌, map, filter, IfOk, slice_index};
-ghost use Rattle.std.specs.List.{list_all};
+ghost use Rattle.std.specs.Prelude.{◌≡◌, ◌++◌, ℕ, map, filter, IfOk, IsPermutation, slice_index};
+ghost use Rattle.std.specs.List.{flat_map, list_all};
 ghost use Rattle.permit_base.specs.declared.route.By.TheVariants as by;
+ghost use Rattle.permit_base.specs.declared.words.Action.TheVariants as action;
 ghost use Rattle.permit_base.specs.Words.{all_relations};
-ghost use Rattle.permit_model.specs.Opened.{only, all_pairs, allowed_as_two};
-ghost use Rattle.permit_model.specs.Routes.{kept_cells, route_by, routes_in, routes_of, is_open_to_all, is_all};
+ghost use Rattle.permit_model.specs.Caller.{Party};
+ghost use Rattle.permit_model.specs.History.{History};
+ghost use Rattle.permit_model.specs.Opened.{only, all_pairs, allowed_as_two, allowed_by, opened};
+ghost use Rattle.permit_model.specs.Routes.{kept_cells, route_by, routes_in, routes_of, is_open_to_all, is_all, Found, found_by};
+ghost use Rattle.permit_model.specs.Tables.{file_row, tables};
 ghost use Rattle.permit_policy.specs.Masks.{has_set, may};
 
 use crate::cell::{CELLS, Cell};
-use crate::masks::Masks;
+use crate::decide::Policy;
+use crate::masks::{Masks, compile};
 use crate::sets::{both_of, has_set, no_relations, only};
 use permit_base::request::Filter;
 use permit_base::route::{By, Route};
-use permit_base::words::{Relation, Word};
+use permit_base::words::{Action, Relation, Role, Word};
 use std::alloc::{AllocError, Global};
 
 /// A listing has no more routes: 44 cells of kept rows with 15 pairs of relations each.
@@ -145,4 +150,21 @@ pub fn routes(alloc: Global, masks: &Masks, filter: Filter) -> Result<Vec<Route>
         }
     }
     Ok(routes)
+}
+
+/// The selections of a listing under the policy, for callers of the role. Of each history's tables, on each day and for each
+/// such caller, they find exactly the rows that the listing may open, each as often. It fails only where memory runs out.
+pub fn routes_by_policy(
+    alloc: Global,
+    policy: &Policy,
+    role: Role,
+    wanted: Filter,
+) -> Result<Vec<Route>, AllocError>
+    ensures exact { IfOk result (λ routes. routes.items ≡ routes_of (allowed_by policy.now role action.List) wanted) }
+    ensures opens { IfOk result (λ routes. (h : History) (day : ℕ) (caller : Party) → caller.role ≡ role
+        → IsPermutation (flat_map (λ r. map (λ (f : Found). f.row) (found_by r caller.id day (tables h))) routes.items)
+        (map file_row (opened policy.now h day caller wanted))) }
+{
+    let masks = compile(alloc, policy, role, Action::List)?;
+    Ok(routes(alloc, &masks, wanted)?)
 }

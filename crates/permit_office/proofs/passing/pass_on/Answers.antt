@@ -1,6 +1,6 @@
 use Rattle.std.proofs.Common.{refl, ap, rules}
 use Rattle.permit_model.specs.Caller.{Party}
-use Rattle.permit_office.proofs.PassedRows.{passed_whole, passed_to_stop, passed_to_want, passed_on_err, same_taker}
+use Rattle.permit_office.proofs.PassedRows.{passed_whole, passed_to_stop, passed_on_err, same_taker}
 use Rattle.permit_office.proofs.passing.pass_on.Goals as goal
 
 pub returns-then-is_whole-clause-passed : goal.returns-then-is_whole-clause-passed
@@ -14,27 +14,16 @@ returns-then-is_whole-clause-passed g c =
     (ap (λ (p : Party). p.id) c.caller.view_is) (refl, refl, refl) refl
     c.in_ok-is_whole.is_whole c.if-is_whole.true handed _ (search rules)
 
-pub returns-then-passer-clause-passed : goal.returns-then-passer-clause-passed
-returns-then-passer-clause-passed g c =
-    let a = c.args in
-    let s = g.S.Store.view in
-    let handed = c.in_ok-is_whole.ensures.handed in
-    let named = same_taker g.T.Taker.took a.policy.now a.caller.now a.day _ _ a.route.now (s a.store.now) (s c.each.new.self) _ c.each.new.taker
-    (refl, refl, refl) refl handed in
-    passed_to_want g.T.Taker.took a.policy.now a.caller.now a.day _ a.route.now (s a.store.now) (s c.each.new.self) _ c.each.new.taker
-    (ap (λ (p : Party). p.id) c.caller.view_is) (refl, refl, refl) refl refl
-    c.in_ok-is_whole.is_whole c.if-is_whole.false c.if-passer.true handed _ _ (search rules)
-
-pub returns-clause-passed : goal.returns-clause-passed
-returns-clause-passed g c =
+pub returns-else-is_whole-clause-passed : goal.returns-else-is_whole-clause-passed
+returns-else-is_whole-clause-passed g c =
     let a = c.args in
     let s = g.S.Store.view in
     let handed = c.in_ok-is_whole.ensures.handed in
     let named = same_taker g.T.Taker.took a.policy.now a.caller.now a.day _ _ a.route.now (s a.store.now) (s c.each.new.self) _ c.each.new.taker
     (refl, refl, refl) refl handed in
     passed_to_stop g.T.Taker.took a.policy.now a.caller.now a.day _ a.route.now (s a.store.now) (s c.each.new.self) _ c.each.new.taker
-    (ap (λ (p : Party). p.id) c.caller.view_is) (refl, refl, refl) refl refl
-    c.in_ok-is_whole.is_whole c.if-is_whole.false c.if-passer.false handed _ (search rules)
+    (ap (λ (p : Party). p.id) c.caller.view_is) (refl, refl, refl) refl
+    c.in_ok-is_whole.is_whole c.if-is_whole.false handed _ (search rules)
 
 pub returns-in_err-is_whole-clause-passed : goal.returns-in_err-is_whole-clause-passed
 returns-in_err-is_whole-clause-passed g c =

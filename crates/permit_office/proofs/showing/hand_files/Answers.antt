@@ -75,7 +75,7 @@ returns-then-hand_out-clause-shown g c = λ doubt h is held.
     let named : c.in_ok-routes.routes.items ≡ routes_for a.policy.now a.caller.now a.wanted = c.in_ok-routes.ensures
     ∙ ap (λ (r : Role). routes_of (allowed_by a.policy.now r action.List) a.wanted) (ap (λ (p : Party). p.role) c.caller.view_is) in
     subst (λ (vs : List FileView). TookAll g.T.Taker.took vs a.taker.now c.hand_out.new.taker)
-    (c.deref-3.ensures.value ∙ c.in_ok-listing.ensures.files doubt h is held a.wanted (c.deref-2.ensures.value ∙ named))
+    (c.in_ok-listing.ensures.files doubt h is held a.wanted (c.deref-2.ensures.value ∙ named))
     (rw c.if-hand_out.true at c.hand_out.ensures)
 
 pub returns-then-hand_out-clause-opened : goal.returns-then-hand_out-clause-opened
