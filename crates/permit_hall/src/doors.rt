@@ -18,7 +18,7 @@ use permit_base::request::Asked;
 use permit_base::values::Day;
 use permit_office::office::Office;
 use permit_store::store::Store;
-use permit_wire::{Dated, Inbox, Service, serve_by};
+use permit_wire::{Dated, Inbox, Routes, Service, serve_by};
 use std::alloc::{AllocError, Global};
 use std::io::{Read, Write};
 use std::sync::Wait;
@@ -68,7 +68,7 @@ impl<R: Wait> Service<R> for Session<Asked, Dated> {
 /// before; `None` where that would pass the greatest count.
 fn serve_connection<I: Read, O: Write, R: Wait>(
     rt: &R,
-    alloc: Global,
+    routes: &mut Routes,
     session: &mut Session<Asked, Dated>,
     reader: &mut I,
     writer: &mut O,
@@ -84,7 +84,7 @@ fn serve_connection<I: Read, O: Write, R: Wait>(
     let mut inbox = Inbox::new();
     let mut count = count;
     for _ in rt.forever() {
-        let turn = serve_by(alloc, session, rt, &mut inbox, reader, writer);
+        let turn = serve_by(routes, session, rt, &mut inbox, reader, writer);
         count = count.checked_add(u64::from(turn.asked))?;
         if turn.served.is_shut() {
             return Some(count);
@@ -110,12 +110,20 @@ where
 
     fn run<R: Wait>(self, rt: &R, session: &mut Session<Asked, Dated>) -> Option<DoorEnd<D>> {
         let DoorTask { mut door, alloc } = self;
+        let mut routes = Routes::new(alloc);
         let mut collected = 0u64;
         for _ in rt.forever() {
             let Some((mut reader, mut writer)) = door.next() else {
                 return Some(DoorEnd { door, collected });
             };
-            match serve_connection(rt, alloc, session, &mut reader, &mut writer, collected) {
+            match serve_connection(
+                rt,
+                &mut routes,
+                session,
+                &mut reader,
+                &mut writer,
+                collected,
+            ) {
                 Some(count) => collected = count,
                 None => return None,
             }

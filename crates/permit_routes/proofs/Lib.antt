@@ -3,3 +3,4 @@ pub mod Numbers
 pub mod Rows
 pub mod Spellings
 pub mod Tokens
+mod Made

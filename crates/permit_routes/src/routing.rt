@@ -151,45 +151,89 @@ fn ascii(path: &[u8]) -> Option<&str>
     }
 }
 
-/// The target of an ASCII path among the routes of POST.
-fn post_target(alloc: Global, path: &str) -> Result<Option<Target>, AllocError>
-    requires { IsAscii path.now }
-    ensures { IfOk result (λ target. target ≡ target_among post_rows path.now) }
-{
-    match post_router(alloc) {
-        Ok(router) => Ok(target_among(&router, path)),
-        Err(_) => Err(AllocError),
+/// The routes of each method, which are made when the first request of that method is routed, and kept.
+#[derive(Drop)]
+pub struct Routes {
+    alloc: Global,
+    post: Option<Router<Endpoint>>,
+    get: Option<Router<Endpoint>>,
+    ghost posts: { post ≡ option_map (λ _. post_rows) post },
+    ghost gets: { get ≡ option_map (λ _. get_rows) get },
+}
+
+impl Routes {
+    /// Routes that are still to be made; it takes no memory.
+    pub fn new(alloc: Global) -> Routes {
+        Routes {
+            alloc,
+            post: None,
+            get: None,
+        }
+    }
+
+    /// What memory is taken from.
+    pub fn allocator(&self) -> Global {
+        self.alloc
+    }
+
+    /// The target of an ASCII path among the routes of POST.
+    fn post_target(&mut self, path: &str) -> Result<Option<Target>, AllocError>
+        requires { IsAscii path.now }
+        ensures { IfOk result (λ target. target ≡ target_among post_rows path.now) }
+    {
+        if let Some(router) = &self.post {
+            return Ok(target_among(router, path));
+        }
+        let Ok(router) = post_router(self.alloc) else {
+            return Err(AllocError);
+        };
+        let target = target_among(&router, path);
+        self.post = Some(router);
+        Ok(target)
+    }
+
+    /// The target of an ASCII path among the routes of GET.
+    fn get_target(&mut self, path: &str) -> Result<Option<Target>, AllocError>
+        requires { IsAscii path.now }
+        ensures { IfOk result (λ target. target ≡ target_among get_rows path.now) }
+    {
+        if let Some(router) = &self.get {
+            return Ok(target_among(router, path));
+        }
+        let Ok(router) = get_router(self.alloc) else {
+            return Err(AllocError);
+        };
+        let target = target_among(&router, path);
+        self.get = Some(router);
+        Ok(target)
+    }
+
+    /// The target of a method and a path, or none where they have no route.
+    ///
+    /// The path is compared byte by byte, and has no query. The number of a parcel or a file is 1 to 99999 without leading
+    /// zeros, an action or a register is one of its words, and a stage one that a file can be in; another number or word
+    /// has no route, nor has a path with a byte that is not ASCII. Memory is taken for the method's routes alone, where they
+    /// aren't made yet, and an `Err` says that it ran out.
+    pub fn target(&mut self, method: &[u8], path: &[u8]) -> Result<Option<Target>, AllocError>
+        ensures { IfOk result (λ target. target ≡ target_of method.now path.now) }
+    {
+        let Some(path) = ascii(path) else {
+            return Ok(None)
+        };
+        if method == Method::POST.as_str().as_bytes() {
+            self.post_target(path)
+        } else if method == Method::GET.as_str().as_bytes() {
+            self.get_target(path)
+        } else {
+            Ok(None)
+        }
     }
 }
 
-/// The target of an ASCII path among the routes of GET.
-fn get_target(alloc: Global, path: &str) -> Result<Option<Target>, AllocError>
-    requires { IsAscii path.now }
-    ensures { IfOk result (λ target. target ≡ target_among get_rows path.now) }
-{
-    match get_router(alloc) {
-        Ok(router) => Ok(target_among(&router, path)),
-        Err(_) => Err(AllocError),
-    }
-}
-
-/// The target of a method and a path, or none where they have no route.
-///
-/// The path is compared byte by byte, and has no query. The number of a parcel or a file is 1 to 99999 without leading
-/// zeros, an action or a register is one of its words, and a stage one that a file can be in; another number or word has
-/// no route, nor has a path with a byte that is not ASCII. Memory is taken for the table of the method's routes alone, and
-/// an `Err` says that it ran out.
+/// The target of a method and a path, or none where they have no route, as `Routes::target` gives it, by routes that are
+/// made for this one request.
 pub fn route(alloc: Global, method: &[u8], path: &[u8]) -> Result<Option<Target>, AllocError>
     ensures { IfOk result (λ target. target ≡ target_of method.now path.now) }
 {
-    let Some(path) = ascii(path) else {
-        return Ok(None)
-    };
-    if method == Method::POST.as_str().as_bytes() {
-        post_target(alloc, path)
-    } else if method == Method::GET.as_str().as_bytes() {
-        get_target(alloc, path)
-    } else {
-        Ok(None)
-    }
+    Routes::new(alloc).target(method, path)
 }

@@ -16,6 +16,7 @@ pub use permit_answer::{WriteFault, write_reply};
 pub use permit_http::error::{self, WireError};
 pub use permit_http::fault::Fault;
 pub use permit_http::inbox::Inbox;
-pub use read::read_request;
+pub use permit_routes::routing::Routes;
+pub use read::{read_by, read_request};
 pub use serve::{Served, Turn, answer_with, serve_by, serve_one};
 pub use service::{Dated, Service};

@@ -16,15 +16,16 @@ use permit_http::message::{Message, MessageSpans};
 use permit_routes::bearer::read_token;
 use permit_routes::fault::BodyFault;
 use permit_routes::requests::read_body;
-use permit_routes::routing::route;
+use permit_routes::routing::Routes;
 use std::alloc::Global;
 use std::io::Read;
 
 /// What a whole message asks: its route, then its token, then its body.
-fn asked_by(alloc: Global, message: &Message<'_>) -> Result<Asked, Fault>
+fn asked_by(routes: &mut Routes, message: &Message<'_>) -> Result<Asked, Fault>
     ensures { MeansAsked result (asked_in (view_of message.now)) }
 {
-    let Some(target) = route(alloc, message.method, message.path)? else {
+    let alloc = routes.allocator();
+    let Some(target) = routes.target(message.method, message.path)? else {
         return Err(Fault::Route);
     };
     let Some(value) = message.authorization else {
@@ -41,12 +42,12 @@ fn asked_by(alloc: Global, message: &Message<'_>) -> Result<Asked, Fault>
 }
 
 /// What the message that stands in the inbox asks. Its bytes are dropped; where memory ran out the connection closes.
-fn read_out(alloc: Global, inbox: &mut Inbox, spans: &MessageSpans) -> Result<Asked, Fault>
+fn read_out(routes: &mut Routes, inbox: &mut Inbox, spans: &MessageSpans) -> Result<Asked, Fault>
     requires { Holds inbox.old spans.now }
     ensures asked { MeansAsked result (asked_in (message_at inbox.old.bytes spans.now)) }
     ensures out { ReadsOut inbox.old inbox.new spans.now result }
 {
-    let asked = asked_by(alloc, &inbox.message(spans));
+    let asked = asked_by(routes, &inbox.message(spans));
     inbox.let_go(spans);
     if let Err(Fault::Memory) = asked {
         inbox.close();
@@ -60,7 +61,33 @@ fn read_out(alloc: Global, inbox: &mut Inbox, spans: &MessageSpans) -> Result<As
 /// The faults are tested in the order of `Fault`: those of the head on the head alone, the others after the whole body
 /// came. The bytes of a request that was read whole, also of one with such a fault, are dropped, and it counts
 /// among the 100 answers of the connection, which closes with the 100th or where the head asks for it. After another
-/// fault the connection is closed. Memory is taken for the request's texts and the table of the routes alone.
+/// fault the connection is closed. Memory is taken for the request's texts alone, and for the routes of its method where they
+/// aren't made yet.
+pub fn read_by<R: Read>(
+    routes: &mut Routes,
+    inbox: &mut Inbox,
+    reader: &mut R,
+) -> Result<Option<Asked>, WireError>
+    ensures reads { ReadsRequest inbox.old inbox.new (R.remaining reader.old) (R.remaining reader.new) result }
+    ensures unread { IfErr result (λ error. fault_of error ≡ None
+        → Keeps (stream inbox.old (R.remaining reader.old)) (stream inbox.new (R.remaining reader.new))) }
+    ensures grown { IfErr result (λ error. fault_of error ≡ None → (more : List ℕ) × (inbox.new.bytes ≡ inbox.old.bytes ++ more)) }
+    ensures unfinished { IfErr result (StopsAt inbox.new.bytes) }
+    ensures shut { inbox.old.closed ≡ true → (result ≡ Ok None) × Keeps (R.remaining reader.old) (R.remaining reader.new) }
+    ensures nothing { result ≡ Ok None → inbox.new ≡ inbox.old }
+    ensures closes { IfErr result (λ error. stays_open error ≡ false → inbox.new.closed ≡ true) }
+{
+    match inbox.read_message(reader) {
+        Ok(Some(spans)) => match read_out(routes, inbox, &spans) {
+            Ok(asked) => Ok(Some(asked)),
+            Err(fault) => Err(WireError::Fault(fault)),
+        },
+        Ok(None) => Ok(None),
+        Err(error) => Err(error),
+    }
+}
+
+/// Reads the next request of a connection as `read_by` does, by routes that are made for it alone.
 pub fn read_request<R: Read>(
     alloc: Global,
     inbox: &mut Inbox,
@@ -75,12 +102,5 @@ pub fn read_request<R: Read>(
     ensures nothing { result ≡ Ok None → inbox.new ≡ inbox.old }
     ensures closes { IfErr result (λ error. stays_open error ≡ false → inbox.new.closed ≡ true) }
 {
-    match inbox.read_message(reader) {
-        Ok(Some(spans)) => match read_out(alloc, inbox, &spans) {
-            Ok(asked) => Ok(Some(asked)),
-            Err(fault) => Err(WireError::Fault(fault)),
-        },
-        Ok(None) => Ok(None),
-        Err(error) => Err(error),
-    }
+    read_by(&mut Routes::new(alloc), inbox, reader)
 }

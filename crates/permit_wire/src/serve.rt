@@ -7,7 +7,7 @@ ghost use Rattle.permit_http.specs.Stream.{stream};
 ghost use Rattle.permit_answer.specs.AnswerText.{answer_data};
 ghost use Rattle.permit_wire.specs.Serving.{AsksOnce, GoesOutAs, Moves, Serves, ServesBy, is_shut, is_silent};
 
-use crate::read::read_request;
+use crate::read::read_by;
 use crate::service::{Dated, Service};
 use permit_answer::answer::Answer;
 use permit_answer::write_reply;
@@ -16,6 +16,7 @@ use permit_base::values::Day;
 use permit_http::error::WireError;
 use permit_http::inbox::Inbox;
 use permit_office::office::Office;
+use permit_routes::routing::Routes;
 use permit_store::store::Store;
 use std::alloc::Global;
 use std::io::{Read, Write};
@@ -78,11 +79,11 @@ pub fn answer_with<W: Write>(
 /// Reads one request of a connection, has the service serve it, and writes the answer, or that to the fault that was
 /// read.
 ///
-/// The bytes behind the request stay in the inbox. A fault leaves the service as it was; a request is answered by the one
-/// reply that the service gave to it. After `Closed`, `ReadFailed` and `WriteFailed` the connection is closed: a further
+/// The routes stay for the next request. The bytes behind the request stay in the inbox. A fault leaves the service as it
+/// was; a request is answered by the one reply that the service gave to it. After `Closed`, `ReadFailed` and `WriteFailed` the connection is closed: a further
 /// call reads nothing and answers `Ended`.
 pub fn serve_by<C, T: Service<C>, R: Read, W: Write>(
-    alloc: Global,
+    routes: &mut Routes,
     service: &mut T,
     by: &C,
     inbox: &mut Inbox,
@@ -101,7 +102,8 @@ pub fn serve_by<C, T: Service<C>, R: Read, W: Write>(
     ensures ended { result.served ≡ Served.Ended → inbox.new ≡ inbox.old }
     ensures shut { result.served ≢ Served.Ended → inbox.new.closed ≡ is_shut result.served }
 {
-    match read_request(alloc, inbox, reader) {
+    let alloc = routes.allocator();
+    match read_by(routes, inbox, reader) {
         Ok(Some(asked)) => {
             let action = action(&asked.request);
             let Dated { day, reply } = service.serve(by, asked);
@@ -157,5 +159,5 @@ pub fn serve_one<S: Store + Drop, R: Read, W: Write>(
     ensures ended { result ≡ Served.Ended → inbox.new ≡ inbox.old }
     ensures shut { result ≢ Served.Ended → inbox.new.closed ≡ is_shut result }
 {
-    serve_by(alloc, office, &day, inbox, reader, writer).served
+    serve_by(&mut Routes::new(alloc), office, &day, inbox, reader, writer).served
 }

@@ -1,6 +1,6 @@
 use Rattle.std.proofs.Common.{Ok, Err, refl}
 use Rattle.permit_wire.proofs.Whole.{out_read, is_some}
-use Rattle.permit_wire.proofs.read.read_request.Goals as goal
+use Rattle.permit_wire.proofs.read.read_by.Goals as goal
 
 pub returns-in-Ok-clause-reads : goal.returns-in-Ok-clause-reads
 returns-in-Ok-clause-reads g c = λ bytes e.
