@@ -1,1 +1,4 @@
 pub mod Checked
+pub mod Opening
+pub mod Questions
+pub mod Served

@@ -3,18 +3,27 @@
 //! What works on a database is generic over its store, and the file is named in two functions alone: each call of a
 //! generic function at the file's store costs the prover half a minute.
 
-ghost use Rattle.std.specs.Prelude.{◌≡◌, IfOk, IfErr};
+ghost use Rattle.std.specs.Prelude.{◌≡◌, ◌≤◌, ◌⊎◌, Err, IfOk, IfErr, List};
 ghost use Rattle.sqlite.specs.State.{HasCleanDisk};
 ghost use Rattle.sqlite.specs.Held.{state};
+ghost use Rattle.permit_base.specs.declared.request.Asked.{Asked};
 ghost use Rattle.permit_base.specs.declared.words.Edition.TheVariants.{First};
 ghost use Rattle.permit_model.specs.History.{History, upgraded};
 ghost use Rattle.permit_model.specs.Machine.{IsHistory};
+ghost use Rattle.permit_model.specs.Sound.{IsSoundTables};
 ghost use Rattle.permit_model.specs.Tables.{Tables, tables};
+ghost use Rattle.permit_import.specs.declared.refused.RefusalWord.TheVariants as refusal;
 ghost use Rattle.permit_store.specs.Founding.{founding};
-ghost use Rattle.permit_store.specs.Frames.{OverTables};
+ghost use Rattle.permit_store.specs.Frames.{HasOneDesk, OverTables};
 ghost use Rattle.permit_sql_rows.specs.Kept.{Keeps, KeepsUnder, IsFine, Shows};
 ghost use Rattle.permit_sql.specs.Found.{AreTyped};
+ghost use Rattle.permit_subcommands.specs.Failures.{plain};
+ghost use Rattle.permit_wire.specs.declared.service.Dated.{Dated};
+ghost use Rattle.permit_hall.specs.Runs.{Entry};
 ghost use Rattle.permit_cli.specs.Checked.{IsCounted, IsPlaceIn, IsToldOf};
+ghost use Rattle.permit_cli.specs.Opening.{IsOver, IsUnopened, IsWithoutMemory, Opens, Refuses};
+ghost use Rattle.permit_cli.specs.Questions.{IsAnswered, IsAsked, OnAsk, OnCheck, OnFound, OnUpgrade};
+ghost use Rattle.permit_cli.specs.Served.{IsHistoryOf, IsServed, IsUnserved};
 
 use crate::shut::flag;
 use permit_args::plan::ServeWords;
@@ -23,6 +32,7 @@ use permit_base::values::{Day, Token};
 use permit_base::words::RegisterKind;
 use permit_import::importing::import;
 use permit_import::tally::Tally;
+use permit_mirror::mirrored::Mirrored;
 use permit_office::office::Office;
 use permit_office::reply::Listing;
 use permit_policy::Policy;
@@ -32,6 +42,7 @@ use permit_sql::fault::Fault;
 use permit_sql::store::SqlStore;
 use permit_sql::why::first_fault;
 use permit_store::founder::Founder;
+use permit_store::plain::PlainStore;
 use permit_store::rows::Desk;
 use permit_store::store::{OpenError, Store, StoreError};
 use permit_subcommands::asking::ask;
@@ -209,25 +220,70 @@ fn check_in<S: Alter + Drop>(
     }
 }
 
-/// The office in a database, under the policy; else the connection comes back. The flag is set once the connection is shut.
-fn office_in<S: Alter + Drop>(
+/// The store in a database; else the connection comes back. The flag is set once the connection is shut.
+fn store_in<S: Alter + Drop>(
     alloc: Global,
     conn: Connection<S>,
-    policy: Policy,
     shut: Option<Flag>,
-) -> Result<Office<SqlStore<S>>, (Connection<S>, OpenError)> {
+) -> Result<SqlStore<S>, (Connection<S>, OpenError)>
+    ensures opened { IfOk result (λ store. IsOver S.Store conn store.conn (⟦<SqlStore<S> as Store>⟧.view store)) }
+    ensures refused { IfErr result (λ back. Refuses S.Store conn back.0 back.1) }
+{
     match SqlStore::open(alloc, conn) {
         Ok(store) => {
             let mut store = store;
             if let Some(shut) = shut {
                 store.tell_when_shut(shut);
             }
-            match Office::open(store, policy) {
-                Ok(office) => Ok(office),
-                Err((store, why)) => Err((store.into_connection(), why)),
-            }
+            Ok(store)
         }
         Err(refused) => Err(refused),
+    }
+}
+
+/// The office in a database, under the policy; else the connection comes back.
+fn office_in<S: Alter + Drop>(
+    alloc: Global,
+    conn: Connection<S>,
+    policy: Policy,
+) -> Result<Office<SqlStore<S>>, (Connection<S>, OpenError)>
+    ensures opened { IfOk result (λ office. Opens S.Store conn office.store.conn (⟦<SqlStore<S> as Store>⟧.view office.store)) }
+    ensures policy { IfOk result (λ office. office.policy ≡ policy) }
+    ensures refused { IfErr result (λ back. Refuses S.Store conn back.0 back.1) }
+{
+    match store_in(alloc, conn, None) {
+        Ok(store) => match Office::open(store, policy) {
+            Ok(office) => Ok(office),
+            Err((store, why)) => Err((store.into_connection(), why)),
+        },
+        Err(refused) => Err(refused),
+    }
+}
+
+/// The office over a store, with its tables in memory beside it, under the policy. Where there is no memory for them, or a call
+/// of the store failed, the store comes back.
+fn beside_memory<S: Store + Drop>(
+    alloc: Global,
+    store: S,
+    policy: Policy,
+) -> Result<Office<Mirrored<S, PlainStore>>, S>
+    ensures held { IfOk result (λ office. (t : Tables) → (S.view store).holds t → IsSoundTables t
+        → (⟦<Mirrored<S, PlainStore> as Store>⟧.view office.store).holds t) }
+    ensures one { IfOk result (λ office. (⟦<Mirrored<S, PlainStore> as Store>⟧.view office.store).doubt ≡ 0
+        → HasOneDesk (⟦<Mirrored<S, PlainStore> as Store>⟧.view office.store)) }
+    ensures doubt { IfOk result (λ office. (S.view store).doubt ≤ (⟦<Mirrored<S, PlainStore> as Store>⟧.view office.store).doubt) }
+    ensures failed { IfOk result (λ office. (⟦<Mirrored<S, PlainStore> as Store>⟧.view office.store).failed ≡ 0) }
+    ensures commits { IfOk result (λ office. (⟦<Mirrored<S, PlainStore> as Store>⟧.view office.store).commits ≡ 0) }
+    ensures policy { IfOk result (λ office. office.policy ≡ policy) }
+    ensures back { IfErr result (λ back. (t : Tables) → (S.view store).holds t → IsSoundTables t → (S.view back).holds t) }
+    ensures told { IfErr result (λ back. (S.view store).doubt ≤ (S.view back).doubt) }
+{
+    match Mirrored::load(alloc, store) {
+        Ok(store) => match Office::open(store, policy) {
+            Ok(office) => Ok(office),
+            Err((store, _)) => Err(store.into_kept()),
+        },
+        Err((store, _)) => Err(store),
     }
 }
 
@@ -238,7 +294,11 @@ fn ask_of<S: Store + Drop, O: Write>(
     day: Day,
     question: Question<'_>,
     out: &mut O,
-) -> Result<Done, Failure> {
+) -> Result<Done, Failure>
+    ensures answered { IsAnswered S.view day question.entry office.old office.new (O.contents out.old) (O.contents out.new) result }
+    ensures policy { office.new.policy ≡ office.old.policy }
+    ensures doubt { (S.view office.old.store).doubt ≤ (S.view office.new.store).doubt }
+{
     match question {
         Question::Serve { request } => Ok(Done::Served(ask(alloc, office, request, day)?)),
         Question::List { token, filter } => Ok(Done::Listed(list(office, token, filter, day)?)),
@@ -257,8 +317,33 @@ fn ask_of<S: Store + Drop, O: Write>(
     }
 }
 
-/// Serves the office in a database over TCP, until its workers have ended. Where a fault of the disk shuts the database
-/// meanwhile, they end with their connections, and the failure is the store's: only an opening of the file mends that.
+/// Serves an office over TCP, until its workers have ended. Where the flag is set by then, a fault of the disk has shut the
+/// office's database meanwhile, and the failure is the store's: only an opening of the file mends that.
+fn serve_over<S, R, O>(
+    rt: &HostRuntime,
+    workers: R,
+    office: Office<S>,
+    days: &RunDays,
+    words: &ServeWords<'_>,
+    shut: &Flag,
+    out: &mut O,
+) -> (Office<S>, Result<(), Failure>)
+where
+    S: Store + Drop,
+    R: Threads + Wait + Copy + Drop + Send + 'static,
+    O: Write,
+    ensures history { (served : List (Entry Asked Dated)) × IsHistoryOf S.view days.now.date words.now.workers office result.0 served }
+    ensures unserved { IsUnserved office result.0 result.1 }
+{
+    let today = &mut || days.today(rt);
+    let (office, served) = serve(rt, workers, office, words, today, shut, out);
+    if shut.load(Ordering::SeqCst) {
+        return (office, Err(Failure::memory()));
+    }
+    (office, served)
+}
+
+/// Serves the office in a database over TCP, with its tables in memory, until its workers have ended.
 fn serve_in<S, R, O>(
     rt: &HostRuntime,
     workers: R,
@@ -272,20 +357,21 @@ where
     S: Alter + Drop,
     R: Threads + Wait + Copy + Drop + Send + 'static,
     O: Write,
+    ensures served { IsServed S.Store (⟦<Mirrored<SqlStore<S>, PlainStore> as Store>⟧.view) (λ s. s.kept.conn) policy days.now.date
+        words.now.workers conn result.0 result.1
+        ⊎ (IsUnopened S.Store conn result.0 result.1 ⊎ IsWithoutMemory S.Store conn result.0 result.1) }
 {
     let Ok((set, shut)) = flag(rt.alloc()) else {
         return (conn, Err(Failure::memory()));
     };
-    match office_in(rt.alloc(), conn, policy, Some(set)) {
-        Ok(office) => {
-            let today = &mut || days.today(rt);
-            let (office, served) = serve(rt, workers, office, words, today, &shut, out);
-            let conn = office.into_store().into_connection();
-            if shut.load(Ordering::SeqCst) {
-                return (conn, Err(Failure::memory()));
+    match store_in(rt.alloc(), conn, Some(set)) {
+        Ok(store) => match beside_memory(rt.alloc(), store, policy) {
+            Ok(office) => {
+                let (office, served) = serve_over(rt, workers, office, days, words, &shut, out);
+                (office.into_store().into_kept().into_connection(), served)
             }
-            (conn, served)
-        }
+            Err(store) => (store.into_connection(), Err(Failure::memory())),
+        },
         Err((conn, why)) => (conn, Err(Failure::Database(why))),
     }
 }
@@ -298,8 +384,12 @@ fn ask_in<S: Alter + Drop, O: Write>(
     day: Day,
     question: Question<'_>,
     out: &mut O,
-) -> (Connection<S>, Result<Done, Failure>) {
-    match office_in(alloc, conn, policy, None) {
+) -> (Connection<S>, Result<Done, Failure>)
+    ensures asked { IsAsked S.Store (⟦<SqlStore<S> as Store>⟧.view) (λ s. s.conn) policy day question.entry conn result.0
+        (O.contents out.old) (O.contents out.new) result.1
+        ⊎ (IsUnopened S.Store conn result.0 result.1 × (O.contents out.new ≡ O.contents out.old)) }
+{
+    match office_in(alloc, conn, policy) {
         Ok(office) => {
             let mut office = office;
             let done = ask_of(alloc, &mut office, day, question, out);
@@ -315,7 +405,21 @@ fn work_in<S: Alter + Drop, O: Write>(
     conn: Connection<S>,
     work: Work<'_>,
     out: &mut O,
-) -> (Connection<S>, Result<Done, Failure>) {
+) -> (Connection<S>, Result<Done, Failure>)
+    ensures founded { OnFound work.entry (λ founder. IfOk result.1 (λ _. HasCleanDisk (state S.Store result.0)
+        → Keeps (tables (founding founder.name founder.digest founder.day)) (state S.Store result.0).now)) }
+    ensures unfounded { OnFound work.entry (λ _. IfErr result.1 (λ _. IsFine (state S.Store result.0)
+        → (state S.Store result.0).now ≡ (state S.Store conn).now)) }
+    ensures upgraded { OnUpgrade work.entry (IfOk result.1 (λ _. HasCleanDisk (state S.Store result.0) → (h : History) → IsHistory h
+        → KeepsUnder First (tables h) (state S.Store conn).now → Keeps (tables (upgraded h)) (state S.Store result.0).now)) }
+    ensures unchanged { OnUpgrade work.entry (IfErr result.1 (λ _. IsFine (state S.Store result.0)
+        → (state S.Store result.0).now ≡ (state S.Store conn).now)) }
+    ensures checked { OnCheck work.entry (λ _. HasCleanDisk (state S.Store result.0) → (t : Tables) → Shows t (state S.Store conn)
+        → IfOk result.1 (IsCounted t)) }
+    ensures asked { OnAsk work.entry (λ policy day question. IsAsked S.Store (⟦<SqlStore<S> as Store>⟧.view) (λ s. s.conn) policy day question conn
+        result.0 (O.contents out.old) (O.contents out.new) result.1
+        ⊎ (IsUnopened S.Store conn result.0 result.1 × (O.contents out.new ≡ O.contents out.old))) }
+{
     match work {
         Work::Found(founder) => found_in(alloc, conn, &founder),
         Work::Upgrade => upgrade_in(alloc, conn),
