@@ -6,6 +6,7 @@ use crate::disks::{Bytes, Fault, Told, Trial, Trouble, failing_files, left_by, u
 use crate::trials::{
     Tried, closed, connected, ended, found, outlasts_each, prepared, stored, tables_in,
 };
+use permit_mirror::mirrored::Mirrored;
 use permit_office::office::Office;
 use permit_policy::text::read_policy;
 use permit_samples::ask::read_ask;
@@ -69,21 +70,51 @@ fn serve_all<S: Store + Drop>(
     Ok(answered)
 }
 
-/// Opens the office over a store, and serves the commands. The database comes back; nothing was answered where the office
-/// wasn't opened.
-fn served<S: Alter + Drop>(
+/// Where an office's reads are answered.
+#[derive(Clone, Copy)]
+enum Reads {
+    FromDatabase,
+    FromMemory,
+}
+
+/// Opens the office over a store, and serves the commands. The store comes back; nothing was answered where the office wasn't
+/// opened.
+fn served<S: Store + Drop>(
     alloc: Global,
-    store: SqlStore<S>,
+    store: S,
     commands: &Commands,
     told: &Told,
-) -> Result<(Connection<S>, Option<Answered>), Fail> {
+) -> Result<(S, Option<Answered>), Fail> {
     match Office::open(store, read_policy(alloc, ANY)?) {
         Ok(office) => {
             let mut office = office;
             let answered = serve_all(alloc, &mut office, commands, told)?;
-            Ok((office.into_store().into_connection(), Some(answered)))
+            Ok((office.into_store(), Some(answered)))
         }
-        Err((store, _)) => Ok((store.into_connection(), None)),
+        Err((store, _)) => Ok((store, None)),
+    }
+}
+
+/// The same over a database, which comes back.
+fn served_in<S: Alter + Drop>(
+    alloc: Global,
+    store: SqlStore<S>,
+    reads: Reads,
+    commands: &Commands,
+    told: &Told,
+) -> Result<(Connection<S>, Option<Answered>), Fail> {
+    match reads {
+        Reads::FromDatabase => {
+            let (store, answered) = served(alloc, store, commands, told)?;
+            Ok((store.into_connection(), answered))
+        }
+        Reads::FromMemory => match Mirrored::load(alloc, store) {
+            Ok(store) => {
+                let (store, answered) = served(alloc, store, commands, told)?;
+                Ok((store.into_kept().into_connection(), answered))
+            }
+            Err((store, _)) => Ok((store.into_connection(), None)),
+        },
     }
 }
 
@@ -136,14 +167,16 @@ impl Wanted {
 /// Commands, and the bytes of the files over which they are played.
 #[derive(Drop)]
 struct Play {
+    reads: Reads,
     commands: Commands,
     bytes: Bytes,
 }
 
 impl Play {
     /// The commands that come behind a beginning.
-    fn new(alloc: Global, begin: Begin) -> Result<Play, Fail> {
+    fn new(alloc: Global, begin: Begin, reads: Reads) -> Result<Play, Fail> {
         Ok(Play {
+            reads,
             commands: Commands::new(alloc, begin)?,
             bytes: match begin {
                 Begin::New => Bytes::none(alloc),
@@ -182,7 +215,7 @@ impl Play {
             Ok(store) => store,
             Err(conn) => return self.unopened(alloc, ended(conn, fault), false, told),
         };
-        let (conn, answered) = served(alloc, store, &self.commands, told)?;
+        let (conn, answered) = served_in(alloc, store, self.reads, &self.commands, told)?;
         let files = ended(conn, fault);
         match answered {
             Some(answered) => Ok((files, Wanted::behind(alloc, &self.commands, &answered)?)),
@@ -213,7 +246,18 @@ fn hold(
     fault: Fault,
     is_in_log: bool,
 ) -> Result<(), Fail> {
-    outlasts_each(rt, &Play::new(rt.alloc(), begin)?, fault, is_in_log)
+    let play = Play::new(rt.alloc(), begin, Reads::FromDatabase)?;
+    outlasts_each(rt, &play, fault, is_in_log)
+}
+
+/// The same where reads are answered from memory, behind the beginning with a frame.
+fn hold_in_memory(
+    rt: &(impl Print + AllocGlobal),
+    fault: Fault,
+    is_in_log: bool,
+) -> Result<(), Fail> {
+    let play = Play::new(rt.alloc(), Begin::Framed, Reads::FromMemory)?;
+    outlasts_each(rt, &play, fault, is_in_log)
 }
 
 #[test]
@@ -274,4 +318,38 @@ fn commands_outlast_a_power_cut_at_the_log(rt: HostRuntime) -> Result<(), Fail> 
 #[test]
 fn commands_outlast_a_power_cut_at_the_file(rt: HostRuntime) -> Result<(), Fail> {
     hold(&rt, Begin::Framed, Fault::Cut, false)
+}
+
+#[test]
+fn commands_beside_memory_outlast_a_log_that_fails(rt: HostRuntime) -> Result<(), Fail> {
+    hold_in_memory(&rt, Fault::Lasting, true)
+}
+
+#[test]
+fn commands_beside_memory_outlast_a_file_that_fails(rt: HostRuntime) -> Result<(), Fail> {
+    hold_in_memory(&rt, Fault::Lasting, false)
+}
+
+#[test]
+fn commands_beside_memory_outlast_a_call_of_the_log_that_fails(
+    rt: HostRuntime,
+) -> Result<(), Fail> {
+    hold_in_memory(&rt, Fault::Single, true)
+}
+
+#[test]
+fn commands_beside_memory_outlast_a_call_of_the_file_that_fails(
+    rt: HostRuntime,
+) -> Result<(), Fail> {
+    hold_in_memory(&rt, Fault::Single, false)
+}
+
+#[test]
+fn commands_beside_memory_outlast_a_power_cut_at_the_log(rt: HostRuntime) -> Result<(), Fail> {
+    hold_in_memory(&rt, Fault::Cut, true)
+}
+
+#[test]
+fn commands_beside_memory_outlast_a_power_cut_at_the_file(rt: HostRuntime) -> Result<(), Fail> {
+    hold_in_memory(&rt, Fault::Cut, false)
 }

@@ -21,11 +21,17 @@ pub struct Numbers {
     pub most: usize,
 }
 
+/// The number of a file that was found.
+fn number_of(found: &Found) -> u32 {
+    found.row.id.get()
+}
+
 impl Taker<Found> for Numbers {
     ghost took = { λ _ _ _ _. ⊤ };
 
-    fn take(&mut self, found: &Found) -> bool {
-        self.taken.push(found.row.id.get()).is_ok() && self.taken.len() < self.most
+    fn take(&mut self, found: Found) -> bool {
+        let number = number_of(&found);
+        self.taken.push(number).is_ok() && self.taken.len() < self.most
     }
 }
 

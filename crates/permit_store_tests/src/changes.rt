@@ -13,15 +13,15 @@ use std::test::Fail;
 
 /// What the store shows behind the founding and then behind each change, in lines as `shown` writes them.
 const SHOWN: [&str; 9] = [
-    "desk 19700 1 0 0, party 2: 0 none none, 3: none, parcel 1: 0 0 0, 2: 0, interests false false, file 1: none none, 2: none, notices none false false",
-    "desk 19701 2 0 0, party 2: 2 clerk clerk, 3: none, parcel 1: 0 0 0, 2: 0, interests false false, file 1: none none, 2: none, notices none false false",
-    "desk 19701 2 1 0, party 2: 2 clerk clerk, 3: none, parcel 1: 1 1 1, 2: 0, interests false false, file 1: none none, 2: none, notices none false false",
-    "desk 19702 2 1 0, party 2: 2 clerk clerk, 3: none, parcel 1: 1 2 2, 2: 0, interests false false, file 1: none none, 2: none, notices none false false",
-    "desk 19702 2 1 0, party 2: 2 clerk clerk, 3: none, parcel 1: 1 2 2, 2: 0, interests true false, file 1: none none, 2: none, notices none false false",
-    "desk 19702 2 1 1, party 2: 2 clerk clerk, 3: none, parcel 1: 1 2 2, 2: 0, interests true false, file 1: 0 0, 2: none, notices none false false",
-    "desk 19703 2 1 1, party 2: 2 clerk clerk, 3: none, parcel 1: 1 2 2, 2: 0, interests true false, file 1: 1 1, 2: none, notices open true false",
-    "desk 19704 2 1 1, party 2: 2 clerk clerk, 3: none, parcel 1: 1 2 2, 2: 0, interests true false, file 1: 1 1, 2: none, notices closed false false",
-    "desk 19705 2 1 1, party 2: 2 clerk clerk, 3: none, parcel 1: 1 2 2, 2: 0, interests true false, file 1: 1 1, 2: none, notices closed false false",
+    "desk 19700 1 0 0, party 2: 0 none none, 3: none, parcel 1: 0 0 0, 2: 0, interests false false 0 0, file 1: none none, 2: none, notices none false false",
+    "desk 19701 2 0 0, party 2: 2 clerk clerk, 3: none, parcel 1: 0 0 0, 2: 0, interests false false 0 0, file 1: none none, 2: none, notices none false false",
+    "desk 19701 2 1 0, party 2: 2 clerk clerk, 3: none, parcel 1: 1 1 1, 2: 0, interests false false 0 0, file 1: none none, 2: none, notices none false false",
+    "desk 19702 2 1 0, party 2: 2 clerk clerk, 3: none, parcel 1: 1 2 2, 2: 0, interests false false 0 0, file 1: none none, 2: none, notices none false false",
+    "desk 19702 2 1 0, party 2: 2 clerk clerk, 3: none, parcel 1: 1 2 2, 2: 0, interests true false 1 1, file 1: none none, 2: none, notices none false false",
+    "desk 19702 2 1 1, party 2: 2 clerk clerk, 3: none, parcel 1: 1 2 2, 2: 0, interests true false 1 1, file 1: 0 0, 2: none, notices none false false",
+    "desk 19703 2 1 1, party 2: 2 clerk clerk, 3: none, parcel 1: 1 2 2, 2: 0, interests true false 1 1, file 1: 1 1, 2: none, notices open true false",
+    "desk 19704 2 1 1, party 2: 2 clerk clerk, 3: none, parcel 1: 1 2 2, 2: 0, interests true false 1 1, file 1: 1 1, 2: none, notices closed false false",
+    "desk 19705 2 1 1, party 2: 2 clerk clerk, 3: none, parcel 1: 1 2 2, 2: 0, interests true false 1 1, file 1: 1 1, 2: none, notices closed false false",
 ];
 
 /// The row of file 1 with a count of papers.
@@ -73,8 +73,18 @@ fn owner_of<S: Store>(store: &mut S, number: u32) -> Result<u32, Fail> {
     }
 }
 
-/// The number of the lot's parcel, its owner, and the owner alone; the owner of parcel 2; and whether parties 1 and 2
-/// have an interest in parcel 1.
+/// The parcel and the party of the interest that is listed; 0 where none is.
+fn interest_listed<S: Store>(store: &mut S) -> Result<(u32, u32), Fail> {
+    let interests = store.interests()?;
+    match interests.as_slice() {
+        [] => Ok((0, 0)),
+        [only] => Ok((only.parcel.get(), only.party.get())),
+        _ => Err(Fail::new("more interests than were declared")),
+    }
+}
+
+/// The number of the lot's parcel, its owner, and the owner alone; the owner of parcel 2; whether parties 1 and 2 have an
+/// interest in parcel 1; and the interest that is listed.
 fn parcels_shown<S: Store>(alloc: Global, store: &mut S) -> Result<String, Fail> {
     let number = match store.parcel_by_lot(&lot(alloc, "A-1")?)? {
         Some(found) => found.id.get(),
@@ -90,7 +100,10 @@ fn parcels_shown<S: Store>(alloc: Global, store: &mut S) -> Result<String, Fail>
         store.interest(land, party(1)?)?,
         store.interest(land, party(2)?)?,
     );
-    Ok(format!(in alloc; "parcel 1: {number} {owner} {alone}, 2: {second}, interests {one} {two}")?)
+    let (listed, by) = interest_listed(store)?;
+    Ok(format!(in alloc;
+        "parcel 1: {number} {owner} {alone}, 2: {second}, interests {one} {two} {listed} {by}"
+    )?)
 }
 
 /// A count of papers, if there is one.

@@ -1,9 +1,11 @@
 //! The store over memory, with ample memory.
 
+use permit_mirror::mirrored::Mirrored;
 use permit_office::office::Office;
 use permit_samples::offices::{founder, office_over};
 use permit_samples::standard::POLICY;
 use permit_sql::store::SqlStore;
+use permit_store::plain::PlainStore;
 use permit_store::store::OpenError;
 use sqlite::{Connection, MemStore};
 use std::alloc::Global;
@@ -28,4 +30,14 @@ pub(crate) fn founded(alloc: Global) -> Result<SqlStore<MemStore>, Fail> {
 /// The office of the rows after its founding, over a database.
 pub(crate) fn over_database(alloc: Global) -> Result<Office<SqlStore<MemStore>>, Fail> {
     office_over(alloc, founded(alloc)?, POLICY)
+}
+
+/// The same with its tables in memory beside it.
+pub(crate) fn over_memory_too(
+    alloc: Global,
+) -> Result<Office<Mirrored<SqlStore<MemStore>, PlainStore>>, Fail> {
+    match Mirrored::load(alloc, founded(alloc)?) {
+        Ok(store) => office_over(alloc, store, POLICY),
+        Err((_, why)) => Err(why)?,
+    }
 }

@@ -1,6 +1,7 @@
-//! The scenarios that are written out, played in an office over vectors and in one over a database.
+//! The scenarios that are written out, played in an office over vectors, in one over a database, and in one over a database
+//! with its tables in memory.
 
-use crate::database::over_database;
+use crate::database::{over_database, over_memory_too};
 use permit_office::office::Office;
 use permit_samples::offices::{over_vectors, under};
 use permit_samples::opening::OPENING;
@@ -34,7 +35,9 @@ fn played<S: Store + Drop>(
 fn hold(alloc: Global, scripts: &[&str], last: Option<&UnderPolicy>) -> Result<(), Fail> {
     let served = played(alloc, over_vectors(alloc)?, scripts, last)?;
     let kept = played(alloc, over_database(alloc)?, scripts, last)?;
-    agree(alloc, served.as_str(), kept.as_str())
+    agree(alloc, served.as_str(), kept.as_str())?;
+    let read = played(alloc, over_memory_too(alloc)?, scripts, last)?;
+    agree(alloc, served.as_str(), read.as_str())
 }
 
 #[test]

@@ -151,7 +151,7 @@ fn a_register_of_no_file_has_its_header_and_foot(rt: HostRuntime) -> Result<(), 
 }
 
 /// Hands out files as an office does, until one is answered false.
-fn hand_out<T: Taker<FileView>>(files: &[FileView], taker: &mut T) -> bool {
+fn hand_out<T: Taker<FileView>>(files: Vec<FileView>, taker: &mut T) -> bool {
     for file in files {
         if !taker.take(file) {
             return false;
@@ -166,7 +166,7 @@ fn a_register_is_written_one_line_at_a_time(rt: HostRuntime) -> Result<(), Fail>
     let five = files(rt.alloc(), 5, filed()?, on)?;
     let mut bytes = Vec::new(rt.alloc());
     let mut writer = RegisterWriter::new(RegisterKind::Files, on, &mut bytes);
-    assert!(rt; hand_out(five.as_slice(), &mut writer));
+    assert!(rt; hand_out(five, &mut writer));
     assert!(rt; writer.finish().is_ok());
     assert_eq!(rt; bytes.as_slice(), FIVE_FILES.as_bytes());
     Ok(())
