@@ -4,6 +4,7 @@ use Rattle.permit_import.specs.declared.fault.ImportFault.{ImportFault}
 use Rattle.permit_import.specs.declared.fault.ImportFault.TheVariants as stopping
 use Rattle.permit_import.specs.declared.tally.Tally.{Tally}
 use Rattle.permit_policy.specs.Fault.{fault_number}
+use Rattle.permit_policy.specs.declared.fault.PolicyError.{PolicyError}
 use Rattle.permit_store.specs.declared.store.OpenError.{OpenError}
 use Rattle.permit_store.specs.declared.store.OpenError.TheVariants as opening
 use Rattle.permit_import.specs.Refusals.{refused_line}
@@ -52,6 +53,11 @@ IsUnread path failure = failure ≡ plain Store
 abbrev pub IsUnheard : List ℕ → Failure → Type 0
 IsUnheard address (Listen told) = string_bytes told ≡ address
 IsUnheard address failure = failure ≡ plain Store
+
+-- a policy that is refused is told by its place, unless memory ran out
+abbrev pub IsRefusedPolicy : PolicyError → Failure → Type 0
+IsRefusedPolicy error (Policy told) = told ≡ error
+IsRefusedPolicy error failure = failure ≡ plain Store
 
 -- an import's records can't be read, memory ran out, or the output failed
 abbrev pub IsFailureOfImport : List ℕ → ImportFault → Failure → Type 0

@@ -3,7 +3,7 @@
 ghost use Rattle.std.specs.Prelude.{◌≡◌, ◌≤◌, ◌++◌, ◌∷◌, [], List, ℕ, IfErr, IfOk, IfSome, OnOk, codes};
 ghost use Rattle.std.specs.Io.KnownBytes.{Appends};
 ghost use Rattle.permit_wire.specs.Serving.{Moves};
-ghost use Rattle.permit_subcommands.specs.Asking.{Asks, IsNoRefusal, IsShownRefusal, Prints};
+ghost use Rattle.permit_subcommands.specs.Asking.{Asks, IsNoRefusal, IsShownRefusal, LosesAnswer, Prints};
 ghost use Rattle.permit_subcommands.specs.declared.failure.Failure.TheVariants as failure;
 
 use crate::failure::Failure;
@@ -27,6 +27,7 @@ pub fn ask<S: Store + Drop>(
     day: Day,
 ) -> Result<Vec<u8>, AllocError>
     ensures serves { IfOk result (λ answer. Asks S.view day office.old office.new request.now answer.items) }
+    ensures loses { IfErr result (λ _. LosesAnswer S.view day office.old office.new request.now) }
     ensures moves { Moves S.view day office.old office.new }
     ensures policy { office.new.policy ≡ office.old.policy }
     ensures doubt { (S.view office.old.store).doubt ≤ (S.view office.new.store).doubt }

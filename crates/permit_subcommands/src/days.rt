@@ -1,6 +1,6 @@
 //! The day of a run: the date that its words name, or the clock's.
 
-ghost use Rattle.std.specs.Prelude.{◌≡◌, ◌≤◌, ℕ, false, IfErr, IfNone, IfOk, IfSome, IsSomeAnd, IsTrue, None, OnOk, Ok};
+ghost use Rattle.std.specs.Prelude.{◌≡◌, ◌≤◌, ℕ, false, IfErr, IfNone, IfOk, IfSome, IsOk, IsSomeAnd, IsTrue, None, OnOk, Ok};
 ghost use Rattle.jiff.specs.Placed.{IsPosixZone};
 ghost use Rattle.jiff.specs.Words.{plain_zone};
 ghost use Rattle.permit_base.specs.Limits.{latest_day};
@@ -83,6 +83,7 @@ pub struct RunDays {
 /// The days of a run that goes on. The zone is read first, and with a date too.
 pub fn days_of_run(words: &DayWords<'_>) -> Result<RunDays, Failure>
     ensures dated { IfSome words.now.day (λ date. IfOk result (λ days. IsSomeAnd days.date (λ day. IsTextOf day date.now))) }
+    ensures every { IfSome words.now.day (λ date. IsTrue (is_zone (zone_of words.now)) → (day : ℕ) → day ≤ latest_day → IsTextOf day date.now → IsOk result) }
     ensures clock { IfNone words.now.day (IfOk result (λ days. days.date ≡ None)) }
     ensures zone { IfOk result (λ days. IsPosixZone (zone_of words.now) (plain_zone days.zone)) }
     ensures within { OnOk result (IsTrue (is_zone (zone_of words.now))) }

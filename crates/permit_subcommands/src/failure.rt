@@ -1,7 +1,7 @@
 //! Why the program does not do what its words ask, and its status then.
 
 ghost use Rattle.std.specs.Prelude.{◌≡◌, ◌≤◌, Some};
-ghost use Rattle.permit_subcommands.specs.Failures.{failure_line, failure_status, import_status, plain, IsFailureOfImport, IsUnheard, IsUnread};
+ghost use Rattle.permit_subcommands.specs.Failures.{failure_line, failure_status, import_status, plain, IsFailureOfImport, IsRefusedPolicy, IsUnheard, IsUnread};
 ghost use Rattle.permit_import.specs.declared.refused.RefusalWord.TheVariants.{Store};
 
 use crate::refused::{RefusalWord, Refused};
@@ -72,7 +72,9 @@ impl Failure {
     }
 
     /// Why a file could not be read: its path is named, unless memory ran out.
-    pub fn of_reading(alloc: Global, path: &str, error: &io::Error) -> Failure {
+    pub fn of_reading(alloc: Global, path: &str, error: &io::Error) -> Failure
+        ensures { IsUnread path.now result }
+    {
         if error.kind() == ErrorKind::OutOfMemory {
             Failure::memory()
         } else {
@@ -93,7 +95,9 @@ impl Failure {
     }
 
     /// Why a policy was refused: by its place, unless memory ran out.
-    pub fn of_policy(error: PolicyError) -> Failure {
+    pub fn of_policy(error: PolicyError) -> Failure
+        ensures { IsRefusedPolicy error result }
+    {
         if error.code == PolicyFault::Memory {
             Failure::memory()
         } else {
