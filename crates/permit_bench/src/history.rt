@@ -16,7 +16,7 @@ use std::rt::Files;
 use std::time::{Clock, Instant};
 
 /// How many commands `Site::live` gives: the filing, `BEGINNING` and `COMPLETION`.
-const LIFE: u32 = 20;
+const LIFE: u32 = 22;
 
 /// How many commands `Site::work_on` gives a file: `ROUND`.
 const TURN: u32 = 10;

@@ -51,7 +51,7 @@ pub const BEGINNING: [Order; 6] = [
 ];
 
 /// From there to the certificate.
-pub const COMPLETION: [Order; 13] = [
+pub const COMPLETION: [Order; 15] = [
     Order::AskExtension,
     Order::GrantExtension,
     Order::RequestInspection(Step::Footing),
@@ -60,6 +60,8 @@ pub const COMPLETION: [Order; 13] = [
     Order::ApproveStep(Step::Slab),
     Order::RequestInspection(Step::Frame),
     Order::ApproveStep(Step::Frame),
+    Order::RequestInspection(Step::Energy),
+    Order::ApproveStep(Step::Energy),
     Order::RequestInspection(Step::Lath),
     Order::ApproveStep(Step::Lath),
     Order::RequestInspection(Step::Final),
