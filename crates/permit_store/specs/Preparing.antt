@@ -1,6 +1,5 @@
 -- A change with the memory that it needs.
-use Rattle.std.specs.Prelude.{◌≡◌, ◌<◌, ◌≤◌, ℕ, ◌+◌, List, [], length, vec_capacity, ⊤}
-use Rattle.std.specs.Global.{Vec}
+use Rattle.std.specs.Prelude.{◌≡◌, ◌<◌, ◌≤◌, ℕ, ◌+◌, ◌^◌, List, [], ◌∷◌, length, vec_capacity, ⊤}
 use Rattle.std.specs.HashMap.{spare}
 use Rattle.std.specs.HashSet as set
 use Rattle.permit_base.specs.Limits.{most_records}
@@ -21,9 +20,9 @@ use Rattle.permit_store.specs.declared.plain.ready.Ready.TheVariants as is
 abbrev pub CanTake : ℕ → ℕ → Type 0
 CanTake rows room = (rows < most_records) × (rows < room)
 
--- the paper, with room for more papers than so many
+-- the paper alone, which a list of so many papers can take in: a list holds fewer than 2 ^ 63
 abbrev pub IsReadyPaper : Paper → ℕ → Ready → Type 0
-IsReadyPaper paper count ready = (room : Vec Paper) × (ready ≡ is.Paper paper room) × (room.items ≡ []) × (count < vec_capacity room)
+IsReadyPaper paper count ready = (ready ≡ is.Paper (paper ∷ [])) × (count + 1 < 2 ^ 63)
 
 abbrev pub IsReadyEffect : ℕ → ℕ → ℕ → RowEffect → List Paper → Ready → Type 0
 IsReadyEffect file count day effect.None papers ready = ⊤

@@ -37,7 +37,7 @@ use permit_core::state::FileState;
 use permit_core::taker::Taker;
 use std::alloc::Global;
 
-/// The tables as vectors, in memory: parties, parcels and files at the places that their numbers say, each file with its
+/// The tables as vectors, in memory: parties, parcels and files at the places that their numbers say, each file with a list of its
 /// papers. Parties are found by their tokens too, parcels by their lots, and interests by both their numbers, so that no call
 /// but a selection goes over rows that it doesn't ask for.
 /// A call fails only where memory is refused, or at a commit that doesn't fit.

@@ -9,6 +9,7 @@ use crate::rows::{FileRow, Paper, Parcel, Party};
 use permit_base::values::{FileId, PaperNumber};
 use permit_core::state::FileState;
 use std::alloc::{AllocError, Global};
+use std::collections::LinkedList;
 
 /// The place of the file of the number: the files are numbered from 1 without a gap.
 pub(crate) fn place_of(files: &[Kept], id: FileId) -> Option<usize>
@@ -77,11 +78,11 @@ fn copy_state(found: Option<&Kept>) -> Option<FileState>
 }
 
 /// A copy of papers.
-fn copy_papers(alloc: Global, papers: &[Paper]) -> Result<Vec<Paper>, AllocError>
+fn copy_papers(alloc: Global, papers: &LinkedList<Paper>) -> Result<Vec<Paper>, AllocError>
     ensures { IfOk result (λ v. v.items ≡ papers.now) }
 {
-    let mut copies = Vec::new(alloc);
-    for paper in papers {
+    let mut copies = Vec::with_capacity(alloc, papers.len())?;
+    for paper in papers.iter() {
         copies.push(paper.clone()?)?;
     }
     Ok(copies)
@@ -104,7 +105,7 @@ pub(crate) fn state_of(files: &[Kept], id: FileId) -> Option<FileState>
 }
 
 /// Whether one of the papers is an open notice of the number.
-fn is_notice_open(papers: &[Paper], number: PaperNumber) -> bool
+fn is_notice_open(papers: &LinkedList<Paper>, number: PaperNumber) -> bool
     ensures { result ≡ list_any (λ p. p.is_open && (p.number == number)) papers.now }
 {
     papers.iter().any(|paper| {

@@ -1,13 +1,14 @@
 //! A file as it is kept.
 
 use crate::rows::{FileRow, Paper};
+use std::collections::LinkedList;
 use std::marker::Model;
 
 /// A file's row, and its papers in rising number.
 #[derive(Drop)]
 pub(crate) struct Kept {
     pub(crate) row: FileRow,
-    pub(crate) papers: Vec<Paper>,
+    pub(crate) papers: LinkedList<Paper>,
 }
 
 impl Model for Kept {
@@ -15,5 +16,5 @@ impl Model for Kept {
 
     ghost Value = { KeptFile };
 
-    ghost view = { λ k. record { row = k.row; papers = k.papers.items } };
+    ghost view = { λ k. record { row = k.row; papers = k.papers } };
 }

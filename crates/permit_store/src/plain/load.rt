@@ -15,6 +15,7 @@ ghost use Rattle.permit_store.specs.Plain.{AreInPlace};
 use crate::plain::PlainStore;
 use crate::plain::interests::Interests;
 use crate::plain::kept::Kept;
+use crate::plain::papers::listed;
 use crate::plain::parcels::Parcels;
 use crate::plain::parties::Parties;
 use crate::rows::Interest;
@@ -94,7 +95,7 @@ fn load_interests<S: Store>(alloc: Global, store: &mut S) -> Got<Interests>
 }
 
 /// A file of a store, with its papers.
-fn load_file<S: Store>(store: &mut S, id: FileId) -> Got<Kept>
+fn load_file<S: Store>(alloc: Global, store: &mut S, id: FileId) -> Got<Kept>
     ensures held { OverTables (S.view store.old) (S.view store.new)
         (λ t. IfOk result (λ k. (find (λ f. f.id == id) t.files ≡ Some k.row) × (k.papers ≡ filter (λ p. p.file == id) t.papers))) }
     ensures number { IfOk result (λ k. k.row.id ≡ id) }
@@ -109,6 +110,9 @@ fn load_file<S: Store>(store: &mut S, id: FileId) -> Got<Kept>
     if row.id.get() != id.get() {
         return Err(StoreError);
     }
+    let Ok(papers) = listed(alloc, papers) else {
+        return Err(StoreError);
+    };
     Ok(Kept { row, papers })
 }
 
@@ -127,7 +131,7 @@ fn load_files<S: Store>(alloc: Global, store: &mut S, count: u32) -> Got<Vec<Kep
         let Some(id) = FileId::new(place + 1) else {
             return Err(StoreError);
         };
-        let file = load_file(store, id)?;
+        let file = load_file(alloc, store, id)?;
         let Ok(()) = files.push(file) else {
             return Err(StoreError);
         };

@@ -1,6 +1,6 @@
 //! The papers of a file.
 
-ghost use Rattle.std.specs.Prelude.{◌≡◌, ◌<◌, [], ◌∷◌, ◌++◌, length, map, IfOk, IfSome, string_bytes, vec_capacity};
+ghost use Rattle.std.specs.Prelude.{◌≡◌, ◌++◌, map, take, drop, IfOk, IfSome, string_bytes};
 ghost use Rattle.permit_model.specs.Tables;
 ghost use Rattle.permit_store.specs.Changes.{closed_by, text_of, paper_of};
 
@@ -8,6 +8,7 @@ use crate::rows::{NewPaper, Paper};
 use permit_base::values::{Day, FileId, PaperNumber, Text};
 use permit_base::words::PaperSort;
 use std::alloc::{AllocError, Global};
+use std::collections::LinkedList;
 
 /// A copy of a text, or the empty text.
 fn copied(alloc: Global, text: Option<&Text>) -> Result<String, AllocError>
@@ -49,12 +50,35 @@ fn close(paper: &mut Paper, file: FileId, number: PaperNumber)
     }
 }
 
-/// Closes a paper of a file.
-pub(crate) fn close_paper(papers: &mut [Paper], file: FileId, number: PaperNumber)
+/// Closes the list's first paper if it is the file's of the number.
+fn close_first(papers: &mut LinkedList<Paper>, file: FileId, number: PaperNumber)
+    ensures { papers.new ≡ map (closed_by file number) (take 1 papers.old) ++ drop 1 papers.old }
+{
+    if let Some(first) = papers.front_mut() {
+        close(first, file, number);
+    }
+}
+
+/// Puts the list's first paper behind the others, which moves no paper and asks for no memory.
+fn turn(papers: &mut LinkedList<Paper>)
+    ensures { papers.new ≡ drop 1 papers.old ++ take 1 papers.old }
+{
+    if papers.len() < 2 {
+        return;
+    }
+    if let Ok(mut rest) = papers.split_off(1) {
+        let _joined = rest.append(papers).is_ok();
+        *papers = rest;
+    }
+}
+
+/// Closes a paper of a file. The list is turned once round: its `iter_mut` promises nothing of what is written by it.
+pub(crate) fn close_paper(papers: &mut LinkedList<Paper>, file: FileId, number: PaperNumber)
     ensures { papers.new ≡ map (closed_by file number) papers.old }
 {
-    for paper in papers {
-        close(paper, file, number);
+    for _place in 0..papers.len() {
+        close_first(papers, file, number);
+        turn(papers);
     }
 }
 
@@ -89,12 +113,9 @@ pub(crate) fn made_paper(
     })
 }
 
-/// Puts the papers and one more where there is room for them.
-pub(crate) fn refill(papers: &mut Vec<Paper>, room: Vec<Paper>, paper: Paper)
-    ensures { room.items ≡ [] → length papers.old.items < vec_capacity room → papers.new.items ≡ papers.old.items ++ paper ∷ [] }
+/// The papers as a list.
+pub(crate) fn listed(alloc: Global, papers: Vec<Paper>) -> Result<LinkedList<Paper>, AllocError>
+    ensures { IfOk result (λ list. list ≡ papers.items) }
 {
-    let mut room = room;
-    let _moved = room.append(papers).is_ok();
-    let _pushed = room.push(paper).is_ok();
-    *papers = room;
+    LinkedList::from_iter(alloc, papers)
 }

@@ -13,7 +13,7 @@ ghost use Rattle.permit_store.specs.Preparing.{CanTake, TakesParty, TakesParcel,
 use crate::plain::find;
 use crate::plain::interests::Interests;
 use crate::plain::kept::Kept;
-use crate::plain::papers::{close_paper, made_paper, refill};
+use crate::plain::papers::{close_paper, made_paper};
 use crate::plain::parcels::Parcels;
 use crate::plain::parties::Parties;
 use crate::rows::{FileRow, Interest, NewPaper, Paper, Parcel, Party, RowEffect};
@@ -22,6 +22,10 @@ use permit_base::values::{Cents, Day, Digest, FileId, Lot, ParcelId, PartyId, Te
 use permit_base::words::Role;
 use permit_core::state::FileState;
 use std::alloc::Global;
+use std::collections::LinkedList;
+
+/// The most that a list holds, so one with fewer takes in another paper. Memory never has room for so many.
+const MOST_LISTED: usize = usize::MAX / 2;
 
 /// The row that a change adds, with room for it.
 #[derive(Drop)]
@@ -30,8 +34,8 @@ pub enum Ready {
     Party(Party),
     Parcel(Parcel),
     File(FileRow),
-    /// A paper, and room for its file's papers with it.
-    Paper(Paper, Vec<Paper>),
+    /// A list of the paper alone, which the list of its file's papers takes in.
+    Paper(LinkedList<Paper>),
 }
 
 /// A party with the next number, and room for it; None where there may be no more, or no memory.
@@ -166,15 +170,15 @@ pub(crate) fn put_file(alloc: Global, files: &mut Vec<Kept>, ready: Ready)
         return;
     };
     if row.id.get() as usize == files.len() + 1 && files.len() < MOST_RECORDS as usize {
-        let papers = Vec::new(alloc);
+        let papers = LinkedList::new(alloc);
         let _pushed = files.push(Kept { row, papers }).is_ok();
     }
 }
 
-/// A paper, and room for its file's papers with it.
+/// A list of the paper alone, which those of its file can take in; None where there is no memory.
 fn ready_paper(
     alloc: Global,
-    papers: &[Paper],
+    papers: &LinkedList<Paper>,
     file: FileId,
     count: u16,
     day: Day,
@@ -182,17 +186,21 @@ fn ready_paper(
 ) -> Option<Ready>
     ensures { IfSome result (λ r. IsReadyPaper (paper_of file count day new.now) (length papers.now) r) }
 {
+    if papers.len() >= MOST_LISTED {
+        return None;
+    }
     let paper = made_paper(alloc, file, count, day, new)?;
-    let Ok(room) = Vec::with_capacity(alloc, papers.len() + 1) else {
+    let mut alone = LinkedList::new(alloc);
+    let Ok(()) = alone.push_back(paper) else {
         return None;
     };
-    Some(Ready::Paper(paper, room))
+    Some(Ready::Paper(alone))
 }
 
 /// What the papers of a file need for its new row.
 fn ready_effect(
     alloc: Global,
-    papers: &[Paper],
+    papers: &LinkedList<Paper>,
     file: FileId,
     count: u16,
     effect: &RowEffect<'_>,
@@ -226,21 +234,21 @@ pub(crate) fn ready_row(
 
 /// What changes of a file's papers by its new row.
 fn put_effect(
-    papers: &mut Vec<Paper>,
+    papers: &mut LinkedList<Paper>,
     file: FileId,
     count: u16,
     effect: &RowEffect<'_>,
     day: Day,
     ready: Ready,
 )
-    ensures { IsReadyEffect file count day effect.now papers.old.items ready → papers.new.items ≡ papers_after file count day effect.now papers.old.items }
+    ensures { IsReadyEffect file count day effect.now papers.old ready → papers.new ≡ papers_after file count day effect.now papers.old }
 {
     match effect {
         RowEffect::None => {}
         RowEffect::NoticeClosed(number) => close_paper(papers, file, *number),
         RowEffect::Paper(_) => {
-            if let Ready::Paper(paper, room) = ready {
-                refill(papers, room, paper);
+            if let Ready::Paper(mut paper) = ready {
+                let _joined = papers.append(&mut paper).is_ok();
             }
         }
     }

@@ -1,5 +1,5 @@
-use Rattle.std.proofs.Common.{◌≡◌, take}
+use Rattle.std.proofs.Common.{◌≡◌, ◌++◌}
 use Rattle.permit_store.proofs.plain.find.copy_papers.Given as goal
 
 abbrev pub invariant-loop-paper : goal.invariant-loop-paper
-invariant-loop-paper l = l.copies.items ≡ take l.paper-index l.papers
+invariant-loop-paper l = l.copies.items ++ l.paper-iterator ≡ l.papers
