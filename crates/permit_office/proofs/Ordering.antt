@@ -1,7 +1,8 @@
 -- Files sorted by number and thinned of equal numbers.
-use Rattle.std.proofs.Common.{◌≡◌, ◌<◌, ◌≤◌, ◌==◌, ℕ, Bool, true, false, cond, suc, List, [], ◌∷◌, refl, sym, ◌∙◌, ap, subst, arith}
+use Rattle.std.proofs.Common.{◌≡◌, ◌<◌, ◌≤◌, ◌==◌, ◌+◌, ℕ, Bool, true, false, cond, suc, length, true≢false, List, [], ◌∷◌, refl, sym, ◌∙◌, ap, subst, arith}
 use Rattle.std.specs.Cmp.{IsEquivalence}
-use Rattle.std.specs.List.{AllByRecursion, Contains, Any, dedup, dedup_from}
+use Rattle.std.specs.List.{AllByRecursion, AllAdjacentBelow, IsAllAdjacentAnswer, Contains, Any, dedup, dedup_from}
+use Rattle.std.specs.Prelude.{nat_lt, slice_index_or}
 use Rattle.std.specs.List.Sorted.{IsPermutation, IsNonDecreasingBy}
 use Rattle.std.proofs.lemmas.Bool.{eqb-true, eq-eqb}
 use Rattle.std.proofs.lemmas.Bool.Decides.{nat_tests}
@@ -78,6 +79,29 @@ same_laws = record {
   where
     turned : (a b : ℕ) → (a == b) ≡ (b == a)
     turned a b = grind (arith, nat_tests)
+
+-- ---- files of which each has a greater number than the one before it
+
+further : (n m : ℕ) (xs : List FileView) → n < m → AllByRecursion (λ y. m < number y) xs → AllByRecursion (λ y. n < number y) xs
+further n m [] lt all = all
+further n m (x ∷ xs) lt all = (omega (arith, lt, all.0), further n m xs lt all.1)
+
+climbing : (xs : List FileView) → AllAdjacentBelow (λ x y. number x < number y) xs (length xs) → AreRising xs
+climbing [] up = tt
+climbing (x ∷ []) up = (tt, tt)
+climbing (x ∷ y ∷ xs) up =
+    let after : (k : ℕ) → suc k + 1 ≡ suc (k + 1) = λ k. omega arith in
+    let rest : AreRising (y ∷ xs) = climbing (y ∷ xs)
+    (λ k d lt. subst (λ n. number (slice_index_or (y ∷ xs) k d) < number (slice_index_or (x ∷ y ∷ xs) n d)) (after k) (up (suc k) d (omega (arith, lt)))) in
+    let first : number x < number y = up 0 x (omega arith) in
+    ((first, further (number x) (number y) xs first rest.0), rest)
+
+below : (a b : ℕ) → true ≡ nat_lt a b → a < b
+below a b e = grind (arith, nat_tests)
+
+pub told_rising : (xs : List FileView) (told : Bool) → IsAllAdjacentAnswer (λ x y b. b ≡ nat_lt (number x) (number y)) xs told → told ≡ true → AreRising xs
+told_rising xs true each e = climbing xs (λ k d lt. below _ _ (each k d lt))
+told_rising xs false each e = absurd (true≢false (sym e))
 
 -- ---- what a sort and a thinning leave
 

@@ -1,6 +1,6 @@
 //! Listings and registers.
 
-ghost use Rattle.std.specs.Prelude.{◌≡◌, Some, length, IfOk, List};
+ghost use Rattle.std.specs.Prelude.{◌≡◌, Some, length, IfOk, List, true};
 ghost use Rattle.std.specs.List.{Contains, Any};
 ghost use Rattle.permit_base.specs.declared.request.Request.TheVariants as request;
 ghost use Rattle.permit_base.specs.declared.request.Filter.{Filter as TheFilter};
@@ -142,12 +142,26 @@ fn gather<S: Store>(
     })
 }
 
-/// The files in rising number, each once.
+/// Whether each file's number is above that of the file before it.
+fn is_rising(files: &[FileView]) -> bool
+    ensures { result ≡ true → AreRising files.now }
+{
+    files.is_sorted_by(|one, next| {
+        let one: &FileView = one;
+        let next: &FileView = next;
+        one.row.id.get() < next.row.id.get()
+    })
+}
+
+/// The files in rising number, each once. Those of one selection come so, and none of them is moved then.
 fn in_order(mut files: Vec<FileView>) -> Vec<FileView>
     ensures order { AreRising result.items }
     ensures from { (view : TheView) → Contains result.items view → Contains files.items view }
     ensures all { (view : TheView) → Contains files.items view → Any (λ kept. kept.row.id ≡ view.row.id) result.items }
 {
+    if is_rising(&files) {
+        return files;
+    }
     files.sort_unstable_by_key(|view| {
         let view: &FileView = view;
         view.row.id.get()
