@@ -1,5 +1,7 @@
 -- An answer's text by its parts.
-use Rattle.std.proofs.Common.{ℕ, Bool, List, ◌≡◌, ◌++◌, length, codes, ap, ◌∙◌, refl}
+use Rattle.std.proofs.Common.{ℕ, Bool, List, ◌≡◌, ◌++◌, ◌-◌, length, take, drop, codes, ap, ap₂, ◌∙◌, refl, arith}
+use Rattle.std.proofs.Math.Seq.{drop-append_seam, take-append_seam}
+use Rattle.std.proofs.lemmas.List.{length-append}
 use Rattle.std.specs.Prelude.{IfOk, OnErr, Result, Ok, Err}
 use Rattle.permit_base.specs.declared.words.RegisterKind.{RegisterKind}
 use Rattle.permit_model.specs.Tables.{FileView}
@@ -32,6 +34,13 @@ pub made_register : {E : Type 0} → (result : Result Made E) (kind : RegisterKi
 made_register (Ok made) kind day said files close s e =
     e ∙ ap (λ x. head_text 200 (codes "text/plain; charset=utf-8") (length (register_text kind day x)) close ++ register_text kind day x) s
 made_register (Err _) kind day said files close s e = tt
+
+-- a head joined to the end of its body, and turned by as many bytes as it has, stands before it
+pub turned : (body head joined text : List ℕ) (size count : ℕ) → joined ≡ body ++ head → size ≡ length joined → count ≡ length head
+    → text ≡ drop (size - count) joined ++ take (size - count) joined → text ≡ head ++ body
+turned body head joined text size count j s k e =
+    let at : size - count ≡ length body = omega (arith, s, k, ap length j, length-append body head) in
+    e ∙ rw (at, j) (ap₂ (λ x y. x ++ y) (drop-append_seam body head) (take-append_seam body head))
 
 -- a fact that holds anyway holds at an error
 pub on_err : {A E : Type 0} → (result : Result A E) (P : Type 0) → P → OnErr result P

@@ -60,28 +60,24 @@ impl Made {
     }
 }
 
-/// The whole text of the answer to a read, with a body of this type.
-fn in_memory(
-    alloc: Global,
-    content_type: &str,
-    body: &[u8],
-    close: bool,
-) -> Result<Made, AllocError>
+/// The whole text of the answer to a read, with a body of this type. It is made where the body stands, which may have tens of
+/// megabytes, so that these are not copied into a second place.
+fn in_memory(content_type: &str, body: Vec<u8>, close: bool) -> Result<Made, AllocError>
     requires { length content_type.now ≤ 32 }
-    ensures { IfOk result (λ made. made_bytes made ≡ head_text 200 content_type.now (length body.now) close ++ body.now) }
+    ensures { IfOk result (λ made. made_bytes made ≡ head_text 200 content_type.now (length body.items) close ++ body.items) }
 {
-    let head = head(StatusCode::OK, content_type, body.len(), close);
-    let mut bytes = Vec::with_capacity(alloc, head.len().saturating_add(body.len()))?;
-    bytes.extend_from_slice(head.as_slice())?;
-    bytes.extend_from_slice(body)?;
-    Ok(Made::InMemory(bytes))
+    let mut text = body;
+    let head = head(StatusCode::OK, content_type, text.len(), close);
+    text.extend_from_slice(head.as_slice())?;
+    text.rotate_right(head.len());
+    Ok(Made::InMemory(text))
 }
 
 /// The whole text of an answer in JSON to a read.
-fn json(alloc: Global, body: &[u8], close: bool) -> Result<Made, AllocError>
-    ensures { IfOk result (λ made. made_bytes made ≡ head_text 200 (codes "application/json") (length body.now) close ++ body.now) }
+fn json(body: Vec<u8>, close: bool) -> Result<Made, AllocError>
+    ensures { IfOk result (λ made. made_bytes made ≡ head_text 200 (codes "application/json") (length body.items) close ++ body.items) }
 {
-    in_memory(alloc, "application/json", body, close)
+    in_memory("application/json", body, close)
 }
 
 /// The text of a register.
@@ -111,7 +107,7 @@ fn plain_text(
     ensures { IfOk result (λ made. made_bytes made ≡ head_text 200 (codes "text/plain; charset=utf-8") (length (register_text kind day files.now)) close ++ register_text kind day files.now) }
 {
     let body = register_bytes(alloc, kind, day, files)?;
-    in_memory(alloc, "text/plain; charset=utf-8", body.as_slice(), close)
+    in_memory("text/plain; charset=utf-8", body, close)
 }
 
 /// The text of an answer. Only a read takes memory.
@@ -136,17 +132,9 @@ fn make(alloc: Global, answer: &Answer, close: bool) -> Result<Made, AllocError>
                 &refusal_body(why),
                 close,
             ))),
-            Reply::Parcel(parcel) => json(alloc, parcel_text(alloc, parcel)?.as_slice(), close),
-            Reply::File(file, papers) => json(
-                alloc,
-                file_text(alloc, file, papers.as_slice())?.as_slice(),
-                close,
-            ),
-            Reply::Listed(listing) => json(
-                alloc,
-                listing_text(alloc, listing.files.as_slice())?.as_slice(),
-                close,
-            ),
+            Reply::Parcel(parcel) => json(parcel_text(alloc, parcel)?, close),
+            Reply::File(file, papers) => json(file_text(alloc, file, papers.as_slice())?, close),
+            Reply::Listed(listing) => json(listing_text(alloc, listing.files.as_slice())?, close),
             Reply::Register { kind, listing } => plain_text(
                 alloc,
                 *kind,

@@ -26,22 +26,22 @@ pub returns-in_ok-parcel_text-in-Parcel-clause-text :
 unfolding answer_text
 returns-in_ok-parcel_text-in-Parcel-clause-text c =
     rw (c.in-Replied.is, c.in-Parcel.is) (made_in_memory c.json.result _ _ c.args.close
-    (c.as_slice.ensures.value ∙ c.in_ok-parcel_text-in-Parcel.ensures) c.json.ensures)
+    c.in_ok-parcel_text-in-Parcel.ensures c.json.ensures)
 
 pub returns-in_ok-file_text-in-File-clause-text :
     goal.returns-in_ok-file_text-in-File-clause-text
 unfolding answer_text
 returns-in_ok-file_text-in-File-clause-text c =
     rw (c.in-Replied.is, c.in-File.is) (made_in_memory c.json-in-File.result _ _ c.args.close
-    (c.as_slice-in-File-2.ensures.value ∙ c.in_ok-file_text-in-File.ensures
-    ∙ ap (λ papers. compact_text (file_data c.in-File.file papers)) c.as_slice-in-File.ensures.value) c.json-in-File.ensures)
+    (c.in_ok-file_text-in-File.ensures
+    ∙ ap (λ papers. compact_text (file_data c.in-File.file papers)) c.as_slice.ensures.value) c.json-in-File.ensures)
 
 pub returns-in_ok-listing_text-in-Listed-clause-text :
     goal.returns-in_ok-listing_text-in-Listed-clause-text
 unfolding answer_text
 returns-in_ok-listing_text-in-Listed-clause-text c =
     rw (c.in-Replied.is, c.in-Listed.is) (made_in_memory c.json-in-Listed.result _ _ c.args.close
-    (c.as_slice-in-Listed-2.ensures.value ∙ c.in_ok-listing_text-in-Listed.ensures
+    (c.in_ok-listing_text-in-Listed.ensures
     ∙ ap (λ files. compact_text (listing_data files)) c.as_slice-in-Listed.ensures.value) c.json-in-Listed.ensures)
 
 pub returns-in-Register-clause-text : goal.returns-in-Register-clause-text
