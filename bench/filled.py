@@ -14,7 +14,7 @@ def token(party):
     return f"tokentokentoken{party}"
 
 
-def fill(path, files):
+def fill(path, files, required=REQUIRED):
     """Fills a founded database: the resident applied for six files, is the contractor of three and owns one's parcel."""
     conn = sqlite3.connect(path, isolation_level=None)
     conn.execute("BEGIN")
@@ -34,7 +34,7 @@ def fill(path, files):
         kind, stage = k % 7, k * 7919 % 9
         filed = DAY - k % (100 if turn is not None else 250)
         deadline = filed + 180 if stage in TIMED else -1
-        done = len(REQUIRED[kind]) if stage == FINALED else 0
+        done = len(required[kind]) if stage == FINALED else 0
         papers = 2 if k % 12 < 7 else 0
         people = (parcel, applicant, contractor, reviewer, 14 + k % 10 if k % 5 else 0)
         row = (k, *people, kind, k * 1000, f"House {k} on a corner lot", filed, stage, deadline, done, -1, -1, 0, 0, 0, papers, -1)
