@@ -1,6 +1,6 @@
 //! The connections that a worker takes for itself, one after the other, from a listener that all workers share.
 
-ghost use Rattle.std.specs.Prelude.{◌≡◌, ◌-◌, All, IfOk, MatchOption, Some, length, option_map};
+ghost use Rattle.std.specs.Prelude.{◌≡◌, ◌≢◌, ◌-◌, All, IfOk, MatchOption, Some, length, option_map};
 
 use crate::limits::PAUSE;
 use crate::pace::{AnswerWriter, RequestReader, with_timeouts};
@@ -36,8 +36,8 @@ impl<C: Clock + Net + Copy + Drop + Send> Door for Connections<C> {
 
     ghost spent = { λ d. d.left ≡ Some 0 };
 
-    // A connection that is given counts as one of those that are left.
-    ghost gave = { λ d given e. MatchOption given (e.left ≡ Some 0) (λ _. e.left ≡ option_map (λ n. n - 1) d.left) };
+    // None is given where none is left, and one that is given counts as one of those that are left.
+    ghost gave = { λ d given e. MatchOption given (e.left ≡ Some 0) (λ _. (d.left ≢ Some 0) × (e.left ≡ option_map (λ n. n - 1) d.left)) };
 
     fn next(&mut self) -> Option<(RequestReader<C>, AnswerWriter<C>)> {
         for _ in 0..u64::MAX {

@@ -1,10 +1,12 @@
 //! Serving an office over TCP: each worker takes connections for itself.
 
-ghost use Rattle.std.specs.Prelude.{◌≡◌, All, IfOk, length, List, OnErr};
+ghost use Rattle.std.specs.Prelude.{◌≡◌, ◌⊎◌, All, IfOk, IfErr, length, List, OnErr};
 ghost use Rattle.permit_base.specs.declared.request.Asked.{Asked};
 ghost use Rattle.permit_wire.specs.declared.service.Dated.{Dated};
 ghost use Rattle.permit_hall.specs.Runs.{Entry};
 ghost use Rattle.permit_hall.specs.OneHistory.{OneHistory};
+ghost use Rattle.permit_subcommands.specs.Failures.{IsUnheard};
+ghost use Rattle.permit_subcommands.specs.declared.failure.Failure.TheVariants.{Output};
 
 use crate::connections::{Connections, Flag, doors};
 use permit_args::plan::ServeWords;
@@ -42,7 +44,9 @@ fn doors_at(
 }
 
 /// Says on which address connections are taken.
-fn say<O: Write>(out: &mut O, address: SocketAddr) -> Result<(), Failure> {
+fn say<O: Write>(out: &mut O, address: SocketAddr) -> Result<(), Failure>
+    ensures { IfErr result (λ why. why ≡ Output) }
+{
     match writeln!(out, "listening {address}") {
         Ok(()) => match out.flush() {
             Ok(()) => Ok(()),
@@ -61,6 +65,7 @@ fn listen<O: Write>(
 ) -> Result<Vec<Connections<HostRuntime>>, Failure>
     ensures count { IfOk result (λ doors. length doors.items ≡ words.now.workers) }
     ensures left { IfOk result (λ doors. All (λ d. d.left ≡ words.now.connections) doors.items) }
+    ensures fault { IfErr result (λ why. IsUnheard words.now.listen.now why ⊎ (why ≡ Output)) }
 {
     let Ok((doors, address)) = doors_at(rt, words, shut) else {
         return Err(Failure::unheard(rt.alloc(), words.listen));
@@ -89,6 +94,7 @@ where
     requires { T.IsAlwaysCallable today.old }
     ensures run { IfOk result.1 (λ _. (served : List (Entry Asked Dated)) × OneHistory S.view T.step words.now.workers office result.0 today.old today.new served) }
     ensures same { OnErr result.1 (result.0 ≡ office) }
+    ensures fault { IfErr result.1 (λ why. IsUnheard words.now.listen.now why ⊎ (why ≡ Output)) }
 {
     let doors = match listen(rt, words, shut, out) {
         Ok(doors) => doors,
