@@ -1,7 +1,7 @@
 use Rattle.std.proofs.Common.{◌≡◌, Result, Ok, Err, IfOk, subst, sym, refl}
 use Rattle.sqlite.specs.State.{HasCleanDisk}
 use Rattle.sqlite.specs.Held.{state}
-use Rattle.permit_model.specs.Tables.{Tables, Desk}
+use Rattle.permit_model.specs.Tables.{Tables}
 use Rattle.permit_cli.specs.Checked.{IsCounted}
 use Rattle.permit_cli.specs.declared.database.Done.{Done}
 use Rattle.permit_cli.specs.declared.database.Done.TheVariants as done
