@@ -7,6 +7,7 @@ mod clock;
 mod database;
 mod heads;
 mod history;
+mod listings;
 mod office;
 mod orders;
 mod served;
@@ -17,7 +18,7 @@ use std::env;
 
 /// The words that say what is measured, each with the words behind it.
 const USAGE: &str =
-    "heads, served POLICY, lives POLICY COMMANDS, rounds POLICY COMMANDS FILES, found PATH, open PATH, calls PATH";
+    "heads, served POLICY, lives POLICY COMMANDS, rounds POLICY COMMANDS FILES, found PATH, open PATH, calls PATH, listings PATH POLICY";
 
 /// The word at a place, empty where there is none.
 fn word(words: &[String], at: usize) -> &str {
@@ -43,6 +44,7 @@ fn main(rt: HostRuntime) -> Result<()> {
         "found" => measure_at(&rt, place, Task::Found),
         "open" => measure_at(&rt, place, Task::Open),
         "calls" => measure_at(&rt, place, Task::Calls),
+        "listings" => listings::measure(&rt, place, word(&words, 2)),
         _ => {
             println!(rt; "{USAGE}")?;
             Ok(())

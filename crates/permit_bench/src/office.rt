@@ -81,6 +81,12 @@ fn policy_of(alloc: Global, words: &str) -> Result<Policy> {
     }
 }
 
+/// The policy at a path.
+pub fn policy_at(rt: &(impl Files + AllocGlobal), path: &str) -> Result<Policy> {
+    let words = fs::read_to_string(rt, path)?;
+    policy_of(rt.alloc(), words.as_str())
+}
+
 /// Founds an office over vectors, under the policy of the text.
 pub fn founded(alloc: Global, policy: &str) -> Result<Office<PlainStore>> {
     let store = store(alloc)?;
