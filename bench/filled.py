@@ -55,17 +55,37 @@ class Client:
         self.port, self.socket, self.buffer = port, None, bytearray(1 << 26)
 
     def get(self, path, caller):
-        if self.socket is None:
-            self.socket = socket.create_connection(("127.0.0.1", self.port))
-            self.socket.setsockopt(socket.IPPROTO_TCP, socket.TCP_NODELAY, 1)
-        self.socket.sendall(f"GET {path} HTTP/1.1\r\nHost: office\r\nAuthorization: Bearer {token(caller)}\r\n\r\n".encode())
+        """An answer's body. A server closes a connection on which nothing was said for 2 seconds, and then another is made."""
+        request = f"GET {path} HTTP/1.1\r\nHost: office\r\nAuthorization: Bearer {token(caller)}\r\n\r\n".encode()
+        for _ in range(2):
+            if self.socket is None:
+                self.socket = socket.create_connection(("127.0.0.1", self.port))
+                self.socket.setsockopt(socket.IPPROTO_TCP, socket.TCP_NODELAY, 1)
+            body = self.ask(request)
+            if body is not None:
+                return body
+            self.close()
+        raise ConnectionError(path)
+
+    def ask(self, request):
+        """The body of the answer to a request; None where the connection is closed."""
         view, have, body, whole = memoryview(self.buffer), 0, 0, 0
-        while not whole or have < whole:
-            have += self.socket.recv_into(view[have:])
-            if not whole and (body := self.buffer.find(b"\r\n\r\n", 0, have) + 4) > 3:
-                head = bytes(view[:body]).lower()
-                whole = body + int(head.split(b"content-length:")[1].split(b"\r\n")[0])
+        try:
+            self.socket.sendall(request)
+            while not whole or have < whole:
+                got = self.socket.recv_into(view[have:])
+                if not got:
+                    return None
+                have += got
+                if not whole and (body := self.buffer.find(b"\r\n\r\n", 0, have) + 4) > 3:
+                    head = bytes(view[:body]).lower()
+                    whole = body + int(head.split(b"content-length:")[1].split(b"\r\n")[0])
+        except (BrokenPipeError, ConnectionResetError):
+            return None
         if b"connection: close" in head:
-            self.socket.close()
-            self.socket = None
+            self.close()
         return view[body:have]
+
+    def close(self):
+        self.socket.close()
+        self.socket = None
