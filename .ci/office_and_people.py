@@ -14,11 +14,11 @@ from webdriver import Failed, free_port
 
 TOP = Path(__file__).resolve().parent.parent
 PROGRAM = Path(os.environ.get("PERMIT") or TOP / "crates/permit/out/permit").resolve()
-POLICY = TOP / "policies/standard.toml"
+POLICY = TOP / "policies/department.toml"
 TODAY = datetime.now(timezone.utc).date()
 CHIEF = "abcdefghijklmnopqrstuvwxyz"
 TOKENS = {"clerk": "clerk2clerk2clerk2", "reviewer": "reviewer3reviewer3", "inspector": "inspector4inspector4",
-          "public": "public5public5public5", "official": CHIEF}
+          "public": "public5public5public5", "official": CHIEF, "nobody": "nobody6nobody6nobody6"}
 WORST = 60  # seconds that a view may take, with 99,999 files and on a machine that does other things too
 
 
@@ -68,8 +68,8 @@ class Proxy:
 class Office:
     """An office in a file, which goes away and comes back on one port, and the proxy before it."""
 
-    def __init__(self, folder):
-        self.db = str(Path(folder) / "office.db")
+    def __init__(self, folder, policy=POLICY):
+        self.db, self.policy = str(Path(folder) / "office.db"), policy
         self.port = free_port()
         words = ["init", "--db", self.db, "--name", "Chief", "--token", CHIEF, "--day", str(TODAY)]
         subprocess.run([PROGRAM, *words], check=True, stdout=subprocess.DEVNULL)
@@ -78,7 +78,7 @@ class Office:
         self.url = self.proxy.url
 
     def start(self, day=TODAY):
-        words = ["serve", "--db", self.db, "--policy", str(POLICY), "--day", str(day), "--listen", f"127.0.0.1:{self.port}"]
+        words = ["serve", "--db", self.db, "--policy", str(self.policy), "--day", str(day), "--listen", f"127.0.0.1:{self.port}"]
         self.process = subprocess.Popen([PROGRAM, *words], stdout=subprocess.PIPE, text=True)
         want(self.process.stdout.readline(), f"listening 127.0.0.1:{self.port}\n", "the office listens")
 
@@ -204,10 +204,18 @@ class Person:
                 self.browser.clear(field)
                 self.browser.type(field, value)
 
-    def submit(self, label):
+    def press_submit(self, label):
         form = {webdriver.ELEMENT: self.form(label)}
         self.browser.script("document.getElementById('said').textContent = ''")
         self.browser.click(self.browser.by_script("return arguments[0].querySelector('button[type=submit]')", form))
+
+    def submit(self, label):
+        """Sends a form, and says yes where it is asked once more; what was asked then."""
+        self.press_submit(label)
+        asked = self.browser.script("return document.querySelector('.check:not([hidden])')?.innerText ?? null")
+        if asked is not None:
+            self.browser.click(self.browser.find(".check:not([hidden]) .yes"))
+        return asked
 
     def answered(self):
         """What was said to what was sent: of what was done, or of a refusal."""
@@ -221,16 +229,19 @@ class Person:
         return self.answered()
 
     def command(self, file, label, **values):
-        """Opens a file and does a command on it, which has to be accepted."""
+        """Opens a file and does a command on it, which has to be accepted; what was asked before it was sent."""
         self.open(f"files/{file}")
-        want(self.send(label, **values), f"Done: {label}.", label)
+        self.fill(label, **values)
+        asked = self.submit(label)
+        want(self.answered(), f"Done: {label}.", label)
         self.wait(SETTLED, "the file")
+        return asked
 
     def refused(self, file, label, words, **values):
         """The same, which has to be refused in these words."""
         self.open(f"files/{file}")
         said = self.send(label, **values)
-        for part in ("Refused.", *words):
+        for part in words:
             want_in(part, said, label)
 
     def type_text(self, css, text):
@@ -246,10 +257,18 @@ class Person:
             "return [...document.querySelectorAll('button')].find(button => button.textContent === arguments[0])", label))
 
     def waits(self, file, title):
-        """A file stands in a group of what waits."""
+        """A file stands in a group of what waits. A table draws the rows that are looked at, so its end is looked at too."""
         self.open("waiting")
-        groups = self.browser.script(
-            "return [...document.querySelectorAll('main section')].map(at => [at.querySelector('h2').textContent, at.innerText])")
+        groups = self.browser.script("""return [...document.querySelectorAll('main section')].map(at => {
+            const beginning = at.innerText;
+            at.querySelector('tr[data-index]')?.dispatchEvent(new KeyboardEvent('keydown', { key: 'End', bubbles: true }));
+            return [at.querySelector('h2').textContent, beginning + at.innerText];
+        })""")
         found = [text for heading, text in groups if heading.startswith(title + " (")]
         want_in(f"File {file}", "".join(found), f"what waits under {title}")
         return "".join(found)
+
+    def sees(self, *parts):
+        """The page shows these in what it is about, soon: places come once they are known."""
+        for part in parts:
+            self.wait("return document.querySelector('main').innerText.includes(arguments[0])", f"{part!r}", part)

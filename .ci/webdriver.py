@@ -1,4 +1,5 @@
 """A browser driven by the WebDriver protocol (W3C): headless Chromium and its driver, as Debian has them."""
+import base64
 import json
 import os
 import shutil
@@ -7,9 +8,11 @@ import subprocess
 import time
 import urllib.error
 import urllib.request
+from pathlib import Path
 
 ELEMENT = "element-6066-11e4-a52e-4f735466cecf"
-PACKAGES = {"chromium": "chromium", "chromedriver": "chromium-driver", "nginx": "nginx"}
+PACKAGES = {"chromium": "chromium", "chromedriver": "chromium-driver", "nginx": "nginx",
+            "pdftotext": "poppler-utils"}
 # The keys of the protocol.
 TAB, ENTER, SPACE, DOWN, END, SHIFT = "\ue004", "\ue007", " ", "\ue015", "\ue010", "\ue008"
 
@@ -163,3 +166,14 @@ class Browser:
 
     def screenshot(self):
         return self.ask("GET", "/screenshot")
+
+    def print_pages(self, folder, width=21.59, height=27.94):
+        """The pages that the browser prints, each as its text with its layout; paper is as large as said, in cm."""
+        made = self.ask("POST", "/print", {"page": {"width": width, "height": height}, "shrinkToFit": False})
+        path = Path(folder) / "printed.pdf"
+        path.write_bytes(base64.b64decode(made))
+        text = subprocess.run(["pdftotext", "-layout", path, "-"], check=True, capture_output=True, text=True, timeout=60).stdout
+        return text.split("\f")[:-1]
+
+    def keep_downloads(self, folder):
+        self.devtools("Browser.setDownloadBehavior", {"behavior": "allow", "downloadPath": str(folder)})

@@ -1,10 +1,14 @@
 // The page: which view stands behind which address, who is signed in, and what is said of what was done.
 
-import { Refusal } from './api.js';
-import { el, freshId } from './dom.js';
-import { refusalBox } from './refusals.js';
+import { Refusal, isUncertain } from './api.js';
+import { department, readDepartment } from './department.js';
+import { button, el, freshId, said, tell, title } from './dom.js';
+import { watchIdleness } from './idle.js';
+import { unreadBox } from './refusals.js';
 import * as session from './session.js';
 import { applyView, parcelView, parcelsView, partiesView } from './view-desk.js';
+import { daySheetView } from './view-day.js';
+import { documentView } from './view-document.js';
 import { fileView } from './view-file.js';
 import { filesView, forgetFiles } from './view-files.js';
 import { registerView } from './view-registers.js';
@@ -15,7 +19,6 @@ import { VIEWS } from './words.js';
 const main = document.getElementById('main');
 const places = document.getElementById('places');
 const account = document.getElementById('account');
-const saidLine = document.getElementById('said');
 
 const RETRY = 5000; // Milliseconds until the office is asked again where it doesn't answer.
 
@@ -23,6 +26,7 @@ const RETRY = 5000; // Milliseconds until the office is asked again where it doe
 const EVERYBODY = Object.keys(VIEWS);
 const PLACES = [
   { href: '#/waiting', label: 'Waiting', views: EVERYBODY },
+  { href: '#/day', label: 'Day sheet', views: ['inspector', 'official'] },
   { href: '#/files', label: 'All files', views: EVERYBODY },
   { href: '#/registers/files', area: '#/registers', label: 'Registers', views: EVERYBODY },
   { href: '#/apply', label: 'File an application', views: ['public', 'official'] },
@@ -30,20 +34,23 @@ const PLACES = [
   { href: '#/parties', label: 'Parties', views: ['clerk', 'official'] },
 ];
 
-const calls = { again: () => show(), done };
+const calls = { again: () => show(), done, show: place };
 
 // The views by their addresses.
 const ID = '([1-9][0-9]{0,4})';
-const ROUTES = [
+const ADDRESSES = [
   [/^#\/waiting$/, () => waitingView(session.view())],
+  [/^#\/day$/, () => daySheetView(null)],
+  [new RegExp(`^#/day/${ID}$`), inspector => daySheetView(Number(inspector))],
   [/^#\/files$/, () => filesView(show)],
-  [new RegExp(`^#/files/${ID}$`), id => fileView(id, session.view(), calls)],
+  [new RegExp(`^#/files/${ID}$`), id => fileView(Number(id), session.view(), calls)],
+  [new RegExp(`^#/files/${ID}/papers/${ID}$`), (id, paper) => documentView(Number(id), Number(paper))],
   [/^#\/registers\/(files|deadlines|inspections)$/, name => registerView(name)],
-  [/^#\/apply$/, () => applyView(null, filed)],
-  [new RegExp(`^#/apply/${ID}$`), parcel => applyView(parcel, filed)],
+  [/^#\/apply$/, () => applyView(null, session.view(), filed)],
+  [new RegExp(`^#/apply/${ID}$`), parcel => applyView(Number(parcel), session.view(), filed)],
   [/^#\/parcels$/, () => parcelsView(session.view(), added)],
-  [new RegExp(`^#/parcels/${ID}$`), id => parcelView(id, session.view(), calls)],
-  [/^#\/parties$/, () => partiesView(done)],
+  [new RegExp(`^#/parcels/${ID}$`), id => parcelView(Number(id), session.view(), calls)],
+  [/^#\/parties$/, () => partiesView(place)],
 ];
 
 const isHere = ({ href, area = href }) => location.hash === href || location.hash.startsWith(`${area}/`);
@@ -59,7 +66,14 @@ function drawHead() {
   const id = freshId();
   const options = Object.entries(VIEWS).map(([view, name]) => el('option', { value: view, selected: view === session.view() }, name));
   account.replaceChildren(el('label', { for: id }, 'View'), el('select', { id, onchange: changeView }, options),
-    el('button', { type: 'button', onclick: () => signOut() }, 'Sign out'));
+    button('Sign out', () => signOut()));
+}
+
+function drawFoot() {
+  const { name, address, contact } = department();
+  document.getElementById('office').textContent = name;
+  document.getElementById('foot').replaceChildren(el('p', {}, said(name)), address.length > 0 ? el('p', {}, said(address.join(', '))) : '',
+    contact === '' ? '' : el('p', {}, said(contact)));
 }
 
 function changeView(event) {
@@ -73,7 +87,7 @@ function place(view) {
   main.removeAttribute('aria-busy');
   main.dataset.place = location.hash;
   const heading = main.querySelector('h1');
-  document.title = `${heading.textContent} · Building permits`;
+  document.title = `${heading.textContent} · ${department().name}`;
   if (account.hidden || !account.contains(document.activeElement)) heading.focus({ preventScroll: true });
 }
 
@@ -85,7 +99,7 @@ async function show() {
   turn += 1;
   clearTimeout(retry);
   drawHead();
-  if (session.token() === null) return showSignIn(null);
+  if (session.token() === null) return showSignIn({ leadsOn: isAddress() });
   const mine = turn;
   main.setAttribute('aria-busy', 'true');
   const slow = setTimeout(() => { if (mine === turn) main.replaceChildren(el('p', { class: 'none' }, 'The office is asked.')); }, 300);
@@ -99,8 +113,10 @@ async function show() {
   }
 }
 
+const isAddress = () => ADDRESSES.some(([pattern]) => pattern.test(location.hash));
+
 async function viewOf(hash) {
-  for (const [pattern, make] of ROUTES) {
+  for (const [pattern, make] of ADDRESSES) {
     const found = pattern.exec(hash);
     if (found !== null) return await make(...found.slice(1));
   }
@@ -111,34 +127,50 @@ async function viewOf(hash) {
 function showFault(fault) {
   const refusal = fault instanceof Refusal ? fault : new Refusal('unclear');
   if (!(fault instanceof Refusal)) console.error(fault);
-  if (refusal.word === 'caller') return signOut(refusal);
-  place(el('div', { class: 'narrow' }, el('h1', { tabindex: '-1' }, 'This can\'t be shown'),
-    refusalBox(refusal, el('button', { type: 'button', onclick: () => show() }, 'Try again'))));
-  if (refusal.word === 'away') retry = setTimeout(show, RETRY);
+  if (refusal.word === 'caller') return askWho(refusal);
+  place(el('div', { class: 'narrow' }, title('This can\'t be shown'), unreadBox(refusal, button('Try again', () => show()))));
+  if (isUncertain(refusal)) retry = setTimeout(show, RETRY);
 }
 
-function showSignIn(refusal) {
-  place(signInView(refusal, () => {
-    if (location.hash === '#/waiting') show();
+// Where the address is a place of the page, it comes behind the sign-in.
+function showSignIn(told) {
+  place(signInView(told, () => {
+    if (isAddress()) show();
     else location.hash = '#/waiting';
   }));
 }
 
-function signOut(refusal = null) {
+// The office doesn't know the token any more: who signs in goes on where this was, with what was typed.
+function askWho(refusal) {
+  endSession({ keepsTyped: true, byAnybody: true });
+  showSignIn({ refusal, leadsOn: isAddress() });
+}
+
+function endSession(how) {
   turn += 1;
   clearTimeout(retry);
-  session.signOut();
-  saidLine.textContent = '';
-  history.replaceState(null, '', '#/');
+  session.signOut(how);
+  tell('');
   drawHead();
-  showSignIn(refusal);
+}
+
+function signOut() {
+  endSession();
+  history.replaceState(null, '', '#/');
+  showSignIn({});
+}
+
+function signOutIdle() {
+  endSession({ keepsTyped: true });
+  const why = 'You were signed out, since nothing was done here for 15 minutes. What you had typed is there again once you sign in.';
+  showSignIn({ why, leadsOn: isAddress() });
 }
 
 // Says what was done, and reads anew what is shown.
 async function done(words) {
   if (session.token() === null) return;
   forgetFiles();
-  saidLine.textContent = words;
+  tell(words);
   await show();
 }
 
@@ -146,20 +178,24 @@ function goTo(hash, words) {
   if (session.token() === null) return;
   forgetFiles();
   location.hash = hash;
-  said = words;
+  toTell = words;
 }
 
 // What is to be said once the next view is shown.
-let said = '';
+let toTell = '';
 
 const filed = number => goTo(`#/files/${number}`, `File ${number} was filed.`);
 const added = number => goTo(`#/parcels/${number}`, `Parcel ${number} was added.`);
 
-window.addEventListener('hashchange', () => {
-  saidLine.textContent = said;
-  said = '';
+addEventListener('hashchange', () => {
+  tell(toTell);
+  toTell = '';
   show();
 });
+addEventListener('permit:caller', event => askWho(event.detail));
 document.getElementById('skip').addEventListener('click', () => main.querySelector('h1')?.focus());
 if (session.token() !== null && location.hash.length < 3) history.replaceState(null, '', '#/waiting');
+await readDepartment();
+drawFoot();
+watchIdleness(signOutIdle);
 show();

@@ -1,12 +1,14 @@
-// The columns of the tables of files.
+// The columns of the tables of files, with what of them goes out as CSV.
 
 import { dateText, isoDate, leftText } from './dates.js';
 import { el, said } from './dom.js';
-import { KINDS, STAGES, nextOf, party } from './words.js';
+import { nextOf } from './next.js';
+import { addressOf, lotOf, placeNode } from './places.js';
+import { KINDS, STAGES, STEPS, party, plainMoney } from './words.js';
 
 export const dateNode = day => el('time', { datetime: isoDate(day) }, dateText(day));
 
-export const fileLink = file => el('a', { href: `#/files/${file.id}` }, `File ${file.id}`);
+export const fileLink = id => el('a', { href: `#/files/${id}` }, `File ${id}`);
 
 // A deadline's date with the days that are left.
 export function deadlineNode(file) {
@@ -15,34 +17,57 @@ export function deadlineNode(file) {
 }
 
 const LATEST = 1_000_000; // Behind every day: what has none comes last.
+const LAST = '\uffff'; // Behind every text.
+
+const dateOut = day => (day === null ? '' : isoDate(day));
+
+// The three columns of a place that go out, by what gives a row's parcel.
+export const placeOut = parcel => [
+  ['Parcel', parcel], ['Lot', row => lotOf(parcel(row))], ['Address', row => addressOf(parcel(row))],
+];
+
+export const placeOrder = id => addressOf(id).toLowerCase() || LAST;
+
+const stageWords = file => (file.stopped ? `${STAGES[file.stage]}, stopped` : STAGES[file.stage]);
 
 export const COLUMNS = {
-  id: { key: 'id', label: 'File', place: 'at-id', cell: fileLink, order: file => file.id },
-  kind: { key: 'kind', label: 'Kind', place: 'at-kind', cell: file => KINDS[file.kind], order: file => file.kind },
+  id: { key: 'id', label: 'File', place: 'at-id', cell: file => fileLink(file.id), order: file => file.id, out: [['File', file => file.id]] },
+  kind: {
+    key: 'kind', label: 'Kind', place: 'at-kind', cell: file => KINDS[file.kind], order: file => file.kind,
+    out: [['Kind', file => KINDS[file.kind]]],
+  },
   description: {
     key: 'description', label: 'Description', place: 'at-text', cell: file => said(file.description),
     order: file => file.description.toLowerCase(),
+    out: [['Description', file => file.description], ['Valuation', file => plainMoney(file.valuation)]],
   },
   stage: {
-    key: 'stage', label: 'Stage', place: 'at-stage', order: file => Object.keys(STAGES).indexOf(file.stage),
-    cell: file => (file.stopped ? `${STAGES[file.stage]}, stopped` : STAGES[file.stage]),
+    key: 'stage', label: 'Stage', place: 'at-stage', order: file => Object.keys(STAGES).indexOf(file.stage), cell: stageWords,
+    out: [['Stage', stageWords]],
   },
   parcel: {
-    key: 'parcel', label: 'Parcel', place: 'at-parcel', order: file => file.parcel,
-    cell: file => el('a', { href: `#/parcels/${file.parcel}` }, `Parcel ${file.parcel}`),
+    key: 'parcel', label: 'Place', place: 'at-parcel', order: file => placeOrder(file.parcel), cell: file => placeNode(file.parcel),
+    out: placeOut(file => file.parcel),
   },
   applicant: {
     key: 'applicant', label: 'Applicant', place: 'at-applicant', cell: file => party(file.applicant), order: file => file.applicant,
+    out: [['Applicant', file => file.applicant]],
   },
-  next: { key: 'next', label: 'What comes next', place: 'at-next', cell: nextOf, order: nextOf },
+  next: { key: 'next', label: 'What comes next', place: 'at-next', cell: nextOf, order: nextOf, out: [['What comes next', nextOf]] },
   deadline: {
     key: 'deadline', label: 'Deadline', place: 'at-deadline', cell: deadlineNode, order: file => file.deadline ?? LATEST,
+    out: [['Deadline', file => dateOut(file.deadline)]],
   },
   requested: {
     key: 'requested', label: 'Requested', place: 'at-next', order: file => file.requested ?? LATEST,
-    cell: file => el('span', {}, `${file.request}, since `, dateNode(file.requested)),
+    cell: file => el('span', {}, `${STEPS[file.request]}, since `, dateNode(file.requested)),
+    out: [['Inspection', file => STEPS[file.request]], ['Requested', file => dateOut(file.requested)]],
   },
   asked: {
     key: 'asked', label: 'Asked for', place: 'at-next', cell: file => `${file.ask} days`, order: file => file.ask,
+    out: [['Days asked for', file => file.ask]],
   },
 };
+
+// What of some columns goes out, each head once.
+export const outOf = columns => columns.flatMap(column => column.out);

@@ -1,5 +1,7 @@
 // Days as the office counts them, from 1970-01-01, and the office's own day.
 
+import { NEAR } from './rules.js';
+
 const MILLISECONDS = 86_400_000;
 const dateFormat = new Intl.DateTimeFormat(undefined, { dateStyle: 'medium', timeZone: 'UTC' });
 
@@ -36,8 +38,8 @@ export const isDayKnown = () => Date.now() - learned < HOUR;
 export function agreeWith({ deadline, filed, timing }) {
   let day = Math.max(today(), filed);
   if (timing === 'past') day = Math.max(day, deadline + 1);
-  if (timing === 'near') day = Math.min(Math.max(day, deadline - 30), deadline);
-  if (timing === 'ahead') day = Math.min(day, deadline - 31);
+  if (timing === 'near') day = Math.min(Math.max(day, deadline - NEAR), deadline);
+  if (timing === 'ahead') day = Math.min(day, deadline - NEAR - 1);
   ahead = day - browserDay();
 }
 

@@ -25,3 +25,18 @@ export function el(tag, attributes = {}, ...children) {
 export function said(text, tag = 'bdi') {
   return el(tag, { class: 'said', dir: 'auto' }, text);
 }
+
+export const title = text => el('h1', { tabindex: '-1' }, text);
+
+export const button = (label, onclick) => el('button', { type: 'button', onclick }, label);
+
+// Terms with their values; one that is long takes a whole line.
+export function factList(facts) {
+  const row = ([term, value, isLong = false]) => el('div', { class: isLong ? 'whole' : null }, el('dt', {}, term), el('dd', {}, value));
+  return el('dl', { class: 'facts' }, facts.map(row));
+}
+
+// Says something in the line at the top of the page, which is read out.
+export function tell(words) {
+  document.getElementById('said').textContent = words;
+}

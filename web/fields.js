@@ -1,98 +1,174 @@
-// The fields of the forms: each type has its control, its limits in words, and the value that goes into a body.
+// The fields of the forms: each type has its control, its limits in words, and reads what was typed: as the value that
+// goes into a body, or as a fault in words.
 
+import { currency } from './department.js';
 import { el } from './dom.js';
-import { KINDS, ROLES, STEPS, stepsOf } from './words.js';
+import { parcelOf } from './parcels.js';
+import { placeNode, reasonOf } from './places.js';
+import { LONGEST_LOT, LONGEST_TEXT, MOST_CENTS, MOST_NUMBER, MOST_PAPER, ROLES, TOKEN_LETTERS } from './rules.js';
+import { KIND_CHOICES, STEPS, VIEWS, count, money, party, stepsOf } from './words.js';
 
-const MOST_BYTES = 2000;
-const bytesOf = text => new TextEncoder().encode(text).length;
+const EMPTY = { fault: 'Fill this in.' };
 
-function numberInput(most) {
-  return el('input', { type: 'number', min: '1', max: String(most), step: '1', inputmode: 'numeric', required: true, autocomplete: 'off' });
-}
+const sizeOf = text => new TextEncoder().encode(text).length;
+
+const QUIET = { type: 'text', autocomplete: 'off', autocapitalize: 'off', spellcheck: 'false' };
+
+const numberInput = () => el('input', { ...QUIET, inputmode: 'numeric' });
 
 function select(words, options) {
   const shown = options.map(word => el('option', { value: word }, words[word]));
-  return el('select', { required: true }, el('option', { value: '' }, 'Choose'), shown);
+  return el('select', {}, el('option', { value: '' }, 'Choose'), shown);
 }
 
-function patternInput(pattern, title, more = {}) {
-  const quiet = { autocomplete: 'off', autocapitalize: 'off', spellcheck: 'false' };
-  return el('input', { type: 'text', required: true, pattern, title, ...quiet, ...more });
-}
-
-// Line ends become spaces, and bytes are counted as they are typed.
+// Line ends become spaces as they are typed.
 function textControl(tag, attributes) {
-  const control = el(tag, { required: true, dir: 'auto', autocomplete: 'off', ...attributes });
+  const control = el(tag, { dir: 'auto', autocomplete: 'off', ...attributes });
   control.addEventListener('input', () => {
     if (/[\r\n\t]/.test(control.value)) control.value = control.value.replace(/[\r\n\t]+/g, ' ');
-    control.setCustomValidity(textFault(control.value));
   });
   return control;
 }
 
+// What is wrong with a text, or an empty text.
 export function textFault(text) {
-  const bytes = bytesOf(text);
-  if (bytes > MOST_BYTES) return `At most ${MOST_BYTES} bytes; this has ${bytes}.`;
-  if (/[\u0000-\u001f\u007f]/.test(text)) return 'No line ends and no other control characters.';
-  return text.isWellFormed?.() === false ? 'Half a character stands in it.' : '';
+  if (text.trim() === '') return EMPTY.fault;
+  const over = sizeOf(text) - LONGEST_TEXT;
+  if (over > 0) return `This is too long by ${count(over)}. Shorten it.`;
+  if (/[\u0000-\u001f\u007f]/.test(text)) return 'Something in this can\'t be shown as text. Type it anew.';
+  return text.isWellFormed?.() === false ? 'Half a sign stands in this. Type it anew.' : '';
 }
 
-// The cents of an amount as it is typed, counted without fractions.
-export function centsOf(amount) {
-  const [whole, part = ''] = amount.split(/[.,]/);
-  return Number(whole) * 100 + Number(part.padEnd(2, '0'));
+// What is left of a text, told as it is typed.
+function lengthNode(control) {
+  const node = el('p', { class: 'hint length', role: 'status' });
+  const show = () => {
+    const left = LONGEST_TEXT - sizeOf(control.value);
+    node.textContent = left < 0 ? `Too long by ${count(-left)}.` : `${count(left)} letters left. An accented letter counts as two.`;
+  };
+  control.addEventListener('input', show);
+  show();
+  return node;
 }
+
+function readText(text) {
+  const fault = textFault(text);
+  return fault === '' ? { value: text } : { fault };
+}
+
+// A whole number, as people write it: with spaces around it, a number sign, or commas between thousands.
+function readNumber(text, most) {
+  const typed = text.replaceAll(/[\s#,]/g, '');
+  if (typed === '') return EMPTY;
+  const value = Number(typed);
+  const isRight = /^[0-9]+$/.test(typed) && value >= 1 && value <= most;
+  return isRight ? { value } : { fault: `Give a whole number from 1 to ${count(most)}.` };
+}
+
+const AMOUNTS = [
+  [/^[0-9]{1,3}(,[0-9]{3})+(\.[0-9]{1,2})?$/, text => text.replaceAll(',', '')],
+  [/^[0-9]{1,3}(\.[0-9]{3})+,[0-9]{1,2}$/, text => text.replaceAll('.', '').replace(',', '.')],
+  [/^[0-9]+([.,][0-9]{1,2})?$/, text => text.replace(',', '.')],
+];
+
+// The cents of an amount as it is typed, counted without fractions.
+export function readAmount(text) {
+  const typed = text.replace(currency() ?? '', '').replaceAll(/[\s'\u2019$\u20ac\u00a3]/g, '');
+  if (typed === '') return EMPTY;
+  const form = AMOUNTS.find(([pattern]) => pattern.test(typed));
+  if (form === undefined) return { fault: 'Give an amount, such as 2500 or 2,500.00.' };
+  const [whole, part = ''] = form[1](typed).split('.');
+  const value = Number(whole) * 100 + Number(part.padEnd(2, '0'));
+  return value > MOST_CENTS ? { fault: `Give at most ${money(MOST_CENTS)}.` } : { value };
+}
+
+function readLot(text) {
+  const value = text.replaceAll(/\s/g, '').toUpperCase();
+  if (value === '') return EMPTY;
+  const isRight = /^[A-Z0-9-]+$/.test(value) && value.length <= LONGEST_LOT;
+  return isRight ? { value } : { fault: `Give 1 to ${LONGEST_LOT} letters A to Z, digits and hyphens.` };
+}
+
+const TOKEN_FORM = `${TOKEN_LETTERS.least} to ${TOKEN_LETTERS.most} letters and digits`;
+
+export function readToken(text) {
+  const value = text.replaceAll(/\s/g, '');
+  if (value === '') return EMPTY;
+  const isRight = /^[A-Za-z0-9]+$/.test(value) && value.length >= TOKEN_LETTERS.least && value.length <= TOKEN_LETTERS.most;
+  return isRight ? { value } : { fault: `A token has ${TOKEN_FORM}.` };
+}
+
+export const tokenInput = more => el('input', { ...QUIET, ...more });
 
 // A token for somebody new, of 32 letters and digits.
 function freshToken() {
-  return [...crypto.getRandomValues(new Uint8Array(16))].map(byte => byte.toString(16).padStart(2, '0')).join('');
+  return [...crypto.getRandomValues(new Uint8Array(16))].map(part => part.toString(16).padStart(2, '0')).join('');
 }
 
-const wholeNumber = most => ({ control: () => numberInput(most), hint: `A whole number, 1 to ${most}.`, value: Number });
-const choice = (words, options) => ({ control: file => select(words, options(file)), hint: null, value: String });
+// The place of the parcel whose number is typed. A resident may read the own parcels alone.
+function parcelNode(control, field) {
+  const node = el('p', { class: 'found', role: 'status' });
+  let waiting;
+  async function show() {
+    const { value } = readNumber(control.value, MOST_NUMBER);
+    node.replaceChildren();
+    if (value === undefined) return;
+    const parcel = await parcelOf(value);
+    if (readNumber(control.value, MOST_NUMBER).value !== value) return;
+    if (parcel.refusal === undefined) node.replaceChildren(placeNode(value), `. Its owner is ${party(parcel.owner)}.`);
+    else if (parcel.refusal.word === 'denied' && field.view === 'public') node.textContent = 'This is not your parcel. Check the number.';
+    else node.textContent = reasonOf(parcel);
+  }
+  control.addEventListener('input', () => {
+    clearTimeout(waiting);
+    waiting = setTimeout(show, 250);
+  });
+  requestAnimationFrame(show);
+  return node;
+}
 
-const TOKEN_LIMITS = ['[A-Za-z0-9]{16,64}', '16 to 64 letters and digits'];
+const choice = (words, options) => ({
+  control: (file, field) => select(words, options(file, field)),
+  hint: () => null,
+  read: text => (text === '' ? { fault: 'Choose one.' } : { value: text }),
+});
 
-export const tokenInput = more => patternInput(...TOKEN_LIMITS, more);
+const number = (most, more = {}) => ({ control: numberInput, hint: () => null, read: text => readNumber(text, most), ...more });
 
-// By the type of a field. `control` and `hint` may look at the file, where there is one.
+// By the type of a field. `control`, `hint`, `below` (what stands below it) and `read` may look at the file and the field.
 const TYPES = {
-  party: wholeNumber(99999),
-  parcel: wholeNumber(99999),
-  paper: wholeNumber(9999),
-  kind: choice(KINDS, () => Object.keys(KINDS)),
-  role: choice(ROLES, () => Object.keys(ROLES)),
+  party: number(MOST_NUMBER, { hint: (file, field) => field.now?.(file) ?? null }),
+  parcel: number(MOST_NUMBER, { below: parcelNode }),
+  paper: number(MOST_PAPER),
+  kind: choice(KIND_CHOICES, () => Object.keys(KIND_CHOICES)),
+  role: choice(VIEWS, () => ROLES),
   step: choice(STEPS, stepsOf),
   days: {
-    control: (file, field) => numberInput(field.most(file)),
+    control: numberInput,
     hint: (file, field) => `1 to ${field.most(file)} days.`,
-    value: Number,
+    read: (text, file, field) => readNumber(text, field.most(file)),
   },
-  line: { control: () => textControl('input', { type: 'text' }), hint: `At most ${MOST_BYTES} bytes.`, value: String },
-  text: { control: () => textControl('textarea', { rows: '3' }), hint: `One paragraph, at most ${MOST_BYTES} bytes.`, value: String },
+  line: { control: () => textControl('input', { type: 'text' }), hint: () => null, read: readText, below: lengthNode },
+  text: { control: () => textControl('textarea', { rows: '3' }), hint: () => 'One paragraph.', read: readText, below: lengthNode },
   lot: {
-    control: () => patternInput('[A-Z0-9\\-]{1,20}', '1 to 20 of A-Z, 0-9 and hyphen', { autocapitalize: 'characters', maxlength: '20' }),
-    hint: '1 to 20 of A-Z, 0-9 and hyphen.',
-    value: String,
+    control: () => el('input', { ...QUIET, autocapitalize: 'characters' }),
+    hint: () => `Such as C-7: at most ${LONGEST_LOT} letters, digits and hyphens.`,
+    read: readLot,
   },
-  money: {
-    control: () => patternInput('[0-9]{1,11}([.,][0-9]{1,2})?', 'An amount such as 2500 or 2500.00', { inputmode: 'decimal' }),
-    hint: 'Such as 2500 or 2500.00; nothing stands between the thousands.',
-    value: centsOf,
-  },
+  money: { control: () => el('input', { ...QUIET, inputmode: 'decimal' }), hint: () => `Such as ${money(250000)} or 2500.`, read: readAmount },
   newToken: {
     control: () => tokenInput({ value: freshToken() }),
-    hint: '16 to 64 letters and digits. Hand it to them: it can\'t be shown again.',
-    value: String,
+    hint: () => `${TOKEN_FORM}. This one was made at random: leave it as it is.`,
+    read: readToken,
   },
 };
 
-// A field made for a file, or for none: its control, its hint, and its value once it is valid.
+// A field made for a file, or for none: its control, what stands around it, and what it reads.
 export function makeField(field, file) {
   const type = TYPES[field.type];
   const control = type.control(file, field);
   const first = field.first?.(file);
   if (first !== null && first !== undefined) control.value = String(first);
-  const hint = typeof type.hint === 'function' ? type.hint(file, field) : type.hint;
-  return { key: field.key, label: field.label, control, hint, value: () => type.value(control.value) };
+  return { key: field.key, label: field.label, type: field.type, control, hint: type.hint(file, field),
+    below: () => type.below?.(control, field) ?? null, read: () => type.read(control.value, file, field) };
 }

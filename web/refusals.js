@@ -1,20 +1,24 @@
 // What each refusal says, and what to do about it. Every refusal, and every reason, of docs/HTTP.md has a line here.
 
 import { el, said } from './dom.js';
+import { LONGEST_EXTENSION, LONGEST_TEMPORARY, MOST_NUMBER } from './rules.js';
+import { count } from './words.js';
 
-// By the word that is refused. The last two are not the office's: nothing came, or something else than an answer.
+// By the word that is refused. The last three are not the office's: nothing came, not in time, or
+// something else than an answer.
 export const REFUSALS = {
-  'syntax': ['A value is out of its limits.', 'Compare each field with the limits beside it, and send it again.'],
+  'syntax': ['Something here is out of its limits.', 'Compare each field with the limits beside it, and send it again.'],
   'large': ['This is more than the office takes at once.', 'Shorten the texts, and send it again.'],
-  'route': ['The office has no place of that name.', 'Check the number: it is 1 to 99999.'],
+  'route': ['There is no page at this address.', `Check the number in it: it is 1 to ${count(MOST_NUMBER)}.`],
   'caller': ['Nobody in this office has this token.', 'Check each letter of it, or ask the clerk or the official who gave it to you.'],
   'clock': ['The clock of the office is behind the last thing it accepted.', 'Nothing is accepted until it is set right: tell who runs the machine.'],
   'record': ['There is no file or parcel with this number.', 'Check the number, or look for it in the list of files.'],
-  'denied': ['The policy of the office denies this.', 'See below which rule denied it.'],
+  'denied': ['The policy of the office denies this.', 'Ask the counter who does this.'],
   'not-admitted': ['The state of things stands against it.', 'See below what stands against it.'],
   'store': ['The disk or the memory of the office failed.', 'Tell who runs the machine, and try again once it is mended.'],
-  'away': ['The office does not answer.', 'Try again in a moment. If you had sent something, look first whether it was done.'],
-  'unclear': ['What came back is no answer of the office.', 'Look whether it was done, and tell who runs the machine.'],
+  'away': ['The office does not answer.', 'Try again in a moment. What you had sent may or may not have been done.'],
+  'slow': ['The office has not answered for 15 seconds.', 'What you had sent may or may not have been done. Look before you send it again.'],
+  'unclear': ['What came back is no answer of the office.', 'What you had sent may or may not have been done. Tell who runs the machine.'],
 };
 
 // By the reason, where the state doesn't admit it.
@@ -23,8 +27,8 @@ export const REASONS = {
   'stopped': ['A stop work order stands.', 'Meet its conditions, and have the official lift it first.'],
   'person': ['The party is not there, or has another role than this needs.', 'Check the number of the party.'],
   'interested': ['The party is applicant, contractor or owner, or declared an interest in the parcel.', 'Name somebody who has no part in it.'],
-  'days': ['These are more days than may be asked for.', 'Ask for at most 90 before the permit, and at most 180 after it or for a temporary certificate.'],
-  'pending': ['An ask or a request like this is pending already.', 'Wait until it is answered.'],
+  'days': ['These are more days than may be asked for.', `Ask for at most ${LONGEST_EXTENSION.application} before the permit, at most ${LONGEST_EXTENSION.permit} after it, and at most ${LONGEST_TEMPORARY} for a temporary certificate.`],
+  'pending': ['This was asked for already, and is not answered yet.', 'Wait until it is answered.'],
   'nothing-pending': ['Nothing is pending that this would answer.', 'Look at the file again: somebody may have answered it before you.'],
   'step': ['This is not the next step, or not the one requested.', 'Look at the steps of the file, and take the one that is next or requested.'],
   'notice-open': ['A correction notice is open.', 'Clear the notice first, once what it names is corrected.'],
@@ -52,13 +56,56 @@ export function wordsOf({ word, reason, rule }) {
   return REFUSALS[word] ?? REFUSALS.unclear;
 }
 
-// A refusal to show. It takes the focus, so that it is read out and met by the keyboard.
-export function refusalBox(refusal, ...actions) {
+// The field that a refusal is about, by its reason: the first of these keys that a form has.
+const CAUSES = {
+  'person': ['party', 'owner', 'to'], 'interested': ['party'], 'days': ['days'], 'step': ['step'], 'no-such-notice': ['paper'],
+  'taken': ['token', 'lot', 'to'],
+};
+
+export function causeOf({ word, reason }, keys) {
+  const causes = word === 'record' ? ['parcel'] : CAUSES[reason] ?? [];
+  return causes.find(key => keys.includes(key)) ?? null;
+}
+
+// A link to a field of the form, which is no address of the page.
+function fieldLink(field, words) {
+  const go = event => {
+    event.preventDefault();
+    field.control.focus();
+  };
+  return el('a', { href: `#${field.control.id}`, onclick: go }, words);
+}
+
+const ruleNode = ({ rule }) => el('details', {}, el('summary', {}, 'Which rule'), el('p', {}, 'The rule: ', said(rule, 'code')));
+
+const UNANSWERED = ['away', 'slow', 'unclear'];
+
+const box = (...children) => el('div', { class: 'refusal', role: 'alert', tabindex: '-1' }, children);
+
+// What is wrong with the fields of a form, before it is sent: each with its fault.
+export function faultBox(faults) {
+  const item = ([field, fault]) => el('li', {}, fieldLink(field, `${field.label}: ${fault}`));
+  return box(el('p', {}, el('strong', {}, 'There is a problem')), el('ul', {}, faults.map(item)));
+}
+
+// A refusal in the place of what was to be read. Nothing was sent, and where nothing came it is asked again by itself.
+export function unreadBox(refusal, ...actions) {
+  const [what, todo] = wordsOf(refusal);
+  const isAskedAgain = UNANSWERED.includes(refusal.word);
+  return box(el('p', {}, el('strong', {}, what)), el('p', {}, isAskedAgain ? 'It is asked again by itself.' : todo),
+    refusal.word === 'denied' ? ruleNode(refusal) : null, el('p', { class: 'actions' }, actions));
+}
+
+// A refusal to show. It takes the focus, so that it is read out and met by the keyboard. `field` is the one it is about,
+// and `found` tells what came of looking whether it was done.
+export function refusalBox(refusal, { field = null, found = null, actions = [] } = {}) {
   const [what, todo] = wordsOf(refusal);
   const denied = refusal.word === 'denied';
-  return el('div', { class: 'refusal', role: 'alert', tabindex: '-1' },
-    el('p', {}, el('strong', {}, 'Refused. '), denied ? `${REFUSALS.denied[0]} ` : null, what),
-    denied ? el('p', {}, 'The rule: ', said(refusal.rule, 'code')) : null,
-    el('p', {}, todo),
+  const begins = UNANSWERED.includes(refusal.word) ? 'No answer. ' : 'Refused. ';
+  return box(
+    el('p', {}, el('strong', {}, begins), denied ? `${REFUSALS.denied[0]} ` : null,
+      field ? fieldLink(field, `${field.label}: ${what}`) : what),
+    denied ? ruleNode(refusal) : null,
+    el('p', {}, todo), found,
     actions.length > 0 ? el('p', { class: 'actions' }, actions) : null);
 }

@@ -1,12 +1,16 @@
-// One file: what stands against the work, its way to the certificate, its steps, what can be done, and its papers.
+// One file: what comes next, what stands against the work, what can be done, its way, its inspections and its papers.
 
 import { read } from './api.js';
 import { dateNode, deadlineNode } from './columns.js';
-import { FILE_COMMANDS, isFirstFor } from './commands.js';
-import { el, said } from './dom.js';
-import { foldedForm } from './forms.js';
+import { documentOf, isDocument } from './documents.js';
+import { el, factList, said, title } from './dom.js';
+import { calendarButton } from './downloads.js';
+import { commandsSection } from './file-commands.js';
+import { isApplicants, nextOf, toDoOf, untilOf } from './next.js';
+import { placeNode, placeText } from './places.js';
+import { CLOSED, PASSED } from './rules.js';
 import { learnToday } from './today.js';
-import { CLOSED, KINDS, PASSED, SORTS, STAGES, STEPS, VIEWS, isCertifiable, isEnergyOpen, money, nextOf, party, stepsOf } from './words.js';
+import { KINDS, SORTS, STAGES, STEPS, STEP_HINTS, isCertifiable, isEnergyOpen, money, party, stepsOf } from './words.js';
 
 function paperBody(paper) {
   return [
@@ -23,13 +27,30 @@ function paperHead(paper) {
     ` (paper ${paper.number}), `, dateNode(paper.day), `, by ${party(paper.author)}`);
 }
 
+function printLink(file, paper) {
+  if (!isDocument(paper)) return null;
+  const what = documentOf(paper).title.toLowerCase();
+  return el('p', {}, el('a', { href: `#/files/${file.id}/papers/${paper.number}` }, `Print paper ${paper.number}: ${what}`));
+}
+
+// What an applicant has to do and until when; to others, what comes next and until when.
+function nextSection(file, view) {
+  const isMine = view === 'public';
+  const until = untilOf(file, isMine);
+  const waits = isApplicants(file) ? 'This waits for the applicant: ' : '';
+  const sentences = isMine ? [el('strong', {}, toDoOf(file)), isApplicants(file) ? null : ` ${nextOf(file)}.`]
+    : [waits, el('strong', {}, `${nextOf(file)}.`)];
+  return el('section', { class: 'next' }, el('h2', {}, 'What happens next'), el('p', {}, sentences.filter(part => part !== null)),
+    until === null ? null : el('p', {}, until));
+}
+
 // Open notices and the standing stop order come before everything else.
 function againstSection(file) {
   const stop = file.stopped ? file.papers.filter(paper => paper.sort === 'stop').slice(-1) : [];
   const papers = [...stop, ...file.papers.filter(paper => paper.open)];
   if (papers.length === 0) return null;
   return el('section', { class: 'against' }, el('h2', {}, 'Against the work'),
-    papers.map(paper => el('article', {}, paperHead(paper), paperBody(paper))));
+    papers.map(paper => el('article', {}, paperHead(paper), paperBody(paper), printLink(file, paper))));
 }
 
 // The way from filing to certificate with the stage that the file is in. What closes a file ends its way.
@@ -53,7 +74,7 @@ function waySection(file) {
 function stepWords(file, step) {
   if (file.done.includes(step)) return ['passed', 'approved'];
   if (step === file.request) return ['here', 'requested'];
-  if (step === file.next) return [file.stage === 'working' ? 'here' : 'coming', 'next'];
+  if (step === file.next) return [file.stage === 'working' ? 'here' : 'coming', `next: ${STEP_HINTS[step]}`];
   if (step === 'energy' && isEnergyOpen(file)) return ['coming', 'to come, unless the file is from before this inspection'];
   return ['coming', 'to come'];
 }
@@ -64,12 +85,14 @@ function stepsSection(file) {
     const since = step === file.request ? [', since ', dateNode(file.requested)] : [];
     return el('li', { class: how }, el('span', { class: 'stage' }, STEPS[step]), el('span', { class: 'how' }, words, since));
   });
-  return el('section', {}, el('h2', {}, 'Inspections'), el('ol', { class: 'way' }, items));
+  const where = file.request === null ? null
+    : el('p', {}, `${STEPS[file.request]} is to be inspected at `, placeNode(file.parcel), '.');
+  return el('section', {}, el('h2', {}, 'Inspections'), where, el('ol', { class: 'way' }, items));
 }
 
 function factsSection(file) {
   const facts = [
-    ['Parcel', el('a', { href: `#/parcels/${file.parcel}` }, `Parcel ${file.parcel}`)],
+    ['Place', placeNode(file.parcel)],
     ['Kind of work', KINDS[file.kind]],
     ['Valuation', money(file.valuation)],
     ['Filed', dateNode(file.filed)],
@@ -81,44 +104,18 @@ function factsSection(file) {
     ['Extension asked for', file.ask === null ? 'none' : `${file.ask} days`],
     ['Temporary certificate', file.temporary === null ? 'none' : el('span', {}, 'until ', dateNode(file.temporary))],
   ];
-  const row = ([term, value]) => el('div', {}, el('dt', {}, term), el('dd', {}, value));
-  return el('section', {}, el('h2', {}, 'Facts'), el('dl', { class: 'facts' }, facts.map(row)));
-}
-
-// A command's form, or why the file's stage can't admit it.
-function commandNode(command, file, { again, done }) {
-  if (!command.stages.includes(file.stage)) {
-    const stages = command.stages.map(stage => STAGES[stage].toLowerCase()).join(', ');
-    return el('p', { class: 'not-now' }, el('strong', {}, command.label),
-      `: not in the stage ${STAGES[file.stage].toLowerCase()}, only in: ${stages}.`);
-  }
-  return foldedForm({
-    path: `/files/${file.id}/${command.action}`,
-    label: command.label,
-    fields: command.fields,
-    file,
-    note: command.final ? 'This can\'t be taken back.' : null,
-    again,
-    done: () => done(`Done: ${command.label}.`),
-  });
-}
-
-function commandsSection(file, view, calls) {
-  const first = FILE_COMMANDS.filter(command => isFirstFor(command, view));
-  const others = FILE_COMMANDS.filter(command => !isFirstFor(command, view));
-  const admitted = command => command.stages.includes(file.stage);
-  const ordered = commands => [...commands.filter(admitted), ...commands.filter(command => !admitted(command))];
-  const nodes = commands => ordered(commands).map(command => commandNode(command, file, calls));
-  return el('section', {}, el('h2', {}, 'What can be done'),
-    el('p', { class: 'hint' }, `Commands of the ${VIEWS[view].toLowerCase()} come first. The office decides on each.`),
-    nodes(first),
-    others.length === 0 ? null : el('details', { class: 'others' }, el('summary', {}, 'Commands of others'), nodes(others)));
+  return el('section', {}, el('h2', {}, 'Facts'), factList(facts));
 }
 
 function papersSection(file) {
-  const items = file.papers.map(paper => el('li', { class: paper.sort }, paperHead(paper), paperBody(paper)));
+  const items = file.papers.map(paper => el('li', { class: paper.sort }, paperHead(paper), paperBody(paper), printLink(file, paper)));
   return el('section', {}, el('h2', {}, `Papers (${file.papers.length})`),
-    items.length === 0 ? el('p', { class: 'none' }, 'None yet.') : el('ol', { class: 'papers' }, items));
+    items.length === 0 ? el('p', { class: 'none' }, 'None yet. The permit, notices and certificates appear here.') : el('ol', { class: 'papers' }, items));
+}
+
+function calendarLine(file) {
+  if (file.deadline === null) return null;
+  return el('p', { class: 'actions' }, calendarButton(file, () => placeText(file.parcel), `${nextOf(file)}. ${untilOf(file) ?? ''}`));
 }
 
 // `calls` has `again`, which reads the file anew, and `done`, which does so with words for what was accepted.
@@ -127,13 +124,16 @@ export async function fileView(id, view, calls) {
   await learnToday([file]);
   const stopped = file.stopped ? ', stopped' : '';
   return el('div', {},
-    el('h1', { tabindex: '-1' }, `File ${file.id}: ${KINDS[file.kind]}`),
+    title(`File ${file.id}: ${KINDS[file.kind]}`),
     said(file.description, 'p'),
-    el('p', { class: 'lead' }, el('strong', {}, `${STAGES[file.stage]}${stopped}`), '. ', nextOf(file), '. Deadline: ', deadlineNode(file), '.'),
+    el('p', { class: 'where' }, placeNode(file.parcel)),
+    el('p', { class: 'lead' }, el('strong', {}, `${STAGES[file.stage]}${stopped}`), '. Deadline: ', deadlineNode(file), '.'),
     againstSection(file),
-    waySection(file),
-    stepsSection(file),
+    nextSection(file, view),
     commandsSection(file, view, calls),
     papersSection(file),
-    factsSection(file));
+    stepsSection(file),
+    waySection(file),
+    factsSection(file),
+    calendarLine(file));
 }

@@ -2,12 +2,15 @@
 // changed from here, or until the reader asks for it again.
 
 import { listed } from './api.js';
-import { COLUMNS } from './columns.js';
-import { el, freshId } from './dom.js';
+import { COLUMNS, outOf } from './columns.js';
+import { button, el, freshId, title } from './dom.js';
+import { csvButton } from './downloads.js';
+import { learnParcels } from './parcels.js';
+import { placeText } from './places.js';
 import { token, whenSignedOut } from './session.js';
 import { makeTable } from './table.js';
 import { learnToday } from './today.js';
-import { KINDS, STAGES, plural } from './words.js';
+import { KINDS, STAGES, count, plural } from './words.js';
 
 const { id, kind, description, stage, parcel, applicant, deadline } = COLUMNS;
 
@@ -28,7 +31,7 @@ export function forgetFiles() {
 }
 
 // The list, read unless it is kept. What comes for somebody who has signed out meanwhile isn't kept.
-async function readFiles() {
+export async function readFiles() {
   if (files !== null && Date.now() - readAt < KEPT) return files;
   const mine = token();
   const read = await listed();
@@ -40,13 +43,28 @@ async function readFiles() {
   return read;
 }
 
-// What a text is looked for in.
-const textOf = file => `${file.id} ${file.description} parcel ${file.parcel} party ${file.applicant}`.toLowerCase();
+// What a text is looked for in: of each file once, since there may be very many.
+const texts = new WeakMap();
+
+function textOf(file) {
+  if (!texts.has(file)) texts.set(file, `${file.id} ${file.description} parcel ${file.parcel} party ${file.applicant}`.toLowerCase());
+  return texts.get(file);
+}
+
+// Whether a text is in what a parcel is known by, asked once for each parcel.
+function placeFinder(text) {
+  const found = new Map();
+  return id => {
+    if (!found.has(id)) found.set(id, placeText(id).toLowerCase().includes(text));
+    return found.get(id);
+  };
+}
 
 function narrowed(all) {
   const text = kept.text.trim().toLowerCase();
-  return all.filter(file => (kept.stage === '' || file.stage === kept.stage)
-    && (kept.kind === '' || file.kind === kept.kind) && (text === '' || textOf(file).includes(text)));
+  const isAt = placeFinder(text);
+  return all.filter(file => (kept.stage === '' || file.stage === kept.stage) && (kept.kind === '' || file.kind === kept.kind)
+    && (text === '' || textOf(file).includes(text) || isAt(file.parcel)));
 }
 
 function labelled(label, control) {
@@ -61,17 +79,44 @@ function chooser(words, chosen, changed) {
 
 const timeFormat = new Intl.DateTimeFormat(undefined, { timeStyle: 'short' });
 
+const COLUMNS_SHOWN = [id, parcel, kind, description, stage, applicant, deadline];
+
+const WHY_EMPTY = 'You see the files that you take part in. A file whose deadline has passed is closed to its applicant: ask the counter about it.';
+
+// Where many addresses are still to come, a search by them finds only some: this says so.
+function addressNode(all, isShown, again) {
+  const node = el('p', { class: 'hint', role: 'status' });
+  learnParcels(all.map(file => file.parcel), (done, of) => {
+    if (!isShown()) return;
+    node.textContent = done === of ? '' : `Addresses are being read: ${count(done)} of ${count(of)}. A search finds those that are read.`;
+    if (done === of) again();
+  });
+  return node;
+}
+
+// The list follows what is typed, a moment behind it.
+function searchField(narrow) {
+  let waiting;
+  const text = el('input', { type: 'search', value: kept.text, autocomplete: 'off' });
+  text.addEventListener('input', () => {
+    clearTimeout(waiting);
+    waiting = setTimeout(() => narrow({ text: text.value }), 150);
+  });
+  return text;
+}
+
 export async function filesView(again) {
   const all = await readFiles();
   kept ??= fresh();
-  const count = el('p', { role: 'status', class: 'lead' });
-  const columns = [id, kind, description, stage, parcel, applicant, deadline];
-  const table = makeTable({ caption: 'Files', columns, kept: kept.table, layout: 'files', heights: [56, 92] });
+  const counted = el('p', { role: 'status', class: 'lead' });
+  const empty = el('p', { class: 'none' });
+  const table = makeTable({ caption: 'Files', columns: COLUMNS_SHOWN, kept: kept.table, layout: 'files', heights: [56, 118] });
 
   function show() {
     const shown = narrowed(all);
     table.show(shown);
-    count.textContent = `${shown.length} of ${plural(all.length, 'file')}`;
+    counted.textContent = `${count(shown.length)} of ${plural(all.length, 'file')}`;
+    empty.textContent = all.length === 0 ? WHY_EMPTY : shown.length === 0 ? 'No file has all of this. Take something out of what you look for.' : '';
   }
 
   // Another narrowing begins at its top. It may come after the view has gone.
@@ -83,21 +128,17 @@ export async function filesView(again) {
     table.restore();
   }
 
-  let waiting;
-  const text = el('input', { type: 'search', value: kept.text, autocomplete: 'off' });
-  text.addEventListener('input', () => {
-    clearTimeout(waiting);
-    waiting = setTimeout(() => narrow({ text: text.value }), 150);
-  });
-  const look = el('button', { type: 'button', onclick: () => { forgetFiles(); again(); } }, 'Look again');
+  const addresses = addressNode(all, () => table.element.isConnected, () => { if (kept?.text !== '') narrow({}); });
 
   show();
   requestAnimationFrame(table.restore);
   return el('div', {},
-    el('h1', { tabindex: '-1' }, 'All files'),
+    title('All files'),
     el('form', { class: 'narrowing', 'aria-label': 'Narrow the list', onsubmit: event => event.preventDefault() },
       labelled('Stage', chooser(STAGES, kept.stage, value => narrow({ stage: value }))),
       labelled('Kind', chooser(KINDS, kept.kind, value => narrow({ kind: value }))),
-      labelled('Text or number', text), look),
-    count, table.element, el('p', { class: 'hint' }, `The list was read at ${timeFormat.format(readAt)}.`));
+      labelled('Text, number, lot or address', searchField(narrow)), button('Look again', () => { forgetFiles(); again(); })),
+    counted, table.element, empty, addresses,
+    el('p', { class: 'actions' }, csvButton('files', () => outOf(COLUMNS_SHOWN), table.rows)),
+    el('p', { class: 'hint' }, `The list was read at ${timeFormat.format(readAt)}.`));
 }

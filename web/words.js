@@ -1,4 +1,7 @@
-// The words of the office as a reader says them. The keys are those of the answers.
+// The words of the office as a reader says them. The keys are those of rules.js.
+
+import { currency } from './department.js';
+import { CERTIFIABLE, REQUIRED } from './rules.js';
 
 export const VIEWS = {
   public: 'Resident',
@@ -7,8 +10,6 @@ export const VIEWS = {
   inspector: 'Inspector',
   official: 'Official',
 };
-
-export const ROLES = VIEWS;
 
 export const KINDS = {
   construct: 'Construct',
@@ -20,17 +21,27 @@ export const KINDS = {
   occupancy: 'Occupancy',
 };
 
+// The same for who chooses one.
+export const KIND_CHOICES = {
+  construct: 'Construct: a new building',
+  enlarge: 'Enlarge: an addition to a building',
+  alter: 'Alter: a change inside a building',
+  repair: 'Repair: mend what is there',
+  move: 'Move: a building to another place',
+  demolish: 'Demolish: take a building down',
+  occupancy: 'Occupancy: a new use of a building',
+};
+
 export const STEPS = { footing: 'Footing', slab: 'Slab', frame: 'Frame', energy: 'Energy', lath: 'Lath', final: 'Final' };
 
-// The steps that each kind of work requires, in their order. A file from before the inspection of energy has none of it.
-const REQUIRED = {
-  construct: ['footing', 'slab', 'frame', 'energy', 'lath', 'final'],
-  enlarge: ['footing', 'slab', 'frame', 'energy', 'lath', 'final'],
-  alter: ['frame', 'energy', 'lath', 'final'],
-  repair: ['frame', 'final'],
-  move: ['footing', 'frame', 'final'],
-  demolish: ['final'],
-  occupancy: ['final'],
+// When the work is ready for each inspection.
+export const STEP_HINTS = {
+  footing: 'once the footings are dug and their steel is in place',
+  slab: 'before the concrete of the floor is poured',
+  frame: 'once roof, framing and bracing are in place and before they are covered',
+  energy: 'once the insulation is in place and before it is covered',
+  lath: 'once lath and wallboard are in place and before they are plastered',
+  final: 'once all the work is done',
 };
 
 // An answer doesn't say from when a file is: that shows once frame is approved.
@@ -42,7 +53,7 @@ export const isEnergyOpen = file => !hasEnergy(file) && !isPastEnergy(file);
 export const stepsOf = file => REQUIRED[file.kind].filter(step => step !== 'energy' || hasEnergy(file) || !isPastEnergy(file));
 
 // Whether a kind of work ends with a certificate.
-export const isCertifiable = kind => kind !== 'repair' && kind !== 'demolish';
+export const isCertifiable = kind => CERTIFIABLE.includes(kind);
 
 export const STAGES = {
   filed: 'Filed',
@@ -58,25 +69,6 @@ export const STAGES = {
   abandoned: 'Abandoned',
   lapsed: 'Lapsed',
 };
-
-// The stages that a file has behind it in each stage. What leads away from the way to a certificate ends it.
-const TO_PERMIT = ['filed', 'review', 'approved', 'issued'];
-export const PASSED = {
-  filed: [],
-  review: ['filed'],
-  returned: ['filed', 'review'],
-  approved: ['filed', 'review'],
-  rejected: ['filed', 'review'],
-  issued: ['filed', 'review', 'approved'],
-  working: TO_PERMIT,
-  revoked: TO_PERMIT,
-  finaled: [...TO_PERMIT, 'working'],
-  certified: [...TO_PERMIT, 'working', 'finaled'],
-  abandoned: ['filed'],
-  lapsed: TO_PERMIT,
-};
-
-export const CLOSED = ['rejected', 'revoked', 'abandoned', 'lapsed'];
 
 export const SORTS = {
   permit: 'Permit',
@@ -99,40 +91,21 @@ export const REGISTERS = { files: 'Files', deadlines: 'Deadlines', inspections: 
 // Parties are known by their numbers: no answer has a name.
 export const party = number => (number === null ? 'none' : `party ${number}`);
 
-const moneyFormat = new Intl.NumberFormat(undefined, { minimumFractionDigits: 2, maximumFractionDigits: 2 });
+const digits = { minimumFractionDigits: 2, maximumFractionDigits: 2 };
+let moneyFormat = null;
 
-export const money = cents => moneyFormat.format(cents / 100);
+// An amount with the currency of the department, where it names one.
+export function money(cents) {
+  const unit = currency() === null ? {} : { style: 'currency', currency: currency(), currencyDisplay: 'narrowSymbol' };
+  moneyFormat ??= new Intl.NumberFormat(undefined, { ...digits, ...unit });
+  return moneyFormat.format(cents / 100);
+}
 
-export const plural = (count, one, many = `${one}s`) => `${count} ${count === 1 ? one : many}`;
+// The same for a spreadsheet.
+export const plainMoney = cents => (cents / 100).toFixed(2);
 
-const afterPermit = file => {
-  if (file.stopped) return 'Meet the stop work order; the official lifts it';
-  if (file.stage === 'issued') return 'Begin the work';
-  if (file.request !== null) {
-    const open = file.notices > 0 ? ', with a notice open' : '';
-    return `The inspector comes for ${file.request}${open}`;
-  }
-  if (file.notices > 0) return `Correct what the notice says and request ${file.next} again`;
-  return `Request the inspection of ${file.next}`;
-};
+const countFormat = new Intl.NumberFormat();
 
-const NEXT = {
-  filed: file => (file.reviewer === null ? 'The clerk assigns a reviewer' : 'The reviewer starts the review'),
-  review: () => 'The reviewer decides on the plans',
-  returned: () => 'Answer the reviewer and send the plans again',
-  approved: () => 'The official issues the permit',
-  rejected: () => 'Closed: the plans were rejected',
-  issued: afterPermit,
-  working: afterPermit,
-  revoked: () => 'Closed: the permit was revoked',
-  finaled: file => {
-    if (!isCertifiable(file.kind)) return 'Done: this work has no certificate';
-    return file.stopped ? 'The official lifts the stop work order' : 'The official gives the certificate';
-  },
-  certified: () => 'Done: the certificate was given',
-  abandoned: () => 'Closed: no permit came before the deadline',
-  lapsed: () => 'Closed: the permit lapsed at its deadline',
-};
+export const count = number => countFormat.format(number);
 
-// What comes next in a file, for its applicant.
-export const nextOf = file => NEXT[file.stage](file);
+export const plural = (number, one, many = `${one}s`) => `${count(number)} ${number === 1 ? one : many}`;

@@ -1,11 +1,10 @@
--- Laws of the bytes that a buffer holds, and of what a writer was given.
+-- Laws of the bytes that a buffer holds.
 use Rattle.std.proofs.lemmas.Fmt.{decimal_step, decimal_digit}
 use Rattle.std.specs.Fmt.{decimal}
-use Rattle.std.proofs.Common.{lit<, lit≤, IfSome, Bool, true, false, ◌≡◌, ◌⊎◌, ◌^◌, ◌/◌, ◌%◌, append-nil, ℕ, suc, ◌+◌, ◌<◌, ◌≤◌, List, [], ◌∷◌, ◌++◌, length}
-use Rattle.std.proofs.Common.{get_or, take, drop, Option, Some, None, refl, sym, ap, ◌∙◌, arith, append_assoc, add-one, length-append, inl, inr}
-use Rattle.std.proofs.Math.Seq.{take-add, take-suc}
+use Rattle.std.proofs.Common.{◌≡◌, ◌⊎◌, ◌^◌, ◌/◌, ◌%◌, append-nil, ℕ, suc, ◌+◌, ◌<◌, ◌≤◌, List, [], ◌∷◌, ◌++◌, length}
+use Rattle.std.proofs.Common.{get_or, take, sym, ap, ◌∙◌, arith, append_assoc, add-one, length-append, inl, inr}
+use Rattle.std.proofs.Math.Seq.{take-suc}
 use Rattle.std.proofs.lemmas.List.{take-append-le, take_all, length-take-le, take_more_set}
-use Rattle.std.specs.Io.KnownBytes.{Appends}
 use Rattle.permit_answer.specs.Buffer.{room}
 
 pub le_total : (m n : ℕ) → (m ≤ n) ⊎ (n ≤ m)
@@ -39,16 +38,6 @@ kept bytes len byte e h full =
     let short : length (take len bytes) ≡ len = length-take-le len bytes (omega arith) in
     let here : 512 ≤ length (take len bytes) = omega arith in
     sym (take_all 512 (take len bytes) (omega arith)) ∙ sym (take-append-le 512 (take len bytes) (byte ∷ []) here)
-
--- one write after another
-pub appends_more : (old mid new : Option (List ℕ)) (bs : List ℕ) (at n : ℕ)
-    → Appends old mid (take at bs) → Appends mid new (take n (drop at bs)) → Appends old new (take (at + n) bs)
-appends_more None mid new bs at n h k = tt
-appends_more (Some xs) None new bs at n h k = absurd h
-appends_more (Some xs) (Some ys) None bs at n h k = absurd k
-appends_more (Some xs) (Some ys) (Some zs) bs at n h k =
-    k ∙ ap (λ x. x ++ take n (drop at bs)) h ∙ append_assoc xs (take at bs) (take n (drop at bs))
-    ∙ ap (λ x. xs ++ x) (sym (take-add at n bs))
 
 pub view_length : (bytes : List ℕ) (len : ℕ) → length bytes ≡ 512 → len ≤ 512 → len ≡ length (take len bytes)
 view_length bytes len e h = sym (length-take-le len bytes (omega arith))

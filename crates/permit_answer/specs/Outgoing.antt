@@ -1,6 +1,7 @@
 -- What goes out for an answer.
-use Rattle.std.specs.Prelude.{◌≡◌, ◌<◌, ◌⊎◌, ℕ, Bool, true, false, IsTrue, List, length, take, Option}
+use Rattle.std.specs.Prelude.{◌≡◌, ◌⊎◌, ℕ, Bool, true, false, IsTrue, List, Option}
 use Rattle.std.specs.Io.KnownBytes.{Appends}
+pub use Rattle.permit_report.specs.Outgoing.{WroteFront}
 use Rattle.permit_model.specs.Machine.{ParcelShown, FileShown, Listed, RegisterShown}
 use Rattle.permit_http.specs.declared.fault.Fault.TheVariants.{Memory}
 use Rattle.permit_answer.specs.AnswerText.{AnswerData, Replied, Faulted, answer_text}
@@ -17,12 +18,6 @@ is_read_out _ = false
 abbrev pub GoesOut : AnswerData → Bool → List ℕ → Bool → Type 0
 GoesOut answer close text closes =
     ((text ≡ answer_text answer close) × (closes ≡ close)) ⊎ (IsTrue (is_read_out answer) × (text ≡ answer_text (Faulted Memory) true) × (closes ≡ true))
-
--- known bytes grew by a beginning of the text, which isn't the whole
-pub record WroteFront (old new : Option (List ℕ)) (text : List ℕ) : Type 0 where
-  pub count : ℕ
-  pub within : count < length text
-  pub wrote : Appends old new (take count text)
 
 -- known bytes grew by the whole text that goes out, and `closes` says whether that closes
 abbrev pub WroteAnswer : AnswerData → Bool → Option (List ℕ) → Option (List ℕ) → Bool → Type 0

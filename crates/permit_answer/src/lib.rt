@@ -13,4 +13,4 @@ mod rows;
 mod status;
 mod write;
 
-pub use write::{Outgoing, WriteFault, write_reply};
+pub use write::{Made, Outgoing, WriteFault, body, write_reply};

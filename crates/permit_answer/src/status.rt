@@ -3,9 +3,11 @@
 ghost use Rattle.std.specs.Prelude.{◌≡◌, ◌≤◌, length};
 ghost use Rattle.permit_answer.specs.AnswerText as text;
 
+use crate::answer::Answer;
 use http::StatusCode;
 use permit_base::refusal::Refusal;
 use permit_http::fault::Fault;
+use permit_office::reply::Reply;
 
 /// The status of a refusal.
 pub fn refusal_status(why: &Refusal) -> StatusCode
@@ -32,6 +34,34 @@ pub fn fault_status(fault: Fault) -> StatusCode
         Fault::Route => StatusCode::NOT_FOUND,
         Fault::Caller => StatusCode::UNAUTHORIZED,
         Fault::Memory => StatusCode::INTERNAL_SERVER_ERROR,
+    }
+}
+
+/// The status of an answer.
+pub fn answer_status(answer: &Answer) -> StatusCode
+    ensures { result ≡ text.status_code (text.answer_data answer.now) }
+{
+    match answer {
+        Answer::Fault(fault) => fault_status(*fault),
+        Answer::Replied {
+            reply: Reply::Refused(why),
+            ..
+        } => refusal_status(why),
+        Answer::Replied { .. } => StatusCode::OK,
+    }
+}
+
+/// The type of an answer's body.
+pub fn content_type(answer: &Answer) -> &'static str
+    ensures text { result.now ≡ text.content_type (text.answer_data answer.now) }
+    ensures short { length result.now ≤ 32 }
+{
+    match answer {
+        Answer::Replied {
+            reply: Reply::Register { .. },
+            ..
+        } => "text/plain; charset=utf-8",
+        _ => "application/json",
     }
 }
 

@@ -1,24 +1,23 @@
 //! Writing an answer.
 
-ghost use Rattle.std.specs.Prelude.{◌≡◌, ◌≤◌, ◌++◌, length, codes, true, IfOk, OnOk, OnErr, IsTrue};
-ghost use Rattle.std.specs.Io.KnownBytes.{Appends};
-ghost use Rattle.permit_answer.specs.AnswerText.{answer_data, answer_text, head_text, Faulted};
+ghost use Rattle.std.specs.Prelude.{◌≡◌, ◌≤◌, ◌++◌, length, true, IfOk, OnErr, IsTrue};
+ghost use Rattle.permit_answer.specs.AnswerText.{answer_data, answer_text, body_text, head_text, Faulted};
 ghost use Rattle.permit_model.specs.Register.{register_text};
-ghost use Rattle.permit_answer.specs.Outgoing.{is_read_out, GoesOut, WroteFront, WroteAnswer, WroteFrontOfAnswer};
-ghost use Rattle.permit_answer.specs.Made.{made_bytes};
+ghost use Rattle.permit_answer.specs.Outgoing.{is_read_out, GoesOut, WroteAnswer, WroteFrontOfAnswer};
+ghost use Rattle.permit_answer.specs.Made.{made_bytes, IsPlacedFor};
 
 use crate::answer::Answer;
 use crate::buffer::Buffer;
 use crate::in_place::{done_body, fault_body, head, in_place, refusal_body};
 use crate::rows::{file_text, listing_text, parcel_text};
-use crate::status::{fault_status, refusal_status};
+use crate::status::{answer_status, content_type, fault_status};
 use http::StatusCode;
 use permit_base::values::Day;
 use permit_base::words::RegisterKind;
 use permit_core::row::FileView;
 use permit_http::fault::Fault;
 use permit_office::reply::Reply;
-use permit_report::register;
+use permit_report::{register, write_whole};
 use std::alloc::{AllocError, Global};
 use std::io::Write;
 
@@ -26,23 +25,7 @@ use std::io::Write;
 #[derive(Clone, Copy, PartialEq, Drop)]
 pub struct WriteFault;
 
-/// Writes all the bytes.
-fn write_whole<W: Write>(writer: &mut W, bytes: &[u8]) -> Result<(), WriteFault>
-    ensures whole { OnOk result (Appends (W.contents writer.old) (W.contents writer.new) bytes.now) }
-    ensures front { OnErr result (WroteFront (W.contents writer.old) (W.contents writer.new) bytes.now) }
-{
-    let mut at = 0;
-    while at < bytes.len() {
-        match writer.write(&bytes[at..]) {
-            Ok(0) => return Err(WriteFault),
-            Ok(n) => at += n,
-            Err(_) => return Err(WriteFault),
-        }
-    }
-    Ok(())
-}
-
-/// The text of an answer: in place, or for a read in memory.
+/// The text of an answer or its body: in place, or for a read in memory.
 #[derive(Drop)]
 pub enum Made {
     InPlace(Buffer),
@@ -50,7 +33,8 @@ pub enum Made {
 }
 
 impl Made {
-    fn as_slice(&self) -> &[u8]
+    /// Its bytes.
+    pub fn as_slice(&self) -> &[u8]
         ensures { result.now ≡ made_bytes self.now }
     {
         match self {
@@ -73,13 +57,6 @@ fn in_memory(content_type: &str, body: Vec<u8>, close: bool) -> Result<Made, All
     Ok(Made::InMemory(text))
 }
 
-/// The whole text of an answer in JSON to a read.
-fn json(body: Vec<u8>, close: bool) -> Result<Made, AllocError>
-    ensures { IfOk result (λ made. made_bytes made ≡ head_text 200 (codes "application/json") (length body.items) close ++ body.items) }
-{
-    in_memory("application/json", body, close)
-}
-
 /// The text of a register.
 fn register_bytes(
     alloc: Global,
@@ -96,18 +73,35 @@ fn register_bytes(
     }
 }
 
-/// The whole text of an answer with a register.
-fn plain_text(
-    alloc: Global,
-    kind: RegisterKind,
-    day: Day,
-    files: &[FileView],
-    close: bool,
-) -> Result<Made, AllocError>
-    ensures { IfOk result (λ made. made_bytes made ≡ head_text 200 (codes "text/plain; charset=utf-8") (length (register_text kind day files.now)) close ++ register_text kind day files.now) }
+/// The body of an answer, without its head. Only a read takes memory.
+pub fn body(alloc: Global, answer: &Answer) -> Result<Made, AllocError>
+    ensures text { IfOk result (λ made. made_bytes made ≡ body_text (answer_data answer.now)) }
+    ensures place { IfOk result (IsPlacedFor (answer_data answer.now)) }
+    ensures memory { OnErr result (IsTrue (is_read_out (answer_data answer.now))) }
 {
-    let body = register_bytes(alloc, kind, day, files)?;
-    in_memory("text/plain; charset=utf-8", body, close)
+    match answer {
+        Answer::Fault(fault) => Ok(Made::InPlace(fault_body(*fault))),
+        Answer::Replied { reply, action, day } => match reply {
+            Reply::Done { number } => Ok(Made::InPlace(done_body(*day, *action, *number))),
+            Reply::Refused(why) => Ok(Made::InPlace(refusal_body(why))),
+            Reply::Parcel(parcel) => Ok(Made::InMemory(parcel_text(alloc, parcel)?)),
+            Reply::File(file, papers) => Ok(Made::InMemory(file_text(
+                alloc,
+                file,
+                papers.as_slice(),
+            )?)),
+            Reply::Listed(listing) => Ok(Made::InMemory(listing_text(
+                alloc,
+                listing.files.as_slice(),
+            )?)),
+            Reply::Register { kind, listing } => Ok(Made::InMemory(register_bytes(
+                alloc,
+                *kind,
+                *day,
+                listing.files.as_slice(),
+            )?)),
+        },
+    }
 }
 
 /// The text of an answer. Only a read takes memory.
@@ -115,34 +109,9 @@ fn make(alloc: Global, answer: &Answer, close: bool) -> Result<Made, AllocError>
     ensures text { IfOk result (λ made. made_bytes made ≡ answer_text (answer_data answer.now) close) }
     ensures memory { OnErr result (IsTrue (is_read_out (answer_data answer.now))) }
 {
-    match answer {
-        Answer::Fault(fault) => Ok(Made::InPlace(in_place(
-            fault_status(*fault),
-            &fault_body(*fault),
-            close,
-        ))),
-        Answer::Replied { reply, action, day } => match reply {
-            Reply::Done { number } => Ok(Made::InPlace(in_place(
-                StatusCode::OK,
-                &done_body(*day, *action, *number),
-                close,
-            ))),
-            Reply::Refused(why) => Ok(Made::InPlace(in_place(
-                refusal_status(why),
-                &refusal_body(why),
-                close,
-            ))),
-            Reply::Parcel(parcel) => json(parcel_text(alloc, parcel)?, close),
-            Reply::File(file, papers) => json(file_text(alloc, file, papers.as_slice())?, close),
-            Reply::Listed(listing) => json(listing_text(alloc, listing.files.as_slice())?, close),
-            Reply::Register { kind, listing } => plain_text(
-                alloc,
-                *kind,
-                *day,
-                listing.files.as_slice(),
-                close,
-            ),
-        },
+    match body(alloc, answer)? {
+        Made::InPlace(body) => Ok(Made::InPlace(in_place(answer_status(answer), &body, close))),
+        Made::InMemory(body) => in_memory(content_type(answer), body, close),
     }
 }
 
@@ -209,6 +178,8 @@ pub fn write_reply<W: Write>(
     ensures front { OnErr result (WroteFrontOfAnswer (answer_data answer.now) close (W.contents writer.old) (W.contents writer.new)) }
 {
     let outgoing = Outgoing::new(alloc, answer, close);
-    write_whole(writer, outgoing.as_bytes())?;
-    Ok(outgoing.closes())
+    match write_whole(writer, outgoing.as_bytes()) {
+        Ok(()) => Ok(outgoing.closes()),
+        Err(_) => Err(WriteFault),
+    }
 }

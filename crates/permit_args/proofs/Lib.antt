@@ -1,5 +1,7 @@
 pub mod Counted
 mod Added
-pub mod Matched
+pub mod Planned
 pub mod Simple
 pub mod SixParts
+pub mod Unread
+pub mod Values

@@ -1,3 +1,5 @@
 pub mod Checks
+pub mod Commands
 pub mod FactsText
+pub mod Faults
 pub mod Plans

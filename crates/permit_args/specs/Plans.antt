@@ -1,9 +1,10 @@
 -- The subcommands as simple commands of the command line library, and the plan that their words give.
-use Rattle.std.specs.Prelude.{◌≡◌, List, [], ◌∷◌, ℕ, Bool, Option, None, Some, true, false, IfSome, IsSomeAnd, IsTrue, MatchOption, option_map, codes}
+use Rattle.std.specs.Prelude.{◌≡◌, List, [], ◌∷◌, ℕ, Bool, Option, None, Some, true, false, IfSome, IsSomeAnd, IsTrue, MatchOption, option_map, codes, if◌then◌else◌}
 use Rattle.std.specs.Prelude.{decimal, bytes_eq, ◌≤◌}
 use Rattle.std.specs.Option.{option_map_or}
 use Rattle.std.specs.Borrow.{Bor}
-use Rattle.clap.specs.Words.{App, Row, Rule, Text, first_of, matches_of, new_app, new_rule, with_rule}
+use Rattle.clap.specs.Simple.{new_shape}
+use Rattle.clap.specs.Words.{App, Row, Rule, Text, fault_of, first_of, matches_of, new_app, new_rule, with_rule, with_subcommand}
 use Rattle.clap.specs.declared.builder.ArgAction.TheVariants.{Set, SetTrue}
 use Rattle.permit_base.specs.Stages.{is_file_stage}
 use Rattle.permit_base.specs.Words.{register_word, stage_word}
@@ -21,8 +22,8 @@ use Rattle.permit_args.specs.declared.plan.ListWords.{ListWords}
 use Rattle.permit_args.specs.declared.plan.RegisterWords.{RegisterWords}
 use Rattle.permit_args.specs.declared.plan.ImportWords.{ImportWords}
 use Rattle.permit_args.specs.declared.plan.ServeWords.{ServeWords}
-use Rattle.permit_args.specs.declared.plan.PlanFault.{PlanFault}
-use Rattle.permit_args.specs.declared.plan.PlanFault.TheVariants.{Help, Words, Memory}
+use Rattle.permit_args.specs.declared.plan.Subcommand.{Subcommand}
+use Rattle.permit_args.specs.declared.plan.Subcommand.TheVariants.{CheckPolicy, Init, Act, List as List', Register, Import, Serve, Upgrade, CheckDb}
 use Rattle.permit_args.specs.declared.plan.Plan.{Plan}
 use Rattle.permit_args.specs.declared.plan.Plan.TheVariants as plan
 
@@ -165,12 +166,6 @@ pub record IsImportOf (rows : List Row) (words : ImportWords) : Type 0 where
   pub office : IsOfficeOf rows words.office
   pub file : first_of (codes "file") rows ≡ Some words.file.now
 
--- words are refused only where no value is theirs; that memory ran out says nothing of them
-abbrev pub Refuses : {A : Type 0} → (A → Type 0) → PlanFault → Type 0
-Refuses {A} IsOf (Help text) = (x : A) → IsOf x → ⊥
-Refuses {A} IsOf (Words text) = (x : A) → IsOf x → ⊥
-Refuses {A} IsOf Memory = Unit {0}
-
 -- a number from 1 to the greatest, as it is written out
 pub record IsCountOf (greatest : ℕ) (text : Text) (n : ℕ) : Type 0 where
   pub spelled : text ≡ decimal n
@@ -212,19 +207,71 @@ pub record IsCheckDbOf (rows : List Row) (words : CheckDbWords) : Type 0 where
   pub db : first_of (codes "db") rows ≡ Some words.db.now
   pub why : is_given (codes "why") rows ≡ words.why
 
-abbrev pub first_word : List (List ℕ) → Option (List ℕ)
-first_word [] = None
-first_word (word ∷ words) = Some word
+-- ---- the plan
 
--- no words give the plan to print the name; else the first word names the subcommand, whose options and words the rest give
-abbrev pub IsPlanOf : List (List ℕ) → Plan → Type 0
+-- the program without its subcommands
+abbrev pub bare_app : App
+bare_app = record {
+  top = record (new_shape (codes "permit")) { no_binary_name = true; has_version = true; subcommand_required = true };
+  subs = [];
+}
+
+-- the program itself, which reads the words where the first names no subcommand
+unfoldable pub program_app : App
+program_app = with_subcommand (with_subcommand (with_subcommand (with_subcommand (with_subcommand (with_subcommand (with_subcommand
+    (with_subcommand (with_subcommand bare_app check_policy_app.top) init_app.top) act_app.top) list_app.top) register_app.top)
+    import_app.top) serve_app.top) upgrade_app.top) check_db_app.top
+
+-- the subcommand of a word
+abbrev pub named : Text → Option Subcommand
+named word =
+    if bytes_eq word (codes "check-policy") then Some CheckPolicy else (
+    if bytes_eq word (codes "init") then Some Init else (
+    if bytes_eq word (codes "act") then Some Act else (
+    if bytes_eq word (codes "list") then Some List' else (
+    if bytes_eq word (codes "register") then Some Register else (
+    if bytes_eq word (codes "import") then Some Import else (
+    if bytes_eq word (codes "serve") then Some Serve else (
+    if bytes_eq word (codes "upgrade") then Some Upgrade else (
+    if bytes_eq word (codes "check-db") then Some CheckDb else None))))))))
+
+-- the subcommand that the first word names
+abbrev pub subcommand_in : List Text → Option Subcommand
+subcommand_in [] = None
+subcommand_in (word ∷ words) = named word
+
+-- what reads the words: the subcommand, or the program where they name none
+abbrev pub reader_of : Option Subcommand → App
+reader_of None = program_app
+reader_of (Some CheckPolicy) = check_policy_app
+reader_of (Some Init) = init_app
+reader_of (Some Act) = act_app
+reader_of (Some List') = list_app
+reader_of (Some Register) = register_app
+reader_of (Some Import) = import_app
+reader_of (Some Serve) = serve_app
+reader_of (Some Upgrade) = upgrade_app
+reader_of (Some CheckDb) = check_db_app
+
+-- the library takes the words: it finds no fault in them
+abbrev pub IsTaken : App → List Text → Type 0
+IsTaken app words = fault_of app words ≡ []
+
+-- the library takes the words for the command, and what it finds there is this
+pub record IsReadAs {A : Type 0} (app : App) (words : List Text) (IsOf : List Row → A → Type 0) (x : A) : Type 0 where
+  pub taken : IsTaken app words
+  pub found : IsOf (matches_of app words) x
+
+-- No words give the plan to print the name; else the first word names the subcommand, which takes the words, and the plan is what is
+-- found there.
+abbrev pub IsPlanOf : List Text → Plan → Type 0
 IsPlanOf words plan.Name = words ≡ []
-IsPlanOf words (plan.CheckPolicy checked) = (first_word words ≡ Some (codes "check-policy")) × IsCheckPolicyOf (matches_of check_policy_app words) checked
-IsPlanOf words (plan.Init founding) = (first_word words ≡ Some (codes "init")) × IsInitOf (matches_of init_app words) founding
-IsPlanOf words (plan.Act request) = (first_word words ≡ Some (codes "act")) × IsActOf (matches_of act_app words) request
-IsPlanOf words (plan.List listing) = (first_word words ≡ Some (codes "list")) × IsListOf (matches_of list_app words) listing
-IsPlanOf words (plan.Register register) = (first_word words ≡ Some (codes "register")) × IsRegisterOf (matches_of register_app words) register
-IsPlanOf words (plan.Import imported) = (first_word words ≡ Some (codes "import")) × IsImportOf (matches_of import_app words) imported
-IsPlanOf words (plan.Serve serving) = (first_word words ≡ Some (codes "serve")) × IsServeOf (matches_of serve_app words) serving
-IsPlanOf words (plan.Upgrade upgrade) = (first_word words ≡ Some (codes "upgrade")) × IsDatabaseOf (matches_of upgrade_app words) upgrade
-IsPlanOf words (plan.CheckDb check) = (first_word words ≡ Some (codes "check-db")) × IsCheckDbOf (matches_of check_db_app words) check
+IsPlanOf words (plan.CheckPolicy checked) = (subcommand_in words ≡ Some CheckPolicy) × IsReadAs check_policy_app words IsCheckPolicyOf checked
+IsPlanOf words (plan.Init founding) = (subcommand_in words ≡ Some Init) × IsReadAs init_app words IsInitOf founding
+IsPlanOf words (plan.Act request) = (subcommand_in words ≡ Some Act) × IsReadAs act_app words IsActOf request
+IsPlanOf words (plan.List listing) = (subcommand_in words ≡ Some List') × IsReadAs list_app words IsListOf listing
+IsPlanOf words (plan.Register register) = (subcommand_in words ≡ Some Register) × IsReadAs register_app words IsRegisterOf register
+IsPlanOf words (plan.Import imported) = (subcommand_in words ≡ Some Import) × IsReadAs import_app words IsImportOf imported
+IsPlanOf words (plan.Serve serving) = (subcommand_in words ≡ Some Serve) × IsReadAs serve_app words IsServeOf serving
+IsPlanOf words (plan.Upgrade upgrade) = (subcommand_in words ≡ Some Upgrade) × IsReadAs upgrade_app words IsDatabaseOf upgrade
+IsPlanOf words (plan.CheckDb check) = (subcommand_in words ≡ Some CheckDb) × IsReadAs check_db_app words IsCheckDbOf check

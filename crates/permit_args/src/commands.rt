@@ -1,9 +1,10 @@
 //! The subcommands, as they are declared to the command line library.
 
 ghost use Rattle.std.specs.Prelude.{◌≡◌, IfOk, codes, false};
-ghost use Rattle.clap.specs.Words.{app_of, new_app, rule_of};
-ghost use Rattle.permit_args.specs.Plans.{act_app, check_db_app, check_policy_app, flag, import_app, init_app, list_app, optional_option, optional_word, upgrade_app};
-ghost use Rattle.permit_args.specs.Plans.{register_app, required_option, required_word, serve_app, with_days, with_office};
+ghost use Rattle.clap.specs.Words.{App, new_app, rule_of};
+ghost use Rattle.permit_args.specs.Commands.{IsCommandOf};
+ghost use Rattle.permit_args.specs.Plans.{act_app, bare_app, check_db_app, check_policy_app, flag, import_app, init_app, list_app, optional_option, optional_word, upgrade_app};
+ghost use Rattle.permit_args.specs.Plans.{program_app, register_app, required_option, required_word, serve_app, with_days, with_office};
 
 use clap::{Arg, ArgAction, Command};
 use std::alloc::{AllocError, Global};
@@ -19,7 +20,7 @@ fn subcommand<'a>(
     about: &'a str,
     example: &'a str,
 ) -> Result<Command<'a>, AllocError>
-    ensures { IfOk result (λ c. app_of c ≡ new_app name.now) }
+    ensures { IfOk result (IsCommandOf (new_app name.now)) }
 {
     let command = Command::new(alloc, name).bin_name(usage)?;
     Ok(command.about(about).after_help(example))
@@ -89,7 +90,7 @@ fn policy<'a>(alloc: Global) -> Arg<'a>
 
 /// The subcommand with the words for the day.
 fn with_days<'a>(alloc: Global, command: Command<'a>) -> Result<Command<'a>, AllocError>
-    ensures { IfOk result (λ c. app_of c ≡ with_days (app_of command.entry)) }
+    ensures { (app : App) → IsCommandOf app command.entry → IfOk result (IsCommandOf (with_days app)) }
 {
     command
         .arg(option(
@@ -108,7 +109,7 @@ fn with_days<'a>(alloc: Global, command: Command<'a>) -> Result<Command<'a>, All
 
 /// The subcommand with the options for the office that is asked.
 fn with_office<'a>(alloc: Global, command: Command<'a>) -> Result<Command<'a>, AllocError>
-    ensures { IfOk result (λ c. app_of c ≡ with_office (app_of command.entry)) }
+    ensures { (app : App) → IsCommandOf app command.entry → IfOk result (IsCommandOf (with_office app)) }
 {
     let command = command.arg(database(alloc))?.arg(policy(alloc))?.arg(required_option(
         alloc,
@@ -121,7 +122,7 @@ fn with_office<'a>(alloc: Global, command: Command<'a>) -> Result<Command<'a>, A
 
 /// The subcommand that reads a policy.
 pub(crate) fn check_policy<'a>(alloc: Global) -> Result<Command<'a>, AllocError>
-    ensures { IfOk result (λ command. app_of command ≡ check_policy_app) }
+    ensures { IfOk result (IsCommandOf check_policy_app) }
 {
     subcommand(
         alloc,
@@ -146,7 +147,7 @@ pub(crate) fn check_policy<'a>(alloc: Global) -> Result<Command<'a>, AllocError>
 
 /// The subcommand that founds an office.
 pub(crate) fn init<'a>(alloc: Global) -> Result<Command<'a>, AllocError>
-    ensures { IfOk result (λ command. app_of command ≡ init_app) }
+    ensures { IfOk result (IsCommandOf init_app) }
 {
     let command = subcommand(
         alloc,
@@ -163,7 +164,7 @@ pub(crate) fn init<'a>(alloc: Global) -> Result<Command<'a>, AllocError>
 
 /// The subcommand that has the office serve one request.
 pub(crate) fn act<'a>(alloc: Global) -> Result<Command<'a>, AllocError>
-    ensures { IfOk result (λ command. app_of command ≡ act_app) }
+    ensures { IfOk result (IsCommandOf act_app) }
 {
     let command = subcommand(
         alloc,
@@ -180,7 +181,7 @@ pub(crate) fn act<'a>(alloc: Global) -> Result<Command<'a>, AllocError>
 
 /// The subcommand that lists files.
 pub(crate) fn list<'a>(alloc: Global) -> Result<Command<'a>, AllocError>
-    ensures { IfOk result (λ command. app_of command ≡ list_app) }
+    ensures { IfOk result (IsCommandOf list_app) }
 {
     let command = subcommand(
         alloc,
@@ -199,7 +200,7 @@ pub(crate) fn list<'a>(alloc: Global) -> Result<Command<'a>, AllocError>
 
 /// The subcommand that writes a register.
 pub(crate) fn register<'a>(alloc: Global) -> Result<Command<'a>, AllocError>
-    ensures { IfOk result (λ command. app_of command ≡ register_app) }
+    ensures { IfOk result (IsCommandOf register_app) }
 {
     let command = subcommand(
         alloc,
@@ -218,7 +219,7 @@ pub(crate) fn register<'a>(alloc: Global) -> Result<Command<'a>, AllocError>
 
 /// The subcommand that imports parcels.
 pub(crate) fn import<'a>(alloc: Global) -> Result<Command<'a>, AllocError>
-    ensures { IfOk result (λ command. app_of command ≡ import_app) }
+    ensures { IfOk result (IsCommandOf import_app) }
 {
     let command = subcommand(
         alloc,
@@ -237,7 +238,7 @@ pub(crate) fn import<'a>(alloc: Global) -> Result<Command<'a>, AllocError>
 
 /// The subcommand that serves the office.
 pub(crate) fn serve<'a>(alloc: Global) -> Result<Command<'a>, AllocError>
-    ensures { IfOk result (λ command. app_of command ≡ serve_app) }
+    ensures { IfOk result (IsCommandOf serve_app) }
 {
     let command = subcommand(
         alloc,
@@ -271,7 +272,7 @@ pub(crate) fn serve<'a>(alloc: Global) -> Result<Command<'a>, AllocError>
 
 /// The subcommand that says whether a database's tables are sound.
 pub(crate) fn check_db<'a>(alloc: Global) -> Result<Command<'a>, AllocError>
-    ensures { IfOk result (λ command. app_of command ≡ check_db_app) }
+    ensures { IfOk result (IsCommandOf check_db_app) }
 {
     subcommand(
         alloc,
@@ -290,7 +291,7 @@ pub(crate) fn check_db<'a>(alloc: Global) -> Result<Command<'a>, AllocError>
 
 /// The subcommand that upgrades a database.
 pub(crate) fn upgrade<'a>(alloc: Global) -> Result<Command<'a>, AllocError>
-    ensures { IfOk result (λ command. app_of command ≡ upgrade_app) }
+    ensures { IfOk result (IsCommandOf upgrade_app) }
 {
     subcommand(
         alloc,
@@ -302,14 +303,25 @@ pub(crate) fn upgrade<'a>(alloc: Global) -> Result<Command<'a>, AllocError>
     .arg(database(alloc))
 }
 
+/// The program without its subcommands.
+fn bare_program<'a>(alloc: Global) -> Result<Command<'a>, AllocError>
+    ensures { IfOk result (IsCommandOf bare_app) }
+{
+    let command = Command::new(alloc, "permit").bin_name("permit")?;
+    Ok(
+        command
+            .about("A city's building permits and inspections")
+            .version(VERSION)
+            .no_binary_name(true)
+            .subcommand_required(true),
+    )
+}
+
 /// The program with all its subcommands, for help and for words that begin with none of them.
-pub(crate) fn program<'a>(alloc: Global) -> Result<Command<'a>, AllocError> {
-    Command::new(alloc, "permit")
-        .bin_name("permit")?
-        .about("A city's building permits and inspections")
-        .version(VERSION)
-        .no_binary_name(true)
-        .subcommand_required(true)
+pub(crate) fn program<'a>(alloc: Global) -> Result<Command<'a>, AllocError>
+    ensures { IfOk result (IsCommandOf program_app) }
+{
+    bare_program(alloc)?
         .subcommand(check_policy(alloc)?)?
         .subcommand(init(alloc)?)?
         .subcommand(act(alloc)?)?

@@ -31,6 +31,20 @@ pub enum Plan<'a> {
     CheckDb(CheckDbWords<'a>),
 }
 
+/// The subcommands.
+#[derive(Clone, Copy)]
+pub enum Subcommand {
+    CheckPolicy,
+    Init,
+    Act,
+    List,
+    Register,
+    Import,
+    Serve,
+    Upgrade,
+    CheckDb,
+}
+
 /// Which policy is read, and what is said of it.
 #[derive(Clone, Copy, PartialEq, Drop)]
 pub struct CheckPolicyWords<'a> {

@@ -1,19 +1,20 @@
 //! What the words behind the program's name ask for.
 
-ghost use Rattle.std.specs.Prelude.{◌≡◌, [], IfErr, IfOk, IfSome, IsTrue, map, Some, Ok, true, string_bytes};
-ghost use Rattle.clap.specs.Words.{app_of, first_of, found_of, is_simple, matches_of, rows_of};
+ghost use Rattle.std.specs.Prelude.{◌≡◌, [], ℕ, List, IfErr, IfOk, IfSome, IsTrue, map, Some, Ok, true, string_bytes};
+ghost use Rattle.clap.specs.Words.{app_of, first_of, found_of, is_simple_and_free, kind_of, rows_of};
 ghost use Rattle.permit_base.specs.Stages.{is_file_stage};
 ghost use Rattle.permit_base.specs.Words.{register_word, stage_word};
-ghost use Rattle.permit_args.specs.Plans.{act_app, check_db_app, check_policy_app, import_app, init_app, is_given, list_app, register_app, serve_app, text_of, upgrade_app, IsCheckDbOf, IsDatabaseOf};
-ghost use Rattle.permit_args.specs.Plans.{IsActOf, IsCheckOf, IsCheckPolicyOf, IsConnectionsOf, IsCountOf, IsDaysOf, IsImportOf, IsInitOf, IsListOf};
-ghost use Rattle.permit_args.specs.Plans.{IsOfficeOf, IsPlanOf, IsRegisterOf, IsServeOf, IsStageOf, IsWorkersOf, Refuses};
+ghost use Rattle.permit_args.specs.Faults.{is_help, is_memory, FindsNothing, IsFaultBy, IsFoundIn, IsNoPlan, IsOfWords, IsParserFault, IsUnread, Refuses};
+ghost use Rattle.permit_args.specs.Plans.{act_app, check_db_app, check_policy_app, import_app, init_app, is_given, list_app, register_app, serve_app, text_of, upgrade_app};
+ghost use Rattle.permit_args.specs.Plans.{IsActOf, IsCheckDbOf, IsCheckOf, IsCheckPolicyOf, IsConnectionsOf, IsCountOf, IsDatabaseOf, IsDaysOf, IsImportOf, IsInitOf};
+ghost use Rattle.permit_args.specs.Plans.{named, program_app, subcommand_in, IsListOf, IsOfficeOf, IsPlanOf, IsReadAs, IsRegisterOf, IsServeOf, IsStageOf, IsWorkersOf};
 
 use crate::commands::{
     act, check_db, check_policy, import, init, list, program, register, serve, upgrade,
 };
 use crate::plan::{
     ActWords, Check, CheckDbWords, CheckPolicyWords, DatabaseWords, DayWords, ImportWords,
-    InitWords, ListWords, OfficeWords, Plan, PlanFault, RegisterWords, ServeWords,
+    InitWords, ListWords, OfficeWords, Plan, PlanFault, RegisterWords, ServeWords, Subcommand,
 };
 use clap::error::ErrorKind;
 use clap::{ArgMatches, Command, Error};
@@ -29,7 +30,9 @@ const MOST_WORKERS: u32 = 8;
 const MOST_CONNECTIONS: u32 = 99999;
 
 /// Bad words, with the line that says why.
-fn bad(alloc: Global, line: &str) -> PlanFault {
+fn bad(alloc: Global, line: &str) -> PlanFault
+    ensures { IsOfWords result }
+{
     match String::from_str(alloc, line) {
         Ok(text) => PlanFault::Words(text),
         Err(_) => PlanFault::Memory,
@@ -45,15 +48,35 @@ pub fn words_given(rt: &HostRuntime) -> Result<Vec<String>, PlanFault> {
     }
 }
 
+/// Whether an error of the parser is that memory ran out.
+fn is_memory(kind: ErrorKind) -> bool
+    ensures { result ≡ is_memory kind }
+{
+    matches!(kind, ErrorKind::OutOfMemory)
+}
+
+/// Whether an error of the parser is help, or the version.
+fn is_help(kind: ErrorKind) -> bool
+    ensures { result ≡ is_help kind }
+{
+    matches!(kind, ErrorKind::DisplayHelp | ErrorKind::DisplayVersion)
+}
+
 /// What an error of the parser says.
-fn fault(alloc: Global, error: &Error) -> PlanFault {
-    if error.kind() == ErrorKind::OutOfMemory {
+fn fault(alloc: Global, error: &Error) -> PlanFault
+    ensures { IsFaultBy (kind_of error.now) result }
+{
+    let kind = error.kind();
+    if is_memory(kind) {
         return PlanFault::Memory;
     }
-    match error.to_string(alloc) {
-        Ok(text) if error.use_stderr() => PlanFault::Words(text),
-        Ok(text) => PlanFault::Help(text),
-        Err(_) => PlanFault::Memory,
+    let Ok(text) = error.to_string(alloc) else {
+        return PlanFault::Memory;
+    };
+    if is_help(kind) {
+        PlanFault::Help(text)
+    } else {
+        PlanFault::Words(text)
     }
 }
 
@@ -63,8 +86,10 @@ fn matches<'a>(
     command: Command<'a>,
     words: &'a [String],
 ) -> Result<ArgMatches<'a>, PlanFault>
-    ensures { IfOk result (λ m. is_simple (app_of command.entry) ≡ true
-        → rows_of (found_of m) ≡ matches_of (app_of command.entry) (map string_bytes words.now)) }
+    ensures found { IfOk result (λ m. is_simple_and_free (app_of command.entry) ≡ true
+        → IsFoundIn (app_of command.entry) (map string_bytes words.now) (rows_of (found_of m))) }
+    ensures refused { IfErr result (λ fault. is_simple_and_free (app_of command.entry) ≡ true
+        → IsParserFault (app_of command.entry) (map string_bytes words.now) fault) }
 {
     match command.try_get_matches_from(words) {
         Ok(matches) => Ok(matches),
@@ -81,7 +106,8 @@ fn value<'a>(matches: &ArgMatches<'a>, name: &str) -> Option<&'a str>
 
 /// The value of an option or a word that has to be there.
 fn required<'a>(alloc: Global, matches: &ArgMatches<'a>, name: &str) -> Result<&'a str, PlanFault>
-    ensures { IfOk result (λ s. first_of name.now (rows_of (found_of matches.now)) ≡ Some s.now) }
+    ensures value { IfOk result (λ s. first_of name.now (rows_of (found_of matches.now)) ≡ Some s.now) }
+    ensures refused { IfErr result (Refuses (λ (text : List ℕ). first_of name.now (rows_of (found_of matches.now)) ≡ Some text)) }
 {
     match value(matches, name) {
         Some(text) => Ok(text),
@@ -101,7 +127,8 @@ fn days<'a>(matches: &ArgMatches<'a>) -> DayWords<'a>
 
 /// The office that is asked.
 fn office<'a>(alloc: Global, matches: &ArgMatches<'a>) -> Result<OfficeWords<'a>, PlanFault>
-    ensures { IfOk result (IsOfficeOf (rows_of (found_of matches.now))) }
+    ensures found { IfOk result (IsOfficeOf (rows_of (found_of matches.now))) }
+    ensures refused { IfErr result (Refuses (IsOfficeOf (rows_of (found_of matches.now)))) }
 {
     Ok(OfficeWords {
         db: required(alloc, matches, "db")?,
@@ -112,7 +139,9 @@ fn office<'a>(alloc: Global, matches: &ArgMatches<'a>) -> Result<OfficeWords<'a>
 }
 
 /// Bad words: an option or a word has a value that it can't have.
-fn invalid(alloc: Global, value: &str, place: &str) -> PlanFault {
+fn invalid(alloc: Global, value: &str, place: &str) -> PlanFault
+    ensures { IsOfWords result }
+{
     match format!(in alloc;
         "error: invalid value '{value}' for '{place}'\n\nFor more information, try '--help'.\n"
     ) {
@@ -125,13 +154,15 @@ fn invalid(alloc: Global, value: &str, place: &str) -> PlanFault {
 fn file_stage(word: &str) -> Option<FileStage>
     ensures word { IfSome result (λ stage. stage_word stage ≡ word.now) }
     ensures within { IfSome result (λ stage. IsTrue (is_file_stage stage)) }
+    ensures every { (stage : Stage) → stage_word stage ≡ word.now → IsTrue (is_file_stage stage) → result ≡ Some stage }
 {
     FileStage::new(Stage::read(word)?)
 }
 
 /// The stage of the files that are listed.
 fn stage(alloc: Global, matches: &ArgMatches<'_>) -> Result<Option<FileStage>, PlanFault>
-    ensures { IfOk result (IsStageOf (rows_of (found_of matches.now))) }
+    ensures stage { IfOk result (IsStageOf (rows_of (found_of matches.now))) }
+    ensures refused { IfErr result (Refuses (IsStageOf (rows_of (found_of matches.now)))) }
 {
     let Some(text) = value(matches, "stage") else {
         return Ok(None);
@@ -144,7 +175,8 @@ fn stage(alloc: Global, matches: &ArgMatches<'_>) -> Result<Option<FileStage>, P
 
 /// The register of a name.
 fn kind(alloc: Global, name: &str) -> Result<RegisterKind, PlanFault>
-    ensures { IfOk result (λ kind. register_word kind ≡ name.now) }
+    ensures kind { IfOk result (λ kind. register_word kind ≡ name.now) }
+    ensures refused { IfErr result (Refuses (λ (kind : RegisterKind). register_word kind ≡ name.now)) }
 {
     match RegisterKind::read(name) {
         Some(kind) => Ok(kind),
@@ -207,7 +239,8 @@ fn is_given(matches: &ArgMatches<'_>, name: &str) -> bool
 
 /// What is said of a policy.
 fn check<'a>(alloc: Global, matches: &ArgMatches<'a>) -> Result<Check<'a>, PlanFault>
-    ensures { IfOk result (IsCheckOf (rows_of (found_of matches.now))) }
+    ensures check { IfOk result (IsCheckOf (rows_of (found_of matches.now))) }
+    ensures refused { IfErr result (Refuses (IsCheckOf (rows_of (found_of matches.now)))) }
 {
     match (is_given(matches, "dead"), value(matches, "facts")) {
         (false, None) => Ok(Check::Rules),
@@ -225,7 +258,8 @@ fn plan_check_policy<'a>(
     alloc: Global,
     words: &'a [String],
 ) -> Result<CheckPolicyWords<'a>, PlanFault>
-    ensures { IfOk result (IsCheckPolicyOf (matches_of check_policy_app (map string_bytes words.now))) }
+    ensures plan { IfOk result (IsReadAs check_policy_app (map string_bytes words.now) IsCheckPolicyOf) }
+    ensures refused { IfErr result (IsUnread check_policy_app (map string_bytes words.now) IsCheckPolicyOf) }
 {
     let matches = matches(alloc, check_policy(alloc)?, words)?;
     Ok(CheckPolicyWords {
@@ -236,7 +270,8 @@ fn plan_check_policy<'a>(
 
 /// The plan of `init`.
 fn plan_init<'a>(alloc: Global, words: &'a [String]) -> Result<InitWords<'a>, PlanFault>
-    ensures { IfOk result (IsInitOf (matches_of init_app (map string_bytes words.now))) }
+    ensures plan { IfOk result (IsReadAs init_app (map string_bytes words.now) IsInitOf) }
+    ensures refused { IfErr result (IsUnread init_app (map string_bytes words.now) IsInitOf) }
 {
     let matches = matches(alloc, init(alloc)?, words)?;
     Ok(InitWords {
@@ -249,7 +284,8 @@ fn plan_init<'a>(alloc: Global, words: &'a [String]) -> Result<InitWords<'a>, Pl
 
 /// The plan of `act`.
 fn plan_act<'a>(alloc: Global, words: &'a [String]) -> Result<ActWords<'a>, PlanFault>
-    ensures { IfOk result (IsActOf (matches_of act_app (map string_bytes words.now))) }
+    ensures plan { IfOk result (IsReadAs act_app (map string_bytes words.now) IsActOf) }
+    ensures refused { IfErr result (IsUnread act_app (map string_bytes words.now) IsActOf) }
 {
     let matches = matches(alloc, act(alloc)?, words)?;
     Ok(ActWords {
@@ -262,7 +298,8 @@ fn plan_act<'a>(alloc: Global, words: &'a [String]) -> Result<ActWords<'a>, Plan
 
 /// The plan of `list`.
 fn plan_list<'a>(alloc: Global, words: &'a [String]) -> Result<ListWords<'a>, PlanFault>
-    ensures { IfOk result (IsListOf (matches_of list_app (map string_bytes words.now))) }
+    ensures plan { IfOk result (IsReadAs list_app (map string_bytes words.now) IsListOf) }
+    ensures refused { IfErr result (IsUnread list_app (map string_bytes words.now) IsListOf) }
 {
     let matches = matches(alloc, list(alloc)?, words)?;
     Ok(ListWords {
@@ -273,7 +310,8 @@ fn plan_list<'a>(alloc: Global, words: &'a [String]) -> Result<ListWords<'a>, Pl
 
 /// The plan of `register`.
 fn plan_register<'a>(alloc: Global, words: &'a [String]) -> Result<RegisterWords<'a>, PlanFault>
-    ensures { IfOk result (IsRegisterOf (matches_of register_app (map string_bytes words.now))) }
+    ensures plan { IfOk result (IsReadAs register_app (map string_bytes words.now) IsRegisterOf) }
+    ensures refused { IfErr result (IsUnread register_app (map string_bytes words.now) IsRegisterOf) }
 {
     let matches = matches(alloc, register(alloc)?, words)?;
     let name = required(alloc, &matches, "name")?;
@@ -285,7 +323,8 @@ fn plan_register<'a>(alloc: Global, words: &'a [String]) -> Result<RegisterWords
 
 /// The plan of `import`.
 fn plan_import<'a>(alloc: Global, words: &'a [String]) -> Result<ImportWords<'a>, PlanFault>
-    ensures { IfOk result (IsImportOf (matches_of import_app (map string_bytes words.now))) }
+    ensures plan { IfOk result (IsReadAs import_app (map string_bytes words.now) IsImportOf) }
+    ensures refused { IfErr result (IsUnread import_app (map string_bytes words.now) IsImportOf) }
 {
     let matches = matches(alloc, import(alloc)?, words)?;
     Ok(ImportWords {
@@ -296,7 +335,8 @@ fn plan_import<'a>(alloc: Global, words: &'a [String]) -> Result<ImportWords<'a>
 
 /// The plan of `serve`.
 fn plan_serve<'a>(alloc: Global, words: &'a [String]) -> Result<ServeWords<'a>, PlanFault>
-    ensures { IfOk result (IsServeOf (matches_of serve_app (map string_bytes words.now))) }
+    ensures plan { IfOk result (IsReadAs serve_app (map string_bytes words.now) IsServeOf) }
+    ensures refused { IfErr result (IsUnread serve_app (map string_bytes words.now) IsServeOf) }
 {
     let matches = matches(alloc, serve(alloc)?, words)?;
     Ok(ServeWords {
@@ -311,7 +351,8 @@ fn plan_serve<'a>(alloc: Global, words: &'a [String]) -> Result<ServeWords<'a>, 
 
 /// The plan of `check-db`.
 fn plan_check_db<'a>(alloc: Global, words: &'a [String]) -> Result<CheckDbWords<'a>, PlanFault>
-    ensures { IfOk result (IsCheckDbOf (matches_of check_db_app (map string_bytes words.now))) }
+    ensures plan { IfOk result (IsReadAs check_db_app (map string_bytes words.now) IsCheckDbOf) }
+    ensures refused { IfErr result (IsUnread check_db_app (map string_bytes words.now) IsCheckDbOf) }
 {
     let matches = matches(alloc, check_db(alloc)?, words)?;
     Ok(CheckDbWords {
@@ -322,7 +363,8 @@ fn plan_check_db<'a>(alloc: Global, words: &'a [String]) -> Result<CheckDbWords<
 
 /// The plan of `upgrade`.
 fn plan_upgrade<'a>(alloc: Global, words: &'a [String]) -> Result<DatabaseWords<'a>, PlanFault>
-    ensures { IfOk result (IsDatabaseOf (matches_of upgrade_app (map string_bytes words.now))) }
+    ensures plan { IfOk result (IsReadAs upgrade_app (map string_bytes words.now) IsDatabaseOf) }
+    ensures refused { IfErr result (IsUnread upgrade_app (map string_bytes words.now) IsDatabaseOf) }
 {
     let matches = matches(alloc, upgrade(alloc)?, words)?;
     Ok(DatabaseWords {
@@ -331,13 +373,43 @@ fn plan_upgrade<'a>(alloc: Global, words: &'a [String]) -> Result<DatabaseWords<
 }
 
 /// Why words that begin with no subcommand give no plan.
-fn no_subcommand(alloc: Global, words: &[String]) -> PlanFault {
+fn no_subcommand(alloc: Global, words: &[String]) -> PlanFault
+    ensures { IsUnread program_app (map string_bytes words.now) FindsNothing result }
+{
     let Ok(command) = program(alloc) else {
         return PlanFault::Memory;
     };
-    match command.try_get_matches_from(words) {
+    match matches(alloc, command, words) {
         Ok(_) => bad(alloc, "error: no subcommand is named\n"),
-        Err(error) => fault(alloc, &error),
+        Err(fault) => fault,
+    }
+}
+
+/// The subcommand of a word.
+fn named(word: &str) -> Option<Subcommand>
+    ensures { result ≡ named word.now }
+{
+    match word {
+        "check-policy" => Some(Subcommand::CheckPolicy),
+        "init" => Some(Subcommand::Init),
+        "act" => Some(Subcommand::Act),
+        "list" => Some(Subcommand::List),
+        "register" => Some(Subcommand::Register),
+        "import" => Some(Subcommand::Import),
+        "serve" => Some(Subcommand::Serve),
+        "upgrade" => Some(Subcommand::Upgrade),
+        "check-db" => Some(Subcommand::CheckDb),
+        _ => None,
+    }
+}
+
+/// The subcommand that the first word names.
+fn subcommand(words: &[String]) -> Option<Subcommand>
+    ensures { result ≡ subcommand_in (map string_bytes words.now) }
+{
+    match words.first() {
+        Some(word) => named(word.as_str()),
+        None => None,
     }
 }
 
@@ -345,21 +417,22 @@ fn no_subcommand(alloc: Global, words: &[String]) -> PlanFault {
 /// word names, as the command line library reads them.
 pub fn plan<'a>(alloc: Global, words: &'a [String]) -> Result<Plan<'a>, PlanFault>
     ensures plan { IfOk result (IsPlanOf (map string_bytes words.now)) }
+    ensures refused { IfErr result (IsNoPlan (map string_bytes words.now)) }
     ensures name { words.now ≡ [] → result ≡ Ok Plan.Name }
 {
-    let Some(word) = words.first() else {
+    if words.is_empty() {
         return Ok(Plan::Name);
-    };
-    match word.as_str() {
-        "check-policy" => Ok(Plan::CheckPolicy(plan_check_policy(alloc, words)?)),
-        "init" => Ok(Plan::Init(plan_init(alloc, words)?)),
-        "act" => Ok(Plan::Act(plan_act(alloc, words)?)),
-        "list" => Ok(Plan::List(plan_list(alloc, words)?)),
-        "register" => Ok(Plan::Register(plan_register(alloc, words)?)),
-        "import" => Ok(Plan::Import(plan_import(alloc, words)?)),
-        "serve" => Ok(Plan::Serve(plan_serve(alloc, words)?)),
-        "upgrade" => Ok(Plan::Upgrade(plan_upgrade(alloc, words)?)),
-        "check-db" => Ok(Plan::CheckDb(plan_check_db(alloc, words)?)),
-        _ => Err(no_subcommand(alloc, words)),
+    }
+    match subcommand(words) {
+        Some(Subcommand::CheckPolicy) => Ok(Plan::CheckPolicy(plan_check_policy(alloc, words)?)),
+        Some(Subcommand::Init) => Ok(Plan::Init(plan_init(alloc, words)?)),
+        Some(Subcommand::Act) => Ok(Plan::Act(plan_act(alloc, words)?)),
+        Some(Subcommand::List) => Ok(Plan::List(plan_list(alloc, words)?)),
+        Some(Subcommand::Register) => Ok(Plan::Register(plan_register(alloc, words)?)),
+        Some(Subcommand::Import) => Ok(Plan::Import(plan_import(alloc, words)?)),
+        Some(Subcommand::Serve) => Ok(Plan::Serve(plan_serve(alloc, words)?)),
+        Some(Subcommand::Upgrade) => Ok(Plan::Upgrade(plan_upgrade(alloc, words)?)),
+        Some(Subcommand::CheckDb) => Ok(Plan::CheckDb(plan_check_db(alloc, words)?)),
+        None => Err(no_subcommand(alloc, words)),
     }
 }

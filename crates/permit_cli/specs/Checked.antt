@@ -1,26 +1,40 @@
--- What is said of the tables of a database that is checked.
-use Rattle.std.specs.Prelude.{◌≡◌, IsTrue}
+-- What is told of a database whose tables are tested.
+use Rattle.std.specs.Prelude.{◌≡◌, Bool, IsTrue, Result, Ok, Err, Some}
 use Rattle.sqlite.specs.Effect.{Database}
+use Rattle.permit_base.specs.declared.words.Edition.TheVariants.{Second}
 use Rattle.permit_model.specs.Tables.{Tables}
-use Rattle.permit_sql.specs.Found.{KeepsSound}
+use Rattle.permit_store.specs.declared.store.OpenError.TheVariants as opening
+use Rattle.permit_sql_rows.specs.Kept.{Keeps}
+use Rattle.permit_sql.specs.First.{IsFirst}
+use Rattle.permit_sql.specs.Found.{AreTyped, CountsSound, KeepsSound}
 use Rattle.permit_sql.specs.Named.{breaks}
-use Rattle.permit_cli.specs.declared.database.Done.{Done}
-use Rattle.permit_cli.specs.declared.database.Done.TheVariants as done
+use Rattle.permit_sql.specs.Opening.{HasOtherVersion}
+use Rattle.permit_sql.specs.declared.fault.Fault.{Fault}
+use Rattle.permit_subcommands.specs.declared.failure.Failure.{Failure}
+use Rattle.permit_subcommands.specs.declared.failure.Failure.TheVariants as failure
+use Rattle.permit_cli.specs.declared.outcome.Outcome.{Outcome}
+use Rattle.permit_cli.specs.declared.outcome.Outcome.TheVariants as outcome
 
--- the desk of these tables, or a place
-abbrev pub IsCounted : Tables → Done → Type 0
-IsCounted t (done.Sound desk) = desk ≡ t.desk
-IsCounted t (done.Unsound fault) = Unit {0}
-IsCounted t _ = ⊥
+-- The place is of a database that keeps no sound tables. Of typed tables that it keeps the rule is false there, and it is the first
+-- such place.
+pub record IsPlaceOf (db : Database) (fault : Fault) : Type 0 where
+  pub unsound : ¬ KeepsSound db
+  pub false_there : (t : Tables) → AreTyped t → Keeps t db → IsTrue (breaks t fault)
+  pub first : (t : Tables) → AreTyped t → Keeps t db → IsFirst t (Some fault)
 
--- counts, or a place that is false of these tables
-abbrev pub IsPlaceIn : Tables → Done → Type 0
-IsPlaceIn t (done.Sound desk) = Unit {0}
-IsPlaceIn t (done.Unsound fault) = IsTrue (breaks t fault)
-IsPlaceIn t _ = ⊥
+-- a place, or none, and then the tables aren't told as sound either
+abbrev pub IsNamedAs : Database → Result Outcome Failure → Type 0
+IsNamedAs db (Ok (outcome.Unsound fault)) = IsPlaceOf db fault
+IsNamedAs db (Ok _) = ⊥
+IsNamedAs db (Err why) = why ≡ failure.Database opening.Damaged
 
--- counts, or a place of a database that keeps no sound tables
-abbrev pub IsToldOf : Database → Done → Type 0
-IsToldOf db (done.Sound desk) = Unit {0}
-IsToldOf db (done.Unsound fault) = ¬ KeepsSound db
-IsToldOf db _ = ⊥
+-- Sound tables, with the counts of their desk, or a place where one is asked for; or why there is neither. A failed call and
+-- refused memory say nothing of the tables.
+abbrev pub IsCheckedAs : Bool → Database → Result Outcome Failure → Type 0
+IsCheckedAs why db (Ok (outcome.Sound desk)) = CountsSound db desk
+IsCheckedAs why db (Ok (outcome.Unsound fault)) = IsTrue why × IsPlaceOf db fault
+IsCheckedAs why db (Ok _) = ⊥
+IsCheckedAs why db (Err (failure.Database opening.Damaged)) = ¬ KeepsSound db
+IsCheckedAs why db (Err (failure.Database opening.Version)) = HasOtherVersion Second db
+IsCheckedAs why db (Err (failure.Database opening.Store)) = Unit {0}
+IsCheckedAs why db (Err _) = ⊥

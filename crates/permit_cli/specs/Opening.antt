@@ -1,9 +1,12 @@
 -- An office that is opened over a connection, and why one isn't.
-use Rattle.std.specs.Prelude.{◌≡◌, ◌⊎◌, Result, Err}
+use Rattle.std.specs.Prelude.{◌≡◌, ◌≢◌, ◌⊎◌, IsTrue, Result, Err}
 use Rattle.sqlite_trees.specs.View.{doubt}
 use Rattle.sqlite_trees.specs.declared.store.Store.{Ghosts}
 use Rattle.sqlite.specs.State.{HasCleanDisk}
 use Rattle.sqlite.specs.Held.{Held, state}
+use Rattle.sqlite.specs.declared.error.Error.{Error}
+use Rattle.sqlite.specs.declared.error.Error.TheVariants as error
+use Rattle.sqlite.specs.declared.error.ErrorCode.TheVariants as code
 use Rattle.permit_base.specs.declared.words.Edition.TheVariants.{Second}
 use Rattle.permit_model.specs.Sound.{IsSoundTables}
 use Rattle.permit_model.specs.Tables.{Tables}
@@ -17,6 +20,13 @@ use Rattle.permit_sql.specs.Opening.{HasOtherVersion}
 use Rattle.permit_subcommands.specs.Failures.{plain}
 use Rattle.permit_subcommands.specs.declared.failure.Failure.{Failure}
 use Rattle.permit_subcommands.specs.declared.failure.Failure.TheVariants as failure
+
+-- why a file isn't opened, by the library's error: memory ran out, it holds no database or a damaged one, or a call failed
+abbrev pub opening_failure : Error → Failure
+opening_failure (error.SqliteFailure code.OutOfMemory) = plain Store
+opening_failure (error.SqliteFailure code.NotADatabase) = failure.Database opening.Damaged
+opening_failure (error.SqliteFailure code.DatabaseCorrupt) = failure.Database opening.Damaged
+opening_failure _ = failure.Database opening.Store
 
 module _ {S : Type 0} (g : Ghosts S) where
   -- The store over the connection holds each of the tables that the connection showed, which are of this version. Nothing is
@@ -41,13 +51,15 @@ module _ {S : Type 0} (g : Ghosts S) where
     pub counts : (view.failed ≡ 0) × (view.commits ≡ 0)
     pub one : view.doubt ≡ 0 → HasOneDesk view
 
-  -- The connection comes back, and shows the tables that it showed. They are of another version, or aren't sound; or a call
-  -- failed, or memory was refused.
+  -- The connection comes back, and shows the tables that it showed. They are of another version, or aren't sound, and then the
+  -- database is as it was; or a call failed, or memory was refused. What is said of the tables is said over an open connection.
   pub record Refuses (conn back : Held S) (why : OpenError) : Type 0 where
     pub kept : (t : Tables) → Keeps t (state g conn).now → IsFine (state g back) → Keeps t (state g back).now
+    pub same : why ≢ opening.Store → IsFine (state g back) → (state g back).now ≡ (state g conn).now
     pub version : why ≡ opening.Version → HasCleanDisk (state g back) → HasOtherVersion Second (state g conn).now
     pub told : HasCleanDisk (state g back) → HasOtherVersion Second (state g conn).now → (why ≡ opening.Version) ⊎ (why ≡ opening.Store)
-    pub damaged : why ≡ opening.Damaged → IsFine (state g back) → ¬ KeepsSound (state g conn).now
+    pub damaged : why ≡ opening.Damaged → HasCleanDisk (state g back) → ¬ KeepsSound (state g conn).now
+    pub judged : why ≢ opening.Store → HasCleanDisk (state g back) → IsTrue (state g back).is_open
     pub refusal : (why ≡ opening.Damaged) ⊎ ((why ≡ opening.Version) ⊎ (why ≡ opening.Store))
 
   -- the office isn't opened, and that is the failure

@@ -1,5 +1,5 @@
 -- What an office makes of what it is asked, and how the program tells it.
-use Rattle.std.specs.Prelude.{◌≡◌, ⊤, ℕ, Bool, List, Option, None, Result, Ok, Err}
+use Rattle.std.specs.Prelude.{◌≡◌, ℕ, List, Option, Result, Ok, Err, string_bytes}
 use Rattle.sqlite_trees.specs.declared.store.Store.{Ghosts}
 use Rattle.sqlite.specs.Held.{Held}
 use Rattle.permit_base.specs.Digests.{digest_of}
@@ -9,7 +9,6 @@ use Rattle.permit_base.specs.declared.words.RegisterKind.{RegisterKind}
 use Rattle.permit_model.specs.Machine.{step_as}
 use Rattle.permit_model.specs.Policy.{Policy}
 use Rattle.permit_store.specs.Frames.{StoreView, OverHistory}
-use Rattle.permit_store.specs.declared.founder.Founder.{Founder}
 use Rattle.permit_office.specs.Office.{OfficeView}
 use Rattle.permit_office.specs.Opening.{rows_opened}
 use Rattle.permit_office.specs.Showing.{IsShowing, OpensAt}
@@ -20,47 +19,45 @@ use Rattle.permit_import.specs.Importing.{Imports}
 use Rattle.permit_import.specs.declared.fault.ImportFault.{ImportFault}
 use Rattle.permit_import.specs.declared.refused.RefusalWord.TheVariants.{Store}
 use Rattle.permit_import.specs.declared.tally.Tally.{Tally}
-use Rattle.permit_subcommands.specs.Asking.{Asks}
+use Rattle.permit_subcommands.specs.Answering.{Asks}
 use Rattle.permit_subcommands.specs.Failures.{plain, IsFailureOfImport}
 use Rattle.permit_subcommands.specs.Listings.{listed, Tells, Writes, WritesSome}
 use Rattle.permit_subcommands.specs.declared.failure.Failure.{Failure}
 use Rattle.permit_cli.specs.Opening.{Opens}
-use Rattle.permit_cli.specs.declared.database.Done.{Done}
-use Rattle.permit_cli.specs.declared.database.Done.TheVariants as done
-use Rattle.permit_cli.specs.declared.database.Question.{Question}
-use Rattle.permit_cli.specs.declared.database.Question.TheVariants as question
-use Rattle.permit_cli.specs.declared.database.Work.{Work}
-use Rattle.permit_cli.specs.declared.database.Work.TheVariants as work
+use Rattle.permit_cli.specs.declared.outcome.Outcome.{Outcome}
+use Rattle.permit_cli.specs.declared.outcome.Outcome.TheVariants as outcome
+use Rattle.permit_cli.specs.declared.question.Question.{Question}
+use Rattle.permit_cli.specs.declared.question.Question.TheVariants as question
 
 -- what came of it is told so; a failure stays as it is
-abbrev pub told_as : {A : Type 0} → (A → Done) → Result A Failure → Result Done Failure
+abbrev pub told_as : {A : Type 0} → (A → Outcome) → Result A Failure → Result Outcome Failure
 told_as did (Ok came) = Ok (did came)
 told_as did (Err why) = Err why
 
--- the answer's bytes are those that serving the request writes; there are none for want of memory alone
-abbrev pub AnswersWith : {S : Type 0} → (S → StoreView) → ℕ → List ℕ → OfficeView S → OfficeView S → Result Done Failure → Type 0
-AnswersWith view day request old new (Ok (done.Served answer)) = Asks view day old new request answer.items
-AnswersWith view day request old new (Ok came) = ⊥
-AnswersWith view day request old new (Err why) = why ≡ plain Store
+-- The answer is the one to what the bytes ask. There is none for want of memory alone, and then nothing was served.
+abbrev pub AnswersWith : {S : Type 0} → (S → StoreView) → ℕ → List ℕ → OfficeView S → OfficeView S → Result Outcome Failure → Type 0
+AnswersWith view day request old new (Ok (outcome.Answered answer)) = Asks view day old new request answer
+AnswersWith view day request old new (Ok _) = ⊥
+AnswersWith view day request old new (Err why) = (why ≡ plain Store) × (new ≡ old)
 
 -- a request is served, by one step of the office at most
 pub record ServesRequest {S : Type 0} (view : S → StoreView) (day : ℕ) (request : List ℕ) (old new : OfficeView S)
-    (result : Result Done Failure) : Type 0 where
+    (result : Result Outcome Failure) : Type 0 where
   pub answer : AnswersWith view day request old new result
   pub moves : Moves view day old new
 
 -- files are listed by one step of the office, whose reply is told
 pub record ListsFiles {S : Type 0} (view : S → StoreView) (day : ℕ) (token : List ℕ) (filter : Filter) (old new : OfficeView S)
-    (result : Result Done Failure) : Type 0 where
+    (result : Result Outcome Failure) : Type 0 where
   pub reply : Reply
   pub step : Steps view day (record { token = token; request = request.ListFiles filter }) reply old new
-  pub told : result ≡ told_as done.Listed (listed reply)
+  pub told : result ≡ told_as outcome.Listed (listed reply)
 
 -- a register is written as `write_register` writes it, and nothing else is told of it than that, or why it isn't whole
 pub record WritesRegister {S : Type 0} (view : S → StoreView) (day : ℕ) (token : List ℕ) (kind : RegisterKind) (before after : Option (List ℕ))
-    (old new : OfficeView S) (result : Result Done Failure) : Type 0 where
+    (old new : OfficeView S) (result : Result Outcome Failure) : Type 0 where
   pub written : Result (Unit {0}) Failure
-  pub told : result ≡ told_as (λ _. done.Registered) written
+  pub told : result ≡ told_as (λ _. outcome.Registered) written
   pub text : OverHistory (view old.store) (view new.store)
       (λ h. Writes day before after (step_as old.policy h (digest_of token) (request.Register kind) day).reply written)
   pub some : WritesSome kind day before after written
@@ -71,54 +68,36 @@ pub record WritesRegister {S : Type 0} (view : S → StoreView) (day : ℕ) (tok
       (view old.store).handed (view new.store).handed)
 
 -- how an import ended: with its counts, or with why it stopped
-abbrev pub TellsImport : List ℕ → Result Tally ImportFault → Result Done Failure → Type 0
-TellsImport path (Ok tally) result = result ≡ Ok (done.Imported tally)
+abbrev pub TellsImport : List ℕ → Result Tally ImportFault → Result Outcome Failure → Type 0
+TellsImport path (Ok tally) result = result ≡ Ok (outcome.Imported tally)
 TellsImport path (Err fault) result = (why : Failure) × IsFailureOfImport path fault why × (result ≡ Err why)
 
--- records of a file are imported; what the file gives has no value
-pub record ImportsRecords {S : Type 0} (view : S → StoreView) (day : ℕ) (token path : List ℕ) (before after : Option (List ℕ)) (old new : OfficeView S)
-    (result : Result Done Failure) : Type 0 where
+-- the records that are left in the reader of a file are imported
+pub record ImportsRecords {S : Type 0} (view : S → StoreView) (day : ℕ) (token path : List ℕ) (records before after : Option (List ℕ))
+    (old new : OfficeView S) (result : Result Outcome Failure) : Type 0 where
   pub ended : Result Tally ImportFault
   pub told : TellsImport path ended result
-  pub imports : Imports view token day None before after old new ended
+  pub imports : Imports view token day records before after old new ended
 
 -- What the office makes of the question, what is told of it, and what is written on the way: a register, or the lines of
 -- an import, and else nothing.
-abbrev pub IsAnswered : {S : Type 0} → (S → StoreView) → ℕ → Question → OfficeView S → OfficeView S → Option (List ℕ) → Option (List ℕ)
-    → Result Done Failure → Type 0
-IsAnswered view day (question.Serve request) old new before after result =
-    ServesRequest view day request.now old new result × (after ≡ before)
-IsAnswered view day (question.List token filter) old new before after result =
+abbrev pub IsAnswered : {S R : Type 0} → (S → StoreView) → (R → Option (List ℕ)) → ℕ → Question R → OfficeView S → OfficeView S
+    → Option (List ℕ) → Option (List ℕ) → Result Outcome Failure → Type 0
+IsAnswered view remaining day (question.Serve request) old new before after result =
+    ServesRequest view day (string_bytes request) old new result × (after ≡ before)
+IsAnswered view remaining day (question.List token filter) old new before after result =
     ListsFiles view day token filter old new result × (after ≡ before)
-IsAnswered view day (question.Register token kind) old new before after result =
+IsAnswered view remaining day (question.Register token kind) old new before after result =
     WritesRegister view day token kind before after old new result
-IsAnswered view day (question.Import token path records) old new before after result =
-    ImportsRecords view day token path.now before after old new result
+IsAnswered view remaining day (question.Import token path records) old new before after result =
+    ImportsRecords view day token path.now (remaining records) before after old new result
 
 -- an office that is opened over a connection is asked, and the connection of the store that it leaves comes back
-pub record IsAsked {S T : Type 0} (g : Ghosts S) (view : T → StoreView) (conn_of : T → Held S) (policy : Policy) (day : ℕ) (asked : Question)
-    (conn back : Held S) (before after : Option (List ℕ)) (result : Result Done Failure) : Type 0 where
+pub record IsAsked {S T R : Type 0} (g : Ghosts S) (view : T → StoreView) (conn_of : T → Held S) (remaining : R → Option (List ℕ)) (policy : Policy)
+    (day : ℕ) (asked : Question R) (conn back : Held S) (before after : Option (List ℕ)) (result : Result Outcome Failure) : Type 0 where
   pub office : OfficeView T
   pub left : OfficeView T
   pub opens : Opens g conn (conn_of office.store) (view office.store)
   pub policy_is : office.policy ≡ policy
-  pub answered : IsAnswered view day asked office left before after result
+  pub answered : IsAnswered view remaining day asked office left before after result
   pub back_is : back ≡ conn_of left.store
-
--- ---- what is said of each kind of work
-
-abbrev pub OnFound : Work → (Founder → Type 0) → Type 0
-OnFound (work.Found founder) said = said founder
-OnFound _ said = ⊤
-
-abbrev pub OnUpgrade : Work → Type 0 → Type 0
-OnUpgrade work.Upgrade said = said
-OnUpgrade _ said = ⊤
-
-abbrev pub OnCheck : Work → (Bool → Type 0) → Type 0
-OnCheck (work.Check why) said = said why
-OnCheck _ said = ⊤
-
-abbrev pub OnAsk : Work → (Policy → ℕ → Question → Type 0) → Type 0
-OnAsk (work.Ask policy day asked) said = said policy day asked
-OnAsk _ said = ⊤

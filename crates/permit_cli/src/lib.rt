@@ -1,12 +1,22 @@
-//! The program `permit`: `database` reaches the files, and `program` does what a plan asks and prints what it came to.
+//! The program `permit`: `program` does what a plan asks, and `telling` prints what it came to.
+//!
+//! `question` is what the words of a plan ask of an office. `maintenance`, `asking` and `serving` work on a database over any
+//! kind of store, and `database` names the file.
 //!
 //! Its public calls are here, those of the crates below among them: `plan` reads the words of a command line to one of
 //! `plans`, `import` the records of a parcel list, and `run_words` is the program but for its streams.
 #![tactic(auto)]
 
+mod asking;
+mod complaining;
 mod database;
+mod maintenance;
+mod outcome;
 pub mod program;
+mod question;
+mod serving;
 mod shut;
+mod telling;
 
 pub use permit_args::plan as plans;
 pub use permit_args::plan::PlanFault;

@@ -1,73 +1,43 @@
-//! What the program does and prints.
+//! What the program does: a plan is carried out, and what it came to is told.
 
-ghost use Rattle.std.specs.Prelude.{◌≡◌, ◌≤◌, ◌⊎◌, IfErr, IfOk, None, Some};
+ghost use Rattle.std.specs.Prelude.{◌≡◌, ◌≤◌, ◌⊎◌, ℕ, [], IfErr, IfOk, List, None, Ok, Some, map, string_bytes};
+ghost use Rattle.std.specs.Io.KnownBytes.{Appends};
 ghost use Rattle.permit_import.specs.declared.refused.RefusalWord.TheVariants.{Store};
+ghost use Rattle.permit_report.specs.Outgoing.{WroteFront};
 ghost use Rattle.permit_args.specs.FactsText.{facts_in, pieces};
-ghost use Rattle.permit_subcommands.specs.Failures.{failure_status, plain, IsStatusOf};
+ghost use Rattle.permit_args.specs.declared.plan.PlanFault.{PlanFault as TheFault};
+ghost use Rattle.permit_subcommands.specs.Failures.{plain};
+ghost use Rattle.permit_subcommands.specs.Lines.{name_line};
 ghost use Rattle.permit_subcommands.specs.declared.failure.Failure.TheVariants as failure;
+ghost use Rattle.permit_subcommands.specs.Printing.{TellsNoPlan};
+ghost use Rattle.permit_cli.specs.Doing.{ActsAs, ComesTo, IsCheck, IsImported, IsPolicyChecked, IsToldOnRunDay, IsUpgrade, ListsAs};
+ghost use Rattle.permit_cli.specs.Doing.{Performs, RegistersAs, RunsAs, ServesAs};
+ghost use Rattle.permit_cli.specs.Telling.{PrintsThen, SaysNoPlan};
 
-use crate::database::{Done, Question, Work, serve_at, work_at};
+use crate::complaining::complain;
+use crate::database::{ask_at, check_at, found_at, serve_at, upgrade_at};
+use crate::outcome::Outcome;
+use crate::question::Question;
+use crate::telling::{tell, without_plan};
 use permit_args::checking::{dead_text, explained_text, rules_text};
 use permit_args::facts::read_facts;
 use permit_args::plan::{
-    ActWords, Check, CheckPolicyWords, ImportWords, InitWords, ListWords, OfficeWords, Plan,
-    PlanFault, RegisterWords, ServeWords,
+    ActWords, Check, CheckDbWords, CheckPolicyWords, DatabaseWords, ImportWords, InitWords,
+    ListWords, OfficeWords, Plan, RegisterWords, ServeWords,
 };
 use permit_args::words::{plan, words_given};
-use permit_base::request::Filter;
 use permit_policy::text::read_policy;
 use permit_policy::{Facts, Policy};
-use permit_store::rows::Desk;
 use permit_store::store::OpenError;
-use permit_subcommands::asking::{print, show};
 use permit_subcommands::days::{day_of_run, days_of_run};
-use permit_subcommands::failure::{Failure, status_after};
+use permit_subcommands::failure::Failure;
 use permit_subcommands::founding::founder;
-use permit_subcommands::listing::listing_text;
-use permit_subcommands::request::{caller, request};
+use permit_subcommands::request::caller;
 use std::alloc::Global;
 use std::fs::{self, File};
 use std::io::Write;
 use std::sync::Wait;
 use std::thread::Threads;
-
-/// What a plan came to, and so what is printed.
-#[derive(Drop)]
-enum Outcome {
-    /// The program's name was asked for.
-    Name,
-    /// What is said of a policy.
-    Checked(String),
-    /// The work on the database is done.
-    Worked(Done),
-    /// The office was served until its workers ended.
-    Ended,
-}
-
-/// Says a failure on standard error, whose own failure can't be reported, and gives its status.
-fn complain<E: Write>(failure: &Failure, err: &mut E) -> u8
-    ensures { result ≡ failure_status failure.now }
-{
-    let _ = writeln!(err, "{failure}");
-    failure.status()
-}
-
-/// Says why the words give no plan, or the help that they ask for.
-fn without_plan<O: Write, E: Write>(fault: &PlanFault, out: &mut O, err: &mut E) -> u8
-    ensures { IsStatusOf fault.now result }
-{
-    match fault {
-        PlanFault::Help(text) => match out.write_all(text.as_bytes()) {
-            Ok(()) => 0,
-            Err(_) => complain(&Failure::Output, err),
-        },
-        PlanFault::Words(text) => {
-            let _ = err.write_all(text.as_bytes());
-            2
-        }
-        PlanFault::Memory => complain(&Failure::memory(), err),
-    }
-}
 
 /// Reads the policy at a path.
 fn policy_at(rt: &HostRuntime, path: &str) -> Result<Policy, Failure> {
@@ -92,33 +62,38 @@ fn facts_of(alloc: Global, text: &str) -> Result<Facts, Failure>
 }
 
 /// Reads the policy at a path, and says of it what is asked. The facts are read first.
-fn check_policy(rt: &HostRuntime, words: &CheckPolicyWords<'_>) -> Result<Outcome, Failure> {
+fn check_policy(rt: &HostRuntime, words: &CheckPolicyWords<'_>) -> Result<Outcome, Failure>
+    ensures { IfOk result (IsPolicyChecked words.now.check) }
+{
     let alloc = rt.alloc();
-    let text = match words.check {
-        Check::Rules => rules_text(alloc, &policy_at(rt, words.policy)?)?,
-        Check::Dead => dead_text(alloc, &policy_at(rt, words.policy)?)?,
+    match words.check {
+        Check::Rules => {
+            let text = rules_text(alloc, &policy_at(rt, words.policy)?)?;
+            Ok(Outcome::Checked(text))
+        }
+        Check::Dead => {
+            let text = dead_text(alloc, &policy_at(rt, words.policy)?)?;
+            Ok(Outcome::Checked(text))
+        }
         Check::Facts(text) => {
             let facts = facts_of(alloc, text)?;
-            explained_text(alloc, &policy_at(rt, words.policy)?, &facts)?
+            let text = explained_text(alloc, &policy_at(rt, words.policy)?, &facts)?;
+            Ok(Outcome::Checked(text))
         }
-    };
-    Ok(Outcome::Checked(text))
+    }
 }
 
 /// Founds an office.
-fn init<O: Write>(
-    rt: &HostRuntime,
-    words: &InitWords<'_>,
-    out: &mut O,
-) -> Result<Outcome, Failure> {
+fn init(rt: &HostRuntime, words: &InitWords<'_>) -> Result<Outcome, Failure>
+    ensures { IfOk result (λ done. done ≡ Outcome.Founded) }
+{
     let day = day_of_run(rt, &words.days)?;
     let founder = founder(rt.alloc(), words.name, words.token, day)?;
-    let done = work_at(rt, words.db, Work::Found(founder), out)?;
-    Ok(Outcome::Worked(done))
+    found_at(rt, words.db, &founder)
 }
 
 /// That there is a database at a path: none is made there.
-fn found_at(rt: &HostRuntime, path: &str) -> Result<(), Failure> {
+fn has_database(rt: &HostRuntime, path: &str) -> Result<(), Failure> {
     match fs::exists(rt, path) {
         Ok(false) => Err(Failure::Database(OpenError::Store)),
         _ => Ok(()),
@@ -129,41 +104,31 @@ fn found_at(rt: &HostRuntime, path: &str) -> Result<(), Failure> {
 fn ask_office<O: Write>(
     rt: &HostRuntime,
     words: &OfficeWords<'_>,
-    question: Question<'_>,
+    question: Question<'_, File>,
     out: &mut O,
-) -> Result<Outcome, Failure> {
+) -> Result<Outcome, Failure>
+    ensures { IfOk result (IsToldOnRunDay words.now.days question.entry (O.contents out.old) (O.contents out.new)) }
+{
     let day = day_of_run(rt, &words.days)?;
     let policy = policy_at(rt, words.policy)?;
-    found_at(rt, words.db)?;
-    let work = Work::Ask {
-        policy,
-        day,
-        question,
-    };
-    Ok(Outcome::Worked(work_at(rt, words.db, work, out)?))
+    has_database(rt, words.db)?;
+    ask_at(rt, words.db, policy, day, question, out)
 }
 
 /// Has the office serve one request.
-fn act<O: Write>(rt: &HostRuntime, words: &ActWords<'_>, out: &mut O) -> Result<Outcome, Failure> {
-    let request = request(rt.alloc(), words)?;
-    let question = Question::Serve {
-        request: request.as_str(),
-    };
+fn act<O: Write>(rt: &HostRuntime, words: &ActWords<'_>, out: &mut O) -> Result<Outcome, Failure>
+    ensures { IfOk result (ActsAs words.now (O.contents out.old) (O.contents out.new)) }
+{
+    let question = Question::of_act(rt.alloc(), words)?;
     ask_office(rt, &words.office, question, out)
 }
 
 /// Lists files.
-fn list<O: Write>(
-    rt: &HostRuntime,
-    words: &ListWords<'_>,
-    out: &mut O,
-) -> Result<Outcome, Failure> {
-    let token = caller(rt.alloc(), words.office.token)?;
-    let filter = match words.stage {
-        Some(stage) => Filter::InStage(stage),
-        None => Filter::All,
-    };
-    ask_office(rt, &words.office, Question::List { token, filter }, out)
+fn list<O: Write>(rt: &HostRuntime, words: &ListWords<'_>, out: &mut O) -> Result<Outcome, Failure>
+    ensures { IfOk result (ListsAs (O.contents out.old) (O.contents out.new)) }
+{
+    let question = Question::of_list(rt.alloc(), words)?;
+    ask_office(rt, &words.office, question, out)
 }
 
 /// Writes a register.
@@ -171,10 +136,11 @@ fn register<O: Write>(
     rt: &HostRuntime,
     words: &RegisterWords<'_>,
     out: &mut O,
-) -> Result<Outcome, Failure> {
-    let token = caller(rt.alloc(), words.office.token)?;
-    let kind = words.kind;
-    ask_office(rt, &words.office, Question::Register { token, kind }, out)
+) -> Result<Outcome, Failure>
+    ensures { IfOk result (RegistersAs words.now (O.contents out.old) (O.contents out.new)) }
+{
+    let question = Question::of_register(rt.alloc(), words)?;
+    ask_office(rt, &words.office, question, out)
 }
 
 /// Imports the records of a file.
@@ -182,17 +148,15 @@ fn import<O: Write>(
     rt: &HostRuntime,
     words: &ImportWords<'_>,
     out: &mut O,
-) -> Result<Outcome, Failure> {
+) -> Result<Outcome, Failure>
+    ensures { IfOk result (IsImported (O.contents out.old) (O.contents out.new)) }
+{
     let token = caller(rt.alloc(), words.office.token)?;
     let records = match File::open(rt, words.file) {
         Ok(records) => records,
         Err(error) => return Err(Failure::of_reading(rt.alloc(), words.file, &error)),
     };
-    let question = Question::Import {
-        token,
-        path: words.file,
-        records,
-    };
+    let question = Question::of_import(words, token, records);
     ask_office(rt, &words.office, question, out)
 }
 
@@ -206,23 +170,29 @@ fn serve<R, O>(
 where
     R: Threads + Wait + Copy + Drop + Send + 'static,
     O: Write,
+    ensures { IfOk result (ServesAs (O.contents out.old) (O.contents out.new)) }
 {
     let days = days_of_run(&words.days)?;
     let policy = policy_at(rt, words.policy)?;
-    found_at(rt, words.db)?;
+    has_database(rt, words.db)?;
     serve_at(rt, workers, policy, &days, words, out)?;
     Ok(Outcome::Ended)
 }
 
-/// Does the work on the database at a path. None is made where there is none.
-fn work_on<O: Write>(
-    rt: &HostRuntime,
-    path: &str,
-    work: Work<'_>,
-    out: &mut O,
-) -> Result<Outcome, Failure> {
-    found_at(rt, path)?;
-    Ok(Outcome::Worked(work_at(rt, path, work, out)?))
+/// Makes of a database one of this version. None is made where there is none.
+fn upgrade(rt: &HostRuntime, words: &DatabaseWords<'_>) -> Result<Outcome, Failure>
+    ensures { IfOk result IsUpgrade }
+{
+    has_database(rt, words.db)?;
+    upgrade_at(rt, words.db)
+}
+
+/// Tests the tables of a database. None is made where there is none.
+fn check_db(rt: &HostRuntime, words: &CheckDbWords<'_>) -> Result<Outcome, Failure>
+    ensures { IfOk result (IsCheck words.now.why) }
+{
+    has_database(rt, words.db)?;
+    check_at(rt, words.db, words.why)
 }
 
 /// Does what a plan asks for. The database is closed before anything else is printed than a register, the lines of an
@@ -236,68 +206,21 @@ fn carry_out<R, O>(
 where
     R: Threads + Wait + Copy + Drop + Send + 'static,
     O: Write,
+    ensures comes { IfOk result (ComesTo plan.now (O.contents out.old) (O.contents out.new)) }
+    ensures name { plan.now ≡ Plan.Name → (result ≡ Ok Outcome.Name) × (O.contents out.new ≡ O.contents out.old) }
 {
     match plan {
         Plan::Name => Ok(Outcome::Name),
         Plan::CheckPolicy(words) => check_policy(rt, words),
-        Plan::Init(words) => init(rt, words, out),
+        Plan::Init(words) => init(rt, words),
         Plan::Act(words) => act(rt, words, out),
         Plan::List(words) => list(rt, words, out),
         Plan::Register(words) => register(rt, words, out),
         Plan::Import(words) => import(rt, words, out),
         Plan::Serve(words) => serve(rt, workers, words, out),
-        Plan::Upgrade(words) => work_on(rt, words.db, Work::Upgrade, out),
-        Plan::CheckDb(words) => work_on(rt, words.db, Work::Check { why: words.why }, out),
+        Plan::Upgrade(words) => upgrade(rt, words),
+        Plan::CheckDb(words) => check_db(rt, words),
     }
-}
-
-/// Prints a text.
-fn print_text<O: Write>(out: &mut O, text: &str) -> Result<(), Failure> {
-    match out.write_all(text.as_bytes()) {
-        Ok(()) => Ok(()),
-        Err(_) => Err(Failure::Output),
-    }
-}
-
-/// The line on tables that are sound.
-fn sound_text(alloc: Global, desk: Desk) -> Result<String, Failure> {
-    let Desk {
-        parties,
-        parcels,
-        files,
-        ..
-    } = desk;
-    Ok(format!(in alloc; "sound parties {parties} parcels {parcels} files {files}\n")?)
-}
-
-/// Prints what a plan came to, and gives the status. The refusal that an answer says is the failure then, and damage is once
-/// its place is printed.
-fn tell<O: Write>(alloc: Global, outcome: &Outcome, out: &mut O) -> Result<u8, Failure>
-    ensures { IfOk result (λ status. status ≤ 1) }
-{
-    match outcome {
-        Outcome::Ended => {}
-        Outcome::Name => print(out, "permit")?,
-        Outcome::Checked(text) => print_text(out, text.as_str())?,
-        Outcome::Worked(Done::Founded) => print(out, "party 1")?,
-        Outcome::Worked(Done::Upgraded(files)) => print_text(
-            out,
-            format!(in alloc; "upgraded files {files}\n")?.as_str(),
-        )?,
-        Outcome::Worked(Done::Sound(desk)) => print_text(out, sound_text(alloc, *desk)?.as_str())?,
-        Outcome::Worked(Done::Unsound(fault)) => {
-            print_text(out, format!(in alloc; "{fault}\n")?.as_str())?;
-            return Err(Failure::Database(OpenError::Damaged));
-        }
-        Outcome::Worked(Done::Served(answer)) => show(answer.as_slice(), out)?,
-        Outcome::Worked(Done::Listed(listing)) => print_text(
-            out,
-            listing_text(alloc, listing)?.as_str(),
-        )?,
-        Outcome::Worked(Done::Registered) => {}
-        Outcome::Worked(Done::Imported(tally)) => return Ok(status_after(tally)),
-    }
-    Ok(0)
 }
 
 /// Does what a plan asks for, prints what it came to, and gives the status.
@@ -305,7 +228,9 @@ fn perform<R, O>(rt: &HostRuntime, workers: R, plan: &Plan<'_>, out: &mut O) -> 
 where
     R: Threads + Wait + Copy + Drop + Send + 'static,
     O: Write,
-    ensures { IfOk result (λ status. status ≤ 1) }
+    ensures performs { Performs plan.now (O.contents out.old) (O.contents out.new) result }
+    ensures name { plan.now ≡ Plan.Name → PrintsThen name_line (Ok 0) (O.contents out.old) (O.contents out.new) result }
+    ensures within { IfOk result (λ status. status ≤ 1) }
 {
     let outcome = carry_out(rt, workers, plan, out)?;
     tell(rt.alloc(), &outcome, out)
@@ -324,7 +249,10 @@ where
     R: Threads + Wait + Copy + Drop + Send + 'static,
     O: Write,
     E: Write,
-    ensures { result ≤ 2 }
+    ensures runs { RunsAs (map string_bytes words.now) (O.contents out.old) (O.contents out.new) (E.contents err.old) (E.contents err.new) result }
+    ensures name { words.now ≡ [] → ((result ≡ 0) × Appends (O.contents out.old) (O.contents out.new) name_line)
+        ⊎ ((result ≡ 1) × WroteFront (O.contents out.old) (O.contents out.new) name_line) }
+    ensures within { result ≤ 2 }
 {
     match plan(rt.alloc(), words) {
         Ok(plan) => match perform(rt, workers, &plan, out) {
@@ -341,7 +269,10 @@ where
     R: Threads + Wait + Copy + Drop + Send + 'static,
     O: Write,
     E: Write,
-    ensures { result ≤ 2 }
+    ensures runs { ((words : List (List ℕ)) × RunsAs words (O.contents out.old) (O.contents out.new) (E.contents err.old) (E.contents err.new) result)
+        ⊎ ((fault : TheFault) × TellsNoPlan fault (O.contents out.old) (O.contents out.new) result
+        × SaysNoPlan fault (E.contents err.old) (E.contents err.new) result) }
+    ensures within { result ≤ 2 }
 {
     match words_given(rt) {
         Ok(words) => run_words(rt, workers, words.as_slice(), out, err),

@@ -2,11 +2,12 @@
 
 use permit_office::office::Office;
 use permit_samples::ask::read_ask;
-use permit_samples::each_change::{FIRST_CHANGES, LATER_CHANGES};
 use permit_samples::exchange::asked;
 use permit_samples::offices::{over_vectors, under};
 use permit_samples::opening::OPENING;
-use permit_samples::script::{play, requests};
+use permit_samples::scenarios::Scenario;
+use permit_samples::script::{play, play_all, requests_of};
+use permit_samples::standard::POLICY;
 use permit_samples::tables::tables_text;
 use permit_samples::upgrade::BEFORE;
 use permit_store::plain::PlainStore;
@@ -15,15 +16,27 @@ use std::alloc::Global;
 use std::test::Fail;
 
 /// A policy under which each command is allowed. It is read faster than the standard one.
-pub(crate) const ANY: &str = "[[rule]]\nname = \"any\"\neffect = \"allow\"\n";
+const ANY: &str = "[[rule]]\nname = \"any\"\neffect = \"allow\"\n";
 
-/// Behind what the commands come.
+/// Behind what the requests come, and under which policy.
 #[derive(Clone, Copy)]
 pub(crate) enum Begin {
-    /// Behind the founding.
+    /// Behind the founding, each command allowed.
     New,
-    /// Behind a construction whose frame is approved.
+    /// Behind a construction whose frame is approved, each command allowed.
     Framed,
+    /// Behind the opening of the scenarios, under the standard policy.
+    Opened,
+}
+
+impl Begin {
+    /// The policy's text.
+    pub(crate) fn policy(self) -> &'static str {
+        match self {
+            Begin::New | Begin::Framed => ANY,
+            Begin::Opened => POLICY,
+        }
+    }
 }
 
 /// The answers to commands, and the tables behind them.
@@ -51,24 +64,28 @@ pub(crate) struct Commands {
     behind: Vec<Behind>,
 }
 
-/// Plays what comes before the commands.
+/// Plays what comes before the requests.
 pub(crate) fn play_before<S: Store + Drop>(
     alloc: Global,
     office: &mut Office<S>,
     begin: Begin,
 ) -> Result<(), Fail> {
-    if let Begin::Framed = begin {
-        play(alloc, office, OPENING)?;
-        for script in BEFORE {
-            play(alloc, office, script)?;
+    match begin {
+        Begin::New => Ok(()),
+        Begin::Framed => {
+            play(alloc, office, OPENING)?;
+            play_all(alloc, office, BEFORE)
+        }
+        Begin::Opened => {
+            play(alloc, office, OPENING)?;
+            Ok(())
         }
     }
-    Ok(())
 }
 
 /// An office over vectors, in which nothing fails.
 fn begun(alloc: Global, begin: Begin) -> Result<Office<PlainStore>, Fail> {
-    let mut office = under(alloc, over_vectors(alloc)?, ANY)?;
+    let mut office = under(alloc, over_vectors(alloc)?, begin.policy())?;
     play_before(alloc, &mut office, begin)?;
     Ok(office)
 }
@@ -95,14 +112,10 @@ fn are_first(numbers: &[usize]) -> bool {
 }
 
 impl Commands {
-    /// The commands that come behind this beginning. Fails where they aren't answered as their script wants.
-    pub(crate) fn new(alloc: Global, begin: Begin) -> Result<Commands, Fail> {
-        let script = match begin {
-            Begin::New => FIRST_CHANGES,
-            Begin::Framed => LATER_CHANGES,
-        };
-        play(alloc, &mut begun(alloc, begin)?, script)?;
-        let requests = requests(alloc, script)?;
+    /// The requests of a scenario that come behind this beginning. Fails where they aren't answered as their scripts want.
+    pub(crate) fn new(alloc: Global, begin: Begin, scenario: Scenario) -> Result<Commands, Fail> {
+        play_all(alloc, &mut begun(alloc, begin)?, scenario)?;
+        let requests = requests_of(alloc, scenario)?;
         let mut lines = Vec::new(alloc);
         let mut behind = vec![in alloc; behind_of(alloc, begin, lines.as_slice())?]?;
         for line in &requests {

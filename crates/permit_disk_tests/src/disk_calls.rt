@@ -1,7 +1,7 @@
 //! Commands over two disks of which one fails, at each of its calls in turn: the tables that are found again are those of
 //! the commands that were acknowledged, or of these and the one in which the disk failed.
 
-use crate::commands::{ANY, Begin, Behind, Commands};
+use crate::commands::{Begin, Behind, Commands};
 use crate::disks::{Bytes, Fault, Told, Trial, Trouble, failing_files, left_by, untold};
 use crate::trials::{
     Tried, closed, connected, ended, found, outlasts_each, prepared, stored, tables_in,
@@ -10,7 +10,9 @@ use permit_mirror::mirrored::Mirrored;
 use permit_office::office::Office;
 use permit_policy::text::read_policy;
 use permit_samples::ask::read_ask;
+use permit_samples::each_change::{FIRST_CHANGES, LATER_CHANGES};
 use permit_samples::exchange::asked;
+use permit_samples::scenarios::Scenario;
 use permit_sql::store::SqlStore;
 use permit_store::store::Store;
 use sqlite::{Alter, Connection};
@@ -72,7 +74,7 @@ fn serve_all<S: Store + Drop>(
 
 /// Where an office's reads are answered.
 #[derive(Clone, Copy)]
-enum Reads {
+pub(crate) enum Reads {
     FromDatabase,
     FromMemory,
 }
@@ -85,7 +87,7 @@ fn served<S: Store + Drop>(
     commands: &Commands,
     told: &Told,
 ) -> Result<(S, Option<Answered>), Fail> {
-    match Office::open(store, read_policy(alloc, ANY)?) {
+    match Office::open(store, read_policy(alloc, commands.begin.policy())?) {
         Ok(office) => {
             let mut office = office;
             let answered = serve_all(alloc, &mut office, commands, told)?;
@@ -131,7 +133,7 @@ impl Wanted {
     fn unopened(alloc: Global, commands: &Commands, is_founded: bool) -> Result<Wanted, Fail> {
         let is_to_found = match commands.begin {
             Begin::New => true,
-            Begin::Framed => false,
+            Begin::Framed | Begin::Opened => false,
         };
         Ok(Wanted {
             may_be_empty: is_to_found && !is_founded,
@@ -166,21 +168,29 @@ impl Wanted {
 
 /// Commands, and the bytes of the files over which they are played.
 #[derive(Drop)]
-struct Play {
+pub(crate) struct Play {
     reads: Reads,
     commands: Commands,
     bytes: Bytes,
 }
 
 impl Play {
-    /// The commands that come behind a beginning.
-    fn new(alloc: Global, begin: Begin, reads: Reads) -> Result<Play, Fail> {
+    /// The requests of a scenario that come behind a beginning.
+    pub(crate) fn new(
+        alloc: Global,
+        begin: Begin,
+        scenario: Scenario,
+        reads: Reads,
+    ) -> Result<Play, Fail> {
         Ok(Play {
             reads,
-            commands: Commands::new(alloc, begin)?,
+            commands: Commands::new(alloc, begin, scenario)?,
             bytes: match begin {
                 Begin::New => Bytes::none(alloc),
-                Begin::Framed => Bytes::of(alloc, &closed(prepared(alloc, begin)?))?,
+                Begin::Framed | Begin::Opened => Bytes::of(
+                    alloc,
+                    &closed(prepared(alloc, begin)?),
+                )?,
             },
         })
     }
@@ -246,7 +256,11 @@ fn hold(
     fault: Fault,
     is_in_log: bool,
 ) -> Result<(), Fail> {
-    let play = Play::new(rt.alloc(), begin, Reads::FromDatabase)?;
+    let scenario: Scenario = match begin {
+        Begin::New => &[FIRST_CHANGES],
+        Begin::Framed | Begin::Opened => &[LATER_CHANGES],
+    };
+    let play = Play::new(rt.alloc(), begin, scenario, Reads::FromDatabase)?;
     outlasts_each(rt, &play, fault, is_in_log)
 }
 
@@ -256,7 +270,12 @@ fn hold_in_memory(
     fault: Fault,
     is_in_log: bool,
 ) -> Result<(), Fail> {
-    let play = Play::new(rt.alloc(), Begin::Framed, Reads::FromMemory)?;
+    let play = Play::new(
+        rt.alloc(),
+        Begin::Framed,
+        &[LATER_CHANGES],
+        Reads::FromMemory,
+    )?;
     outlasts_each(rt, &play, fault, is_in_log)
 }
 

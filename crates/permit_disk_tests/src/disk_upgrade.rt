@@ -28,7 +28,7 @@ impl Old {
             conn.execute(statement, &[])?;
         }
         let bytes = Bytes::of(alloc, &closed(conn))?;
-        let Behind { answers: _, tables } = Commands::new(alloc, Begin::Framed)?.behind(
+        let Behind { answers: _, tables } = Commands::new(alloc, Begin::Framed, &[])?.behind(
             alloc,
             &[],
         )?;

@@ -6,6 +6,8 @@ mod commands;
 #[cfg(test)]
 mod disk_calls;
 #[cfg(test)]
+mod disk_lives;
+#[cfg(test)]
 mod disk_upgrade;
 #[cfg(test)]
 mod disks;

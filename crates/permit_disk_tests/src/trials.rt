@@ -2,7 +2,7 @@
 //!
 //! What works on an office is generic over the store of its database: a call of it at the disks' own takes the prover long.
 
-use crate::commands::{ANY, Begin, play_before};
+use crate::commands::{Begin, play_before};
 use crate::disks::{Bytes, Fault, Trial, Trouble, sound_files};
 use permit_samples::offices::{founder, office_over};
 use permit_samples::tables::tables_text;
@@ -63,7 +63,7 @@ pub(crate) fn stored<S: Alter + Drop>(
 ) -> Result<Result<SqlStore<S>, Connection<S>>, Fail> {
     let store = match begin {
         Begin::New => SqlStore::create(alloc, conn, &founder(alloc)?),
-        Begin::Framed => SqlStore::open(alloc, conn),
+        Begin::Framed | Begin::Opened => SqlStore::open(alloc, conn),
     };
     Ok(match store {
         Ok(store) => Ok(store),
@@ -81,7 +81,7 @@ fn played<S: Alter + Drop>(
         Ok(store) => store,
         Err(_) => return Err(Fail::new("no new store")),
     };
-    let mut office = office_over(alloc, store, ANY)?;
+    let mut office = office_over(alloc, store, begin.policy())?;
     play_before(alloc, &mut office, begin)?;
     Ok(office.into_store().into_connection())
 }
@@ -122,38 +122,51 @@ pub(crate) trait Tried {
     fn outlasts(&self, alloc: Global, trouble: Trouble) -> Result<bool, Fail>;
 }
 
-/// Tries with a trouble at each call of one of the files in turn, until a run meets none. How many calls failed.
+/// Tries with a trouble at every so many-th call of one of the files, from the first one on, until a run meets none. How many
+/// calls failed.
 fn count_outlasted<T: Tried>(
     alloc: Global,
     tried: &T,
     fault: Fault,
     is_in_log: bool,
+    every: u64,
 ) -> Result<u64, Fail> {
-    for before in 0..MOST_CALLS {
+    for turn in 0..MOST_CALLS {
         let trouble = Trouble {
             fault,
             is_in_log,
-            before,
+            before: turn.saturating_mul(every),
         };
         if !tried.outlasts(alloc, trouble)? {
-            return Ok(before);
+            return Ok(turn);
         }
     }
     Err(Fail::new("no run without a failure"))
 }
 
 /// The same, and prints how many calls failed. Fails where none did.
-pub(crate) fn outlasts_each<T: Tried>(
+pub(crate) fn outlasts_every<T: Tried>(
     rt: &(impl Print + AllocGlobal),
     tried: &T,
     fault: Fault,
     is_in_log: bool,
+    every: u64,
 ) -> Result<(), Fail> {
-    let calls = count_outlasted(rt.alloc(), tried, fault, is_in_log)?;
+    let calls = count_outlasted(rt.alloc(), tried, fault, is_in_log, every)?;
     if calls == 0 {
         return Err(Fail::new("no call that fails"));
     }
     let file = if is_in_log { "log" } else { "file" };
     println!(rt; "{calls} calls of the {file} failed in turn")?;
     Ok(())
+}
+
+/// The same at each call.
+pub(crate) fn outlasts_each<T: Tried>(
+    rt: &(impl Print + AllocGlobal),
+    tried: &T,
+    fault: Fault,
+    is_in_log: bool,
+) -> Result<(), Fail> {
+    outlasts_every(rt, tried, fault, is_in_log, 1)
 }

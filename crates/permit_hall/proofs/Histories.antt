@@ -1,9 +1,7 @@
 -- What tasks that were served are, over the office: one history.
-use Rattle.std.proofs.Common.{◌≡◌, ◌<◌, ℕ, List, [], map, length, sym, ap, ◌∙◌, subst, get_or, arith}
+use Rattle.std.proofs.Common.{◌≡◌, ℕ, List, [], map, length, subst, get_or}
 use Rattle.std.specs.Prelude.{Option, None, Some, MatchOption, All, Vec, slice_get}
 use Rattle.std.specs.Global.{Global}
-use Rattle.std.specs.Option.{option_flatten}
-use Rattle.std.proofs.lemmas.List.{length-map, get_or-map}
 use Rattle.std.proofs.lemmas.Option.{slice_get_within, get_or_from_slice_get}
 use Rattle.permit_base.specs.declared.request.Asked.{Asked}
 use Rattle.permit_store.specs.Frames.{StoreView}
@@ -51,34 +49,22 @@ module _ {S C : Type 0} (view : S → StoreView) (tick : C → ℕ → C → Typ
         },
       )
 
-  module _ {D : Type 0} (done : D → List Asked → List Dated → Option (DoorEnd D) → Type 0) (none : (d : D) (put : List Asked) (got : List Dated) → done d put got None) where
-    -- of both kinds of None nothing is said
-    flat_done : (door : D) (put : List Asked) (got : List Dated) (nothing : Type 0) (o : Option (Option (DoorEnd D))) →
-        MatchOption o nothing (λ end. done door put got end) → done door put got (option_flatten o)
-    flat_done door put got nothing None h = none door put got
-    flat_done door put got nothing (Some end) h = h
-
-    -- what the workers of doors have done
-    pub doors_served : (tasks : List (DoorTask D)) (doors : List D) (outs : List (Option (Option (DoorEnd D)))) (ends : List (Option (DoorEnd D)))
-        (old new : OfficeView S) (c d : C) (served : List (Entry Asked Dated))
-        → map (λ t. t.door) tasks ≡ doors → ends ≡ map option_flatten outs →
-        AreServed (StepOn view) tick (λ (t : DoorTask D) put got end. done t.door put got end) tasks outs old new c d served
-        → OneHistory view tick (length doors) old new c d served × (length ends ≡ length doors)
-        × ((k : ℕ) (door : D) (end : Option (DoorEnd D)) → slice_get doors k ≡ Some door → slice_get ends k ≡ Some end
-        → done door (requests_of k served) (replies_of k served) end)
-    doors_served tasks doors outs ends old new c d served same flat h =
-        let by_door = served_as (StepOn view) tick (λ (t : DoorTask D) put got end. done t.door put got end) done (λ t. t.door)
-        (λ t put got x d. d) tasks doors outs old new c d served same h in
-        let many : length ends ≡ length outs = ap length flat ∙ length-map outs (λ (o : Option (Option (DoorEnd D))). option_flatten o) in (
-          one_history done doors outs old new c d served by_door,
-          many ∙ by_door.len,
-          λ k door end at at'.
-              let low : k < length ends = slice_get_within ends k end at' in
-              let is : get_or ends k None ≡ option_flatten (get_or outs k None) = ap (λ l. get_or l k None) flat
-              ∙ get_or-map (λ (o : Option (Option (DoorEnd D))). option_flatten o) outs k None None (omega arith) in
-              let right = by_door.right k door None (slice_get_within doors k door at) in
-              subst (λ (x : D). done x (requests_of k served) (replies_of k served) end) (get_or_from_slice_get doors k door door at)
-              (subst (λ e. done (get_or doors k door) (requests_of k served) (replies_of k served) e) (get_or_from_slice_get ends k end None at')
-              (subst (λ e. done (get_or doors k door) (requests_of k served) (replies_of k served) e) (sym is)
-              (flat_done (get_or doors k door) (requests_of k served) (replies_of k served) (requests_of k served ≡ []) (get_or outs k None) right))),
-        )
+  -- what the workers of doors have done
+  pub doors_served : {D : Type 0} (done : D → List Asked → List Dated → DoorEnd D → Type 0) (tasks : List (DoorTask D)) (doors : List D)
+      (ends : List (Option (DoorEnd D))) (old new : OfficeView S) (c d : C) (served : List (Entry Asked Dated))
+      → map (λ t. t.door) tasks ≡ doors → AreServed (StepOn view) tick (λ (t : DoorTask D) put got end. done t.door put got end) tasks ends old new c d served
+      → OneHistory view tick (length doors) old new c d served × (length ends ≡ length doors)
+      × ((k : ℕ) (door : D) (end : Option (DoorEnd D)) → slice_get doors k ≡ Some door → slice_get ends k ≡ Some end
+      → MatchOption end (requests_of k served ≡ []) (λ e. done door (requests_of k served) (replies_of k served) e))
+  doors_served {D} done tasks doors ends old new c d served same h =
+      let by_door = served_as (StepOn view) tick (λ (t : DoorTask D) put got end. done t.door put got end) done (λ t. t.door)
+      (λ t put got x d. d) tasks doors ends old new c d served same h in (
+        one_history done doors ends old new c d served by_door,
+        by_door.len,
+        λ k door end at at'.
+            subst (λ x. MatchOption end (requests_of k served ≡ []) (λ e. done x (requests_of k served) (replies_of k served) e))
+            (get_or_from_slice_get doors k door door at)
+            (subst (λ o. MatchOption o (requests_of k served ≡ []) (λ e. done (get_or doors k door) (requests_of k served) (replies_of k served) e))
+            (get_or_from_slice_get ends k end end at')
+            (by_door.right k door end (slice_get_within doors k door at))),
+      )

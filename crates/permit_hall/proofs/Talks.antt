@@ -1,5 +1,5 @@
 -- A session that serves the connections of a door, one after the other.
-use Rattle.std.proofs.Common.{◌≡◌, ◌+◌, ℕ, Bool, true, false, List, [], ◌∷◌, ◌++◌, length, Option, Some, None, refl, sym, ap, ◌∙◌, subst, arith, append_assoc, length-append}
+use Rattle.std.proofs.Common.{◌≡◌, ◌+◌, ◌-◌, ◌^◌, min, ℕ, Bool, true, false, List, [], ◌∷◌, ◌++◌, length, Option, Some, None, refl, sym, ap, ◌∙◌, subst, arith, append_assoc, length-append}
 use Rattle.std.proofs.lemmas.List.{append-nil}
 use Rattle.std.specs.Int.{from_bool}
 use Rattle.permit_base.specs.declared.request.Asked.{Asked}
@@ -8,8 +8,12 @@ use Rattle.permit_wire.specs.Conversation.{Exchanges, none}
 use Rattle.permit_wire.specs.Serving.{AsksOnce}
 use Rattle.permit_wire.specs.declared.service.Dated.{Dated}
 use Rattle.permit_hall.specs.declared.session.Session.{Session}
-use Rattle.permit_hall.specs.Doors.{Talk, IsHeld, HasGiven, puts_of, gots_of}
+use Rattle.permit_hall.specs.Doors.{Talk, capped, IsHeld, HasGiven, puts_of, gots_of}
 use Rattle.permit_hall.specs.Session.{Asks, IsSamePlace, put_by, got_by}
+
+-- what is counted behind the greatest count
+capped_more : (n k : ℕ) → min (capped n + k) (2 ^ 64 - 1) ≡ capped (n + k)
+capped_more n k = omega arith
 
 module _ (s t : Session Asked Dated) where
   -- what a session has put and collected more, where it was asked
@@ -36,14 +40,23 @@ module _ (s t : Session Asked Dated) where
       )
   more first false same x = (x.0, ap put_by same ∙ x.1, ap got_by same ∙ x.2)
 
-  -- a request more is an answer more
-  pub counts : (b : Bool) (n k m : ℕ) → AsksOnce Asks s t b → k ≡ from_bool b → m ≡ n + k → length (put_by s) ≡ n → length (got_by s) ≡ n
-      → (length (put_by t) ≡ m) × (length (got_by t) ≡ m)
-  counts true n k m h one up puts gots =
+  -- a request more is an answer more, and the count has it unless it stands at the greatest
+  pub counts : (b : Bool) (n k m : ℕ) → AsksOnce Asks s t b → k ≡ from_bool b → m ≡ min (n + k) (2 ^ 64 - 1)
+      → length (put_by s) ≡ length (got_by s) → n ≡ capped (length (put_by s))
+      → (length (put_by t) ≡ length (got_by t)) × (m ≡ capped (length (put_by t)))
+  counts true n k m h one up even is =
       let both = adds h.0 h.1 h.2 in let p = ap length both.0 in let g = ap length both.1 in
-      (omega (arith, length-append (put_by s) (h.0 ∷ [])), omega (arith, length-append (got_by s) (h.1 ∷ [])))
-  counts false n k m same zero up puts gots =
-      let p = ap (λ x. length (put_by x)) same in let g = ap (λ x. length (got_by x)) same in (omega arith, omega arith)
+      let more : length (put_by t) ≡ length (put_by s) + 1 = omega (arith, length-append (put_by s) (h.0 ∷ [])) in (
+        omega (arith, length-append (put_by s) (h.0 ∷ []), length-append (got_by s) (h.1 ∷ [])),
+        up ∙ ap (λ x. min (x + k) (2 ^ 64 - 1)) is ∙ ap (λ x. min (capped (length (put_by s)) + x) (2 ^ 64 - 1)) one
+            ∙ capped_more (length (put_by s)) 1 ∙ ap capped (sym more),
+      )
+  counts false n k m same zero up even is =
+      let p = ap (λ x. length (put_by x)) same in let g = ap (λ x. length (got_by x)) same in (
+        omega arith,
+        up ∙ ap (λ x. min (x + k) (2 ^ 64 - 1)) is ∙ ap (λ x. min (capped (length (put_by s)) + x) (2 ^ 64 - 1)) zero
+            ∙ capped_more (length (put_by s)) 0 ∙ ap capped (omega arith),
+      )
 
 module _ {In Out D : Type 0} (remaining : In → Option (List ℕ)) (contents : Out → Option (List ℕ)) (gave : D → Option (In × Out) → D → Type 0) where
   -- one connection more

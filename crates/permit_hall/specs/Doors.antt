@@ -1,5 +1,5 @@
 -- What a session that serves a door has done.
-use Rattle.std.specs.Prelude.{◌≡◌, ℕ, List, [], ◌∷◌, ◌++◌, length, slice_get, Option, Some, None, MatchOption, ⊤}
+use Rattle.std.specs.Prelude.{◌≡◌, ℕ, ◌-◌, ◌^◌, min, List, [], ◌∷◌, ◌++◌, length, slice_get, Option, Some, None, MatchOption}
 use Rattle.permit_base.specs.declared.request.Asked.{Asked}
 use Rattle.permit_http.specs.Stream.{fresh}
 use Rattle.permit_wire.specs.Conversation.{Exchanges, Conversation}
@@ -26,6 +26,10 @@ puts_of (talk ∷ talks) = talk.exchanges.put ++ puts_of talks
 abbrev pub gots_of : {In Out : Type 0} → List (Talk In Out) → List Dated
 gots_of [] = []
 gots_of (talk ∷ talks) = talk.exchanges.got ++ gots_of talks
+
+-- a count stops at the greatest
+abbrev pub capped : ℕ → ℕ
+capped n = min n (2 ^ 64 - 1)
 
 module _ {In Out : Type 0} (remaining : In → Option (List ℕ)) (contents : Out → Option (List ℕ)) where
   -- What its bytes ask was served, where its reader tells them: these requests were put, and what its writer holds more are
@@ -55,11 +59,16 @@ module _ {In Out : Type 0} (remaining : In → Option (List ℕ)) (contents : Ou
       pub puts : put ≡ puts_of talks
       pub gots : got ≡ gots_of talks
 
-    -- The session's door was served and is spent, and as many requests were put and answers collected as the count says.
-    -- Nothing is said of None.
+    -- the session's door was served and is spent, and as many requests were put and answers collected as the count says
+    pub record HasEnded (spent : D → Type 0) (door : D) (put : List Asked) (got : List Dated) (end : DoorEnd D) : Type 0 where
+      pub served : HasServed door put got end.door
+      pub over : spent end.door
+      pub even : length put ≡ length got
+      pub count : end.collected ≡ capped (length put)
+
+    -- with an end the door was served so; else nothing was put
     abbrev pub IsDoorDone : (D → Type 0) → D → List Asked → List Dated → Option (DoorEnd D) → Type 0
-    IsDoorDone spent door put got end =
-        MatchOption end ⊤ (λ e. HasServed door put got e.door × spent e.door × (length put ≡ e.collected) × (length got ≡ e.collected))
+    IsDoorDone spent door put got end = MatchOption end (put ≡ []) (λ e. HasEnded spent door put got e)
 
     -- each session's door was served, by its requests among those served, and their replies
     pub record AreDoorsServed (spent : D → Type 0) (doors : List D) (ends : List (Option (DoorEnd D))) (served : List (Entry Asked Dated)) : Type 0 where

@@ -1,18 +1,17 @@
 //! One worker a door, which yields connections.
 
-ghost use Rattle.std.specs.Prelude.{◌≡◌, ◌≤◌, ℕ, [], List, Option, length, map, true, ⊤, IfNone, IfOk, IfErr, MatchOption, vec_capacity};
-ghost use Rattle.std.specs.Option.{option_flatten};
+ghost use Rattle.std.specs.Prelude.{◌≡◌, ℕ, List, Option, length, map, true, IfNone, IfOk, IfErr, OnErr};
 ghost use Rattle.permit_base.specs.declared.request.Asked.{Asked};
 ghost use Rattle.permit_wire.specs.declared.service.Dated.{Dated};
 ghost use Rattle.permit_hall.specs.Runs.{Entry};
 ghost use Rattle.permit_hall.specs.Errors.{may_open as is_count, FitsCount};
 ghost use Rattle.permit_hall.specs.OneHistory.{OneHistory};
-ghost use Rattle.permit_hall.specs.Doors.{IsDoorDone, AreDoorsServed, Holds};
+ghost use Rattle.permit_hall.specs.Doors.{HasEnded, AreDoorsServed, Holds, capped};
 ghost use Rattle.permit_hall.specs.Session.{Has, IsSession, IsSamePlace, put_by, got_by};
 
 use crate::error::{HallError, may_open};
 use crate::session::Session;
-use crate::tasks::{TasksEnd, run_tasks};
+use crate::tasks::run_tasks;
 use crate::worker::Task;
 use permit_base::request::Asked;
 use permit_base::values::Day;
@@ -44,7 +43,7 @@ pub trait Door: Send {
         ensures gave { gave self.old result self.new };
 }
 
-/// A door that is spent, and how many answers its session has collected.
+/// A door that is spent, and how many answers its session has collected: the greatest count where it would pass that.
 #[derive(Drop)]
 pub struct DoorEnd<D: Drop> {
     pub door: D,
@@ -65,7 +64,7 @@ impl<R: Wait> Service<R> for Session<Asked, Dated> {
 
 /// Serves a connection to its end, which comes with the end of its input, with a reader or a writer that fails, or with
 /// an answer that closes. Faults are answered without the office. Gives how many answers were collected, with those
-/// before; `None` where that would pass the greatest count.
+/// before, up to the greatest count.
 fn serve_connection<I: Read, O: Write, R: Wait>(
     rt: &R,
     routes: &mut Routes,
@@ -73,60 +72,57 @@ fn serve_connection<I: Read, O: Write, R: Wait>(
     reader: &mut I,
     writer: &mut O,
     count: u64,
-) -> Option<u64>
+) -> u64
     requires session { IsSession session.old }
-    requires count { (length (put_by session.old) ≡ count) × (length (got_by session.old) ≡ count) }
+    requires even { length (put_by session.old) ≡ length (got_by session.old) }
+    requires count { count ≡ capped (length (put_by session.old)) }
     ensures session { IsSession session.new × IsSamePlace session.old session.new }
     ensures even { length (put_by session.new) ≡ length (got_by session.new) }
-    ensures count { MatchOption result ⊤ (λ n. (length (put_by session.new) ≡ n) × (length (got_by session.new) ≡ n)) }
-    ensures holds { MatchOption result ⊤ (λ n. Holds I.remaining O.contents session.old session.new reader.old writer.old writer.new) }
+    ensures count { result ≡ capped (length (put_by session.new)) }
+    ensures holds { Holds I.remaining O.contents session.old session.new reader.old writer.old writer.new }
 {
     let mut inbox = Inbox::new();
     let mut count = count;
     for _ in rt.forever() {
         let turn = serve_by(routes, session, rt, &mut inbox, reader, writer);
-        count = count.checked_add(u64::from(turn.asked))?;
+        count = count.saturating_add(u64::from(turn.asked));
         if turn.served.is_shut() {
-            return Some(count);
+            return count;
         }
     }
     unreachable!()
 }
 
-/// A door, and what reading and writing take memory from. It gives back the door and the count of answers, or `None`
-/// where the count would pass the greatest.
+/// A door, and what reading and writing take memory from. It gives back the door, and the count of answers.
 #[derive(Drop)]
 pub struct DoorTask<D: Drop> {
     door: D,
     alloc: Global,
 }
 
-impl<D: Door + Drop> Task<Asked, Dated, Option<DoorEnd<D>>> for DoorTask<D>
+impl<D: Door + Drop> Task<Asked, Dated, DoorEnd<D>> for DoorTask<D>
 where
     D::In: Drop,
     D::Out: Drop,
 {
-    ghost did = { λ t put got end. IsDoorDone D.In.remaining D.Out.contents D.gave D.spent t.door put got end };
+    ghost did = { λ t put got end. HasEnded D.In.remaining D.Out.contents D.gave D.spent t.door put got end };
 
-    fn run<R: Wait>(self, rt: &R, session: &mut Session<Asked, Dated>) -> Option<DoorEnd<D>> {
+    fn run<R: Wait>(self, rt: &R, session: &mut Session<Asked, Dated>) -> DoorEnd<D> {
         let DoorTask { mut door, alloc } = self;
         let mut routes = Routes::new(alloc);
         let mut collected = 0u64;
         for _ in rt.forever() {
             let Some((mut reader, mut writer)) = door.next() else {
-                return Some(DoorEnd { door, collected });
+                return DoorEnd { door, collected };
             };
-            match serve_connection(
+            collected = serve_connection(
                 rt,
                 &mut routes,
                 session,
                 &mut reader,
                 &mut writer,
                 collected,
-            ) {
-                Some(count) => collected = count,
-                None => return None,
-            }
+            );
         }
         unreachable!()
     }
@@ -142,23 +138,8 @@ fn door_tasks<D: Drop>(alloc: Global, doors: Vec<D>) -> Result<Vec<DoorTask<D>>,
     Ok(all)
 }
 
-/// The two kinds of None made one.
-fn flattened<D: Drop>(
-    outs: Vec<Option<Option<DoorEnd<D>>>>,
-    room: Vec<Option<DoorEnd<D>>>,
-) -> Vec<Option<DoorEnd<D>>>
-    requires { (room.items ≡ []) × (length outs.items ≤ vec_capacity room) }
-    ensures { result.items ≡ map option_flatten outs.items }
-{
-    let mut ends = room;
-    for out in outs {
-        ends.push_reserved(out.flatten());
-    }
-    ends
-}
-
 /// What a hall over doors leaves: the office, and for each session its door, spent, and how many answers it has
-/// collected, or `None` where its worker could not be started, or the count would pass the greatest.
+/// collected, or `None` where its worker could not be started. Then none of its requests was served.
 #[derive(Drop)]
 pub struct HallEnd<S: Store + Drop, D: Drop> {
     pub office: Office<S>,
@@ -171,7 +152,8 @@ pub struct HallEnd<S: Store + Drop, D: Drop> {
 /// its answer and writes it. Faults in reading are answered without the office. The office serves the requests of all
 /// sessions one at a time, in one order, each on a day that the clock gives as it is taken. A request that is refused
 /// for the store has its refusal at its place, and has changed nothing. A connection that fails is left, and the next
-/// one of its door is served. With an error the office comes back as it was, and the doors are dropped.
+/// one of its door is served. With an error the office comes back as it was, no clock was asked, and the doors are
+/// dropped.
 pub fn run_hall<
     S: Store + Drop,
     D,
@@ -195,25 +177,19 @@ where
     ensures opens { IfOk result (λ end. is_count (length doors.items) ≡ true) }
     ensures back { IfErr result (λ back. back.0 ≡ office) }
     ensures error { IfErr result (λ back. FitsCount back.1 (is_count (length doors.items))) }
+    ensures unasked { OnErr result (clock.new ≡ clock.old) }
 {
     if !may_open(doors.len()) {
         return Err((office, HallError::Count));
     }
-    let Ok(room) = Vec::with_capacity(alloc, doors.len()) else {
-        return Err((office, HallError::Memory));
-    };
     let Ok(tasks) = door_tasks(alloc, doors) else {
         return Err((office, HallError::Memory));
     };
     match run_tasks(rt, alloc, office, tasks, clock) {
-        Ok(end) => {
-            let TasksEnd { machine, outs } = end;
-            let doors = flattened(outs, room);
-            Ok(HallEnd {
-                office: machine,
-                doors,
-            })
-        }
+        Ok(end) => Ok(HallEnd {
+            office: end.machine,
+            doors: end.outs,
+        }),
         Err(error) => Err(error),
     }
 }

@@ -1,6 +1,6 @@
 //! One worker a list of requests.
 
-ghost use Rattle.std.specs.Prelude.{◌≡◌, ◌≤◌, [], ℕ, List, length, map, true, vec_capacity, IfOk, IfErr};
+ghost use Rattle.std.specs.Prelude.{◌≡◌, ◌≤◌, [], ℕ, List, length, map, true, vec_capacity, IfOk, IfErr, OnErr};
 ghost use Rattle.permit_base.specs.declared.request.Asked.{Asked};
 ghost use Rattle.permit_wire.specs.declared.service.Dated.{Dated};
 ghost use Rattle.permit_hall.specs.Runs.{Entry};
@@ -74,7 +74,7 @@ pub struct ListsEnd<S: Store + Drop> {
 /// Each worker puts its list's requests into the intake, in order, each once it has the answer to the one before. The
 /// office serves them one at a time, in one order for all lists, each on a day that the clock gives as it is taken. A
 /// request that is refused for the store has its refusal at its place, and has changed nothing. With an error the
-/// office comes back as it was.
+/// office comes back as it was, and no clock was asked.
 pub fn run_lists<
     S: Store + Drop,
     C: FnMut() -> Day,
@@ -93,6 +93,7 @@ pub fn run_lists<
     ensures opens { IfOk result (λ end. is_count (length lists.items) ≡ true) }
     ensures back { IfErr result (λ back. back.0 ≡ office) }
     ensures error { IfErr result (λ back. FitsCount back.1 (is_count (length lists.items))) }
+    ensures unasked { OnErr result (clock.new ≡ clock.old) }
 {
     if !may_open(lists.len()) {
         return Err((office, HallError::Count));

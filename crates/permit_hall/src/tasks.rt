@@ -1,5 +1,5 @@
 //! One worker a task, and the owner on the calling thread.
-ghost use Rattle.std.specs.Prelude.{◌≡◌, ◌≤◌, ◌∷◌, ◌++◌, [], List, ℕ, ◌<◌, length, map, slice_index_or, vec_capacity, true, IfOk, IfErr, All};
+ghost use Rattle.std.specs.Prelude.{◌≡◌, ◌≤◌, ◌∷◌, ◌++◌, [], List, ℕ, ◌<◌, length, map, slice_index_or, vec_capacity, true, IfOk, IfErr, OnErr, All};
 ghost use Rattle.crossbeam_channel.specs.Claims.{view, IsSeatAt};
 ghost use Rattle.crossbeam_channel.specs.Ends.{sends_on, receives_on};
 ghost use Rattle.permit_hall.specs.Intake.{owner, session};
@@ -194,6 +194,7 @@ where
         × AreServed M.step C.step T.did tasks.items end.outs.items machine end.machine clock.old clock.new served) }
     ensures back { IfErr result (λ back. back.0 ≡ machine) }
     ensures error { IfErr result (λ back. FitsCount back.1 true) }
+    ensures unasked { OnErr result (clock.new ≡ clock.old) }
 {
     let Ok(setup) = set_up(alloc, tasks) else {
         return Err((machine, HallError::Memory));

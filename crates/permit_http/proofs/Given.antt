@@ -1,5 +1,5 @@
 -- What reading the body of a message that was found gives on the stream.
-use Rattle.std.proofs.Common.{◌≡◌, ℕ, ◌+◌, ◌-◌, ◌<◌, ◌≤◌, List, ◌++◌, length, drop, Option, Some, refl, sym, ap, ◌∙◌, arith, subst}
+use Rattle.std.proofs.Common.{◌≡◌, ℕ, ◌+◌, ◌-◌, ◌<◌, ◌≤◌, List, ◌++◌, length, drop, Option, Some, refl, sym, ap, ◌∙◌, arith, subst, inr}
 use Rattle.std.proofs.lemmas.List.{take-append-le, drop-append-le, drop-drop, length-drop, length-append}
 use Rattle.std.specs.Io.KnownBytes.{prepend_known, IsAtEnd}
 use Rattle.httparse.specs.Grammar.{RequestHead}
@@ -7,10 +7,31 @@ use Rattle.httparse.specs.Spans.{span_bytes}
 use Rattle.permit_http.specs.Stream.{InboxData, stream, Filled}
 use Rattle.permit_http.specs.Head.{HeadAt}
 use Rattle.permit_http.specs.Message.{LacksBody, message_of}
+use Rattle.permit_http.specs.Needed.{IsWaiting, ReadsWhile}
 use Rattle.permit_http.specs.Spans.{Covers, AreOrdered, GivesMessage}
 use Rattle.permit_http.specs.declared.message.MessageSpans.{MessageSpans}
 use Rattle.permit_http.proofs.Streams.{split, same_stream, at_end, head-append}
 use Rattle.permit_http.proofs.Covered.{covers-append, head_fits}
+use Rattle.permit_http.proofs.ReadsMade.{reads_as}
+
+-- the bytes stop inside the body of a head that they cover
+lacks_now : (bytes : List ℕ) (s : MessageSpans) (h : RequestHead) → Covers bytes s h → length bytes < s.body.end → LacksBody bytes
+lacks_now bytes s h now short =
+    let fits = head_fits bytes h s.body.start now.head now.size in (
+      h,
+      drop s.body.start bytes,
+      s.body.end - s.body.start,
+      record { head = now.head; length = now.length },
+      omega (arith, short, fits, length-drop s.body.start bytes),
+    )
+
+-- reads that are made while the body isn't there whole are made behind bytes that decide nothing
+pub needed : {R : Type 0} (gave : R → List ℕ → R → Type 0) (bytes last : List ℕ) (reader after : R) (s : MessageSpans) (h : RequestHead)
+    → Covers bytes s h → AreOrdered (length bytes) s → ReadsWhile (λ bs. length bs < s.body.end) gave bytes reader last after
+    → ReadsWhile IsWaiting gave bytes reader last after
+needed gave bytes last reader after s h covers ordered made =
+    reads_as gave (λ bs. length bs < s.body.end) IsWaiting bytes last reader after
+    (λ more short. inr (lacks_now (bytes ++ more) s h (covers-append bytes more s h ordered covers) short)) made
 
 module _ (i k : InboxData) (before after : Option (List ℕ)) (s : MessageSpans) (h : RequestHead)
     (filled : Filled i k before after) (covers : Covers i.bytes s h) (ordered : AreOrdered (length i.bytes) s) where
@@ -19,15 +40,7 @@ module _ (i k : InboxData) (before after : Option (List ℕ)) (s : MessageSpans)
 
   -- the inbox stops inside the body
   pub stops : length k.bytes < s.body.end → LacksBody k.bytes
-  stops short =
-      let now : Covers k.bytes s h = covers-now in
-      let fits = head_fits k.bytes h s.body.start now.head now.size in (
-        h,
-        drop s.body.start k.bytes,
-        s.body.end - s.body.start,
-        record { head = now.head; length = now.length },
-        omega (arith, short, fits, length-drop s.body.start k.bytes),
-      )
+  stops short = lacks_now k.bytes s h covers-now short
 
   module _ (bytes : List ℕ) (known : stream i before ≡ Some bytes) where
     -- the message stands there whole, and what comes behind it is the rest

@@ -6,3 +6,4 @@ pub mod Streams
 pub mod Covered
 pub mod Given
 pub mod Unique
+pub mod ReadsMade

@@ -3,3 +3,4 @@ pub mod Head
 pub mod Message
 pub mod Spans
 pub mod Errors
+pub mod Needed

@@ -1,11 +1,13 @@
 //! The bytes of a connection that were read and not used yet.
 
-ghost use Rattle.std.specs.Prelude.{◌≡◌, ◌≤◌, ◌<◌, ◌+◌, ◌||◌, drop, length, min, nat_le, true, false, IfOk, OnErr, Ok};
+ghost use Rattle.std.specs.Prelude.{◌≡◌, ◌≤◌, ◌<◌, ◌+◌, ◌||◌, ◌++◌, ℕ, List, drop, length, min, nat_le, true, false, IfOk, OnErr, Ok};
 ghost use Rattle.std.specs.Io.KnownBytes.{IsAtEnd};
 ghost use Rattle.permit_http.specs.Stream.{fresh, Filled};
+ghost use Rattle.permit_http.specs.Needed.{ReadsWhile};
 ghost use Rattle.permit_http.specs.Spans.{GetsTo};
 
-use std::io::{self, Read};
+use crate::source::Source;
+use std::io;
 use std::marker::Model;
 
 /// The bytes of a connection that were read and not used yet, at most 24576 of them held in place; how many of its
@@ -88,25 +90,27 @@ impl Inbox {
     }
 
     /// Reads once behind the bytes, and says how many came.
-    pub(crate) fn fill<R: Read>(&mut self, reader: &mut R) -> io::Result<usize>
+    pub(crate) fn fill<R: Source>(&mut self, reader: &mut R) -> io::Result<usize>
         requires room { length self.old.bytes < 24576 }
         ensures filled { Filled self.old self.new (R.remaining reader.old) (R.remaining reader.new) }
         ensures grows { IfOk result (λ n. length self.new.bytes ≡ length self.old.bytes + n) }
         ensures end { result ≡ Ok 0 → IsAtEnd (R.remaining reader.new) }
         ensures failed { OnErr result (self.new ≡ self.old) }
+        ensures once { (more : List ℕ) × (self.new.bytes ≡ self.old.bytes ++ more) × R.gave reader.old more reader.new }
     {
         let len = self.len;
-        let read = reader.read(&mut self.bytes[len..])?;
+        let read = reader.read_once(&mut self.bytes[len..])?;
         self.len = len + read;
         Ok(read)
     }
 
     /// Reads until so many bytes are there, and says whether they are; `Ok(false)` is the end of the input.
-    pub(crate) fn fill_to<R: Read>(&mut self, reader: &mut R, n: usize) -> io::Result<bool>
+    pub(crate) fn fill_to<R: Source>(&mut self, reader: &mut R, n: usize) -> io::Result<bool>
         requires { n ≤ 24576 }
         ensures filled { Filled self.old self.new (R.remaining reader.old) (R.remaining reader.new) }
         ensures there { IfOk result (λ there. GetsTo n there self.new.bytes (R.remaining reader.new)) }
         ensures failed { OnErr result (length self.new.bytes < n) }
+        ensures needed { ReadsWhile (λ bytes. length bytes < n) R.gave self.old.bytes reader.old self.new.bytes reader.new }
     {
         loop {
             if n <= self.as_slice().len() {

@@ -15,3 +15,4 @@ mod head;
 pub mod inbox;
 pub mod laws;
 pub mod message;
+pub mod source;

@@ -7,14 +7,15 @@ ghost use Rattle.permit_http.specs.Spans.{GivesHead, GivesMessage, Holds, ReadsM
 ghost use Rattle.permit_http.specs.Errors.{IsOfMessage, StopsAt};
 ghost use Rattle.permit_http.specs.Head.{IsOpen};
 ghost use Rattle.permit_http.specs.Message.{ShowsFault};
+ghost use Rattle.permit_http.specs.Needed.{IsWaiting, ReadsNeeded, ReadsWhile};
 ghost use Rattle.httparse.specs.Grammar.{RequestHead};
 
 use crate::error::WireError;
 use crate::fault::Fault;
 use crate::head::{Look, look_at, parts_of};
 use crate::inbox::Inbox;
+use crate::source::Source;
 use httparse::spans::{EMPTY_HEADER_SPAN, HeaderSpan, RequestSpans, Span};
-use std::io::Read;
 
 /// Where the parts of a message stand among the bytes of an inbox.
 #[derive(Clone, Copy)]
@@ -52,10 +53,11 @@ pub enum Sought {
 
 impl Inbox {
     /// Reads until a head stands at the front, or none can.
-    fn head<R: Read>(&mut self, reader: &mut R, headers: &mut [HeaderSpan; 32]) -> Sought
+    fn head<R: Source>(&mut self, reader: &mut R, headers: &mut [HeaderSpan; 32]) -> Sought
         ensures filled { Filled self.old self.new (R.remaining reader.old) (R.remaining reader.new) }
         ensures sought { GivesHead self.new.bytes (R.remaining reader.new) headers.new result }
         ensures there { (IsOpen self.old.bytes → ⊥) → (self.new ≡ self.old) × (reader.new ≡ reader.old) }
+        ensures needed { ReadsWhile IsWaiting R.gave self.old.bytes reader.old self.new.bytes reader.new }
     {
         loop {
             match look_at(self.as_slice(), headers) {
@@ -72,7 +74,7 @@ impl Inbox {
     }
 
     /// Judges the head at the front, and then reads the body behind it.
-    fn read_found<R: Read>(
+    fn read_found<R: Source>(
         &mut self,
         reader: &mut R,
         headers: &[HeaderSpan; 32],
@@ -87,6 +89,7 @@ impl Inbox {
         ensures some { result ≡ Ok None → ⊥ }
         ensures refuses { (fault : Fault) → ShowsFault self.old.bytes fault → result ≡ Err (WireError.Fault fault) }
         ensures at_once { (fault : Fault) → ShowsFault self.old.bytes fault → (self.new ≡ self.old) × (reader.new ≡ reader.old) }
+        ensures needed { ReadsWhile IsWaiting R.gave self.old.bytes reader.old self.new.bytes reader.new }
     {
         let parts = match parts_of(self.as_slice(), headers, found) {
             Ok(parts) => parts,
@@ -100,7 +103,7 @@ impl Inbox {
     }
 
     /// Reads the next message of a connection that is not closed.
-    fn read_open<R: Read>(&mut self, reader: &mut R) -> Result<Option<MessageSpans>, WireError>
+    fn read_open<R: Source>(&mut self, reader: &mut R) -> Result<Option<MessageSpans>, WireError>
         ensures filled { Filled self.old self.new (R.remaining reader.old) (R.remaining reader.new) }
         ensures gives { ReadsMessage self.old self.new (R.remaining reader.old) (R.remaining reader.new) result }
         ensures unfinished { IfErr result (StopsAt self.new.bytes) }
@@ -109,6 +112,7 @@ impl Inbox {
         ensures ended { result ≡ Ok None → self.new ≡ self.old }
         ensures refuses { (fault : Fault) → ShowsFault self.old.bytes fault → result ≡ Err (WireError.Fault fault) }
         ensures at_once { (fault : Fault) → ShowsFault self.old.bytes fault → (self.new ≡ self.old) × (reader.new ≡ reader.old) }
+        ensures needed { ReadsWhile IsWaiting R.gave self.old.bytes reader.old self.new.bytes reader.new }
     {
         let mut headers = [EMPTY_HEADER_SPAN; 32];
         match self.head(reader, &mut headers) {
@@ -128,7 +132,7 @@ impl Inbox {
     /// Reads until a whole message stands at the front of the inbox, and says where its parts are; `None` where the
     /// input ends before any byte of it, or the connection is closed. The first fault of a head is reported without
     /// another read: nothing is waited for behind it; after any fault the connection is closed. It takes no memory.
-    pub fn read_message<R: Read>(
+    pub fn read_message<R: Source>(
         &mut self,
         reader: &mut R,
     ) -> Result<Option<MessageSpans>, WireError>
@@ -143,6 +147,7 @@ impl Inbox {
         ensures refuses { self.old.closed ≡ false → (fault : Fault) → ShowsFault self.old.bytes fault → result ≡ Err (WireError.Fault fault) }
         ensures at_once { self.old.closed ≡ false → (fault : Fault) → ShowsFault self.old.bytes fault
             → (self.new.bytes ≡ self.old.bytes) × (reader.new ≡ reader.old) }
+        ensures needed { ReadsNeeded R.gave self.old reader.old self.new.bytes reader.new }
         ensures stays { OnOk result (self.new.closed ≡ self.old.closed) }
         ensures closes { OnErr result (self.new.closed ≡ true) }
         ensures count { self.new.count ≡ self.old.count }

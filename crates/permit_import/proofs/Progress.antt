@@ -69,7 +69,7 @@ length-with token day None rows replies e behind = ap suc (behind replies e)
 length-with token day (Some request) rows [] e behind = absurd (omega arith)
 length-with token day (Some request) rows (reply ∷ replies) e behind = ap suc (behind replies (omega arith))
 
-length-outcomes : (token : List ℕ) (day : ℕ) (rows : List Fields) (replies : List Reply) → length replies ≡ length (requests_of token day rows) →
+pub length-outcomes : (token : List ℕ) (day : ℕ) (rows : List Fields) (replies : List Reply) → length replies ≡ length (requests_of token day rows) →
     length (outcomes_of rows replies) ≡ length rows
 length-outcomes token day [] replies e = refl
 length-outcomes token day (row ∷ rows) replies e =

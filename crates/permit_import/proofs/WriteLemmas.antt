@@ -1,11 +1,10 @@
 -- What a writer was given, piece by piece.
-use Rattle.std.proofs.Common.{◌≡◌, ℕ, ◌+◌, ◌<◌, List, ◌++◌, length, take, drop, ap, ◌∙◌, sym, subst, append_assoc, arith, length-append}
+use Rattle.std.proofs.Common.{ℕ, ◌+◌, List, ◌++◌, take, drop, ap, ◌∙◌, sym, append_assoc}
 use Rattle.std.specs.Prelude.{Option, None, Some}
-use Rattle.std.proofs.KnownBytes.{Appends-kept, Appends-trans}
-use Rattle.std.proofs.Math.Seq.{take-add, take-append-add, take-append_seam, take-length}
-use Rattle.std.proofs.lemmas.List.{take-append-le}
-use Rattle.std.specs.Io.KnownBytes.{Appends, Keeps}
-use Rattle.permit_import.specs.Written.{WroteBeginning, WroteFront}
+use Rattle.std.proofs.KnownBytes.{Appends-trans}
+use Rattle.std.proofs.Math.Seq.{take-add}
+use Rattle.std.specs.Io.KnownBytes.{Appends}
+use Rattle.permit_import.specs.Written.{WroteFront, WroteInto}
 
 -- one write after another
 pub appends_more : (old mid new : Option (List ℕ)) (bs : List ℕ) (at n : ℕ)
@@ -17,28 +16,10 @@ appends_more (Some xs) (Some ys) (Some zs) bs at n h k =
     k ∙ ap (λ x. x ++ take n (drop at bs)) h ∙ append_assoc xs (take at bs) (take n (drop at bs))
     ∙ ap (λ x. xs ++ x) (sym (take-add at n bs))
 
--- a text is a beginning of itself
-pub whole_beginning : (old new : Option (List ℕ)) (text : List ℕ) → Appends old new text → WroteBeginning old new text
-whole_beginning old new text wrote = (length text, subst (Appends old new) (sym (take-length text)) wrote)
-
--- a text behind which nothing was written is a beginning of what goes on from it
-pub kept_beginning : (old mid new : Option (List ℕ)) (text more : List ℕ) → Appends old mid text → Keeps mid new → WroteBeginning old new (text ++ more)
-kept_beginning old mid new text more wrote kept = (
-  length text,
-  subst (Appends old new) (sym (take-append_seam text more))
-      (Appends-kept old mid new text wrote kept),
-)
-
--- a beginning of the next piece is one of the whole
-pub front_within : (old mid new : Option (List ℕ)) (text piece behind : List ℕ) → Appends old mid text → WroteFront mid new piece →
-    WroteFront old new (text ++ (piece ++ behind))
-front_within old mid new text piece behind wrote front =
-    let n = front.count in
-    let within : n < length piece = front.within in
-    let cut : take (length text + n) (text ++ (piece ++ behind)) ≡ text ++ take n piece =
-    take-append-add text (piece ++ behind) n ∙ ap (λ x. text ++ x) (take-append-le n piece behind (omega arith)) in
-    record {
-      count = length text + n;
-      within = omega (arith, within, length-append text (piece ++ behind), length-append piece behind);
-      wrote = subst (Appends old new) (sym cut) (Appends-trans old mid new text (take n piece) wrote front.wrote);
-    }
+-- a beginning of the next text behind the whole of one
+pub wrote_into : (old mid new : Option (List ℕ)) (text next : List ℕ) → Appends old mid text → WroteFront mid new next → WroteInto old new text next
+wrote_into old mid new text next wrote front = record {
+  count = front.count;
+  within = front.within;
+  wrote = Appends-trans old mid new text (take front.count next) wrote front.wrote;
+}

@@ -30,8 +30,9 @@ const LINE_ROOM: usize = 128;
 /// record that has another number of fields, a field that is not UTF-8 or a value out of its limits. The line of the
 /// counts stands behind them. One record is held at a time, so memory does not grow with the list.
 ///
-/// After a fault what was tried before it stands, and a beginning of the lines is out, without the counts unless the
-/// writer failed inside them. A record that the store refuses has that refusal in its line, and the import goes on.
+/// After a fault what was tried before it stands, and the lines of the records that were tried are out. Of the last one's
+/// only a beginning is where the writer failed, and maybe nothing where memory ran out. Where the writer failed inside the
+/// counts, all were tried. A record that the store refuses has that refusal in its line, and the import goes on.
 pub fn import<S: Store + Drop, R: Read + Drop, W: Write>(
     alloc: Global,
     office: &mut Office<S>,

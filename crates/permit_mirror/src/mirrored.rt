@@ -1,9 +1,14 @@
 //! The store that reads from memory.
 
-ghost use Rattle.std.specs.Prelude.{◌≡◌, ◌≤◌, ◌+◌, ◌%◌, ◌^◌, false, OnOk};
+ghost use Rattle.std.specs.Prelude.{◌≡◌, ◌≤◌, ◌+◌, ◌%◌, ◌^◌, ◌==◌, ◌&&◌, false, IfOk, OnOk, List, find, filter, length, option_map, bytes_eq, ⊤};
+ghost use Rattle.std.specs.List.{list_any};
+ghost use Rattle.permit_model.specs.Routes.{found_by, Found as TheFound};
 ghost use Rattle.permit_model.specs.Tables.{Tables};
 ghost use Rattle.permit_store.specs.Counts.{failed_after};
-ghost use Rattle.permit_store.specs.Frames.{HasOneDesk, IsRead};
+ghost use Rattle.permit_store.specs.Frames.{HasOneDesk, OverTables, Reads, IsRead, IsLookUp};
+ghost use Rattle.permit_store.specs.Handing.{AreAmong, AreFound, AreHanded, Hands, found_by_any, selected_after};
+ghost use Rattle.permit_store.specs.Interests.{DeclareSame};
+ghost use Rattle.permit_mirror.specs.Asked.{IsFromMemory, IsFromKept, IsFromOne};
 ghost use Rattle.permit_mirror.specs.Both.{CanBeRead, WasAsked, LeftBy, both};
 
 use permit_base::route::Route;
@@ -25,7 +30,7 @@ use permit_store::store::{Got, Store};
 ///
 /// Behind a call of the store that keeps the tables that failed, nothing is answered from memory before that store has
 /// answered once more: a fault may have shut it with the change on the disk. It is asked for its desk, and while that fails,
-/// so does each call.
+/// so does each call. Each read says by its clause `asked` which of the two it asks.
 #[derive(Drop)]
 pub struct Mirrored<S: Store, M: Memory> {
     kept: S,
@@ -94,6 +99,7 @@ impl<S: Store, M: Memory + Drop> Mirrored<S, M> {
             → (both (S.view self.old.kept) (M.view self.old.memory) self.old.failed self.old.commits).holds t → (M.view self.new.memory).holds t) }
         ensures readable { OnOk result ((S.view self.new.kept).doubt ≡ 0 → HasOneDesk (S.view self.new.kept)) }
         ensures memory { self.new.memory ≡ self.old.memory }
+        ensures asked { IsFromMemory self.old.is_wary self.new.is_wary self.old.kept self.new.kept result }
         ensures crash { (t : Tables) → WasAsked S.crash self.old.kept self.new.kept t }
     {
         if !self.is_wary {
@@ -110,89 +116,173 @@ impl<S: Store, M: Memory + Drop> Mirrored<S, M> {
 }
 
 impl<S: Store, M: Memory + Drop> Store for Mirrored<S, M> {
+    ghost use Rattle.permit_mirror.specs.Seen.{seen};
+
     ghost view = { λ s. both (S.view s.kept) (M.view s.memory) s.failed s.commits };
 
     ghost crash = { λ old new t made. LeftBy S.crash old.kept new.kept t made };
 
-    fn desk(&mut self) -> Got<Desk> {
+    fn desk(&mut self) -> Got<Desk>
+        ensures found { OverTables (seen self.old) (seen self.new) (λ t. IfOk result (λ d. d ≡ t.desk)) }
+        ensures read { IsRead (seen self.old) (seen self.new) result }
+        ensures crash { (t : Tables) → LeftBy S.crash self.old.kept self.new.kept t (λ _. ⊥) }
+        ensures asked { IsFromMemory self.old.is_wary self.new.is_wary self.old.kept self.new.kept result }
+    {
         self.settle()?;
         let answer = self.memory.desk();
         self.counted(answer)
     }
 
-    fn party_by_token(&mut self, digest: &Digest) -> Got<Option<Party>> {
+    fn party_by_token(&mut self, digest: &Digest) -> Got<Option<Party>>
+        ensures found { OverTables (seen self.old) (seen self.new)
+            (λ t. IfOk result (λ p. p ≡ find (λ p. bytes_eq p.digest digest.now) t.parties)) }
+        ensures read { IsRead (seen self.old) (seen self.new) result }
+        ensures crash { (t : Tables) → LeftBy S.crash self.old.kept self.new.kept t (λ _. ⊥) }
+        ensures asked { IsFromMemory self.old.is_wary self.new.is_wary self.old.kept self.new.kept result }
+    {
         self.settle()?;
         let answer = self.memory.party_by_token(digest);
         self.counted(answer)
     }
 
-    fn party(&mut self, party: PartyId) -> Got<Option<Party>> {
+    fn party(&mut self, party: PartyId) -> Got<Option<Party>>
+        ensures found { OverTables (seen self.old) (seen self.new)
+            (λ t. IfOk result (λ p. p ≡ find (λ p. p.id == party) t.parties)) }
+        ensures read { IsRead (seen self.old) (seen self.new) result }
+        ensures crash { (t : Tables) → LeftBy S.crash self.old.kept self.new.kept t (λ _. ⊥) }
+        ensures asked { IsFromMemory self.old.is_wary self.new.is_wary self.old.kept self.new.kept result }
+    {
         self.settle()?;
         let answer = self.memory.party(party);
         self.counted(answer)
     }
 
-    fn role(&mut self, party: PartyId) -> Got<Option<Role>> {
+    fn role(&mut self, party: PartyId) -> Got<Option<Role>>
+        ensures found { OverTables (seen self.old) (seen self.new)
+            (λ t. IfOk result (λ r. r ≡ option_map (λ p. p.role) (find (λ p. p.id == party) t.parties))) }
+        ensures read { IsRead (seen self.old) (seen self.new) result }
+        ensures crash { (t : Tables) → LeftBy S.crash self.old.kept self.new.kept t (λ _. ⊥) }
+        ensures asked { IsFromMemory self.old.is_wary self.new.is_wary self.old.kept self.new.kept result }
+    {
         self.settle()?;
         let answer = self.memory.role(party);
         self.counted(answer)
     }
 
-    fn parcel(&mut self, parcel: ParcelId) -> Got<Option<Parcel>> {
+    fn parcel(&mut self, parcel: ParcelId) -> Got<Option<Parcel>>
+        ensures found { OverTables (seen self.old) (seen self.new)
+            (λ t. IfOk result (λ p. p ≡ find (λ p. p.id == parcel) t.parcels)) }
+        ensures read { IsRead (seen self.old) (seen self.new) result }
+        ensures crash { (t : Tables) → LeftBy S.crash self.old.kept self.new.kept t (λ _. ⊥) }
+        ensures asked { IsFromMemory self.old.is_wary self.new.is_wary self.old.kept self.new.kept result }
+    {
         self.settle()?;
         let answer = self.memory.parcel(parcel);
         self.counted(answer)
     }
 
-    fn owner(&mut self, parcel: ParcelId) -> Got<Option<PartyId>> {
+    fn owner(&mut self, parcel: ParcelId) -> Got<Option<PartyId>>
+        ensures found { OverTables (seen self.old) (seen self.new)
+            (λ t. IfOk result (λ o. o ≡ option_map (λ p. p.owner) (find (λ p. p.id == parcel) t.parcels))) }
+        ensures read { IsRead (seen self.old) (seen self.new) result }
+        ensures crash { (t : Tables) → LeftBy S.crash self.old.kept self.new.kept t (λ _. ⊥) }
+        ensures asked { IsFromMemory self.old.is_wary self.new.is_wary self.old.kept self.new.kept result }
+    {
         self.settle()?;
         let answer = self.memory.owner(parcel);
         self.counted(answer)
     }
 
-    fn parcel_by_lot(&mut self, lot: &Lot) -> Got<Option<Parcel>> {
+    fn parcel_by_lot(&mut self, lot: &Lot) -> Got<Option<Parcel>>
+        ensures found { OverTables (seen self.old) (seen self.new)
+            (λ t. IfOk result (λ p. p ≡ find (λ p. bytes_eq p.lot lot.now) t.parcels)) }
+        ensures read { IsRead (seen self.old) (seen self.new) result }
+        ensures crash { (t : Tables) → LeftBy S.crash self.old.kept self.new.kept t (λ _. ⊥) }
+        ensures asked { IsFromMemory self.old.is_wary self.new.is_wary self.old.kept self.new.kept result }
+    {
         self.settle()?;
         let answer = self.memory.parcel_by_lot(lot);
         self.counted(answer)
     }
 
-    fn interest(&mut self, parcel: ParcelId, party: PartyId) -> Got<bool> {
+    fn interest(&mut self, parcel: ParcelId, party: PartyId) -> Got<bool>
+        ensures found { OverTables (seen self.old) (seen self.new)
+            (λ t. IfOk result (λ b. b ≡ list_any (λ i. (i.parcel == parcel) && (i.party == party)) t.interests)) }
+        ensures read { IsRead (seen self.old) (seen self.new) result }
+        ensures crash { (t : Tables) → LeftBy S.crash self.old.kept self.new.kept t (λ _. ⊥) }
+        ensures asked { IsFromMemory self.old.is_wary self.new.is_wary self.old.kept self.new.kept result }
+    {
         self.settle()?;
         let answer = self.memory.interest(parcel, party);
         self.counted(answer)
     }
 
-    fn interests(&mut self) -> Got<Vec<Interest>> {
+    fn interests(&mut self) -> Got<Vec<Interest>>
+        ensures found { OverTables (seen self.old) (seen self.new) (λ t. IfOk result (λ v. DeclareSame v.items t.interests)) }
+        ensures read { IsRead (seen self.old) (seen self.new) result }
+        ensures crash { (t : Tables) → LeftBy S.crash self.old.kept self.new.kept t (λ _. ⊥) }
+        ensures asked { IsFromMemory self.old.is_wary self.new.is_wary self.old.kept self.new.kept result }
+    {
         self.settle()?;
         let answer = self.memory.interests();
         self.counted(answer)
     }
 
-    fn file(&mut self, file: FileId) -> Got<Option<FileRow>> {
+    fn file(&mut self, file: FileId) -> Got<Option<FileRow>>
+        ensures found { OverTables (seen self.old) (seen self.new)
+            (λ t. IfOk result (λ f. f ≡ find (λ f. f.id == file) t.files)) }
+        ensures read { IsLookUp (seen self.old) (seen self.new) result }
+        ensures crash { (t : Tables) → LeftBy S.crash self.old.kept self.new.kept t (λ _. ⊥) }
+        ensures asked { IsFromMemory self.old.is_wary self.new.is_wary self.old.kept self.new.kept result }
+    {
         self.settle()?;
         let answer = self.memory.file(file);
         self.counted(answer)
     }
 
-    fn state(&mut self, file: FileId) -> Got<Option<FileState>> {
+    fn state(&mut self, file: FileId) -> Got<Option<FileState>>
+        ensures found { OverTables (seen self.old) (seen self.new)
+            (λ t. IfOk result (λ s. s ≡ option_map (λ f. f.state) (find (λ f. f.id == file) t.files))) }
+        ensures read { IsLookUp (seen self.old) (seen self.new) result }
+        ensures crash { (t : Tables) → LeftBy S.crash self.old.kept self.new.kept t (λ _. ⊥) }
+        ensures asked { IsFromMemory self.old.is_wary self.new.is_wary self.old.kept self.new.kept result }
+    {
         self.settle()?;
         let answer = self.memory.state(file);
         self.counted(answer)
     }
 
-    fn papers(&mut self, file: FileId) -> Got<Vec<Paper>> {
+    fn papers(&mut self, file: FileId) -> Got<Vec<Paper>>
+        ensures found { OverTables (seen self.old) (seen self.new)
+            (λ t. IfOk result (λ v. v.items ≡ filter (λ p. p.file == file) t.papers)) }
+        ensures read { IsRead (seen self.old) (seen self.new) result }
+        ensures crash { (t : Tables) → LeftBy S.crash self.old.kept self.new.kept t (λ _. ⊥) }
+        ensures asked { IsFromMemory self.old.is_wary self.new.is_wary self.old.kept self.new.kept result }
+    {
         self.settle()?;
         let answer = self.memory.papers(file);
         self.counted(answer)
     }
 
-    fn has_open_notice(&mut self, file: FileId, number: PaperNumber) -> Got<bool> {
+    fn has_open_notice(&mut self, file: FileId, number: PaperNumber) -> Got<bool>
+        ensures found { OverTables (seen self.old) (seen self.new)
+            (λ t. IfOk result (λ b. b ≡ list_any (λ p. (p.file == file) && (p.is_open && (p.number == number))) t.papers)) }
+        ensures read { IsRead (seen self.old) (seen self.new) result }
+        ensures crash { (t : Tables) → LeftBy S.crash self.old.kept self.new.kept t (λ _. ⊥) }
+        ensures asked { IsFromMemory self.old.is_wary self.new.is_wary self.old.kept self.new.kept result }
+    {
         self.settle()?;
         let answer = self.memory.has_open_notice(file, number);
         self.counted(answer)
     }
 
-    fn select(&mut self, route: &Route, caller: PartyId, day: Day) -> Got<Vec<Found>> {
+    fn select(&mut self, route: &Route, caller: PartyId, day: Day) -> Got<Vec<Found>>
+        ensures found { OverTables (seen self.old) (seen self.new)
+            (λ t. IfOk result (λ v. AreFound t v.items (found_by route.now caller day t))) }
+        ensures read { Reads ⊤ (selected_after (λ v. length v.items) result (seen self.old).handed) (seen self.old) (seen self.new) result }
+        ensures crash { (t : Tables) → LeftBy S.crash self.old.kept self.new.kept t (λ _. ⊥) }
+        ensures asked { IsFromMemory self.old.is_wary self.new.is_wary self.old.kept self.new.kept result }
+    {
         self.settle()?;
         let answer = self.memory.select(route, caller, day);
         self.counted(answer)
@@ -204,7 +294,14 @@ impl<S: Store, M: Memory + Drop> Store for Mirrored<S, M> {
         caller: PartyId,
         day: Day,
         taker: &mut T,
-    ) -> Got<bool> {
+    ) -> Got<bool>
+        ensures handed { (given : List TheFound) × Hands T.took given (seen self.old) (seen self.new) taker.old taker.new result
+            × OverTables (seen self.old) (seen self.new) (λ t. AreHanded t result given (found_by route.now caller day t)) }
+        ensures crash { (t : Tables) → LeftBy S.crash self.old.kept self.new.kept t (λ _. ⊥) }
+        ensures asked { IsFromOne route.now
+            (IsFromMemory self.old.is_wary self.new.is_wary self.old.kept self.new.kept result)
+            (IsFromKept self.new.is_wary self.old.memory self.new.memory result) }
+    {
         if let Route::Cell { .. } = route {
             let answer = self.kept.each(route, caller, day, taker);
             self.is_wary = answer.is_err();
@@ -221,7 +318,12 @@ impl<S: Store, M: Memory + Drop> Store for Mirrored<S, M> {
         caller: PartyId,
         day: Day,
         taker: &mut T,
-    ) -> Got<bool> {
+    ) -> Got<bool>
+        ensures handed { (given : List TheFound) × Hands T.took given (seen self.old) (seen self.new) taker.old taker.new result
+            × OverTables (seen self.old) (seen self.new) (λ t. AreAmong result given (found_by_any routes.now caller day t)) }
+        ensures crash { (t : Tables) → LeftBy S.crash self.old.kept self.new.kept t (λ _. ⊥) }
+        ensures asked { IsFromKept self.new.is_wary self.old.memory self.new.memory result }
+    {
         let answer = self.kept.each_of_any(routes, caller, day, taker);
         self.is_wary = answer.is_err();
         self.counted(answer)

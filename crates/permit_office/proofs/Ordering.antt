@@ -1,5 +1,5 @@
 -- Files sorted by number and thinned of equal numbers.
-use Rattle.std.proofs.Common.{◌≡◌, ◌<◌, ◌≤◌, ◌==◌, ◌+◌, ℕ, Bool, true, false, cond, suc, length, true≢false, List, [], ◌∷◌, refl, sym, ◌∙◌, ap, subst, arith}
+use Rattle.std.proofs.Common.{◌≡◌, ◌↔◌, ◌<◌, ◌≤◌, ◌==◌, ◌+◌, ℕ, Bool, true, false, IsTrue, cond, zero, suc, length, true≢false, List, [], ◌∷◌, refl, sym, ◌∙◌, ap, subst, arith}
 use Rattle.std.specs.Cmp.{IsEquivalence}
 use Rattle.std.specs.List.{AllByRecursion, AllAdjacentBelow, IsAllAdjacentAnswer, Contains, Any, dedup, dedup_from}
 use Rattle.std.specs.Prelude.{nat_lt, slice_index_or}
@@ -99,9 +99,22 @@ climbing (x ∷ y ∷ xs) up =
 below : (a b : ℕ) → true ≡ nat_lt a b → a < b
 below a b e = grind (arith, nat_tests)
 
-pub told_rising : (xs : List FileView) (told : Bool) → IsAllAdjacentAnswer (λ x y b. b ≡ nat_lt (number x) (number y)) xs told → told ≡ true → AreRising xs
-told_rising xs true each e = climbing xs (λ k d lt. below _ _ (each k d lt))
-told_rising xs false each e = absurd (true≢false (sym e))
+not_below : (a b : ℕ) → false ≡ nat_lt a b → a < b → ⊥
+not_below a b e lt = grind (arith, nat_tests)
+
+climbs : (xs : List FileView) → AreRising xs → (k : ℕ) (d : FileView) → k + 1 < length xs →
+    number (slice_index_or xs k d) < number (slice_index_or xs (k + 1) d)
+climbs [] up k d lt = absurd (omega (arith, lt))
+climbs (x ∷ []) up k d lt = absurd (omega (arith, lt))
+climbs (x ∷ y ∷ xs) up zero d lt = up.0.0
+climbs (x ∷ y ∷ xs) up (suc k) d lt =
+    let after : suc (k + 1) ≡ suc k + 1 = omega arith in
+    subst (λ n. number (slice_index_or (y ∷ xs) k d) < number (slice_index_or (x ∷ y ∷ xs) n d)) after (climbs (y ∷ xs) up.1 k d (omega (arith, lt)))
+
+pub told_rising : (xs : List FileView) (told : Bool) → IsAllAdjacentAnswer (λ x y b. b ≡ nat_lt (number x) (number y)) xs told → IsTrue told ↔ AreRising xs
+told_rising xs true each = (λ _. climbing xs (λ k d lt. below _ _ (each k d lt)), λ _. refl)
+told_rising [] false each = absurd (omega (arith, each.1))
+told_rising (x ∷ xs) false each = (λ e. absurd (true≢false (sym e)), λ up. absurd (not_below _ _ (each.2 x) (climbs (x ∷ xs) up each.0 x each.1)))
 
 -- ---- what a sort and a thinning leave
 

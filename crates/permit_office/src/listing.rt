@@ -1,6 +1,6 @@
 //! Listings and registers.
 
-ghost use Rattle.std.specs.Prelude.{◌≡◌, Some, length, IfOk, List, true};
+ghost use Rattle.std.specs.Prelude.{◌≡◌, ◌↔◌, Some, length, IfOk, List, IsTrue};
 ghost use Rattle.std.specs.List.{Contains, Any};
 ghost use Rattle.permit_base.specs.declared.request.Request.TheVariants as request;
 ghost use Rattle.permit_base.specs.declared.request.Filter.{Filter as TheFilter};
@@ -144,7 +144,7 @@ fn gather<S: Store>(
 
 /// Whether each file's number is above that of the file before it.
 fn is_rising(files: &[FileView]) -> bool
-    ensures { result ≡ true → AreRising files.now }
+    ensures { IsTrue result ↔ AreRising files.now }
 {
     files.is_sorted_by(|one, next| {
         let one: &FileView = one;

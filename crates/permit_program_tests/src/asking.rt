@@ -1,17 +1,20 @@
-//! What is printed for a request to an office over vectors, and why an answer says that it was refused.
+//! What is printed for a request to an office over vectors, and of an answer that is a refusal.
 
 use crate::run::text;
+use permit_answer::answer::Answer;
 use permit_args::plan::{ActWords, DayWords, OfficeWords};
-use permit_base::refusal::Reason;
+use permit_base::refusal::{Reason, Refusal};
 use permit_base::values::RuleName;
+use permit_base::words::Action;
+use permit_http::fault::Fault;
 use permit_office::office::Office;
+use permit_office::reply::Reply;
 use permit_samples::ask::TOKENS;
 use permit_samples::makers::day;
 use permit_samples::offices::{FOUNDED, office_over};
 use permit_store::plain::PlainStore;
-use permit_subcommands::asking::{ask, show};
+use permit_subcommands::answering::{ask, show};
 use permit_subcommands::founding::founder;
-use permit_subcommands::refused::{RefusalWord, Refused, refused_in};
 use permit_subcommands::request::request;
 use std::alloc::Global;
 use std::test::Fail;
@@ -22,6 +25,16 @@ fn office(alloc: Global) -> Result<Office<PlainStore>, Fail> {
         .ok()
         .ok_or("founder")?;
     office_over(alloc, PlainStore::create(alloc, &founder)?, "")
+}
+
+/// What is printed of an answer, and the line of the refusal that it is.
+fn shown(alloc: Global, answer: &Answer) -> Result<(String, String), Fail> {
+    let mut out = Vec::new(alloc);
+    let line = match show(alloc, answer, &mut out) {
+        Ok(()) => String::new(alloc),
+        Err(fault) => fault.to_string(alloc)?,
+    };
+    Ok((text(out)?, line))
 }
 
 /// What is printed for a request, and the line of its fault.
@@ -47,19 +60,10 @@ fn asked<'x>(
         path,
         body: None,
     };
-    let mut out = Vec::new(alloc);
-    let told = match request(alloc, &words) {
-        Ok(request) => show(
-            ask(alloc, office, request.as_str(), day(FOUNDED)?)?.as_slice(),
-            &mut out,
-        ),
-        Err(fault) => Err(fault),
-    };
-    let line = match told {
-        Ok(()) => String::new(alloc),
-        Err(fault) => fault.to_string(alloc)?,
-    };
-    Ok((text(out)?, line))
+    match request(alloc, &words) {
+        Ok(request) => shown(alloc, &ask(alloc, office, request.as_str(), day(FOUNDED)?)?),
+        Err(fault) => Ok((String::new(alloc), fault.to_string(alloc)?)),
+    }
 }
 
 #[test]
@@ -97,26 +101,42 @@ fn requests_are_answered(rt: HostRuntime) -> Result<(), Fail> {
     Ok(())
 }
 
+/// The answer that a refusal of a new parcel is.
+fn refusal(why: Refusal) -> Result<Answer, Fail> {
+    Ok(Answer::Replied {
+        reply: Reply::Refused(why),
+        action: Action::AddParcel,
+        day: day(FOUNDED)?,
+    })
+}
+
 #[test]
-fn refusals_are_read(rt: HostRuntime) -> Result<(), Fail> {
+fn refusals_are_shown(rt: HostRuntime) -> Result<(), Fail> {
     let rule = RuleName::new("own-work").ok_or("rule")?;
-    for (body, why) in [
+    for (answer, body, line) in [
         (
-            "{\"refused\":\"large\"}",
-            Some(Refused::Plain(RefusalWord::Large)),
+            Answer::Fault(Fault::Large),
+            "{\"refused\":\"large\"}\n",
+            "refused: large",
         ),
         (
-            "{\"refused\":\"denied\",\"rule\":\"own-work\"}",
-            Some(Refused::Denied(rule)),
+            refusal(Refusal::Denied(rule))?,
+            "{\"refused\":\"denied\",\"rule\":\"own-work\"}\n",
+            "refused: denied by own-work",
         ),
         (
-            "{\"reason\":\"far\",\"refused\":\"not-admitted\"}",
-            Some(Refused::NotAdmitted(Reason::Far)),
+            refusal(Refusal::NotAdmitted(Reason::Far))?,
+            "{\"reason\":\"far\",\"refused\":\"not-admitted\"}\n",
+            "refused: not admitted, far",
         ),
-        ("{\"day\":19700,\"done\":\"declare\",\"number\":null}", None),
-        ("{\"refused\":\"frob\"}", None),
+        (
+            refusal(Refusal::Store)?,
+            "{\"refused\":\"store\"}\n",
+            "refused: store",
+        ),
     ] {
-        assert!(rt; refused_in(body) == why, "{body}");
+        let (out, told) = shown(rt.alloc(), &answer)?;
+        assert_eq!(rt; (out.as_str(), told.as_str()), (body, line));
     }
     Ok(())
 }

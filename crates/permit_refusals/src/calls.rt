@@ -1,13 +1,13 @@
 //! The scenarios over a store that fails at one of its calls, for each call in turn.
 
 use crate::failing::Failing;
-use crate::serving::{opened, requests, scenarios};
+use crate::serving::{opened, scenarios};
 use permit_office::office::Office;
 use permit_policy::text::read_policy;
 use permit_samples::ask::read_ask;
 use permit_samples::exchange::asked;
 use permit_samples::scenarios::Scenario;
-use permit_samples::script::agree;
+use permit_samples::script::{agree, requests_of};
 use permit_samples::standard::POLICY;
 use permit_samples::tables::tables_text;
 use permit_store::plain::PlainStore;
@@ -40,7 +40,7 @@ fn fail_at(alloc: Global, scenario: Scenario, number: u32) -> Result<bool, Fail>
     let mut failing = office_failing_at(alloc, number)?;
     let mut sound = opened(alloc)?;
     let mut refused = 0u32;
-    for line in requests(alloc, scenario)?.as_slice() {
+    for line in requests_of(alloc, scenario)?.as_slice() {
         let ask = read_ask(line)?;
         let answer = asked(alloc, &mut failing, &ask)?;
         if answer.as_str().ends_with(REFUSED) {

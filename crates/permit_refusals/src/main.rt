@@ -15,8 +15,8 @@ use lists::listed;
 use others::{hall, imported, made, passed};
 use permit_samples::offices::over_vectors;
 use permit_samples::opening::OPENING;
-use permit_samples::script::play;
-use serving::{Way, requests, scenarios, serve_all};
+use permit_samples::script::{play, play_all, requests_of};
+use serving::{Way, scenarios, serve_all};
 use std::alloc::Global;
 use std::env;
 use std::test::Fail;
@@ -34,22 +34,20 @@ fn number(words: &[String], at: usize) -> usize {
 }
 
 /// Plays each scenario with nothing refused, and gives how many requests they have.
-fn play_all(alloc: Global) -> Result<usize, Fail> {
+fn play_each(alloc: Global) -> Result<usize, Fail> {
     let mut count = 0;
     for scenario in scenarios(alloc)?.as_slice() {
         let mut office = over_vectors(alloc)?;
         play(alloc, &mut office, OPENING)?;
-        for script in *scenario {
-            play(alloc, &mut office, script)?;
-        }
-        count = requests(alloc, scenario)?.len().saturating_add(count);
+        play_all(alloc, &mut office, scenario)?;
+        count = requests_of(alloc, scenario)?.len().saturating_add(count);
     }
     Ok(count)
 }
 
 /// Plays the scenarios with nothing refused, and then over a store that fails, and says that all came as is wanted.
 fn show(rt: &(impl Print + AllocGlobal)) -> Result<(), Fail> {
-    play_all(rt.alloc())?;
+    play_each(rt.alloc())?;
     println!(rt; "with nothing refused, the scenarios are answered as their scripts want")?;
     calls::fail_each(rt.alloc())?;
     println!(rt; "each call of a store that fails refuses its own request, and no other")?;
@@ -59,7 +57,7 @@ fn show(rt: &(impl Print + AllocGlobal)) -> Result<(), Fail> {
 /// The same with counts: scenarios, their requests, and calls of a store that failed.
 fn count(rt: &(impl Print + AllocGlobal)) -> Result<(), Fail> {
     let scenarios = scenarios(rt.alloc())?.len();
-    let requests = play_all(rt.alloc())?;
+    let requests = play_each(rt.alloc())?;
     let failed = calls::fail_each(rt.alloc())?;
     println!(rt;
         "{failed} calls of a store failed in turn, in {scenarios} scenarios of {requests} requests"

@@ -21,7 +21,7 @@ use permit_samples::exchange::request;
 use permit_samples::makers::{day, token};
 use permit_samples::offices::founder;
 use permit_samples::scenarios::listings;
-use permit_samples::script::play;
+use permit_samples::script::play_all;
 use permit_samples::standard::POLICY;
 use permit_store::plain::PlainStore;
 use permit_wire::read::read_request;
@@ -208,14 +208,6 @@ pub fn imported(
     };
     print_answer(rt, 0, word, out)?;
     print_tables(rt, office)
-}
-
-/// Plays the scripts of a scenario.
-fn play_all(alloc: Global, office: &mut Office<PlainStore>, scenario: &[&str]) -> Result<(), Fail> {
-    for script in scenario {
-        play(alloc, office, script)?;
-    }
-    Ok(())
 }
 
 /// Passes the files of a listing to a register, one at a time, for each of three parties, and prints the registers.

@@ -15,7 +15,7 @@ use permit_samples::opening::OPENING;
 use permit_samples::scenarios::{
     Scenario, applications, certificates, filings, inspections, listings, orders,
 };
-use permit_samples::script::{self, play};
+use permit_samples::script::{play, requests_of};
 use permit_samples::tables::tables_text;
 use permit_store::plain::PlainStore;
 use permit_wire::read::read_request;
@@ -53,17 +53,6 @@ pub fn scenarios(alloc: Global) -> Result<Vec<Scenario>, AllocError> {
         all.extend_from_slice(group)?;
     }
     Ok(all)
-}
-
-/// The requests of a scenario, in order.
-pub fn requests(alloc: Global, scenario: Scenario) -> Result<Vec<&'static str>, Fail> {
-    let mut requests = Vec::new(alloc);
-    for script in scenario {
-        for request in script::requests(alloc, script)? {
-            requests.push(request)?;
-        }
-    }
-    Ok(requests)
 }
 
 /// The office of the scenarios after their opening.
@@ -185,7 +174,7 @@ pub fn serve_all(
     let scenario = *scenarios(alloc)?.get(scenario).ok_or("a scenario")?;
     let mut office = opened(alloc)?;
     let mut number = 0usize;
-    for line in requests(alloc, scenario)?.as_slice() {
+    for line in requests_of(alloc, scenario)?.as_slice() {
         number = number.saturating_add(1);
         if number == left_out {
             continue;

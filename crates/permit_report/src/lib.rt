@@ -12,4 +12,4 @@ mod lines;
 mod writer;
 
 pub use error::ReportError;
-pub use writer::{RegisterWriter, register};
+pub use writer::{RegisterWriter, register, write_whole};

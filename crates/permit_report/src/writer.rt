@@ -16,8 +16,9 @@ use permit_core::row::FileView;
 use permit_core::taker::Taker;
 use std::io::Write;
 
-/// Writes all the bytes.
-fn write_whole<W: Write>(writer: &mut W, bytes: &[u8]) -> Result<(), ReportError>
+/// Writes all the bytes by a loop over `write`. A write that fails, also one that was interrupted, and a write that takes no
+/// byte are an error; a beginning of the bytes is then out.
+pub fn write_whole<W: Write>(writer: &mut W, bytes: &[u8]) -> Result<(), ReportError>
     ensures whole { OnOk result (Appends (W.contents writer.old) (W.contents writer.new) bytes.now) }
     ensures front { OnErr result (WroteFront (W.contents writer.old) (W.contents writer.new) bytes.now) }
 {

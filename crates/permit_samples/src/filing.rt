@@ -24,3 +24,21 @@ pub(crate) const FILING: &[&str] = &[
 < 403 Forbidden {"refused":"denied","rule":"closed-to-public"}
 "#,
 ];
+
+/// A command on a day before that of the last one, and reads of which the second is on a day before the first's.
+pub(crate) const EARLIER_DAY: &[&str] = &[
+    r#"
+> 5 20000 POST /files {"parcel":1,"kind":"construct","valuation":25000000,"description":"House"}
+< 200 OK {"day":20000,"done":"file","number":1}
+> 5 19990 POST /files {"parcel":1,"kind":"repair","valuation":100,"description":"Roof"}
+< 503 Service Unavailable {"refused":"clock"}
+> 1 20001 GET /files/1
+~ "filed":20000,"id":1,
+> 1 20000 GET /files/1
+~ "filed":20000,"id":1,
+> 1 19999 GET /files/1
+< 503 Service Unavailable {"refused":"clock"}
+> 1 20000 GET /files/2
+< 404 Not Found {"refused":"record"}
+"#,
+];

@@ -22,6 +22,7 @@ const FILINGS: &[Scenario] = &[
     unknown_and_missing::UNKNOWN,
     unknown_and_missing::MISSING,
     filing::FILING,
+    filing::EARLIER_DAY,
     limits::NUMBERS,
     limits::TEXTS,
     &[limits::FORMS],
@@ -124,7 +125,8 @@ const OTHER_POLICIES: &[UnderPolicy] = &[
     listings::PAIR_BEFORE_ONE,
 ];
 
-/// Filing and abandonment, a caller whom nobody knows, a record that there is not, and what bodies may be.
+/// Filing and abandonment, a caller whom nobody knows, a record that there is not, a day before the last, and what bodies
+/// may be.
 pub fn filings() -> &'static [Scenario] {
     FILINGS
 }

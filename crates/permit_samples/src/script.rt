@@ -5,6 +5,7 @@
 
 use crate::ask::read_ask;
 use crate::exchange::{answer, asked};
+use crate::scenarios::Scenario;
 use permit_office::office::Office;
 use permit_store::store::Store;
 use std::alloc::Global;
@@ -19,6 +20,17 @@ pub fn requests<'x>(alloc: Global, script: &'x str) -> Result<Vec<&'x str>, Fail
         }
     }
     Ok(requests)
+}
+
+/// The requests of a scenario, in order.
+pub fn requests_of(alloc: Global, scenario: Scenario) -> Result<Vec<&'static str>, Fail> {
+    let mut all = Vec::new(alloc);
+    for script in scenario {
+        for request in requests(alloc, script)? {
+            all.push(request)?;
+        }
+    }
+    Ok(all)
 }
 
 /// The answer that is written as `STATUS BODY`.
@@ -70,6 +82,18 @@ pub fn play<S: Store + Drop>(
         }
     }
     Ok(bodies)
+}
+
+/// Plays the scripts of a scenario.
+pub fn play_all<S: Store + Drop>(
+    alloc: Global,
+    office: &mut Office<S>,
+    scenario: Scenario,
+) -> Result<(), Fail> {
+    for script in scenario {
+        play(alloc, office, script)?;
+    }
+    Ok(())
 }
 
 /// Fails where two texts differ, with the first lines in which they do.

@@ -1,59 +1,62 @@
 //! The connections that a worker takes for itself, one after the other, from a listener that all workers share.
 
-ghost use Rattle.std.specs.Prelude.{◌≡◌, ◌≢◌, ◌-◌, All, IfOk, MatchOption, Some, length, option_map};
+ghost use Rattle.std.specs.Prelude.{◌≡◌, All, IfOk, length};
+ghost use Rattle.permit_sockets.specs.Taking.{HasGiven, IsNew, IsSpent};
 
 use crate::limits::PAUSE;
 use crate::pace::{AnswerWriter, RequestReader, with_timeouts};
+pub use crate::stop::Flag;
+use crate::stop::Stop;
 use permit_hall::doors::Door;
 use std::alloc::Global;
 use std::net::{Net, SocketAddr, TcpListener, TcpStream};
-use std::sync::Arc;
-use std::sync::atomic::{AtomicBool, Ordering};
+use std::sync::{Arc, Wait};
 use std::time::{Clock, Duration};
 use std::{io, thread};
 
-/// A flag that is set once the office can't be served any longer.
-pub type Flag = Arc<AtomicBool, Global>;
-
 /// The connections that one worker takes, one after the other.
 #[derive(Drop)]
-pub struct Connections<C: Drop> {
+pub struct Connections<C: Drop, W: Drop> {
     listener: TcpListener,
     /// Where the listener takes connections.
     address: SocketAddr,
     clock: C,
+    waits: W,
     alloc: Global,
     /// Once it is set, no more are taken.
     shut: Flag,
+    /// That it was found set.
+    stop: Option<Stop>,
     /// How many more it takes; `None` for no end.
     left: Option<u32>,
 }
 
-impl<C: Clock + Net + Copy + Drop + Send> Door for Connections<C> {
+impl<C: Clock + Net + Copy + Drop + Send, W: Wait + Copy + Drop + Send> Door for Connections<C, W> {
     type In = RequestReader<C>;
 
     type Out = AnswerWriter<C>;
 
-    ghost spent = { λ d. d.left ≡ Some 0 };
+    ghost spent = { IsSpent };
 
-    // None is given where none is left, and one that is given counts as one of those that are left.
-    ghost gave = { λ d given e. MatchOption given (e.left ≡ Some 0) (λ _. (d.left ≢ Some 0) × (e.left ≡ option_map (λ n. n - 1) d.left)) };
+    ghost gave = { HasGiven };
 
     fn next(&mut self) -> Option<(RequestReader<C>, AnswerWriter<C>)> {
-        for _ in 0..u64::MAX {
+        let waits = self.waits;
+        for _ in waits.forever() {
             if self.left == Some(0) {
                 return None;
             }
-            if self.shut.load(Ordering::SeqCst) {
+            if let Some(stop) = Stop::seen(&self.shut) {
+                self.stop = Some(stop);
                 // Another worker that waits here takes this connection, and sees the flag then.
                 let _woken = TcpStream::connect(&self.clock, self.address);
-                break;
+                return None;
             }
             let Ok((stream, _)) = self.listener.accept() else {
                 thread::sleep(&self.clock, Duration::from_millis(PAUSE));
                 continue;
             };
-            if self.shut.load(Ordering::SeqCst) {
+            if Stop::seen(&self.shut).is_some() {
                 continue;
             }
             if let Ok(connection) = with_timeouts(self.alloc, self.clock, stream) {
@@ -61,23 +64,23 @@ impl<C: Clock + Net + Copy + Drop + Send> Door for Connections<C> {
                 return Some(connection);
             }
         }
-        self.left = Some(0);
-        None
+        unreachable!()
     }
 }
 
 /// A door for each worker, over a listener that all share, which takes connections at the address until the flag is set.
-pub fn doors<C: Clock + Copy + Drop + Send>(
+pub fn doors<C: Clock + Copy + Drop + Send, W: Copy + Drop>(
     alloc: Global,
     clock: C,
+    waits: W,
     listener: &TcpListener,
     address: SocketAddr,
     shut: &Flag,
     workers: u32,
     connections: Option<u32>,
-) -> io::Result<Vec<Connections<C>>>
+) -> io::Result<Vec<Connections<C, W>>>
     ensures count { IfOk result (λ doors. length doors.items ≡ workers) }
-    ensures left { IfOk result (λ doors. All (λ d. d.left ≡ connections) doors.items) }
+    ensures fresh { IfOk result (λ doors. All (λ d. IsNew connections address d) doors.items) }
 {
     let mut doors = Vec::new(alloc);
     for worker in 0..workers {
@@ -85,8 +88,10 @@ pub fn doors<C: Clock + Copy + Drop + Send>(
             listener: listener.try_clone()?,
             address,
             clock,
+            waits,
             alloc,
             shut: Arc::try_clone(shut)?,
+            stop: None,
             left: connections,
         })?;
     }

@@ -1,8 +1,10 @@
 //! How long a connection may hold a worker: its reader and its writer count the clock.
 
-ghost use Rattle.std.specs.Prelude.{◌≡◌, ◌+◌, ◌-◌, ◌<◌, ◌≤◌, IfNone, IfSome};
+ghost use Rattle.std.specs.Prelude.{◌≡◌, ◌-◌, ◌<◌, ◌≤◌, IfNone, IfOk, IfSome, None, OnErr, OnOk, Some, length, unwrap_or};
 ghost use Rattle.std.specs.Duration.{as_nanos};
+ghost use Rattle.std.specs.Io.{ReadsAtMost, WritesAtMost};
 ghost use Rattle.std.specs.Time.{instant_nanos};
+ghost use Rattle.permit_sockets.specs.Pace.{IsLeft, IsOver, MayWait, begun, in_nanos};
 
 use crate::limits::{ANSWER, IDLE_TIMEOUT, LINGER, REQUEST};
 use std::alloc::Global;
@@ -22,10 +24,24 @@ fn left(since: Instant, now: Instant, span: Duration) -> Option<Duration>
 }
 
 /// How long a read or a write may still wait, of so many seconds.
-fn wait_within(since: Instant, now: Instant, seconds: u64) -> io::Result<Duration> {
+fn wait_within(since: Instant, now: Instant, seconds: u64) -> io::Result<Duration>
+    ensures some { IfOk result (λ wait. IsLeft seconds since now wait) }
+    ensures none { OnErr result (in_nanos seconds ≤ instant_nanos now - instant_nanos since) }
+{
     match left(since, now, Duration::from_secs(seconds)) {
         Some(rest) => Ok(rest),
         None => Err(io::Error::from(ErrorKind::TimedOut)),
+    }
+}
+
+/// How long a read may wait, by when the first byte of the request came.
+fn wait_to_read(since: Option<Instant>, now: Instant) -> io::Result<Duration>
+    ensures wait { IfOk result (λ wait. MayWait since now wait) }
+    ensures over { OnErr result (IsOver since now) }
+{
+    match since {
+        Some(since) => wait_within(since, now, REQUEST),
+        None => Ok(Duration::from_secs(IDLE_TIMEOUT)),
     }
 }
 
@@ -42,15 +58,20 @@ pub struct RequestReader<C: Clock + Drop> {
     wait: Option<Duration>,
 }
 
-impl<C: Clock + Drop> Read for RequestReader<C> {
-    fn read(&mut self, buf: &mut [u8]) -> io::Result<usize> {
-        if self.answered.swap(false, Ordering::SeqCst) {
+impl<C: Clock + Drop> RequestReader<C> {
+    /// Reads once, at this time of the clock. Where an answer was written since the last read, a request begins.
+    fn read_at(&mut self, answered: bool, now: Instant, buf: &mut [u8]) -> io::Result<usize>
+        ensures bound { ReadsAtMost result buf.new }
+        ensures wait { OnOk result (IfSome self.new.wait (MayWait (begun answered self.old.since) now)) }
+        ensures set { OnOk result (self.new.wait ≡ None → ⊥) }
+        ensures begins { OnOk result (self.new.since ≡ None → ⊥) }
+        ensures since { IfSome (begun answered self.old.since) (λ since. self.new.since ≡ Some since) }
+        ensures answered { self.new.answered ≡ self.old.answered }
+    {
+        if answered {
             self.since = None;
         }
-        let wait = match self.since {
-            Some(since) => wait_within(since, Instant::now(&self.clock)?, REQUEST)?,
-            None => Duration::from_secs(IDLE_TIMEOUT),
-        };
+        let wait = wait_to_read(self.since, now)?;
         if self.wait != Some(wait) {
             self.stream.set_read_timeout(Some(wait))?;
             self.wait = Some(wait);
@@ -60,6 +81,14 @@ impl<C: Clock + Drop> Read for RequestReader<C> {
             self.since = Some(Instant::now(&self.clock)?);
         }
         Ok(count)
+    }
+}
+
+impl<C: Clock + Drop> Read for RequestReader<C> {
+    fn read(&mut self, buf: &mut [u8]) -> io::Result<usize> {
+        let answered = self.answered.swap(false, Ordering::SeqCst);
+        let now = Instant::now(&self.clock)?;
+        self.read_at(answered, now, buf)
     }
 }
 
@@ -107,11 +136,15 @@ pub struct AnswerWriter<C: Clock + Drop> {
     wait: Option<Duration>,
 }
 
-impl<C: Clock + Drop> Write for AnswerWriter<C> {
-    /// An answer is handed in whole, and what is left of it again, so that it ends with a write that takes all.
-    fn write(&mut self, buf: &[u8]) -> io::Result<usize> {
-        self.answered.store(true, Ordering::SeqCst);
-        let now = Instant::now(&self.clock)?;
+impl<C: Clock + Drop> AnswerWriter<C> {
+    /// Writes once, at this time of the clock.
+    fn write_at(&mut self, now: Instant, buf: &[u8]) -> io::Result<usize>
+        ensures bound { WritesAtMost result buf.now }
+        ensures wait { OnOk result (IfSome self.new.wait (IsLeft ANSWER (unwrap_or self.old.since now) now)) }
+        ensures set { OnOk result (self.new.wait ≡ None → ⊥) }
+        ensures more { IfOk result (λ count. count < length buf.now → self.new.since ≡ Some (unwrap_or self.old.since now)) }
+        ensures whole { IfOk result (λ count. length buf.now ≤ count → self.new.since ≡ None) }
+    {
         let since = self.since.unwrap_or(now);
         let wait = wait_within(since, now, ANSWER)?;
         if self.wait != Some(wait) {
@@ -121,6 +154,15 @@ impl<C: Clock + Drop> Write for AnswerWriter<C> {
         let count = self.stream.write(buf)?;
         self.since = if count < buf.len() { Some(since) } else { None };
         Ok(count)
+    }
+}
+
+impl<C: Clock + Drop> Write for AnswerWriter<C> {
+    /// An answer is handed in whole, and what is left of it again, so that it ends with a write that takes all.
+    fn write(&mut self, buf: &[u8]) -> io::Result<usize> {
+        self.answered.store(true, Ordering::SeqCst);
+        let now = Instant::now(&self.clock)?;
+        self.write_at(now, buf)
     }
 
     fn flush(&mut self) -> io::Result<()> {
@@ -133,7 +175,10 @@ pub fn with_timeouts<C: Clock + Copy + Drop>(
     alloc: Global,
     clock: C,
     stream: TcpStream,
-) -> io::Result<(RequestReader<C>, AnswerWriter<C>)> {
+) -> io::Result<(RequestReader<C>, AnswerWriter<C>)>
+    ensures reader { IfOk result (λ ends. (ends.0.since ≡ None) × (ends.0.wait ≡ None)) }
+    ensures writer { IfOk result (λ ends. (ends.1.since ≡ None) × (ends.1.wait ≡ None)) }
+{
     stream.set_nodelay(true)?;
     let answered = Arc::new(alloc, AtomicBool::new(true))?;
     let writer = AnswerWriter {

@@ -1,9 +1,9 @@
 -- What is named of the desk and of the first party is false of typed tables.
 use Rattle.std.proofs.Common.{◌≡◌, ◌≤◌, true, false, not, Some, List, [], ◌∷◌, map, length, sym, ap, subst}
 use Rattle.std.proofs.Common.{◌∙◌, arith, true≢false}
-use Rattle.std.specs.Prelude.{◌&&◌, nat_le}
+use Rattle.std.specs.Prelude.{◌&&◌, ◌||◌, ◌==◌, nat_le}
 use Rattle.std.specs.List.{list_any}
-use Rattle.std.proofs.lemmas.Bool.{and_from, and_parts, or_left, eq-eqb, leb-true}
+use Rattle.std.proofs.lemmas.Bool.{and_from, and_parts, or_left, or_from, eq-eqb, leb-true}
 use Rattle.permit_base.specs.Limits.{is_between, most_records}
 use Rattle.permit_base.specs.declared.words.Role.TheVariants.{Official}
 use Rattle.permit_model.specs.Caller.{Party}
@@ -42,8 +42,10 @@ official_named t typed fits none = go t.parties typed.party_numbers (subst (λ n
         let parties = (and_parts (is_between 1 most_records t.desk.parties) _ first).0 in
         leb-true 1 t.desk.parties (and_parts (nat_le 1 t.desk.parties) _ parties).0
 
-    go : (ps : List Party) → IsNumbered (λ p. p.id) 1 ps → 1 ≤ length ps → list_any (λ p. is_it (Some 1) p.id && not (has_party_of t Official p.id)) ps ≡ true
+    go : (ps : List Party) → IsNumbered (λ p. p.id) 1 ps → 1 ≤ length ps → list_any (λ p. is_it (Some 1) p.id && not (not (p.id == 1) || has_party_of t Official 1)) ps ≡ true
     go [] up low = absurd (omega (arith, low))
     go (p ∷ ps) up low =
-        let away : has_party_of t Official p.id ≡ false = ap (has_party_of t Official) up.0 ∙ role_there t typed Official 1 (omega arith) ∙ none in
-        or_left (is_it (Some 1) p.id && not (has_party_of t Official p.id)) _ (and_from _ _ (eq-eqb p.id 1 up.0) (negated _ away))
+        let away : has_party_of t Official 1 ≡ false = role_there t typed Official 1 (omega arith) ∙ none in
+        let first : (p.id == 1) ≡ true = eq-eqb p.id 1 up.0 in
+        or_left (is_it (Some 1) p.id && not (not (p.id == 1) || has_party_of t Official 1)) _
+        (and_from _ _ first (negated _ (or_from _ _ (ap not first) away)))

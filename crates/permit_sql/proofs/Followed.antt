@@ -1,27 +1,26 @@
 -- What a tally tells of the papers of its file that were read.
-use Rattle.std.proofs.Common.{◌≡◌, ℕ, suc, ◌+◌, ◌-◌, ◌≤◌, Bool, true, false, cond, not, List, [], ◌∷◌, map, length, refl, sym}
+use Rattle.std.proofs.Common.{◌≡◌, ℕ, suc, ◌+◌, ◌-◌, ◌≤◌, Bool, true, false, cond, not, List, [], ◌∷◌, length, refl, sym}
 use Rattle.std.proofs.Common.{ap, subst, ◌∙◌, arith, true≢false}
-use Rattle.std.specs.Prelude.{◌&&◌, ◌||◌, ◌==◌, nat_lt, nat_le, Some, slice_get, slice_set}
+use Rattle.std.specs.Prelude.{◌&&◌, ◌||◌, ◌==◌, nat_lt, nat_le, Some, slice_get, slice_set, if◌then◌else◌}
 use Rattle.std.proofs.lemmas.Bool.{and_parts, eqb-true, eqb-false, eq-eqb, ne_eqb, ltb-true}
-use Rattle.permit_model.specs.Numbering.{is_numbered_from}
 use Rattle.permit_model.specs.Tables.{Paper}
-use Rattle.permit_model.specs.Sound.{never_fall}
 use Rattle.permit_sql.specs.Tested.{is_next, tally_after}
+use Rattle.permit_sql.specs.Named.{first_gap, first_fall}
 use Rattle.permit_sql.specs.declared.tally.Tally.{Tally}
 use Rattle.permit_sql.proofs.Tallies.{of_file, open_in, set_here, set_other}
 
 -- of all papers of a file, of which the first tally tells, those before the ones that are left were read
 pub record Follows (first : Tally) (all : List Paper) (u : Tally) (left : List Paper) : Type 0 where
-  pub numbers : is_numbered_from (λ (p : Paper). p.number) 1 all ≡ is_numbered_from (λ (p : Paper). p.number) (u.number + 1) left
-  pub days : never_fall first.day (map (λ p. p.day) all) ≡ never_fall u.day (map (λ p. p.day) left)
+  pub gap : first_gap 1 all ≡ first_gap (u.number + 1) left
+  pub fall : first_fall first.day all ≡ first_fall u.day left
   pub counted : length all ≡ u.number + length left
   pub papers : u.papers ≡ first.papers
   pub notices : first.notices + length (open_in left) ≡ u.notices + length (open_in all)
 
 pub follows_first : (first : Tally) (all : List Paper) → first.number ≡ 0 → Follows first all first all
 follows_first first all none = record {
-  numbers = ap (λ n. is_numbered_from (λ (p : Paper). p.number) (n + 1) all) (sym none);
-  days = refl;
+  gap = ap (λ n. first_gap (n + 1) all) (sym none);
+  fall = refl;
   counted = omega (arith, none);
   papers = refl;
   notices = refl;
@@ -35,9 +34,8 @@ module _ (first : Tally) (all : List Paper) (u : Tally) (p : Paper) (left : List
       let number : p.number ≡ u.number + 1 = eqb-true p.number (u.number + 1) front.0 in
       let long = h.counted in
       record {
-        numbers = h.numbers ∙ ap (λ b. b && is_numbered_from (λ (q : Paper). q.number) (u.number + 1 + 1) left) front.0
-            ∙ ap (λ n. is_numbered_from (λ (q : Paper). q.number) (n + 1) left) (sym number);
-        days = h.days ∙ ap (λ b. b && never_fall p.day (map (λ (q : Paper). q.day) left)) front.1;
+        gap = h.gap ∙ ap (λ b. if b then first_gap (u.number + 1 + 1) left else Some p.number) front.0 ∙ ap (λ n. first_gap (n + 1) left) (sym number);
+        fall = h.fall ∙ ap (λ b. if b then first_fall p.day left else Some p.number) front.1;
         counted = omega (arith, long, number);
         papers = h.papers;
         notices = open_read p.is_open h.notices parts.1;
@@ -48,11 +46,11 @@ module _ (first : Tally) (all : List Paper) (u : Tally) (p : Paper) (left : List
       open_read true is some = let low = ltb-true 0 u.notices some in omega (arith, is, low)
       open_read false is some = is
 
-  pub wrong_number : (p.number == u.number + 1) ≡ false → is_numbered_from (λ (q : Paper). q.number) 1 all ≡ false
-  wrong_number other = h.numbers ∙ ap (λ b. b && is_numbered_from (λ (q : Paper). q.number) (u.number + 1 + 1) left) other
+  pub wrong_number : (p.number == u.number + 1) ≡ false → first_gap 1 all ≡ Some p.number
+  wrong_number other = h.gap ∙ ap (λ b. if b then first_gap (u.number + 1 + 1) left else Some p.number) other
 
-  pub early_day : nat_le u.day p.day ≡ false → never_fall first.day (map (λ q. q.day) all) ≡ false
-  early_day before = h.days ∙ ap (λ b. b && never_fall p.day (map (λ (q : Paper). q.day) left)) before
+  pub early_day : nat_le u.day p.day ≡ false → first_fall first.day all ≡ Some p.number
+  early_day before = h.fall ∙ ap (λ b. if b then first_fall p.day left else Some p.number) before
 
   pub one_more_open : p.is_open ≡ true → u.notices ≡ 0 → (first.notices == length (open_in all)) ≡ false
   one_more_open is none =

@@ -24,3 +24,6 @@ mod Followed
 mod Naming
 mod PapersNamed
 mod DeskNamed
+mod InOrder
+mod Firsts
+mod Turns

@@ -1,28 +1,20 @@
--- What is named of typed tables is false of them.
-use Rattle.std.proofs.Common.{◌≡◌, ◌⊎◌, inl, inr, ℕ, Bool, true, false, not, Some, None, Option, List, [], ◌∷◌, map, refl, sym, subst}
-use Rattle.std.proofs.Common.{◌∙◌, true≢false}
-use Rattle.std.specs.Prelude.{◌&&◌, IsTrue, IfSome, MatchBool, nat_le}
+-- What is named first of typed tables is false of them.
+use Rattle.std.proofs.Common.{◌≡◌, ℕ, Bool, true, false, not, Some, None, Option, List, [], ◌∷◌, ◌++◌, map, refl, sym, ap, subst, ◌∙◌, true≢false}
+use Rattle.std.specs.Prelude.{◌&&◌, IsTrue, IfSome, IsPermutation, nat_le, option_map, if◌then◌else◌}
 use Rattle.std.specs.List.{list_any, AllByRecursion}
 use Rattle.std.proofs.lemmas.Bool.{and_from, or_left, or_right, eq-eqb}
 use Rattle.std.proofs.lemmas.List.Sorted.{list_any-IsPermutation}
-use Rattle.sqlite_value.specs.Order.{Row}
-use Rattle.sqlite_trees.specs.declared.store.Store.{Ghosts}
-use Rattle.sqlite.specs.State.{State, Shown}
-use Rattle.sqlite.specs.Held.{Held, state}
-use Rattle.permit_base.specs.declared.words.Edition.{Edition}
-use Rattle.permit_base.specs.declared.words.Role.{Role}
+use Rattle.sqlite_trees.proofs.ListLemmas.{all-permutation}
 use Rattle.permit_base.specs.declared.words.Role.TheVariants.{Reviewer, Inspector}
 use Rattle.permit_model.specs.Caller.{Party}
 use Rattle.permit_model.specs.Parcels.{Parcel, Interest}
 use Rattle.permit_model.specs.Tables.{Tables, FileRow}
 use Rattle.permit_model.specs.Sound.{has_party}
-use Rattle.permit_sql_rows.specs.Rows.{shown_parcel, shown_interest, shown_file}
-use Rattle.permit_sql_rows.specs.Kept.{KeepsUnder, AreKeyed, IsNamed}
+use Rattle.permit_sql_rows.specs.Kept.{AreKeyed}
 use Rattle.permit_sql_rows.specs.Typed.{IsParcel, IsInterest, IsFile}
-use Rattle.permit_sql.specs.Taken.{TookRows}
 use Rattle.permit_sql.specs.Found.{AreTyped}
 use Rattle.permit_sql.specs.Named.{breaks, is_it, holds_of_parcel, holds_of_interest, holds_of_file, fits_interest_rule, fits_file_rule}
-use Rattle.permit_sql.specs.Named.{NamesParcel, NamesInterest, NamesFile}
+use Rattle.permit_sql.specs.First.{first_broken, or_else, first_in, interest_rules, file_rules, roles_in, of_parcel, of_interest, of_file}
 use Rattle.permit_sql.specs.declared.fault.Fault.{Fault}
 use Rattle.permit_sql.specs.declared.fault.Fault.TheVariants as fault
 use Rattle.permit_sql.specs.declared.fault.ParcelRule.TheVariants as parcel
@@ -30,15 +22,7 @@ use Rattle.permit_sql.specs.declared.fault.InterestRule.{InterestRule}
 use Rattle.permit_sql.specs.declared.fault.InterestRule.TheVariants as interest
 use Rattle.permit_sql.specs.declared.fault.FileRule.{FileRule}
 use Rattle.permit_sql.specs.declared.fault.FileRule.TheVariants as file
-use Rattle.permit_sql.specs.declared.unsound.Owned.{Owned}
-use Rattle.permit_sql.specs.declared.unsound.Declared.{Declared}
-use Rattle.permit_sql.specs.declared.unsound.Tested.{Tested}
-use Rattle.permit_sql.specs.declared.texts.TheConstants.{EACH_PARCEL, EACH_INTEREST, EACH_FILE}
-use Rattle.permit_sql.proofs.WholeMeanings.{each_parcel_is, each_interest_is, each_file_is}
-use Rattle.permit_sql.proofs.Answered.{parcels_shown, files_shown}
-use Rattle.permit_sql.proofs.PapersAnswered.{interests_shown}
-use Rattle.permit_sql.proofs.Refused.{all_or_stopped}
-use Rattle.permit_sql.proofs.Soundness.{among, parcel_there, by_roles, contractor_there, of_role_there}
+use Rattle.permit_sql.proofs.Soundness.{among as among_parties, parcel_there, by_roles, contractor_there, of_role_there}
 
 -- ---- parts of tests
 
@@ -62,10 +46,11 @@ itself n = eq-eqb n n refl
 pub found_is : (t : Tables) (o : Option Fault) (f : Fault) → o ≡ Some f → breaks t f ≡ true → IfSome o (λ g. IsTrue (breaks t g))
 found_is t o f is told = subst (λ x. IfSome x (λ g. breaks t g ≡ true)) (sym is) told
 
--- what is told of a fault that is given, if there is one
-pub each_told : {P Q : Fault → Type 0} (o : Option Fault) → ((f : Fault) → P f → Q f) → IfSome o P → IfSome o Q
-each_told None more h = tt
-each_told (Some f) more h = more f h
+-- where the first fault of some rows is false of the tables, so is the one that was found
+pub each_breaks : (t : Tables) (found first : Option Fault) → found ≡ first → ((f : Fault) → first ≡ Some f → breaks t f ≡ true) →
+    IfSome found (λ f. IsTrue (breaks t f))
+each_breaks t None first is h = tt
+each_breaks t (Some f) first is h = h f (sym is)
 
 -- each of the ones is among the others, for any test
 abbrev pub Among : {A : Type 0} → List A → List A → Type 0
@@ -100,120 +85,101 @@ file_breaks t typed keyed f good file.Notices h = absurd (true≢false h)
 file_breaks t typed keyed f good file.NoticesStage h = h
 file_breaks t typed keyed f good file.Papers h = second_fails _ _ h
 
--- ---- what the takers name
+-- ---- the first fault of some rows
 
-abbrev pub owned_took : Owned → Row → Owned → Bool → Type 0
-owned_took a row b good = MatchBool good (b.parties ≡ a.parties) (NamesParcel a.parties row b.fault)
+-- a rule that is the first one broken
+pub broken_fails : {R : Type 0} (holds : R → Bool) (rules : List R) (rule : R) → first_broken holds rules ≡ Some rule → holds rule ≡ false
+broken_fails holds [] rule is = absurd (let e = is in cc)
+broken_fails {R} holds (r ∷ rs) rule is = go (holds r) refl is (broken_fails holds rs rule)
+  where
+    go : (b : Bool) → holds r ≡ b → (if b then first_broken holds rs else Some r) ≡ Some rule → (first_broken holds rs ≡ Some rule → holds rule ≡ false) →
+        holds rule ≡ false
+    go true e is later = later is
+    go false e is later = let same : r ≡ rule = cc in ap holds (sym same) ∙ e
 
-abbrev pub declared_took : Declared → Row → Declared → Bool → Type 0
-declared_took a row b good = MatchBool good ((b.parcels ≡ a.parcels) × (b.parties ≡ a.parties)) (NamesInterest a.parcels a.parties row b.fault)
+-- a rule that is broken among the first of some rules, and one behind rules that all hold
+pub broken_in : {R : Type 0} (holds : R → Bool) (rules more : List R) (rule : R) → Some rule ≡ first_broken holds rules →
+    Some rule ≡ first_broken holds (rules ++ more)
+broken_in holds [] more rule is = absurd (let e = is in cc)
+broken_in {R} holds (r ∷ rs) more rule is = go (holds r) is (broken_in holds rs more rule)
+  where
+    go : (b : Bool) → Some rule ≡ (if b then first_broken holds rs else Some r) →
+        (Some rule ≡ first_broken holds rs → Some rule ≡ first_broken holds (rs ++ more)) →
+        Some rule ≡ (if b then first_broken holds (rs ++ more) else Some r)
+    go true is later = later is
+    go false is later = is
 
-abbrev pub tested_took : Tested → Row → Tested → Bool → Type 0
-tested_took a row b good = MatchBool good
-    ((b.upgrade ≡ a.upgrade) × ((b.roles.items ≡ a.roles.items) × ((b.parcels ≡ a.parcels) × (b.last ≡ a.last))))
-    (NamesFile a.upgrade a.roles.items a.parcels a.last row b.fault)
+pub broken_past : {R : Type 0} (holds : R → Bool) (rules more : List R) → None ≡ first_broken holds rules →
+    first_broken holds more ≡ first_broken holds (rules ++ more)
+broken_past holds [] more is = refl
+broken_past {R} holds (r ∷ rs) more is = go (holds r) is (broken_past holds rs more)
+  where
+    go : (b : Bool) → None ≡ (if b then first_broken holds rs else Some r) →
+        (None ≡ first_broken holds rs → first_broken holds more ≡ first_broken holds (rs ++ more)) →
+        first_broken holds more ≡ (if b then first_broken holds (rs ++ more) else Some r)
+    go true is later = later is
+    go false is later = absurd (let e = is in cc)
 
-module _ (edition : Edition) {S : Type 0} (g : Ghosts S) (old new : Held S) (t : Tables) (typed : AreTyped t) (k : KeepsUnder edition t (state g old).now) where
-  abbrev IsTold : Option Fault → Type 0
-  IsTold o = IfSome o (λ f. IsTrue (breaks t f))
+pub mapped : {R : Type 0} (o : Option R) (make : R → Fault) (f : Fault) → option_map make o ≡ Some f → (r : R) × (o ≡ Some r) × (make r ≡ f)
+mapped None make f is = absurd (let e = is in cc)
+mapped (Some r) make f is = (r, refl, cc)
 
-  -- what came of a pass
-  told_of : {P : Type 0} (all : Bool) (o : Option Fault) → all ≡ false → ((all ≡ true) × P) ⊎ ((all ≡ false) × IsTold o) → IsTold o
-  told_of all o stopped (inl it) = absurd (true≢false (sym it.0 ∙ stopped))
-  told_of all o stopped (inr it) = it.1
+-- a row that breaks what is said of it breaks it among all
+pub in_first : {X : Type 0} (IsGood : X → Type 0) (all : List X) (fault_of : X → Option Fault) (P : Type 0) (f : Fault) →
+    ((x : X) → IsGood x → ((test : X → Bool) → test x ≡ true → list_any test all ≡ true) → fault_of x ≡ Some f → P) → (xs : List X) →
+    AllByRecursion IsGood xs → Among xs all → first_in fault_of xs ≡ Some f → P
+in_first IsGood all fault_of P f step [] good here is = absurd (let e = is in cc)
+in_first {X} IsGood all fault_of P f step (x ∷ xs) good here is =
+    go (fault_of x) refl is (in_first IsGood all fault_of P f step xs good.1 (λ test any. here test (or_right (test x) _ any)))
+  where
+    go : (o : Option Fault) → fault_of x ≡ o → or_else o (first_in fault_of xs) ≡ Some f → (first_in fault_of xs ≡ Some f → P) → P
+    go None e is later = later is
+    go (Some h) e is later = step x good.0 (λ test yes. here test (or_left (test x) _ yes)) (e ∙ is)
 
-  pub parcel_named : (a b : Owned) (all : Bool) → a.parties ≡ t.desk.parties → all ≡ false → TookRows owned_took g EACH_PARCEL.now [] old new a b all →
-      IfSome b.fault (λ f. IsTrue (breaks t f))
-  parcel_named a b all same stopped h = told_of all b.fault stopped
-      (all_or_stopped edition g old new t k EACH_PARCEL.now _ (each_parcel_is edition) shown_parcel owned_took Fits (λ d. IsTold d.fault) next stop a b all answer h)
+module _ (t : Tables) (typed : AreTyped t) (keyed : AreKeyed t) (f : Fault) where
+  pub parcels_break : first_in (of_parcel t.desk.parties) t.parcels ≡ Some f → breaks t f ≡ true
+  parcels_break = in_first IsParcel t.parcels (of_parcel t.desk.parties) (breaks t f ≡ true) f step t.parcels typed.parcels (λ test any. any)
     where
-      Fits : Owned → List Parcel → Type 0
-      Fits d ps = AllByRecursion IsParcel ps × (d.parties ≡ t.desk.parties) × Among ps t.parcels
+      step : (p : Parcel) → IsParcel p → ((test : Parcel → Bool) → test p ≡ true → list_any test t.parcels ≡ true) → of_parcel t.desk.parties p ≡ Some f →
+          breaks t f ≡ true
+      step p good among is = go (nat_le p.owner t.desk.parties) refl is
+        where
+          go : (b : Bool) → nat_le p.owner t.desk.parties ≡ b → (if b then None else Some (fault.Parcel (Some p.id) parcel.Owner)) ≡ Some f → breaks t f ≡ true
+          go true e is = absurd (let h = is in cc)
+          go false away is =
+              let same : fault.Parcel (Some p.id) parcel.Owner ≡ f = cc in
+              let none : has_party t p.owner ≡ false = among_parties t typed p.owner good.owner ∙ away in
+              subst (λ x. breaks t x ≡ true) same (among (λ q. is_it (Some p.id) q.id && not (holds_of_parcel t parcel.Owner q))
+              (and_from _ _ (itself p.id) (negated (has_party t p.owner) none)))
 
-      next : (d e : Owned) (p : Parcel) (ps : List Parcel) → Fits d (p ∷ ps) → owned_took d (shown_parcel p) e true → Fits e ps
-      next d e p ps fits h = (fits.0.1, h ∙ fits.1, λ test any. fits.2 test (or_right (test p) _ any))
-
-      stop : (d e : Owned) (p : Parcel) (ps : List Parcel) → Fits d (p ∷ ps) → owned_took d (shown_parcel p) e false → IsTold e.fault
-      stop d e p ps fits h =
-          let it = h p fits.0.0 refl in
-          let away : nat_le p.owner t.desk.parties ≡ false = subst (λ n. nat_le p.owner n ≡ false) fits.1 it.0 in
-          let none : has_party t p.owner ≡ false = among t typed p.owner fits.0.0.owner ∙ away in
-          let test : Parcel → Bool = λ q. is_it (Some p.id) q.id && not (holds_of_parcel t parcel.Owner q) in
-          found_is t e.fault (fault.Parcel (Some p.id) parcel.Owner) it.1
-          (fits.2 test (or_left (test p) _ (and_from _ _ (itself p.id) (negated (has_party t p.owner) none))))
-
-      answer : (was late : State) → KeepsUnder edition t was.now → (rows : List Row) → Shown EACH_PARCEL.now [] was late rows → (ps : List Parcel)
-          × (rows ≡ map shown_parcel ps) × Fits a ps
-      answer was late kept rows h = (t.parcels, parcels_shown edition was late t typed kept rows h, (typed.parcels, same, λ test any. any))
-
-  pub interest_named : (a b : Declared) (all : Bool) → a.parcels ≡ t.desk.parcels → a.parties ≡ t.desk.parties → all ≡ false →
-      TookRows declared_took g EACH_INTEREST.now [] old new a b all → IfSome b.fault (λ f. IsTrue (breaks t f))
-  interest_named a b all parcels parties stopped h = told_of all b.fault stopped
-      (all_or_stopped edition g old new t k EACH_INTEREST.now _ (each_interest_is edition) shown_interest declared_took Fits (λ d. IsTold d.fault) next stop a b all answer h)
+  pub interests_break : (given : List Interest) → IsPermutation t.interests given →
+      first_in (of_interest t.desk.parcels t.desk.parties) given ≡ Some f → breaks t f ≡ true
+  interests_break given perm = in_first IsInterest t.interests (of_interest t.desk.parcels t.desk.parties) (breaks t f ≡ true) f step given
+      (all-permutation IsInterest t.interests given perm typed.interests) (λ test any. list_any-IsPermutation test t.interests given perm ∙ any)
     where
-      Fits : Declared → List Interest → Type 0
-      Fits d is = AllByRecursion IsInterest is × (d.parcels ≡ t.desk.parcels) × (d.parties ≡ t.desk.parties) × Among is t.interests
-
-      next : (d e : Declared) (i : Interest) (is : List Interest) → Fits d (i ∷ is) → declared_took d (shown_interest i) e true → Fits e is
-      next d e i is fits h = (fits.0.1, h.0 ∙ fits.1, h.1 ∙ fits.2, λ test any. fits.3 test (or_right (test i) _ any))
-
       broken : (i : Interest) → IsInterest i → (rule : InterestRule) → fits_interest_rule t.desk.parcels t.desk.parties rule i ≡ false →
           holds_of_interest t rule i ≡ false
       broken i good interest.Parcel h = parcel_there t typed i.parcel good.parcel ∙ h
-      broken i good interest.Party h = among t typed i.party good.party ∙ h
+      broken i good interest.Party h = among_parties t typed i.party good.party ∙ h
 
-      stop : (d e : Declared) (i : Interest) (is : List Interest) → Fits d (i ∷ is) → declared_took d (shown_interest i) e false → IsTold e.fault
-      stop d e i is fits h =
-          let it = h i fits.0.0 refl in
-          let away : fits_interest_rule t.desk.parcels t.desk.parties it.0 i ≡ false = subst (λ m. fits_interest_rule t.desk.parcels m it.0 i ≡ false) fits.2
-          (subst (λ n. fits_interest_rule n d.parties it.0 i ≡ false) fits.1 it.1) in
-          let test : Interest → Bool = λ j. is_it (Some i.parcel) j.parcel && is_it (Some i.party) j.party && not (holds_of_interest t it.0 j) in
-          found_is t e.fault (fault.Interest (Some i.parcel) (Some i.party) it.0) it.2
-          (fits.3 test (or_left (test i) _ (and_from _ _ (and_from _ _ (itself i.parcel) (itself i.party)) (negated _ (broken i fits.0.0 it.0 away)))))
+      step : (i : Interest) → IsInterest i → ((test : Interest → Bool) → test i ≡ true → list_any test t.interests ≡ true) →
+          of_interest t.desk.parcels t.desk.parties i ≡ Some f → breaks t f ≡ true
+      step i good among is =
+          let it = mapped _ (fault.Interest (Some i.parcel) (Some i.party)) f is in
+          let away = broken_fails (λ rule. fits_interest_rule t.desk.parcels t.desk.parties rule i) interest_rules it.0 it.1 in
+          subst (λ x. breaks t x ≡ true) it.2
+          (among (λ j. is_it (Some i.parcel) j.parcel && is_it (Some i.party) j.party && not (holds_of_interest t it.0 j))
+          (and_from _ _ (and_from _ _ (itself i.parcel) (itself i.party)) (negated _ (broken i good it.0 away))))
 
-      answer : (was late : State) → KeepsUnder edition t was.now → (rows : List Row) → Shown EACH_INTEREST.now [] was late rows → (is : List Interest)
-          × (rows ≡ map shown_interest is) × Fits a is
-      answer was late kept rows h =
-          let it = interests_shown edition was late t typed kept rows h in
-          (it.0, it.1, (it.2, parcels, parties, λ test any. list_any-IsPermutation test t.interests it.0 it.3 ∙ any))
-
-  pub file_named : (a b : Tested) (all : Bool) → a.upgrade ≡ t.upgrade → a.roles.items ≡ map (λ (p : Party). p.role) t.parties →
-      a.parcels ≡ t.desk.parcels → a.last ≡ t.desk.last → all ≡ false → TookRows tested_took g EACH_FILE.now [] old new a b all →
-      IfSome b.fault (λ f. IsTrue (breaks t f))
-  file_named a b all upgrade roles parcels last stopped h = told_of all b.fault stopped
-      (all_or_stopped edition g old new t k EACH_FILE.now _ (each_file_is edition) shown_file tested_took Fits (λ d. IsTold d.fault) next stop a b all answer h)
+  pub files_break : first_in (of_file (roles_in t) t.desk.parcels t.desk.last) t.files ≡ Some f → breaks t f ≡ true
+  files_break =
+      in_first (λ (g : FileRow). IsFile g) t.files (of_file (roles_in t) t.desk.parcels t.desk.last) (breaks t f ≡ true) f step t.files typed.files (λ test any. any)
     where
-      roles_in : List Role
-      roles_in = map (λ (p : Party). p.role) t.parties
-
-      Fits : Tested → List FileRow → Type 0
-      Fits d fs = AllByRecursion (λ f. IsFile f) fs × AllByRecursion (λ f. IsNamed t.upgrade f.id f.state) fs
-          × ((d.upgrade ≡ t.upgrade) × ((d.roles.items ≡ roles_in) × ((d.parcels ≡ t.desk.parcels) × (d.last ≡ t.desk.last)))) × Among fs t.files
-
-      next : (d e : Tested) (f : FileRow) (fs : List FileRow) → Fits d (f ∷ fs) → tested_took d (shown_file f) e true → Fits e fs
-      next d e f fs fits h = (
-        fits.0.1,
-        fits.1.1,
-        (h.0 ∙ fits.2.0, (h.1.0 ∙ fits.2.1.0, (h.1.1.0 ∙ fits.2.1.1.0, h.1.1.1 ∙ fits.2.1.1.1))),
-        λ test any. fits.3 test (or_right (test f) _ any),
-      )
-
-      stop : (d e : Tested) (f : FileRow) (fs : List FileRow) → Fits d (f ∷ fs) → tested_took d (shown_file f) e false → IsTold e.fault
-      stop d e f fs fits h =
-          let named = subst (λ u. IsNamed u f.id f.state) (sym fits.2.0) fits.1.0 in
-          let it = h f fits.0.0 named refl in
-          let away : fits_file_rule roles_in t.desk.parcels t.desk.last it.0 f.state ≡ false =
-          subst (λ l. fits_file_rule roles_in t.desk.parcels l it.0 f.state ≡ false) fits.2.1.1.1
-          (subst (λ n. fits_file_rule roles_in n d.last it.0 f.state ≡ false) fits.2.1.1.0
-          (subst (λ r. fits_file_rule r d.parcels d.last it.0 f.state ≡ false) fits.2.1.0 it.1)) in
-          let test : FileRow → Bool = λ q. is_it (Some f.id) q.id && not (holds_of_file t it.0 q) in
-          found_is t e.fault (fault.File (Some f.id) it.0) it.2
-          (fits.3 test (or_left (test f) _ (and_from _ _ (itself f.id) (negated _ (file_breaks t typed k.keyed f fits.0.0 it.0 away)))))
-
-      answer : (was late : State) → KeepsUnder edition t was.now → (rows : List Row) → Shown EACH_FILE.now [] was late rows → (fs : List FileRow)
-          × (rows ≡ map shown_file fs) × Fits a fs
-      answer was late kept rows h = (
-        t.files,
-        files_shown edition was late t typed kept rows h,
-        (typed.files, k.keyed.named, (upgrade, (roles, (parcels, last))), λ test any. any),
-      )
+      step : (g : FileRow) → IsFile g → ((test : FileRow → Bool) → test g ≡ true → list_any test t.files ≡ true) →
+          of_file (roles_in t) t.desk.parcels t.desk.last g ≡ Some f → breaks t f ≡ true
+      step g good among is =
+          let it = mapped _ (fault.File (Some g.id)) f is in
+          let away = broken_fails (λ rule. fits_file_rule (roles_in t) t.desk.parcels t.desk.last rule g.state) file_rules it.0 it.1 in
+          subst (λ x. breaks t x ≡ true) it.2
+          (among (λ q. is_it (Some g.id) q.id && not (holds_of_file t it.0 q))
+          (and_from _ _ (itself g.id) (negated _ (file_breaks t typed keyed g good it.0 away))))

@@ -1,8 +1,8 @@
 -- What is named of typed papers is false of them.
-use Rattle.std.proofs.Common.{◌≡◌, ◌⊎◌, inl, inr, ℕ, zero, suc, ◌+◌, ◌-◌, ◌<◌, ◌≤◌, Bool, true, false, not, Some, None, Option, List, [], ◌∷◌, map, filter, length, refl, sym, ap, subst}
+use Rattle.std.proofs.Common.{◌≡◌, ◌⊎◌, inl, inr, ℕ, zero, suc, ◌+◌, ◌-◌, ◌<◌, ◌≤◌, Bool, true, false, not, Some, None, Option, List, [], ◌∷◌, ◌++◌, map, filter, length, refl, sym, ap, ap₂, subst}
 use Rattle.std.proofs.Common.{◌∙◌, arith, true≢false, IsPermutation}
-use Rattle.std.specs.Prelude.{◌&&◌, ◌||◌, ◌==◌, IsTrue, IfSome, MatchBool, nat_le, nat_lt, if◌then◌else◌, slice_get, slice_set}
-use Rattle.std.specs.List.{list_any, list_all, AllByRecursion}
+use Rattle.std.specs.Prelude.{◌&&◌, ◌||◌, ◌==◌, IsTrue, IsSome, is_some, unwrap_or, IfSome, MatchBool, nat_le, nat_lt, if◌then◌else◌, slice_get, slice_set}
+use Rattle.std.specs.List.{list_any, list_all, flat_map, AllByRecursion}
 use Rattle.std.proofs.lemmas.Bool.{and_from, or_left, or_right, or_from, eq-eqb}
 use Rattle.std.proofs.lemmas.Bool.Decides.{nat_tests}
 use Rattle.std.proofs.lemmas.List.Sorted.{list_any-IsPermutation}
@@ -12,17 +12,16 @@ use Rattle.sqlite.specs.State.{State, Shown}
 use Rattle.sqlite.specs.Held.{Held, state}
 use Rattle.permit_base.specs.Limits.{most_papers}
 use Rattle.permit_base.specs.declared.words.Edition.{Edition}
-use Rattle.permit_model.specs.Numbering.{is_numbered}
 use Rattle.permit_model.specs.Tables.{Tables, FileRow, Paper}
-use Rattle.permit_model.specs.Sound.{papers_in, never_fall}
+use Rattle.permit_model.specs.Sound.{papers_in}
 use Rattle.permit_sql_rows.specs.Rows.{shown_paper}
 use Rattle.permit_sql_rows.specs.Kept.{KeepsUnder, AreKeyed}
 use Rattle.permit_sql_rows.specs.Typed.{IsPaper}
 use Rattle.permit_sql.specs.Taken.{TookRows}
-use Rattle.permit_sql.specs.Found.{AreTyped, IsRising}
-use Rattle.permit_sql.specs.Tested.{first_tally, next_tally, is_next, tally_after}
-use Rattle.permit_sql.specs.Passed.{PassesPaper}
-use Rattle.permit_sql.specs.Named.{breaks, is_it, holds_of_paper, holds_of_file, fits_paper_rule, fault_at, IsUnended, IsPaperFault, NamesPaper}
+use Rattle.permit_sql.specs.Found.{AreTyped, IsRising, counted_in}
+use Rattle.permit_sql.specs.Tested.{first_tally, is_next, tally_after, is_ended}
+use Rattle.permit_sql.specs.Named.{breaks, is_it, holds_of_paper, holds_of_file, fits_paper_rule, fault_at, fault_at_end, unended_from, first_gap, first_fall, is_that}
+use Rattle.permit_sql.specs.First.{or_else, of_paper, of_turn, told_after, of_papers, papers_in_order, first_of_papers, paper_rules, ReadsPaper, NamesPaper}
 use Rattle.permit_sql.specs.declared.fault.Fault.{Fault}
 use Rattle.permit_sql.specs.declared.fault.Fault.TheVariants as fault
 use Rattle.permit_sql.specs.declared.fault.FileRule.{FileRule}
@@ -36,10 +35,12 @@ use Rattle.permit_sql.proofs.WholeMeanings.{each_paper_is}
 use Rattle.permit_sql.proofs.PapersAnswered.{papers_shown}
 use Rattle.permit_sql.proofs.Refused.{all_or_stopped}
 use Rattle.permit_sql.proofs.Soundness.{among, file_there}
-use Rattle.permit_sql.proofs.Tallies.{next_is, long_set, of_file, open_in}
+use Rattle.permit_sql.proofs.Tallies.{long_set, of_file, open_in}
 use Rattle.permit_sql.proofs.FilesFilled.{file_at, in_file}
 use Rattle.permit_sql.proofs.Followed.{Follows, Follow, follows_first, follows_here, follow_next, wrong_number, early_day, one_more_open, wrong_papers, wrong_notices}
-use Rattle.permit_sql.proofs.Naming.{Among, found_is, negated, first_fails, itself}
+use Rattle.permit_sql.proofs.InOrder.{in_files}
+use Rattle.permit_sql.proofs.Firsts.{some_first}
+use Rattle.permit_sql.proofs.Naming.{Among, found_is, negated, first_fails, itself, mapped, broken_fails}
 
 -- ---- lists
 
@@ -65,17 +66,29 @@ beyond (x ∷ xs) (suc i) got = let e = beyond xs i got in omega (arith, e)
 not_within : (a b : ℕ) → b < a → nat_le a b ≡ false
 not_within a b low = grind (arith, nat_tests)
 
-none_next : (p : Paper) (u : Tally) → next_tally p (Some u) ≡ None → is_next u p ≡ false
-none_next p u none = go (is_next u p) none
-  where
-    go : (b : Bool) → (if b then Some (tally_after u p) else None) ≡ None → b ≡ false
-    go true h = absurd (let e = h in cc)
-    go false h = refl
-
 no_open : (b : Bool) (n : ℕ) → (not b || nat_lt 0 n) ≡ false → (b ≡ true) × (n ≡ 0)
 no_open true zero h = (refl, refl)
 no_open true (suc n) h = absurd (true≢false (sym (grind (arith, nat_tests)) ∙ h))
 no_open false n h = absurd (true≢false h)
+
+not_that : (n : ℕ) {o : Option ℕ} → o ≡ Some n → not (is_that o n) ≡ false
+not_that n is = ap (λ o. not (is_that o n)) is ∙ ap not (itself n)
+
+-- the first of the tallies that isn't ended, of files that are numbered from a number on
+abbrev UnendedAt : ℕ → List Tally → Fault → Type 0
+UnendedAt number ts found =
+    (at : ℕ) × (u : Tally) × (slice_get ts at ≡ Some u) × (is_ended u ≡ false) × (found ≡ fault_at_end u (number + at))
+
+unended_at : (ts : List Tally) (number : ℕ) (found : Fault) → unended_from number ts ≡ Some found → UnendedAt number ts found
+unended_at [] number found is = absurd (let e = is in cc)
+unended_at (u ∷ us) number found is = go (is_ended u) refl is (unended_at us (suc number) found)
+  where
+    go : (b : Bool) → is_ended u ≡ b → (if b then unended_from (suc number) us else Some (fault_at_end u number)) ≡ Some found →
+        (unended_from (suc number) us ≡ Some found → UnendedAt (suc number) us found) → UnendedAt number (u ∷ us) found
+    go true ended is later =
+        let it = later is in
+        (suc it.0, it.1, it.2, it.3, it.4 ∙ ap (fault_at_end it.1) (omega arith))
+    go false unended is later = (0, u, refl, unended, (let e : found ≡ fault_at_end u number = cc in e) ∙ ap (fault_at_end u) (omega arith))
 
 -- ---- what is told of the papers
 
@@ -146,17 +159,16 @@ module _ (t : Tables) (typed : AreTyped t) (keyed : AreKeyed t) (xs : List Paper
         go first f h got is id papers false c number day =
             let whole : papers_in t p.file ≡ of_file (suc place) xs = ap (papers_in t) (sym id) ∙ papers in
             let wrong = wrong_number first (of_file (suc place) xs) u p (of_file (suc place) ps) h number in
-            paper_is p ps here paper.Number (ap (λ l. is_numbered (λ (q : Paper). q.number) l) whole ∙ wrong)
+            paper_is p ps here paper.Number (not_that p.number (ap (first_gap 1) whole ∙ wrong))
         go first f h got is id papers true false number day =
             let wrong = early_day first (of_file (suc place) xs) u p (of_file (suc place) ps) h day in
             let filed : first.day ≡ f.state.filed = ap (λ (w : Tally). w.day) is in
-            let falls : never_fall f.state.filed (map (λ (q : Paper). q.day) (papers_in t f.id)) ≡ false =
-            ap (λ l. never_fall f.state.filed (map (λ (q : Paper). q.day) l)) papers
-            ∙ ap (λ d. never_fall d (map (λ (q : Paper). q.day) (of_file (suc place) xs))) (sym filed) ∙ wrong in
+            let falls : first_fall f.state.filed (papers_in t f.id) ≡ Some p.number =
+            ap (first_fall f.state.filed) papers ∙ ap (λ d. first_fall d (of_file (suc place) xs)) (sym filed) ∙ wrong in
             let its : not (f.id == p.file) ≡ false = ap not (eq-eqb f.id p.file id) in
             paper_is p ps here paper.EarlyDay (not_all_at
-            (λ (g : FileRow). not (g.id == p.file) || never_fall g.state.filed (map (λ (q : Paper). q.day) (papers_in t g.id))) t.files place f got
-            (or_from _ _ its falls))
+            (λ (g : FileRow). not (g.id == p.file) || not (is_that (first_fall g.state.filed (papers_in t g.id)) p.number)) t.files place f got
+            (or_from _ _ its (not_that p.number falls)))
         go first f h got is id papers true true number day =
             let front : ((p.number == u.number + 1) && nat_le u.day p.day) ≡ true = and_from _ _ number day in
             let last : (not p.is_open || nat_lt 0 u.notices) ≡ false = sym (ap (λ b. b && (not p.is_open || nat_lt 0 u.notices)) front) ∙ none in
@@ -168,45 +180,66 @@ module _ (t : Tables) (typed : AreTyped t) (keyed : AreKeyed t) (xs : List Paper
             file_is (Some p.file) place f file.Notices got (eq-eqb f.id p.file id) broken
 
   -- where all were read
-  at_end : (ts : List Tally) → Follow firsts xs ts [] → (found : Fault) → IsUnended ts found → breaks t found ≡ true
-  at_end ts follow found (at, u, got, unended, (number, is, so)) =
-      let it = follow at u got in
-      let of = tallied at it.0 it.1 in
-      subst (λ x. breaks t x ≡ true) (sym is) (go it.0 of.0 it.2 of.1 of.2 of.4 (the number so of.0 of.3) (u.number == u.papers) refl)
+  ended_wrong : (at : ℕ) (u : Tally) → is_ended u ≡ false → (first : Tally) (f : FileRow) → Follows first (of_file (suc at) xs) u [] →
+      slice_get t.files at ≡ Some f → first ≡ first_tally f.state → f.id ≡ suc at → papers_in t f.id ≡ of_file (suc at) xs →
+      (b : Bool) → (u.number == u.papers) ≡ b → breaks t (fault.File (Some (suc at)) (if b then file.Notices else file.Papers)) ≡ true
+  ended_wrong at u unended first f h got is id papers true read =
+      let some : (u.notices == 0) ≡ false = sym (ap (λ b. b && (u.notices == 0)) read) ∙ unended in
+      let wrong = wrong_notices first (of_file (suc at) xs) u h some in
+      let counted : first.notices ≡ f.state.notices = ap (λ (w : Tally). w.notices) is in
+      file_is (Some (suc at)) at f file.Notices got (eq-eqb f.id (suc at) id) (ap (λ l. f.state.notices == length (open_in l)) papers
+      ∙ ap (λ n. n == length (open_in (of_file (suc at) xs))) (sym counted) ∙ wrong)
+  ended_wrong at u unended first f h got is id papers false read =
+      let wrong = wrong_papers first (of_file (suc at) xs) u h read in
+      let counted : first.papers ≡ f.state.papers = ap (λ (w : Tally). w.papers) is in
+      file_is (Some (suc at)) at f file.Papers got (eq-eqb f.id (suc at) id) (first_fails _ _ (ap (λ l. f.state.papers == length l) papers
+      ∙ ap (λ n. n == length (of_file (suc at) xs)) (sym counted) ∙ wrong))
+
+  at_end : (ts : List Tally) → Follow firsts xs ts [] → (found : Fault) → unended_from 1 ts ≡ Some found → breaks t found ≡ true
+  at_end ts follow found is = last (unended_at ts 1 found is)
     where
-      the : (o : Option ℕ) → IfSome o (λ n. n ≡ suc at) → (f : FileRow) → f.id ≡ suc at → is_it o f.id ≡ true
-      the None so f id = refl
-      the (Some n) so f id = eq-eqb f.id n (id ∙ sym so)
+      last : UnendedAt 1 ts found → breaks t found ≡ true
+      last (at, u, got, unended, same) =
+          let it = follow at u got in
+          let of = tallied at it.0 it.1 in
+          subst (λ x. breaks t x ≡ true) (sym (same ∙ ap (fault_at_end u) (omega arith))) (ended_wrong at u unended it.0 of.0 it.2 of.1 of.2 of.3 of.4 (u.number == u.papers) refl)
 
-      go : (first : Tally) (f : FileRow) → Follows first (of_file (suc at) xs) u [] → slice_get t.files at ≡ Some f → first ≡ first_tally f.state →
-          papers_in t f.id ≡ of_file (suc at) xs → is_it number f.id ≡ true → (b : Bool) → (u.number == u.papers) ≡ b →
-          breaks t (fault.File number (if b then file.Notices else file.Papers)) ≡ true
-      go first f h got is papers it true read =
-          let some : (u.notices == 0) ≡ false = sym (ap (λ b. b && (u.notices == 0)) read) ∙ unended in
-          let wrong = wrong_notices first (of_file (suc at) xs) u h some in
-          let counted : first.notices ≡ f.state.notices = ap (λ (w : Tally). w.notices) is in
-          file_is number at f file.Notices got it (ap (λ l. f.state.notices == length (open_in l)) papers
-          ∙ ap (λ n. n == length (open_in (of_file (suc at) xs))) (sym counted) ∙ wrong)
-      go first f h got is papers it false read =
-          let wrong = wrong_papers first (of_file (suc at) xs) u h read in
-          let counted : first.papers ≡ f.state.papers = ap (λ (w : Tally). w.papers) is in
-          file_is number at f file.Papers got it (first_fails _ _ (ap (λ l. f.state.papers == length l) papers
-          ∙ ap (λ n. n == length (of_file (suc at) xs)) (sym counted) ∙ wrong))
+-- ---- what is told of one paper after another
 
--- ---- what the taker names
+or_none : (a b : Option Fault) → or_else a b ≡ None → (a ≡ None) × (b ≡ None)
+or_none None b is = (refl, is)
+or_none (Some f) b is = absurd (let e = is in cc)
+
+or_enough : (a b more : Option Fault) → IsSome (or_else a b) → or_else a (or_else b more) ≡ or_else a b
+or_enough None b more some = some_first b more some
+or_enough (Some f) b more some = refl
+
+-- a paper that is passed is the next one of its file
+turned : (p : Paper) (o : Option Tally) → of_turn p o ≡ None → (u : Tally) × (o ≡ Some u) × (is_next u p ≡ true)
+turned p None is = absurd (let e = is in cc)
+turned p (Some u) is = (u, refl, go (is_next u p) is)
+  where
+    go : (b : Bool) → (if b then None else Some (fault_at u p)) ≡ None → b ≡ true
+    go true is = refl
+    go false is = absurd (let e = is in cc)
+
+-- ---- what the taker tells
 
 abbrev pub read_took : Read → Row → Read → Bool → Type 0
 read_took a row b good = MatchBool good
-    (PassesPaper a.parties a.last a.tallies.items row b.tallies.items × ((b.parties ≡ a.parties) × (b.last ≡ a.last)))
+    ((b.parties ≡ a.parties) × (b.last ≡ a.last) × ReadsPaper a.parties a.last a.tallies.items row b.tallies.items)
     (NamesPaper a.parties a.last a.tallies.items row b.fault b.lacks_memory)
 
 module _ (edition : Edition) {S : Type 0} (g : Ghosts S) (old new : Held S) (t : Tables) (typed : AreTyped t) (k : KeepsUnder edition t (state g old).now)
     (few : list_all (λ (f : FileRow). nat_le f.state.papers most_papers) t.files ≡ true) where
-  abbrev IsTold : Option Fault → Type 0
-  IsTold o = IfSome o (λ f. IsTrue (breaks t f))
+  abbrev pub IsTold : Option Fault → Type 0
+  IsTold o = IfSome o (λ f. IsTrue (breaks t f)) × (o ≡ first_of_papers t)
 
   abbrev tallies : List Tally
   tallies = map (λ (f : FileRow). first_tally f.state) t.files
+
+  abbrev alone_of : Paper → Option Fault
+  alone_of = of_paper t.desk.parties t.desk.last
 
   -- what is told of a taker and of the papers that are left
   record Fits (d : Read) (ps : List Paper) : Type 0 where
@@ -219,44 +252,83 @@ module _ (edition : Edition) {S : Type 0} (g : Ghosts S) (old new : Held S) (t :
     up : IsRising 0 0 xs
     here : Among ps xs
     follow : Follow tallies xs d.tallies.items ps
+    first : of_papers t.desk.parties t.desk.last d.tallies.items ps ≡ first_of_papers t
+
+  moved : (d : Read) (p : Paper) → d.parties ≡ t.desk.parties → d.last ≡ t.desk.last → of_paper d.parties d.last p ≡ alone_of p
+  moved d p parties last = ap (λ n. of_paper n d.last p) parties ∙ ap (λ l. of_paper t.desk.parties l p) last
 
   next : (d e : Read) (p : Paper) (ps : List Paper) → Fits d (p ∷ ps) → read_took d (shown_paper p) e true → Fits e ps
   next d e p ps fits h =
-      let it = h.0 p fits.good.0 refl in
-      let u = next_is p (slice_get d.tallies.items (p.file - 1)) it.1.0 it.1.1 in
-      let now : e.tallies.items ≡ slice_set d.tallies.items (p.file - 1) (tally_after u.0 p) = it.1.2 ∙ ap (slice_set d.tallies.items (p.file - 1)) u.3 in
+      let told = d.tallies.items in
+      let place = p.file - 1 in
+      let here = slice_get told place in
+      let it = h.2 p fits.good.0 refl in
+      let none = or_none (of_paper d.parties d.last p) (of_turn p here) it.0 in
+      let alone_none : alone_of p ≡ None = sym (moved d p fits.parties fits.last) ∙ none.0 in
+      let u = turned p here none.1 in
+      let now : e.tallies.items ≡ slice_set told place (tally_after u.0 p) = it.1 ∙ ap (told_after told p) u.1 in
       record {
         good = fits.good.1;
-        parties = h.1.0 ∙ fits.parties;
-        last = h.1.1 ∙ fits.last;
-        long = ap length now ∙ long_set d.tallies.items (p.file - 1) (tally_after u.0 p) ∙ fits.long;
+        parties = h.0 ∙ fits.parties;
+        last = h.1 ∙ fits.last;
+        long = ap length now ∙ long_set told place (tally_after u.0 p) ∙ fits.long;
         xs = fits.xs;
         same = fits.same;
         up = fits.up;
         here = λ test any. fits.here test (or_right (test p) _ any);
         follow = subst (λ ts. Follow tallies fits.xs ts ps) (sym now)
-            (follow_next tallies fits.xs d.tallies.items p ps fits.good.0.file.0 u.0 u.1 fits.follow u.2);
+            (follow_next tallies fits.xs told p ps fits.good.0.file.0 u.0 u.1 fits.follow u.2);
+        first = ap (λ ts. of_papers t.desk.parties t.desk.last ts ps) it.1
+            ∙ sym (ap₂ (λ a b. or_else a (or_else b (of_papers t.desk.parties t.desk.last (told_after told p here) ps))) alone_none none.1) ∙ fits.first;
       }
 
   stop : (d e : Read) (p : Paper) (ps : List Paper) → Fits d (p ∷ ps) → read_took d (shown_paper p) e false → IsTold e.fault ⊎ IsTrue e.lacks_memory
-  stop d e p ps fits h = elim (h p fits.good.0 refl) [ inl named ↦ inl (told named) | inr lacks ↦ inr lacks ]
+  stop d e p ps fits h = elim (h p fits.good.0 refl) [ inl it ↦ inl (named (alone_of p) refl (told_here it.0) it.1, exact (told_here it.0) it.1) | inr lacks ↦ inr lacks ]
     where
-      told : IsPaperFault d.parties d.last d.tallies.items p e.fault → IsTold e.fault
-      told (inl (rule, fails, found)) =
-          let moved : fits_paper_rule t.desk.parties t.desk.last rule p ≡ false = subst (λ l. fits_paper_rule t.desk.parties l rule p ≡ false) fits.last
-          (subst (λ n. fits_paper_rule n d.last rule p ≡ false) fits.parties fails) in
-          found_is t e.fault _ found (paper_is t typed k.keyed fits.xs fits.same fits.up few p ps fits.here rule
-          (alone t typed k.keyed fits.xs fits.same fits.up few p fits.good.0 rule moved))
-      told (inr (inl (none, found))) =
-          let far = beyond d.tallies.items (p.file - 1) none in
+      told : List Tally
+      told = d.tallies.items
+
+      here : Option Tally
+      here = slice_get told (p.file - 1)
+
+      told_here : e.fault ≡ or_else (of_paper d.parties d.last p) (of_turn p here) → e.fault ≡ or_else (alone_of p) (of_turn p here)
+      told_here it = it ∙ ap (λ o. or_else o (of_turn p here)) (moved d p fits.parties fits.last)
+
+      exact : e.fault ≡ or_else (alone_of p) (of_turn p here) → IsSome e.fault → e.fault ≡ first_of_papers t
+      exact it some = it ∙ sym (or_enough (alone_of p) (of_turn p here) _ (subst IsSome it some)) ∙ fits.first
+
+      by_rule : (f : Fault) → alone_of p ≡ Some f → breaks t f ≡ true
+      by_rule f is =
+          let it = mapped _ (fault.Paper (Some p.file) (Some p.number)) f is in
+          let fails = broken_fails (λ rule. fits_paper_rule t.desk.parties t.desk.last rule p) paper_rules it.0 it.1 in
+          subst (λ x. breaks t x ≡ true) it.2 (paper_is t typed k.keyed fits.xs fits.same fits.up few p ps fits.here it.0
+          (alone t typed k.keyed fits.xs fits.same fits.up few p fits.good.0 it.0 fails))
+
+      by_turn : (o : Option Tally) → here ≡ o → (f : Fault) → of_turn p o ≡ Some f → breaks t f ≡ true
+      by_turn None none f is =
+          let far = beyond told (p.file - 1) none in
           let low = fits.good.0.file.0 in
           let long = fits.long in
           let away : t.desk.files < p.file = omega (arith, far, low, long) in
-          found_is t e.fault _ found (paper_is t typed k.keyed fits.xs fits.same fits.up few p ps fits.here paper.File
+          let same : fault.Paper (Some p.file) (Some p.number) paper.File ≡ f = cc in
+          subst (λ x. breaks t x ≡ true) same (paper_is t typed k.keyed fits.xs fits.same fits.up few p ps fits.here paper.File
           (file_there t typed p.file fits.good.0.file ∙ not_within p.file t.desk.files away))
-      told (inr (inr (u, at, none, found))) =
-          found_is t e.fault _ found (not_next t typed k.keyed fits.xs fits.same fits.up few d.tallies.items p ps fits.good.0 fits.here fits.follow u at
-          (none_next p u none))
+      by_turn (Some u) at f is = go (is_next u p) refl is
+        where
+          go : (b : Bool) → is_next u p ≡ b → (if b then None else Some (fault_at u p)) ≡ Some f → breaks t f ≡ true
+          go true taken is = absurd (let e = is in cc)
+          go false none is =
+              let same : fault_at u p ≡ f = cc in
+              subst (λ x. breaks t x ≡ true) same
+              (not_next t typed k.keyed fits.xs fits.same fits.up few told p ps fits.good.0 fits.here fits.follow u at none)
+
+      named : (o : Option Fault) → alone_of p ≡ o → e.fault ≡ or_else o (of_turn p here) → IsSome e.fault → IfSome e.fault (λ f. IsTrue (breaks t f))
+      named (Some f) broken it some = found_is t e.fault f it (by_rule f broken)
+      named None whole it some = turn (of_turn p here) refl it
+        where
+          turn : (o : Option Fault) → of_turn p here ≡ o → e.fault ≡ o → IfSome e.fault (λ f. IsTrue (breaks t f))
+          turn (Some f) of it = found_is t e.fault f it (by_turn here refl f of)
+          turn None of it = absurd (true≢false (sym some ∙ ap is_some it))
 
   first_fits : (a : Read) → a.parties ≡ t.desk.parties → a.last ≡ t.desk.last → a.tallies.items ≡ tallies → (was late : State) →
       KeepsUnder edition t was.now → (rows : List Row) → Shown EACH_PAPER.now [] was late rows → (ps : List Paper) × (rows ≡ map shown_paper ps) × Fits a ps
@@ -275,6 +347,7 @@ module _ (edition : Edition) {S : Type 0} (g : Ghosts S) (old new : Held S) (t :
           here = λ test any. any;
           follow = λ i u got. let first = sym (ap (λ ts. slice_get ts i) has) ∙ got in
               (u, first, follows_first u (of_file (suc i) it.0) (starts i u first));
+          first = ap₂ (of_papers t.desk.parties t.desk.last) has (in_order it.0 it.2 it.3 it.4 it.5);
         },
       )
     where
@@ -285,16 +358,48 @@ module _ (edition : Edition) {S : Type 0} (g : Ghosts S) (old new : Held S) (t :
       starts : (i : ℕ) (u : Tally) → slice_get tallies i ≡ Some u → u.number ≡ 0
       starts i u got = let it = file_at t.files 1 typed.file_numbers i u got in ap (λ (w : Tally). w.number) it.2
 
+      low : (ps : List Paper) → AllByRecursion IsPaper ps → AllByRecursion (λ q. 1 ≤ q.file) ps
+      low [] h = tt
+      low (p ∷ ps) h = (h.0.file.0, low ps h.1)
+
+      counted : (fs : List FileRow) (i : ℕ) → 0 < unwrap_or (slice_get (map (λ (f : FileRow). f.state.papers) fs) i) 0 → i < length fs
+      counted [] i some = absurd (omega (arith, some))
+      counted (f ∷ fs) zero some = omega arith
+      counted (f ∷ fs) (suc i) some = let e = counted fs i some in omega (arith, e)
+
+      high : (ps : List Paper) → AllByRecursion IsPaper ps → AllByRecursion (λ p. p.number ≤ counted_in (map (λ (f : FileRow). f.state.papers) t.files) p.file) ps →
+          AllByRecursion (λ q. q.file ≤ length t.files) ps
+      high [] good h = tt
+      high (p ∷ ps) good h =
+          let some = good.0.number.0 in
+          let most = h.0 in
+          let place = counted t.files (p.file - 1) (omega (arith, some, most)) in
+          (omega (arith, place), high ps good.1 h.1)
+
+      in_order : (ps : List Paper) → AllByRecursion IsPaper ps → IsRising 0 0 ps →
+          AllByRecursion (λ p. p.number ≤ counted_in (map (λ (f : FileRow). f.state.papers) t.files) p.file) ps → IsPermutation t.papers ps →
+          ps ≡ papers_in_order t
+      in_order ps good up counted same =
+          in_files t.files ps typed.file_numbers up (low ps good) (high ps good counted)
+          ∙ each_file t.files
+        where
+          each_file : (fs : List FileRow) → flat_map (λ (f : FileRow). of_file f.id ps) fs ≡ flat_map (λ (f : FileRow). papers_in t f.id) fs
+          each_file [] = refl
+          each_file (f ∷ fs) = ap₂ ◌++◌ (sym (in_file t typed k.keyed ps same up few f.id)) (each_file fs)
+
+  -- what a pass tells at its end
+  abbrev pub IsEnd : List Tally → Type 0
+  IsEnd ts = ((found : Fault) → unended_from 1 ts ≡ Some found → IsTrue (breaks t found)) × (length ts ≡ t.desk.files) × (unended_from 1 ts ≡ first_of_papers t)
+
   -- it took all papers, and what it tells of a file that isn't ended is so; or it stopped, and what it names is so
-  pub papers_named : (a b : Read) (all : Bool) → a.parties ≡ t.desk.parties → a.last ≡ t.desk.last → a.tallies.items ≡ tallies →
-      TookRows read_took g EACH_PAPER.now [] old new a b all → b.lacks_memory ≡ false →
-      ((all ≡ true) × ((found : Fault) → IsUnended b.tallies.items found → IsTrue (breaks t found))) ⊎ ((all ≡ false) × IfSome b.fault (λ f. IsTrue (breaks t f)))
-  papers_named a b all parties last has h enough =
+  pub papers_told : (a b : Read) (all : Bool) → a.parties ≡ t.desk.parties → a.last ≡ t.desk.last → a.tallies.items ≡ tallies →
+      TookRows read_took g EACH_PAPER.now [] old new a b all → b.lacks_memory ≡ false → ((all ≡ true) × IsEnd b.tallies.items) ⊎ ((all ≡ false) × IsTold b.fault)
+  papers_told a b all parties last has h enough =
       after (all_or_stopped edition g old new t k EACH_PAPER.now _ (each_paper_is edition) shown_paper read_took Fits (λ d. IsTold d.fault ⊎ IsTrue d.lacks_memory)
       next stop a b all (first_fits a parties last has) h)
     where
       after : ((all ≡ true) × Fits b []) ⊎ ((all ≡ false) × (IsTold b.fault ⊎ IsTrue b.lacks_memory)) →
-          ((all ≡ true) × ((found : Fault) → IsUnended b.tallies.items found → IsTrue (breaks t found))) ⊎ ((all ≡ false) × IsTold b.fault)
-      after (inl (took, fits)) = inl (took, at_end t typed k.keyed fits.xs fits.same fits.up few b.tallies.items fits.follow)
+          ((all ≡ true) × IsEnd b.tallies.items) ⊎ ((all ≡ false) × IsTold b.fault)
+      after (inl (took, fits)) = inl (took, (at_end t typed k.keyed fits.xs fits.same fits.up few b.tallies.items fits.follow, fits.long, fits.first))
       after (inr (stopped, inl told)) = inr (stopped, told)
       after (inr (stopped, inr lacks)) = absurd (true≢false (sym lacks ∙ enough))

@@ -1,9 +1,10 @@
 -- The table of the upgrade: what a query of it shows, and the row that it then has.
-use Rattle.std.proofs.Common.{◌≡◌, ◌≤◌, ◌+◌, suc, length, Option, Some, None, IfSome, refl, sym, ap, subst, ◌∙◌, List, [], ◌∷◌, map, codes, false, arith, IsPermutation, ℕ}
+use Rattle.std.proofs.Common.{◌≡◌, ◌≤◌, ◌+◌, suc, length, Option, Some, None, IfSome, refl, sym, ap, subst, ◌∙◌, List, [], ◌∷◌, map, codes, false, arith, IsPermutation, ℕ, slice_get, pos}
 use Rattle.std.proofs.lemmas.List.Sorted.{IsPermutation-sym}
 use Rattle.std.specs.List.{AllByRecursion}
 use Rattle.sqlite_tied.specs.Compute.{everything}
 use Rattle.sqlite.specs.Listing.{understood, reads_listing}
+use Rattle.sqlite_schema.specs.declared.schema.Schema.{Schema}
 use Rattle.sqlite_schema.specs.declared.schema.Constraint.TheVariants.{Datatype, NotNull}
 use Rattle.sqlite_schema.specs.Rules.{Keeps as KeepsRule}
 use Rattle.sqlite_schema.specs.declared.command.Command.TheVariants.{Select}
@@ -21,18 +22,18 @@ use Rattle.permit_model.specs.History.{History}
 use Rattle.permit_model.specs.Machine.{IsHistory}
 use Rattle.permit_model.specs.Files.{CaseFile, case_files}
 use Rattle.permit_model.specs.Numbering.{IsNumberedFrom}
-use Rattle.permit_model.specs.Tables.{Tables, FileRow, file_row, tables, edition_by, with_upgrade}
+use Rattle.permit_model.specs.Tables.{Tables, FileRow, file_row, tables, edition_by, version_of, with_upgrade}
 use Rattle.permit_model.proofs.Numbers.{case_files_numbered}
 use Rattle.permit_sql_rows.specs.Kept.{KeepsUnder}
 use Rattle.permit_sql_rows.specs.Schema.{upgrade_table, office_schema, key_column, int_column}
-use Rattle.permit_sql_rows.specs.Rows.{shown_upgrade, upgrade_row}
+use Rattle.permit_sql_rows.specs.Rows.{int, desk_row, shown_upgrade, upgrade_row}
 use Rattle.permit_sql_rows.specs.Typed.{firsts}
 use Rattle.permit_sql_statements.specs.declared.texts.TheConstants.{READ_UPGRADE}
 use Rattle.permit_sql_statements.proofs.Lookups.{plain_query}
 use Rattle.permit_sql_statements.proofs.QueryTexts.{alone, names_of, columns_of}
 use Rattle.permit_sql_statements.specs.Founding.{AreCounted}
 use Rattle.permit_sql.specs.Found.{IsNumbered, AreTyped}
-use Rattle.permit_sql.specs.Opening.{seen_upgrade}
+use Rattle.permit_sql.specs.Opening.{seen_upgrade, HasOtherVersion}
 use Rattle.permit_sql.proofs.Shaped.{keyed_rows, IsKeyedRow}
 use Rattle.permit_sql.proofs.Checks.{with_null}
 use Rattle.permit_sql.proofs.Version.{only_one}
@@ -102,6 +103,15 @@ under_first edition t db first k = go t.upgrade refl
     go : (o : Option ℕ) → t.upgrade ≡ o → t.upgrade ≡ None
     go None is = is
     go (Some files) is = absurd (let e = sym (k.now ∙ first) ∙ k.keyed.edition ∙ ap edition_by is in cc)
+
+-- tables under the second edition are of another version than the first
+pub second_is_other : (t : Tables) (db : Database) → KeepsUnder Second t db → HasOtherVersion First db
+second_is_other t db k = record {
+  desk = ap (λ (s : Schema). slice_get s.tables 0) k.schema;
+  row = desk_row t.desk;
+  only = k.rows.desk;
+  other = (pos 2, ap (λ e. int (version_of e)) k.now, λ e. absurd (let same = e in cc));
+}
 
 -- ---- the tables after the upgrade
 

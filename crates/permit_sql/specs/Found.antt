@@ -181,7 +181,11 @@ KeepsSound db = KeepsSoundUnder Second db
 abbrev pub HasTyped : Edition → Database → Desk → Option ℕ → Type 0
 HasTyped edition db desk upgrade = (t : Tables) × AreTyped t × KeepsUnder edition t db × (t.desk ≡ desk) × (t.upgrade ≡ upgrade)
 
--- these are sound tables that the database keeps under the edition, with so many files, and so many at the upgrade
-abbrev pub HasSound : Edition → Database → ℕ → Option ℕ → Type 0
-HasSound edition db files upgrade =
-    (t : Tables) × AreTyped t × IsSoundTables t × KeepsUnder edition t db × (t.desk.files ≡ files) × (t.upgrade ≡ upgrade)
+-- these are sound tables that the database keeps under the edition, with this desk, and so many files at the upgrade
+abbrev pub HasSound : Edition → Database → Desk → Option ℕ → Type 0
+HasSound edition db desk upgrade =
+    (t : Tables) × AreTyped t × IsSoundTables t × KeepsUnder edition t db × (t.desk ≡ desk) × (t.upgrade ≡ upgrade)
+
+-- sound tables that the database keeps, counted by this desk
+abbrev pub CountsSound : Database → Desk → Type 0
+CountsSound db desk = (t : Tables) × AreTyped t × IsSoundTables t × KeepsUnder Second t db × (t.desk ≡ desk)

@@ -1,7 +1,7 @@
 -- What a look over the rows leaves of what a connection shows, and of what a crash leaves.
-use Rattle.std.specs.Prelude.{◌≡◌}
+use Rattle.std.specs.Prelude.{◌≡◌, IsTrue, OnOk, Result}
 use Rattle.sqlite_trees.specs.declared.store.Store.{Ghosts}
-use Rattle.sqlite.specs.State.{Survives}
+use Rattle.sqlite.specs.State.{HasCleanDisk, Survives}
 use Rattle.sqlite.specs.Held.{Held, state}
 use Rattle.permit_base.specs.declared.words.Edition.{Edition}
 use Rattle.permit_model.specs.Tables.{Tables}
@@ -16,6 +16,10 @@ module _ {S : Type 0} (g : Ghosts S) where
   -- A connection that is well afterwards was so before, and shows the same.
   abbrev pub LeavesRows : Held S → Held S → Type 0
   LeavesRows old new = IsFine (state g new) → IsFine (state g old) × ((state g new).now ≡ (state g old).now)
+
+  -- After a success a connection that was open is open.
+  abbrev pub StaysOpen : {A E : Type 0} → Held S → Held S → Result A E → Type 0
+  StaysOpen old new result = HasCleanDisk (state g new) → IsTrue (state g old).is_open → OnOk result (IsTrue (state g new).is_open)
 
   -- A crash inside leaves what it left before.
   abbrev pub LeavesOverCrash : Held S → Held S → Type 0

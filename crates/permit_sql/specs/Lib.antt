@@ -1,6 +1,7 @@
 pub use Rattle.permit_sql_rows.specs.Schema
 pub use Rattle.permit_sql_rows.specs.Kept
 pub mod Opening
+pub mod Upgrading
 pub mod Taken
 pub mod Tested
 pub mod Passed
@@ -9,3 +10,5 @@ pub mod Seen
 pub mod Reopening
 pub mod Frames
 pub mod Named
+pub mod FaultText
+pub mod First

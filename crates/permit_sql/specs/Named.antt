@@ -1,7 +1,6 @@
 -- What the rules say that an open names where they are broken.
-use Rattle.std.specs.Prelude.{ℕ, Bool, true, false, not, ◌&&◌, ◌||◌, ◌==◌, ◌+◌, nat_le, List, length, map, filter, ◌-◌, ◌⊎◌, IsTrue, Option, None, Some, IfSome, is_none, ◌≡◌, suc, if◌then◌else◌, slice_get}
+use Rattle.std.specs.Prelude.{ℕ, Bool, true, false, not, ◌&&◌, ◌||◌, ◌==◌, ◌+◌, nat_le, List, [], ◌∷◌, length, filter, Option, None, Some, is_none, suc, if◌then◌else◌}
 use Rattle.std.specs.List.{list_all, list_any}
-use Rattle.sqlite_value.specs.Order.{Row}
 use Rattle.permit_base.specs.declared.words.Role.{Role}
 use Rattle.permit_base.specs.declared.words.Role.TheVariants.{Reviewer, Inspector, Official}
 use Rattle.permit_base.specs.Limits.{is_between, is_cents, most_papers, latest_day, latest_deadline}
@@ -15,11 +14,8 @@ use Rattle.permit_model.specs.Numbering.{is_numbered}
 use Rattle.permit_model.specs.Tables.{Desk, State, FileRow, Paper, Tables, next_in_row, is_notice}
 use Rattle.permit_model.specs.SoundState.{is_stored, deadline_stands, is_for, request_dated}
 use Rattle.permit_model.specs.Sound.{if_any, has_party, has_party_of, has_parcel, has_file, papers_in, has_few_records, begun_stages, stopped_stages, occupied_stages}
-use Rattle.permit_model.specs.Sound.{is_done_in, longest_ask, never_fall, has_sound_days, has_sound_text, has_sound_terms}
-use Rattle.permit_sql_rows.specs.Rows.{shown_parcel, shown_interest, shown_file, shown_paper}
-use Rattle.permit_sql_rows.specs.Kept.{IsNamed}
-use Rattle.permit_sql_rows.specs.Typed.{IsParcel, IsInterest, IsFile, IsPaper}
-use Rattle.permit_sql.specs.Tested.{has_role_at, fits_parcel, is_ended, next_tally}
+use Rattle.permit_model.specs.Sound.{is_done_in, longest_ask, has_sound_days, has_sound_text, has_sound_terms}
+use Rattle.permit_sql.specs.Tested.{has_role_at, is_ended}
 use Rattle.permit_sql.specs.declared.tally.Tally.{Tally}
 use Rattle.permit_sql.specs.declared.fault.Fault.{Fault}
 use Rattle.permit_sql.specs.declared.fault.Fault.TheVariants as fault
@@ -104,7 +100,7 @@ holds_of_party t party.Number p = is_numbered (λ (q : Party). q.id) t.parties
 holds_of_party t party.Name p = is_printable p.name
 holds_of_party t party.Role p = true
 holds_of_party t party.Digest p = is_digest p.digest
-holds_of_party t party.Official p = has_party_of t Official p.id
+holds_of_party t party.Official p = not (p.id == 1) || has_party_of t Official 1
 
 -- of a parcel
 abbrev pub holds_of_parcel : Tables → ParcelRule → Parcel → Bool
@@ -146,13 +142,28 @@ holds_of_file t file.Notices f = f.state.notices == length (filter (λ p. p.is_o
 holds_of_file t file.NoticesStage f = (f.state.notices == 0) || is_stage_among begun_stages f.state.stage
 holds_of_file t file.Papers f = (f.state.papers == length (papers_in t f.id)) && nat_le f.state.papers most_papers
 
--- of a paper
+-- the number of the first paper that hasn't the next number
+abbrev pub first_gap : ℕ → List Paper → Option ℕ
+first_gap next [] = None
+first_gap next (p ∷ ps) = if p.number == next then first_gap (next + 1) ps else Some p.number
+
+-- the number of the first paper whose day is before the one that stands before it
+abbrev pub first_fall : ℕ → List Paper → Option ℕ
+first_fall day [] = None
+first_fall day (p ∷ ps) = if nat_le day p.day then first_fall p.day ps else Some p.number
+
+-- whether there is a number, which is this one
+abbrev pub is_that : Option ℕ → ℕ → Bool
+is_that None n = false
+is_that (Some m) n = m == n
+
+-- of a paper; a rule on all papers of a file is broken by the first that is out of their order
 abbrev pub holds_of_paper : Tables → PaperRule → Paper → Bool
 holds_of_paper t paper.File p = has_file t p.file
-holds_of_paper t paper.Number p = is_numbered (λ (q : Paper). q.number) (papers_in t p.file)
+holds_of_paper t paper.Number p = not (is_that (first_gap 1 (papers_in t p.file)) p.number)
 holds_of_paper t paper.Uncounted p = list_all (λ f. not (f.id == p.file) || nat_le p.number f.state.papers) t.files
 holds_of_paper t paper.Twice p = true
-holds_of_paper t paper.EarlyDay p = list_all (λ f. not (f.id == p.file) || never_fall f.state.filed (map (λ q. q.day) (papers_in t f.id))) t.files
+holds_of_paper t paper.EarlyDay p = list_all (λ f. not (f.id == p.file) || not (is_that (first_fall f.state.filed (papers_in t f.id)) p.number)) t.files
 holds_of_paper t paper.LateDay p = nat_le p.day t.desk.last
 holds_of_paper t paper.Author p = has_party t p.author
 holds_of_paper t paper.Sort p = true
@@ -186,43 +197,11 @@ fault_at u p =
     if p.number == u.number + 1 then (if nat_le u.day p.day then fault.File (Some p.file) file.Notices else fault.Paper (Some p.file) (Some p.number) paper.EarlyDay)
     else fault.Paper (Some p.file) (Some p.number) paper.Number
 
--- what is wrong where not all papers or not all open notices of the file were read
-abbrev pub fault_at_end : Tally → Option ℕ → Fault
-fault_at_end u number = fault.File number (if u.number == u.papers then file.Notices else file.Papers)
+-- what is wrong of the file of the number where not all its papers or not all its open notices were read
+abbrev pub fault_at_end : Tally → ℕ → Fault
+fault_at_end u number = fault.File (Some number) (if u.number == u.papers then file.Notices else file.Papers)
 
--- it is wrong of the file of one of the tallies
-abbrev pub IsUnended : List Tally → Fault → Type 0
-IsUnended ts found =
-    (at : ℕ) × (u : Tally) × (slice_get ts at ≡ Some u) × (is_ended u ≡ false)
-    × ((number : Option ℕ) × (found ≡ fault_at_end u number) × (IfSome number (λ n. n ≡ suc at)))
-
--- ---- what a taker tells of the row at which it stops
-
--- the fault is that of the parcel in the row, whose owner isn't among so many parties
-abbrev pub NamesParcel : ℕ → Row → Option Fault → Type 0
-NamesParcel parties row found =
-    (p : Parcel) → IsParcel p → row ≡ shown_parcel p → (fits_parcel parties p ≡ false) × (found ≡ Some (fault.Parcel (Some p.id) parcel.Owner))
-
--- the fault is that of the interest in the row, which breaks the rule
-abbrev pub NamesInterest : (parcels parties : ℕ) → Row → Option Fault → Type 0
-NamesInterest parcels parties row found =
-    (i : Interest) → IsInterest i → row ≡ shown_interest i
-    → (rule : InterestRule) × (fits_interest_rule parcels parties rule i ≡ false) × (found ≡ Some (fault.Interest (Some i.parcel) (Some i.party) rule))
-
--- the fault is that of the file in the row, which breaks the rule
-abbrev pub NamesFile : Option ℕ → List Role → (parcels last : ℕ) → Row → Option Fault → Type 0
-NamesFile upgrade roles parcels last row found =
-    (f : FileRow) → IsFile f → IsNamed upgrade f.id f.state → row ≡ shown_file f
-    → (rule : FileRule) × (fits_file_rule roles parcels last rule f.state ≡ false) × (found ≡ Some (fault.File (Some f.id) rule))
-
--- the fault is that of the paper: it breaks a rule by itself, its file isn't there, or it isn't the next one of its file
-abbrev pub IsPaperFault : (parties last : ℕ) → List Tally → Paper → Option Fault → Type 0
-IsPaperFault parties last before p found =
-    ((rule : PaperRule) × (fits_paper_rule parties last rule p ≡ false) × (found ≡ Some (fault.Paper (Some p.file) (Some p.number) rule)))
-    ⊎ (((slice_get before (p.file - 1) ≡ None) × (found ≡ Some (fault.Paper (Some p.file) (Some p.number) paper.File)))
-    ⊎ ((u : Tally) × (slice_get before (p.file - 1) ≡ Some u) × (next_tally p (Some u) ≡ None) × (found ≡ Some (fault_at u p))))
-
--- the fault is that of the paper in the row, but where memory was refused
-abbrev pub NamesPaper : (parties last : ℕ) → List Tally → Row → Option Fault → Bool → Type 0
-NamesPaper parties last before row found lacks_memory =
-    (p : Paper) → IsPaper p → row ≡ shown_paper p → IsPaperFault parties last before p found ⊎ IsTrue lacks_memory
+-- it is wrong of the first such file, of files that are numbered from this number on
+abbrev pub unended_from : ℕ → List Tally → Option Fault
+unended_from number [] = None
+unended_from number (u ∷ us) = if is_ended u then unended_from (suc number) us else Some (fault_at_end u number)

@@ -1,5 +1,5 @@
 -- What contracts see of a store over SQLite.
-use Rattle.std.specs.Prelude.{◌≡◌, ℕ, Option}
+use Rattle.std.specs.Prelude.{◌≡◌, ℕ, Bool, false, Option, Result, Ok, Err}
 use Rattle.sqlite_trees.specs.View.{doubt}
 use Rattle.sqlite_trees.specs.Tree.{Trees}
 use Rattle.sqlite.specs.Effect.{Database}
@@ -30,3 +30,9 @@ Outlasts old new t made = Keeps t old.now → Survives old new (λ trees. made (
 -- what a crash at this moment may leave is exactly what it shows
 abbrev pub Lasts : State → Type 0
 Lasts s = (db : Trees) → s.may_leave db → db ≡ s.now.trees
+
+-- Whether the last commit failed, and no request has begun with a success since: a call that a request may begin with clears
+-- it where it succeeds.
+abbrev pub suspect_after : {A E : Type 0} → Result A E → Bool → Bool
+suspect_after (Ok a) was = false
+suspect_after (Err e) was = was

@@ -12,6 +12,7 @@ ghost use Rattle.permit_sql_rows.specs.Typed.{firsts, IsParty, IsParcel};
 ghost use Rattle.permit_sql.specs.Taken.{TookRows};
 ghost use Rattle.permit_sql.specs.Found.{TookTable, TakesNumbered, TakesInterest, RefusesNumbered, RefusesInterest, HasParties, HasParcels, HasInterests};
 ghost use Rattle.permit_sql.specs.Frames.{OverTyped, LeavesRows, LeavesOverCrash};
+ghost use Rattle.permit_sql_statements.specs.Frames.{IsOpenAfter};
 
 use crate::each::{Taker, each_row};
 use crate::texts::{EACH_INTEREST, EACH_PARCEL, EACH_PARTY};
@@ -39,6 +40,7 @@ pub(crate) fn takes_all<S: Alter, T: Taker>(
         × TookTable T.Taker.took S.Store sql.now conn.old conn.new taker.old taker.new) }
     ensures handed { HasCleanDisk (state S.Store conn.new)
         → IfOk result (λ all. TookRows T.Taker.took S.Store sql.now [] conn.old conn.new taker.old taker.new all) }
+    ensures open { IsOpenAfter S.Store conn.new result }
     ensures left { LeavesRows S.Store conn.old conn.new }
     ensures crash { LeavesOverCrash S.Store conn.old conn.new }
     ensures not_in_transaction { conn.new.in_transaction ≡ false }
@@ -159,6 +161,7 @@ pub(crate) fn check_parties<S: Alter>(
         → IfOk result (λ good. IsTrue good → HasParties count ((state S.Store conn.old).now.trees 1)) }
     ensures kept { HasCleanDisk (state S.Store conn.new)
         → OverTyped S.Store edition conn.old (λ t. count ≡ t.desk.parties → IfOk result IsTrue) }
+    ensures open { IsOpenAfter S.Store conn.new result }
     ensures left { LeavesRows S.Store conn.old conn.new }
     ensures crash { LeavesOverCrash S.Store conn.old conn.new }
     ensures not_in_transaction { conn.new.in_transaction ≡ false }
@@ -182,6 +185,7 @@ pub(crate) fn check_parcels<S: Alter>(
         → IfOk result (λ good. IsTrue good → HasParcels count ((state S.Store conn.old).now.trees 3)) }
     ensures kept { HasCleanDisk (state S.Store conn.new)
         → OverTyped S.Store edition conn.old (λ t. count ≡ t.desk.parcels → IfOk result IsTrue) }
+    ensures open { IsOpenAfter S.Store conn.new result }
     ensures left { LeavesRows S.Store conn.old conn.new }
     ensures crash { LeavesOverCrash S.Store conn.old conn.new }
     ensures not_in_transaction { conn.new.in_transaction ≡ false }
@@ -224,6 +228,7 @@ pub(crate) fn check_interests<S: Alter>(conn: &mut Connection<S>, edition: Editi
     ensures good { HasCleanDisk (state S.Store conn.new)
         → IfOk result (λ good. IsTrue good → HasInterests ((state S.Store conn.old).now.trees 5)) }
     ensures kept { HasCleanDisk (state S.Store conn.new) → OverTyped S.Store edition conn.old (λ t. IfOk result IsTrue) }
+    ensures open { IsOpenAfter S.Store conn.new result }
     ensures left { LeavesRows S.Store conn.old conn.new }
     ensures crash { LeavesOverCrash S.Store conn.old conn.new }
     ensures not_in_transaction { conn.new.in_transaction ≡ false }

@@ -6,6 +6,7 @@ ghost use Rattle.sqlite.specs.Held.{state};
 ghost use Rattle.permit_sql.specs.Found.{TakesFile, TakesPaper, TakesRowid, RefusesFile, RefusesPaper, RefusesRowid};
 ghost use Rattle.permit_sql.specs.Found.{IsLater, HasFiles, HasPapers, IsApart};
 ghost use Rattle.permit_sql.specs.Frames.{OverTyped, LeavesRows, LeavesOverCrash};
+ghost use Rattle.permit_sql_statements.specs.Frames.{IsOpenAfter};
 
 use crate::check::takes_all;
 use crate::each::Taker;
@@ -66,6 +67,7 @@ pub(crate) fn check_files<S: Alter>(
     ensures counted { IfOk result (λ o. IfSome o (λ counts. length counts.items ≡ count)) }
     ensures kept { HasCleanDisk (state S.Store conn.new)
         → OverTyped S.Store edition conn.old (λ t. count ≡ t.desk.files → t.upgrade ≡ upgrade → IfOk result (λ o. IsSomeAnd o (λ counts. counts.items ≡ map (λ f. f.state.papers) t.files))) }
+    ensures open { IsOpenAfter S.Store conn.new result }
     ensures left { LeavesRows S.Store conn.old conn.new }
     ensures crash { LeavesOverCrash S.Store conn.old conn.new }
     ensures not_in_transaction { conn.new.in_transaction ≡ false }
@@ -152,6 +154,7 @@ pub(crate) fn check_papers<S: Alter>(
         → IfOk result (λ good. IsTrue good → HasPapers counts.items ((state S.Store conn.old).now.trees 8)) }
     ensures kept { HasCleanDisk (state S.Store conn.new)
         → OverTyped S.Store edition conn.old (λ t. counts.items ≡ map (λ f. f.state.papers) t.files → IfOk result IsTrue) }
+    ensures open { IsOpenAfter S.Store conn.new result }
     ensures left { LeavesRows S.Store conn.old conn.new }
     ensures crash { LeavesOverCrash S.Store conn.old conn.new }
     ensures not_in_transaction { conn.new.in_transaction ≡ false }
@@ -200,7 +203,7 @@ pub(crate) fn check_rowids<S: Alter>(conn: &mut Connection<S>, edition: Edition)
     ensures good { HasCleanDisk (state S.Store conn.new)
         → IfOk result (λ good. IsTrue good → IsApart ((state S.Store conn.old).now.trees 8)) }
     ensures kept { HasCleanDisk (state S.Store conn.new) → OverTyped S.Store edition conn.old (λ t. IfOk result IsTrue) }
-    ensures open { HasCleanDisk (state S.Store conn.new) → IfOk result (λ good. IsTrue good → IsTrue (state S.Store conn.new).is_open) }
+    ensures open { IsOpenAfter S.Store conn.new result }
     ensures left { LeavesRows S.Store conn.old conn.new }
     ensures crash { LeavesOverCrash S.Store conn.old conn.new }
     ensures not_in_transaction { conn.new.in_transaction ≡ false }

@@ -9,6 +9,7 @@ ghost use Rattle.sqlite.specs.Given.{IsPlain};
 ghost use Rattle.sqlite.specs.Listing.{understood};
 ghost use Rattle.permit_sql.specs.Taken.{TookRows};
 ghost use Rattle.permit_sql.specs.Frames.{LeavesRows, LeavesOverCrash};
+ghost use Rattle.permit_sql_statements.specs.Frames.{IsOpenAfter};
 
 use sqlite::{Alter, Connection, Error, ErrorCode, Row};
 use sqlite_value::value::ValueRef;
@@ -32,6 +33,7 @@ pub fn each_row<S: Alter, T: Taker>(
     requires plain { IsPlain (understood conn.old.schema sql.now) }
     ensures ok { HasCleanDisk (state S.Store conn.new)
         → IfOk result (λ all. TookRows T.Taker.took S.Store sql.now (bound params.now) conn.old conn.new taker.old taker.new all) }
+    ensures open { IsOpenAfter S.Store conn.new result }
     ensures left { LeavesRows S.Store conn.old conn.new }
     ensures crash { LeavesOverCrash S.Store conn.old conn.new }
     ensures not_in_transaction { conn.new.in_transaction ≡ false }

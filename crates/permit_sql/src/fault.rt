@@ -1,5 +1,10 @@
 //! The first place at which tables aren't sound, in words. None of them is a name, a text, a token or a digest.
 
+ghost use Rattle.std.specs.Prelude.{◌≡◌, Some};
+ghost use Rattle.std.specs.Fmt.{WritesOnOk};
+ghost use Rattle.permit_sql.specs.FaultText.{row_text, pair_text, fault_text};
+ghost use Rattle.permit_sql.specs.FaultText.{desk_words, upgrade_words, party_words, parcel_words, interest_words, file_words, paper_words};
+
 use std::fmt;
 
 /// A row, and what is wrong with it. A row whose number can't be read is told by its table alone.
@@ -51,7 +56,9 @@ pub enum DeskRule {
 
 impl DeskRule {
     /// What is wrong, in words.
-    pub fn words(self) -> &'static str {
+    pub fn words(self) -> &'static str
+        ensures { result.now ≡ desk_words self }
+    {
         match self {
             DeskRule::Row => "there isn't one row, of number 1 and version 2",
             DeskRule::Last => "last isn't from 1 to 100000",
@@ -72,7 +79,9 @@ pub enum UpgradeRule {
 
 impl UpgradeRule {
     /// What is wrong, in words.
-    pub fn words(self) -> &'static str {
+    pub fn words(self) -> &'static str
+        ensures { result.now ≡ upgrade_words self }
+    {
         match self {
             UpgradeRule::Row => "there isn't one row, of number 1",
             UpgradeRule::Files => "files isn't from 0 to the files of the desk",
@@ -92,7 +101,9 @@ pub enum PartyRule {
 
 impl PartyRule {
     /// What is wrong, in words.
-    pub fn words(self) -> &'static str {
+    pub fn words(self) -> &'static str
+        ensures { result.now ≡ party_words self }
+    {
         match self {
             PartyRule::Number => "its number isn't the next one",
             PartyRule::Name => "the name isn't a text within its limits",
@@ -114,7 +125,9 @@ pub enum ParcelRule {
 
 impl ParcelRule {
     /// What is wrong, in words.
-    pub fn words(self) -> &'static str {
+    pub fn words(self) -> &'static str
+        ensures { result.now ≡ parcel_words self }
+    {
         match self {
             ParcelRule::Number => "its number isn't the next one",
             ParcelRule::Lot => "the lot isn't a text within its limits",
@@ -133,7 +146,9 @@ pub enum InterestRule {
 
 impl InterestRule {
     /// What is wrong, in words.
-    pub fn words(self) -> &'static str {
+    pub fn words(self) -> &'static str
+        ensures { result.now ≡ interest_words self }
+    {
         match self {
             InterestRule::Parcel => "the parcel isn't there",
             InterestRule::Party => "the party isn't there",
@@ -173,7 +188,9 @@ pub enum FileRule {
 
 impl FileRule {
     /// What is wrong, in words.
-    pub fn words(self) -> &'static str {
+    pub fn words(self) -> &'static str
+        ensures { result.now ≡ file_words self }
+    {
         match self {
             FileRule::Number => "its number isn't the next one",
             FileRule::Parcel => "the parcel isn't there",
@@ -224,7 +241,9 @@ pub enum PaperRule {
 
 impl PaperRule {
     /// What is wrong, in words.
-    pub fn words(self) -> &'static str {
+    pub fn words(self) -> &'static str
+        ensures { result.now ≡ paper_words self }
+    {
         match self {
             PaperRule::File => "the file isn't there",
             PaperRule::Number => "its number isn't the next one",
@@ -249,7 +268,9 @@ fn write_row<W: fmt::Write>(
     table: &str,
     number: Option<u32>,
     rule: &str,
-) -> fmt::Result {
+) -> fmt::Result
+    ensures { WritesOnOk W.write_str_gives f.old result (row_text table.now number rule.now) f.new }
+{
     match number {
         Some(number) => write!(f, "{table} {number}: {rule}"),
         None => write!(f, "{table}: {rule}"),
@@ -262,7 +283,9 @@ fn write_pair<W: fmt::Write>(
     table: &str,
     numbers: (Option<u32>, Option<u32>),
     rule: &str,
-) -> fmt::Result {
+) -> fmt::Result
+    ensures { WritesOnOk W.write_str_gives f.old result (pair_text table.now numbers.0 numbers.1 rule.now) f.new }
+{
     match numbers {
         (Some(one), Some(other)) => write!(f, "{table} {one} {other}: {rule}"),
         _ => write!(f, "{table}: {rule}"),
@@ -270,6 +293,8 @@ fn write_pair<W: fmt::Write>(
 }
 
 impl fmt::Display for Fault {
+    ghost output = { λ fault. Some (fault_text fault) };
+
     fn fmt<W: fmt::Write>(&self, f: &mut fmt::Formatter<W>) -> fmt::Result {
         match self {
             Fault::Desk(rule) => write_row(f, "desk", None, rule.words()),

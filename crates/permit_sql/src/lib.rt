@@ -15,6 +15,7 @@
 
 mod check;
 mod check_files;
+pub mod counts;
 mod each;
 pub mod fault;
 mod open;

@@ -1,6 +1,6 @@
 //! Whether a database is the office's.
 
-ghost use Rattle.std.specs.Prelude.{◌≡◌, ◌≤◌, ◌⊎◌, ℕ, false, IsTrue, IsSome, IfOk, IfErr, IfSome, OnOk, IsPermutation, map, slice_get, Some, [], ◌∷◌};
+ghost use Rattle.std.specs.Prelude.{◌≡◌, ◌≢◌, ◌≤◌, ◌⊎◌, ℕ, false, IsTrue, IsSome, IfOk, IfErr, IfSome, OnOk, Err, IsPermutation, map, slice_get, Some, [], ◌∷◌};
 ghost use Rattle.sqlite_value.specs.Order.{column};
 ghost use Rattle.sqlite.specs.Held.{state};
 ghost use Rattle.sqlite.specs.State.{HasCleanDisk};
@@ -13,7 +13,8 @@ ghost use Rattle.permit_sql_rows.specs.Typed.{firsts, IsDesk};
 ghost use Rattle.permit_sql_rows.specs.Kept.{IsFine};
 ghost use Rattle.permit_sql.specs.Opening.{seen_desk, seen_upgrade, IsOther, HasOtherVersion};
 ghost use Rattle.permit_sql.specs.Found.{HasDesk, HasUpgrade, HasObjects, HasCases, HasSound, KeepsSoundUnder};
-ghost use Rattle.permit_sql.specs.Frames.{OverTyped, LeavesRows, LeavesOverCrash};
+ghost use Rattle.permit_sql.specs.Frames.{OverTyped, LeavesRows, LeavesOverCrash, StaysOpen};
+ghost use Rattle.permit_sql_statements.specs.Frames.{IsOpenAfter};
 
 use crate::check::{check_interests, check_parcels, check_parties};
 use crate::check_files::{check_files, check_papers, check_rowids};
@@ -48,6 +49,7 @@ pub(crate) fn desk_seen<S: Alter>(conn: &mut Connection<S>) -> Got<Vec<Row>>
         → IfOk result (λ rows. IsPermutation (map seen_desk ((state S.Store conn.old).now.trees 0)) rows.items) }
     ensures fine { IsFine (state S.Store conn.new) → IsFine (state S.Store conn.old) }
     ensures same { IsFine (state S.Store conn.new) → (state S.Store conn.new).now ≡ (state S.Store conn.old).now }
+    ensures open { IsOpenAfter S.Store conn.new result }
     ensures crash { LeavesOverCrash S.Store conn.old conn.new }
     ensures not_in_transaction { conn.new.in_transaction ≡ false }
 {
@@ -67,6 +69,7 @@ fn has_other_version<S: Alter>(conn: &mut Connection<S>, edition: Edition) -> Go
         → IfOk result (λ is. IsTrue is) }
     ensures fine { IsFine (state S.Store conn.new) → IsFine (state S.Store conn.old) }
     ensures same { IsFine (state S.Store conn.new) → (state S.Store conn.new).now ≡ (state S.Store conn.old).now }
+    ensures open { IsOpenAfter S.Store conn.new result }
     ensures crash { LeavesOverCrash S.Store conn.old conn.new }
     ensures not_in_transaction { conn.new.in_transaction ≡ false }
 {
@@ -114,6 +117,7 @@ pub(crate) fn find_desk<S: Alter>(conn: &mut Connection<S>, edition: Edition) ->
     ensures now { IfOk result (λ o. IfSome o (λ d. d.edition ≡ edition)) }
     ensures kept { IsFine (state S.Store conn.new)
         → OverTyped S.Store edition conn.old (λ t. IfOk result (λ o. o ≡ Some t.desk)) }
+    ensures open { IsOpenAfter S.Store conn.new result }
     ensures left { LeavesRows S.Store conn.old conn.new }
     ensures crash { LeavesOverCrash S.Store conn.old conn.new }
     ensures not_in_transaction { conn.new.in_transaction ≡ false }
@@ -130,6 +134,7 @@ pub(crate) fn upgrade_seen<S: Alter>(conn: &mut Connection<S>) -> Got<Vec<Row>>
     requires office { (state S.Store conn.old).now.schema ≡ schema_of Second }
     ensures rows { HasCleanDisk (state S.Store conn.new)
         → IfOk result (λ rows. IsPermutation (map seen_upgrade ((state S.Store conn.old).now.trees 18)) rows.items) }
+    ensures open { IsOpenAfter S.Store conn.new result }
     ensures left { LeavesRows S.Store conn.old conn.new }
     ensures crash { LeavesOverCrash S.Store conn.old conn.new }
     ensures not_in_transaction { conn.new.in_transaction ≡ false }
@@ -174,6 +179,7 @@ pub(crate) fn find_upgrade<S: Alter>(
         → IfOk result (λ o. IfSome o (λ upgrade. HasUpgrade edition files upgrade (state S.Store conn.old).now.trees)) }
     ensures kept { IsFine (state S.Store conn.new)
         → OverTyped S.Store edition conn.old (λ t. files ≡ t.desk.files → IfOk result (λ o. o ≡ Some t.upgrade)) }
+    ensures open { StaysOpen S.Store conn.old conn.new result }
     ensures left { LeavesRows S.Store conn.old conn.new }
     ensures crash { LeavesOverCrash S.Store conn.old conn.new }
     ensures not_in_transaction { conn.new.in_transaction ≡ false }
@@ -200,6 +206,7 @@ fn has_sound_objects<S: Alter>(conn: &mut Connection<S>, edition: Edition, desk:
         → IfOk result (λ good. IsTrue good → HasObjects desk (state S.Store conn.old).now.trees) }
     ensures kept { IsFine (state S.Store conn.new)
         → OverTyped S.Store edition conn.old (λ t. desk ≡ t.desk → IfOk result IsTrue) }
+    ensures open { IsOpenAfter S.Store conn.new result }
     ensures left { LeavesRows S.Store conn.old conn.new }
     ensures crash { LeavesOverCrash S.Store conn.old conn.new }
     ensures not_in_transaction { conn.new.in_transaction ≡ false }
@@ -226,7 +233,7 @@ fn has_sound_files<S: Alter>(
         → IfOk result (λ good. IsTrue good → HasCases desk upgrade (state S.Store conn.old).now.trees) }
     ensures kept { IsFine (state S.Store conn.new)
         → OverTyped S.Store edition conn.old (λ t. desk ≡ t.desk → t.upgrade ≡ upgrade → IfOk result IsTrue) }
-    ensures open { HasCleanDisk (state S.Store conn.new) → IfOk result (λ good. IsTrue good → IsTrue (state S.Store conn.new).is_open) }
+    ensures open { IsOpenAfter S.Store conn.new result }
     ensures left { LeavesRows S.Store conn.old conn.new }
     ensures crash { LeavesOverCrash S.Store conn.old conn.new }
     ensures not_in_transaction { conn.new.in_transaction ≡ false }
@@ -243,9 +250,9 @@ fn has_sound_files<S: Alter>(
 /// What an open learns of sound tables.
 #[derive(Clone, Copy)]
 pub(crate) struct Sound {
-    /// How many files there are.
-    pub(crate) files: u32,
-    /// How many there were at the upgrade, if there was one.
+    /// What the desk counts.
+    pub(crate) desk: Desk,
+    /// How many files there were at the upgrade, if there was one.
     pub(crate) upgrade: Option<u32>,
 }
 
@@ -258,9 +265,9 @@ pub(crate) fn find_sound<S: Alter>(
     requires not_in_transaction { conn.old.in_transaction ≡ false }
     requires desk { slice_get (state S.Store conn.old).now.schema.tables 0 ≡ Some desk_table }
     ensures good { IsFine (state S.Store conn.new) → (state S.Store conn.old).now.schema ≡ schema_of edition
-        → IfOk result (λ o. IfSome o (λ s. HasSound edition (state S.Store conn.old).now s.files s.upgrade)) }
+        → IfOk result (λ o. IfSome o (λ s. HasSound edition (state S.Store conn.old).now s.desk s.upgrade)) }
     ensures kept { IsFine (state S.Store conn.new) → KeepsSoundUnder edition (state S.Store conn.old).now → IfOk result (λ o. IsSome o) }
-    ensures open { HasCleanDisk (state S.Store conn.new) → IfOk result (λ o. IsSome o → IsTrue (state S.Store conn.new).is_open) }
+    ensures open { IsOpenAfter S.Store conn.new result }
     ensures left { LeavesRows S.Store conn.old conn.new }
     ensures crash { LeavesOverCrash S.Store conn.old conn.new }
     ensures not_in_transaction { conn.new.in_transaction ≡ false }
@@ -280,10 +287,7 @@ pub(crate) fn find_sound<S: Alter>(
     if !are_sound(conn, alloc, edition, desk, upgrade)? {
         return Ok(None);
     }
-    Ok(Some(Sound {
-        files: desk.files,
-        upgrade,
-    }))
+    Ok(Some(Sound { desk, upgrade }))
 }
 
 /// What the tables tell, where the schema is the edition's and the rows are sound tables; with another schema the
@@ -294,10 +298,13 @@ fn check_tables<S: Alter>(
     edition: Edition,
 ) -> Result<Sound, OpenError>
     requires not_in_transaction { conn.old.in_transaction ≡ false }
-    ensures sound { IsFine (state S.Store conn.new) → IfOk result (λ s. HasSound edition (state S.Store conn.new).now s.files s.upgrade) }
-    ensures damaged { IsFine (state S.Store conn.new)
+    ensures sound { IsFine (state S.Store conn.new) → IfOk result (λ s. HasSound edition (state S.Store conn.new).now s.desk s.upgrade) }
+    ensures damaged { HasCleanDisk (state S.Store conn.new)
         → IfErr result (λ e. e ≡ open_error.Damaged → ¬ KeepsSoundUnder edition (state S.Store conn.old).now) }
-    ensures open { HasCleanDisk (state S.Store conn.new) → OnOk result (IsTrue (state S.Store conn.new).is_open) }
+    ensures schema { IfErr result (λ e. e ≡ open_error.Damaged → (state S.Store conn.old).now.schema ≡ schema_of edition) }
+    ensures open { IsOpenAfter S.Store conn.new result }
+    ensures judged { HasCleanDisk (state S.Store conn.new)
+        → IfErr result (λ e. e ≢ open_error.Store → IsTrue (state S.Store conn.new).is_open) }
     ensures left { LeavesRows S.Store conn.old conn.new }
     ensures refusal { IfErr result (λ e. (e ≡ open_error.Damaged) ⊎ (e ≡ open_error.Store)) }
     ensures crash { LeavesOverCrash S.Store conn.old conn.new }
@@ -321,14 +328,18 @@ fn check_versioned<S: Alter>(
 ) -> Result<Sound, OpenError>
     requires not_in_transaction { conn.old.in_transaction ≡ false }
     requires desk { slice_get (state S.Store conn.old).now.schema.tables 0 ≡ Some desk_table }
-    ensures sound { IsFine (state S.Store conn.new) → IfOk result (λ s. HasSound edition (state S.Store conn.new).now s.files s.upgrade) }
-    ensures damaged { IsFine (state S.Store conn.new)
+    ensures sound { IsFine (state S.Store conn.new) → IfOk result (λ s. HasSound edition (state S.Store conn.new).now s.desk s.upgrade) }
+    ensures damaged { HasCleanDisk (state S.Store conn.new)
         → IfErr result (λ e. e ≡ open_error.Damaged → ¬ KeepsSoundUnder edition (state S.Store conn.old).now) }
+    ensures schema { HasCleanDisk (state S.Store conn.new)
+        → IfErr result (λ e. e ≡ open_error.Damaged → (state S.Store conn.old).now.schema ≡ schema_of edition) }
     ensures version { HasCleanDisk (state S.Store conn.new)
         → IfErr result (λ e. e ≡ open_error.Version → HasOtherVersion edition (state S.Store conn.old).now) }
     ensures told { HasCleanDisk (state S.Store conn.new) → HasOtherVersion edition (state S.Store conn.old).now
         → (result ≡ Err open_error.Version) ⊎ (result ≡ Err open_error.Store) }
-    ensures open { HasCleanDisk (state S.Store conn.new) → OnOk result (IsTrue (state S.Store conn.new).is_open) }
+    ensures open { IsOpenAfter S.Store conn.new result }
+    ensures judged { HasCleanDisk (state S.Store conn.new)
+        → IfErr result (λ e. e ≢ open_error.Store → IsTrue (state S.Store conn.new).is_open) }
     ensures left { LeavesRows S.Store conn.old conn.new }
     ensures refusal { IfErr result (λ e. (e ≡ open_error.Damaged) ⊎ ((e ≡ open_error.Version) ⊎ (e ≡ open_error.Store))) }
     ensures crash { LeavesOverCrash S.Store conn.old conn.new }
@@ -347,16 +358,21 @@ pub(crate) fn check<S: Alter>(
     alloc: Global,
     edition: Edition,
 ) -> Result<Sound, OpenError>
-    ensures sound { IsFine (state S.Store conn.new) → IfOk result (λ s. HasSound edition (state S.Store conn.new).now s.files s.upgrade) }
-    ensures damaged { IsFine (state S.Store conn.new)
+    ensures sound { IsFine (state S.Store conn.new) → IfOk result (λ s. HasSound edition (state S.Store conn.new).now s.desk s.upgrade) }
+    ensures damaged { HasCleanDisk (state S.Store conn.new)
         → IfErr result (λ e. e ≡ open_error.Damaged → ¬ KeepsSoundUnder edition (state S.Store conn.old).now) }
+    ensures schema { HasCleanDisk (state S.Store conn.new)
+        → IfErr result (λ e. e ≡ open_error.Damaged → (state S.Store conn.old).now.schema ≡ schema_of edition) }
     ensures version { HasCleanDisk (state S.Store conn.new)
         → IfErr result (λ e. e ≡ open_error.Version → HasOtherVersion edition (state S.Store conn.old).now) }
     ensures told { HasCleanDisk (state S.Store conn.new) → HasOtherVersion edition (state S.Store conn.old).now
         → (result ≡ Err open_error.Version) ⊎ (result ≡ Err open_error.Store) }
-    ensures open { HasCleanDisk (state S.Store conn.new) → OnOk result (IsTrue (state S.Store conn.new).is_open) }
+    ensures open { IsOpenAfter S.Store conn.new result }
+    ensures judged { HasCleanDisk (state S.Store conn.new)
+        → IfErr result (λ e. e ≢ open_error.Store → IsTrue (state S.Store conn.new).is_open) }
     ensures left { LeavesRows S.Store conn.old conn.new }
     ensures refusal { IfErr result (λ e. (e ≡ open_error.Damaged) ⊎ ((e ≡ open_error.Version) ⊎ (e ≡ open_error.Store))) }
+    ensures busy { IsTrue conn.old.in_transaction → result ≡ Err open_error.Store }
     ensures crash { LeavesOverCrash S.Store conn.old conn.new }
     ensures not_in_transaction { OnOk result (conn.new.in_transaction ≡ false) }
     ensures transaction { conn.new.in_transaction ≡ conn.old.in_transaction }

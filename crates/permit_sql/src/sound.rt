@@ -7,6 +7,7 @@ ghost use Rattle.sqlite.specs.Held.{state};
 ghost use Rattle.permit_sql.specs.Tested.{fits_parcel, fits_interest};
 ghost use Rattle.permit_sql.specs.Passed.{PassesParty, PassesParcel, StopsParcel, PassesInterest, StopsInterest, StopsParty};
 ghost use Rattle.permit_sql.specs.Frames.{OverTyped, LeavesRows, LeavesOverCrash};
+ghost use Rattle.permit_sql_statements.specs.Frames.{IsOpenAfter};
 
 use crate::check::takes_all;
 use crate::each::Taker;
@@ -50,6 +51,7 @@ pub(crate) fn roles_of<S: Alter>(
     requires not_in_transaction { conn.old.in_transaction ≡ false }
     ensures told { HasCleanDisk (state S.Store conn.new)
         → OverTyped S.Store edition conn.old (λ t. IfOk result (λ roles. roles.items ≡ map (λ p. p.role) t.parties)) }
+    ensures open { IsOpenAfter S.Store conn.new result }
     ensures left { LeavesRows S.Store conn.old conn.new }
     ensures crash { LeavesOverCrash S.Store conn.old conn.new }
     ensures not_in_transaction { conn.new.in_transaction ≡ false }
@@ -94,6 +96,7 @@ pub(crate) fn has_owners<S: Alter>(
     requires not_in_transaction { conn.old.in_transaction ≡ false }
     ensures told { HasCleanDisk (state S.Store conn.new)
         → OverTyped S.Store edition conn.old (λ t. IfOk result (λ good. good ≡ list_all (fits_parcel parties) t.parcels)) }
+    ensures open { IsOpenAfter S.Store conn.new result }
     ensures left { LeavesRows S.Store conn.old conn.new }
     ensures crash { LeavesOverCrash S.Store conn.old conn.new }
     ensures not_in_transaction { conn.new.in_transaction ≡ false }
@@ -131,6 +134,7 @@ pub(crate) fn has_declarers<S: Alter>(
     requires not_in_transaction { conn.old.in_transaction ≡ false }
     ensures told { HasCleanDisk (state S.Store conn.new)
         → OverTyped S.Store edition conn.old (λ t. IfOk result (λ good. good ≡ list_all (fits_interest parcels parties) t.interests)) }
+    ensures open { IsOpenAfter S.Store conn.new result }
     ensures left { LeavesRows S.Store conn.old conn.new }
     ensures crash { LeavesOverCrash S.Store conn.old conn.new }
     ensures not_in_transaction { conn.new.in_transaction ≡ false }

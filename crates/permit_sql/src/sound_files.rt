@@ -9,7 +9,8 @@ ghost use Rattle.permit_model.specs.Sound.{IsSoundTables};
 ghost use Rattle.permit_sql_rows.specs.Kept.{IsFine};
 ghost use Rattle.permit_sql.specs.Tested.{fits_file as fits_state, fits_parcels, fits_papers, fits_cases, first_tally};
 ghost use Rattle.permit_sql.specs.Passed.{PassesFile, StopsFile, PassesPaper, StopsPaper};
-ghost use Rattle.permit_sql.specs.Frames.{OverTyped, LeavesRows, LeavesOverCrash};
+ghost use Rattle.permit_sql.specs.Frames.{OverTyped, LeavesRows, LeavesOverCrash, StaysOpen};
+ghost use Rattle.permit_sql_statements.specs.Frames.{IsOpenAfter};
 
 use crate::check::takes_all;
 use crate::each::Taker;
@@ -75,6 +76,7 @@ pub(crate) fn tallies_of<S: Alter>(
         → OverTyped S.Store edition conn.old (λ t. t.upgrade ≡ upgrade
         → IfOk result (λ o. (is_some o ≡ list_all (λ f. fits_state roles.items parcels last f.state) t.files)
         × IfSome o (λ tallies. tallies.items ≡ map (λ f. first_tally f.state) t.files))) }
+    ensures open { IsOpenAfter S.Store conn.new result }
     ensures left { LeavesRows S.Store conn.old conn.new }
     ensures crash { LeavesOverCrash S.Store conn.old conn.new }
     ensures not_in_transaction { conn.new.in_transaction ≡ false }
@@ -148,7 +150,7 @@ pub(crate) fn has_sound_papers<S: Alter>(
         → OverTyped S.Store edition conn.old (λ t. parties ≡ t.desk.parties → last ≡ t.desk.last → tallies.items ≡ map (λ f. first_tally f.state) t.files
         → list_all (λ f. nat_le f.state.papers most_papers) t.files ≡ true
         → IfOk result (λ good. good ≡ fits_papers t)) }
-    ensures open { HasCleanDisk (state S.Store conn.new) → IfOk result (λ good. IsTrue good → IsTrue (state S.Store conn.new).is_open) }
+    ensures open { IsOpenAfter S.Store conn.new result }
     ensures left { LeavesRows S.Store conn.old conn.new }
     ensures crash { LeavesOverCrash S.Store conn.old conn.new }
     ensures not_in_transaction { conn.new.in_transaction ≡ false }
@@ -182,7 +184,7 @@ fn has_sound_cases<S: Alter>(
     ensures told { IsFine (state S.Store conn.new)
         → OverTyped S.Store edition conn.old (λ t. t.desk ≡ desk → t.upgrade ≡ upgrade
         → IfOk result (λ good. good ≡ fits_cases roles.items t)) }
-    ensures open { HasCleanDisk (state S.Store conn.new) → IfOk result (λ good. IsTrue good → IsTrue (state S.Store conn.new).is_open) }
+    ensures open { IsOpenAfter S.Store conn.new result }
     ensures left { LeavesRows S.Store conn.old conn.new }
     ensures crash { LeavesOverCrash S.Store conn.old conn.new }
     ensures not_in_transaction { conn.new.in_transaction ≡ false }
@@ -206,6 +208,7 @@ fn has_sound_parcels<S: Alter>(conn: &mut Connection<S>, edition: Edition, desk:
     requires not_in_transaction { conn.old.in_transaction ≡ false }
     ensures told { IsFine (state S.Store conn.new)
         → OverTyped S.Store edition conn.old (λ t. t.desk ≡ desk → IfOk result (λ good. good ≡ fits_parcels t)) }
+    ensures open { IsOpenAfter S.Store conn.new result }
     ensures left { LeavesRows S.Store conn.old conn.new }
     ensures crash { LeavesOverCrash S.Store conn.old conn.new }
     ensures not_in_transaction { conn.new.in_transaction ≡ false }
@@ -229,6 +232,7 @@ pub(crate) fn are_sound<S: Alter>(
         → OverTyped S.Store edition conn.old (λ t. t.desk ≡ desk → t.upgrade ≡ upgrade
         → IfOk result (λ good. IsTrue good ↔ IsSoundTables t)) }
     ensures open { HasCleanDisk (state S.Store conn.new) → IfOk result (λ good. IsTrue good → IsTrue (state S.Store conn.new).is_open) }
+    ensures stays { StaysOpen S.Store conn.old conn.new result }
     ensures left { LeavesRows S.Store conn.old conn.new }
     ensures crash { LeavesOverCrash S.Store conn.old conn.new }
     ensures not_in_transaction { conn.new.in_transaction ≡ false }

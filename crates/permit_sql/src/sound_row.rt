@@ -2,6 +2,7 @@
 
 ghost use Rattle.std.specs.Prelude.{◌≡◌, nat_le, false, is_none, IfSome, ℕ, List};
 ghost use Rattle.permit_sql.specs.Named.{fits_desk_rule, fits_file_rule, fits_paper_rule};
+ghost use Rattle.permit_sql.specs.First.{first_broken, desk_rules, names_rules, days_rules, work_rules, file_rules, paper_rules};
 ghost use Rattle.permit_base.specs.declared.words.Role.{Role as TheRole};
 ghost use Rattle.permit_base.specs.declared.words.Role.TheVariants.{Official};
 ghost use Rattle.std.specs.List.{list_all};
@@ -30,6 +31,7 @@ use permit_store::rows::{Desk, Paper};
 pub(crate) fn desk_rule(desk: Desk) -> Option<DeskRule>
     ensures none { is_none result ≡ Tested.fits_desk desk }
     ensures broken { IfSome result (λ rule. fits_desk_rule desk rule ≡ false) }
+    ensures exact { result ≡ first_broken (fits_desk_rule desk) desk_rules }
 {
     if desk.last.get() < 1 {
         Some(DeskRule::Last)
@@ -125,6 +127,7 @@ fn is_none_or_most(high: u32, number: Option<u32>) -> bool
 fn names_rule(roles: &[Role], parcels: u32, state: &FileState) -> Option<FileRule>
     ensures none { is_none result ≡ Tested.names_known roles.now parcels state.now }
     ensures broken { IfSome result (λ rule. (last : ℕ) → fits_file_rule roles.now parcels last rule state.now ≡ false) }
+    ensures exact { (last : ℕ) → result ≡ first_broken (λ rule. fits_file_rule roles.now parcels last rule state.now) names_rules }
 {
     if state.parcel().get() > parcels {
         Some(FileRule::Parcel)
@@ -155,6 +158,7 @@ fn number_of_day(day: Option<Day>) -> Option<u32>
 fn days_rule(last: Day, state: &FileState) -> Option<FileRule>
     ensures none { is_none result ≡ Tested.fits_days last state.now }
     ensures broken { IfSome result (λ rule. (roles : List TheRole) (parcels : ℕ) → fits_file_rule roles parcels last rule state.now ≡ false) }
+    ensures exact { (roles : List TheRole) (parcels : ℕ) → result ≡ first_broken (λ rule. fits_file_rule roles parcels last rule state.now) days_rules }
 {
     let filed = state.filed().get();
     if filed < 1 || filed > last.get() {
@@ -309,6 +313,8 @@ fn fits_ask(state: &FileState) -> bool
 fn work_rule(state: &FileState) -> Option<FileRule>
     ensures none { is_none result ≡ Tested.fits_work state.now }
     ensures broken { IfSome result (λ rule. (roles : List TheRole) (parcels last : ℕ) → fits_file_rule roles parcels last rule state.now ≡ false) }
+    ensures exact { (roles : List TheRole) (parcels last : ℕ)
+        → result ≡ first_broken (λ rule. fits_file_rule roles parcels last rule state.now) work_rules }
 {
     let stage = state.stored_stage();
     let required = required_steps(state.edition(), state.kind()).len();
@@ -341,6 +347,7 @@ pub(crate) fn file_rule(
 ) -> Option<FileRule>
     ensures none { is_none result ≡ Tested.fits_file roles.now parcels last state.now }
     ensures broken { IfSome result (λ rule. fits_file_rule roles.now parcels last rule state.now ≡ false) }
+    ensures exact { result ≡ first_broken (λ rule. fits_file_rule roles.now parcels last rule state.now) file_rules }
 {
     if let Some(rule) = names_rule(roles, parcels, state) {
         return Some(rule);
@@ -379,7 +386,7 @@ fn are_printable(bytes: &[u8]) -> bool
 }
 
 /// Whether the text is of a length and letters that the office takes.
-pub(crate) fn is_printable(text: &str) -> bool
+fn is_printable(text: &str) -> bool
     ensures { result ≡ is_printable_text text.now }
 {
     let bytes = text.as_bytes();
@@ -474,6 +481,7 @@ fn is_notice(sort: PaperSort) -> bool
 pub(crate) fn paper_rule(parties: u32, last: Day, paper: &Paper) -> Option<PaperRule>
     ensures none { is_none result ≡ Tested.fits_paper parties last paper.now }
     ensures broken { IfSome result (λ rule. fits_paper_rule parties last rule paper.now ≡ false) }
+    ensures exact { result ≡ first_broken (λ rule. fits_paper_rule parties last rule paper.now) paper_rules }
 {
     if paper.author.get() > parties {
         Some(PaperRule::Author)

@@ -1,6 +1,6 @@
 //! The store over SQL.
 
-ghost use Rattle.std.specs.Prelude.{◌≡◌, ◌==◌, ◌≢◌, ◌⊎◌, false, IsTrue, IfOk, IfErr, OnOk, OnErr, Err, length};
+ghost use Rattle.std.specs.Prelude.{◌≡◌, ◌==◌, ◌≢◌, ◌⊎◌, false, IsTrue, IfOk, IfErr, IsErrAnd, OnOk, OnErr, Err, Some, is_err, length, find, bytes_eq};
 ghost use Rattle.sqlite_trees.specs.View.{doubt};
 ghost use Rattle.sqlite.specs.State.{HasCleanDisk, Survives};
 ghost use Rattle.sqlite.specs.Held.{state};
@@ -14,11 +14,12 @@ ghost use Rattle.permit_store.specs.Founding.{founding};
 ghost use Rattle.permit_store.specs.Counts.{failed_after, handed_after};
 ghost use Rattle.permit_store.specs.Handing.{selected_after};
 ghost use Rattle.permit_store.specs.declared.store.OpenError.TheVariants as open_error;
-ghost use Rattle.permit_sql_rows.specs.Schema.{empty_schema};
+ghost use Rattle.permit_sql_rows.specs.Schema.{empty_schema, office_schema, schema_of};
 ghost use Rattle.permit_sql_rows.specs.Kept.{KeepsUnder, Keeps, Shows, IsFine};
-ghost use Rattle.permit_sql.specs.Seen.{Lasts};
+ghost use Rattle.permit_sql.specs.Seen.{Lasts, suspect_after};
 ghost use Rattle.permit_sql.specs.Opening.{HasOtherVersion};
 ghost use Rattle.permit_sql.specs.Found.{KeepsSound, KeepsSoundUnder};
+ghost use Rattle.permit_sql.specs.Upgrading.{IsUpgraded};
 ghost use Rattle.permit_sql_statements.specs.Founding.{AreCounted};
 
 use crate::open::check;
@@ -89,6 +90,7 @@ impl<S: Alter> SqlStore<S> {
         ensures same { result ≡ got }
         ensures failed { self.new.failed ≡ failed_after got self.old.failed }
         ensures others { (self.new.handed ≡ self.old.handed) × (self.new.commits ≡ self.old.commits) × (self.new.upgrade ≡ self.old.upgrade) }
+        ensures shut { (self.new.is_suspect ≡ self.old.is_suspect) × (self.new.shut ≡ self.old.shut) }
         ensures conn { self.new.conn ≡ self.old.conn }
     {
         if got.is_err() {
@@ -103,6 +105,7 @@ impl<S: Alter> SqlStore<S> {
         ensures handed { self.new.handed ≡ handed_after got self.old.handed }
         ensures failed { self.new.failed ≡ failed_after got self.old.failed }
         ensures others { (self.new.commits ≡ self.old.commits) × (self.new.upgrade ≡ self.old.upgrade) }
+        ensures shut { (self.new.is_suspect ≡ self.old.is_suspect) × (self.new.shut ≡ self.old.shut) }
         ensures conn { self.new.conn ≡ self.old.conn }
     {
         if let Ok(Some(_)) = &got {
@@ -117,6 +120,7 @@ impl<S: Alter> SqlStore<S> {
         ensures handed { self.new.handed ≡ selected_after (λ v. length v.items) got self.old.handed }
         ensures failed { self.new.failed ≡ failed_after got self.old.failed }
         ensures others { (self.new.commits ≡ self.old.commits) × (self.new.upgrade ≡ self.old.upgrade) }
+        ensures shut { (self.new.is_suspect ≡ self.old.is_suspect) × (self.new.shut ≡ self.old.shut) }
         ensures conn { self.new.conn ≡ self.old.conn }
     {
         if let Ok(rows) = &got {
@@ -131,6 +135,8 @@ impl<S: Alter> SqlStore<S> {
         ensures same { result ≡ got }
         ensures failed { self.new.failed ≡ failed_after got self.old.failed }
         ensures others { (self.new.handed ≡ self.old.handed) × (self.new.commits ≡ self.old.commits) × (self.new.upgrade ≡ self.old.upgrade) }
+        ensures suspect { self.new.is_suspect ≡ suspect_after got self.old.is_suspect }
+        ensures shut { self.new.shut ≡ self.old.shut }
         ensures conn { self.new.conn ≡ self.old.conn }
     {
         if got.is_ok() {
@@ -146,6 +152,8 @@ impl<S: Alter> SqlStore<S> {
     /// Sets the flag once a request can't begin behind a commit that failed: a fault of the disk has shut the connection
     /// then, or memory was refused to both. The tables and the counts stay.
     pub fn tell_when_shut(&mut self, shut: Arc<AtomicBool, Global>)
+        ensures shut { self.new.shut ≡ Some shut }
+        ensures suspect { self.new.is_suspect ≡ self.old.is_suspect }
         ensures conn { self.new.conn ≡ self.old.conn }
         ensures upgrade { self.new.upgrade ≡ self.old.upgrade }
         ensures counts { (self.new.handed ≡ self.old.handed) × (self.new.failed ≡ self.old.failed) × (self.new.commits ≡ self.old.commits) }
@@ -175,10 +183,13 @@ impl<S: Alter> SqlStore<S> {
             (λ trees. (db : _) × Keeps (tables (founding founder.now.name founder.now.digest founder.now.day)) db × (trees ≡ db.trees))) }
         ensures same { IfErr result (λ e. IsFine (state S.Store e.0) → (state S.Store e.0).now ≡ (state S.Store conn).now) }
         ensures kept { IfErr result (λ e. Survives (state S.Store conn) (state S.Store e.0)
-            (λ trees. (db : _) × Keeps (tables (founding founder.now.name founder.now.digest founder.now.day)) db × (trees ≡ db.trees))) }
+            (λ trees. ((state S.Store conn).now.schema ≡ empty_schema)
+            × ((db : _) × Keeps (tables (founding founder.now.name founder.now.digest founder.now.day)) db × (trees ≡ db.trees)))) }
+        ensures opened { IfOk result (λ s. HasCleanDisk (state S.Store s.conn) → IsTrue (state S.Store s.conn).is_open) }
         ensures empty { IfOk result (λ _. (state S.Store conn).now.schema ≡ empty_schema) }
         ensures exists { IfErr result (λ e. e.1 ≡ OpenError.Exists → (state S.Store conn).now.schema ≢ empty_schema) }
         ensures told { IfErr result (λ e. conn.in_transaction ≡ false → (state S.Store conn).now.schema ≢ empty_schema → e.1 ≡ OpenError.Exists) }
+        ensures busy { IsTrue conn.in_transaction → IsErrAnd result (λ e. e.1 ≡ open_error.Store) }
         ensures refusal { IfErr result (λ e. (e.1 ≡ open_error.Exists) ⊎ (e.1 ≡ open_error.Store)) }
     {
         founds_sound_tables(founder);
@@ -208,7 +219,8 @@ impl<S: Alter> SqlStore<S> {
     /// It refuses as `Version` where the desk's row says another version than 2, which is tested first; as `Damaged`
     /// only where the rows are no sound tables; and as `Store` where a call
     /// failed or gave a rowid that is no number, memory was refused, a transaction is open, or the database has another
-    /// schema than `create` makes. With a refusal the connection comes back, its database as before.
+    /// schema than `create` makes. What it tells other than `Store` it tells of a connection that is open afterwards. With a
+    /// refusal the connection comes back, its database as before.
     pub fn open(
         alloc: Global,
         conn: Connection<S>,
@@ -216,8 +228,8 @@ impl<S: Alter> SqlStore<S> {
         ensures held { IfOk result (λ s. (t : Tables) → (HasCleanDisk (state S.Store s.conn) → Shows t (state S.Store conn))
             → (⟦<SqlStore<S> as Store>⟧.view s).holds t) }
         ensures opened { IfOk result (λ s. HasCleanDisk (state S.Store s.conn) → IsTrue (state S.Store s.conn).is_open) }
-        ensures sound { IfOk result (λ s. HasCleanDisk (state S.Store s.conn)
-            → IsTrue (state S.Store s.conn).is_open → KeepsSound (state S.Store s.conn).now) }
+        ensures sound { IfOk result (λ s. HasCleanDisk (state S.Store s.conn) → KeepsSound (state S.Store s.conn).now) }
+        ensures left { IfOk result (λ s. HasCleanDisk (state S.Store s.conn) → (state S.Store s.conn).now ≡ (state S.Store conn).now) }
         ensures doubt { IfOk result (λ s. (⟦<SqlStore<S> as Store>⟧.view s).doubt ≡ doubt (state S.Store s.conn).is_clean) }
         ensures counts { IfOk result (λ s. (s.handed ≡ 0) × (s.failed ≡ 0) × (s.commits ≡ 0)) }
         ensures crash { IfOk result (λ s. Survives (state S.Store conn) (state S.Store s.conn) (λ _. ⊥)) }
@@ -227,7 +239,11 @@ impl<S: Alter> SqlStore<S> {
         ensures told { IfErr result (λ e. HasCleanDisk (state S.Store e.0) → HasOtherVersion Second (state S.Store conn).now
             → (e.1 ≡ open_error.Version) ⊎ (e.1 ≡ open_error.Store)) }
         ensures first { IfOk result (λ s. HasCleanDisk (state S.Store s.conn) → ¬ HasOtherVersion Second (state S.Store conn).now) }
-        ensures damaged { IfErr result (λ e. e.1 ≡ open_error.Damaged → IsFine (state S.Store e.0) → ¬ KeepsSound (state S.Store conn).now) }
+        ensures damaged { IfErr result (λ e. e.1 ≡ open_error.Damaged → HasCleanDisk (state S.Store e.0) → ¬ KeepsSound (state S.Store conn).now) }
+        ensures schema { IfErr result (λ e. e.1 ≡ open_error.Damaged → HasCleanDisk (state S.Store e.0)
+            → (state S.Store conn).now.schema ≡ office_schema) }
+        ensures judged { IfErr result (λ e. e.1 ≢ open_error.Store → HasCleanDisk (state S.Store e.0) → IsTrue (state S.Store e.0).is_open) }
+        ensures busy { IsTrue conn.in_transaction → IsErrAnd result (λ e. e.1 ≡ open_error.Store) }
         ensures refusal { IfErr result (λ e. (e.1 ≡ open_error.Damaged) ⊎ ((e.1 ≡ open_error.Version) ⊎ (e.1 ≡ open_error.Store))) }
     {
         let mut conn = conn;
@@ -250,13 +266,16 @@ impl<S: Alter> SqlStore<S> {
     /// entry of the upgrade, which are sound. It gives the count of files, which keep to the first edition of the
     /// inspections for good. It refuses as `Version` where the desk's row says another version than 1, which is tested
     /// first; as `Damaged` only where the rows are no sound tables; and as `Store` where a call failed, memory was
-    /// refused, a transaction is open, or the database has another schema than that version's. With a refusal the
-    /// database is as before. A crash inside leaves what was there, or the tables after the upgrade whole.
+    /// refused, a transaction is open, or the database has another schema than that version's. What it tells other than
+    /// `Store` it tells of a connection that is open afterwards. With a refusal the database is as before. A crash inside
+    /// leaves what was there, or, where those were sound tables, the tables after the upgrade whole.
     pub fn upgrade(alloc: Global, conn: &mut Connection<S>) -> Result<u32, OpenError>
         ensures made { HasCleanDisk (state S.Store conn.new) → (t : Tables) → AreCounted t → KeepsUnder First t (state S.Store conn.old).now
             → IfOk result (λ n. (n ≡ t.desk.files) × Keeps (with_upgrade t) (state S.Store conn.new).now) }
         ensures history { HasCleanDisk (state S.Store conn.new) → (h : History) → IsHistory h → KeepsUnder First (tables h) (state S.Store conn.old).now
             → IfOk result (λ n. (n ≡ length (case_files h)) × Keeps (tables (upgraded h)) (state S.Store conn.new).now) }
+        ensures tested { HasCleanDisk (state S.Store conn.new)
+            → IfOk result (λ files. IsUpgraded files (state S.Store conn.old).now (state S.Store conn.new).now) }
         ensures sound { HasCleanDisk (state S.Store conn.new) → OnOk result (KeepsSound (state S.Store conn.new).now) }
         ensures opened { HasCleanDisk (state S.Store conn.new) → OnOk result (IsTrue (state S.Store conn.new).is_open) }
         ensures same { IsFine (state S.Store conn.new) → OnErr result ((state S.Store conn.new).now ≡ (state S.Store conn.old).now) }
@@ -264,17 +283,26 @@ impl<S: Alter> SqlStore<S> {
             → IfErr result (λ e. e ≡ open_error.Version → HasOtherVersion First (state S.Store conn.old).now) }
         ensures told { HasCleanDisk (state S.Store conn.new) → HasOtherVersion First (state S.Store conn.old).now
             → (result ≡ Err open_error.Version) ⊎ (result ≡ Err open_error.Store) }
-        ensures damaged { IsFine (state S.Store conn.new)
+        ensures again { HasCleanDisk (state S.Store conn.new) → (t : Tables) → Keeps t (state S.Store conn.old).now
+            → (result ≡ Err open_error.Version) ⊎ (result ≡ Err open_error.Store) }
+        ensures damaged { HasCleanDisk (state S.Store conn.new)
             → IfErr result (λ e. e ≡ open_error.Damaged → ¬ KeepsSoundUnder First (state S.Store conn.old).now) }
+        ensures schema { HasCleanDisk (state S.Store conn.new)
+            → IfErr result (λ e. e ≡ open_error.Damaged → (state S.Store conn.old).now.schema ≡ schema_of First) }
+        ensures judged { HasCleanDisk (state S.Store conn.new)
+            → IfErr result (λ e. e ≢ open_error.Store → IsTrue (state S.Store conn.new).is_open) }
+        ensures busy { IsTrue conn.old.in_transaction → result ≡ Err open_error.Store }
         ensures refusal { IfErr result (λ e. (e ≡ open_error.Damaged) ⊎ ((e ≡ open_error.Version) ⊎ (e ≡ open_error.Store))) }
         ensures crash { Survives (state S.Store conn.old) (state S.Store conn.new)
-            (λ trees. (t : Tables) → AreCounted t → KeepsUnder First t (state S.Store conn.old).now
-            → (db : _) × Keeps (with_upgrade t) db × (trees ≡ db.trees)) }
+            (λ trees. KeepsSoundUnder First (state S.Store conn.old).now
+            × ((t : Tables) → AreCounted t → KeepsUnder First t (state S.Store conn.old).now
+            → (db : _) × Keeps (with_upgrade t) db × (trees ≡ db.trees))) }
         ensures transaction { conn.new.in_transaction ≡ conn.old.in_transaction }
     {
         let sound = check(conn, alloc, Edition::First)?;
-        match upgrade_in(conn, sound.files) {
-            Ok(()) => Ok(sound.files),
+        let files = sound.desk.files;
+        match upgrade_in(conn, files) {
+            Ok(()) => Ok(files),
             Err(_) => Err(OpenError::Store),
         }
     }
@@ -304,17 +332,32 @@ impl<S: Alter> SqlStore<S> {
 impl<S: Alter> Store for SqlStore<S> {
     ghost use Rattle.sqlite.specs.Held.{state};
     ghost use Rattle.permit_sql.specs.Seen.{seen, Outlasts};
+    ghost use Rattle.permit_store.specs.Changes.{changed, Fits};
+    ghost use Rattle.permit_store.specs.Frames.{IsCommit, IsRead, OverTables};
 
     ghost view = { λ s. seen (state S.Store s.conn) s.upgrade s.handed s.failed s.commits };
 
     ghost crash = { λ old new t made. Outlasts (state S.Store old.conn) (state S.Store new.conn) t made };
 
-    fn desk(&mut self) -> Got<Desk> {
+    fn desk(&mut self) -> Got<Desk>
+        ensures found { OverTables (⟦<SqlStore<S> as Store>⟧.view self.old) (⟦<SqlStore<S> as Store>⟧.view self.new) (λ t. IfOk result (λ d. d ≡ t.desk)) }
+        ensures read { IsRead (⟦<SqlStore<S> as Store>⟧.view self.old) (⟦<SqlStore<S> as Store>⟧.view self.new) result }
+        ensures crash { (t : Tables) → ⟦<SqlStore<S> as Store>⟧.crash self.old self.new t (λ _. ⊥) }
+        ensures suspect { self.new.is_suspect ≡ suspect_after result self.old.is_suspect }
+        ensures shut { self.new.shut ≡ self.old.shut }
+    {
         let got = read_desk(&mut self.conn);
         self.counted_first(got)
     }
 
-    fn party_by_token(&mut self, digest: &Digest) -> Got<Option<Party>> {
+    fn party_by_token(&mut self, digest: &Digest) -> Got<Option<Party>>
+        ensures found { OverTables (⟦<SqlStore<S> as Store>⟧.view self.old) (⟦<SqlStore<S> as Store>⟧.view self.new)
+            (λ t. IfOk result (λ p. p ≡ find (λ p. bytes_eq p.digest digest.now) t.parties)) }
+        ensures read { IsRead (⟦<SqlStore<S> as Store>⟧.view self.old) (⟦<SqlStore<S> as Store>⟧.view self.new) result }
+        ensures crash { (t : Tables) → ⟦<SqlStore<S> as Store>⟧.crash self.old self.new t (λ _. ⊥) }
+        ensures suspect { self.new.is_suspect ≡ suspect_after result self.old.is_suspect }
+        ensures shut { self.new.shut ≡ self.old.shut }
+    {
         let got = find_party(&mut self.conn, digest);
         self.counted_first(got)
     }
@@ -417,7 +460,15 @@ impl<S: Alter> Store for SqlStore<S> {
         self.counted(took_all)
     }
 
-    fn commit(&mut self, change: &Change<'_>, day: Day) -> Got<()> {
+    fn commit(&mut self, change: &Change<'_>, day: Day) -> Got<()>
+        ensures made { (t : Tables) → (⟦<SqlStore<S> as Store>⟧.view self.old).holds t → Fits t change.now day
+            → OnOk result ((⟦<SqlStore<S> as Store>⟧.view self.new).holds (changed t change.now day)) }
+        ensures commit { IsCommit (⟦<SqlStore<S> as Store>⟧.view self.old) (⟦<SqlStore<S> as Store>⟧.view self.new) result }
+        ensures crash { (t : Tables) → Fits t change.now day
+            → ⟦<SqlStore<S> as Store>⟧.crash self.old self.new t (λ left. left (changed t change.now day)) }
+        ensures suspect { self.new.is_suspect ≡ is_err result }
+        ensures shut { self.new.shut ≡ self.old.shut }
+    {
         self.commits = self.commits.wrapping_add(1);
         let got = commit_in(&mut self.conn, change, day);
         self.is_suspect = got.is_err();

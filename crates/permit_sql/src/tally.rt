@@ -1,9 +1,9 @@
 //! What is told of a file while its papers are read.
 
-ghost use Rattle.std.specs.Prelude.{◌≡◌, Some, IfSome};
+ghost use Rattle.std.specs.Prelude.{◌≡◌, ◌<◌, ◌^◌, length, Some};
 ghost use Rattle.std.specs.List.{list_all};
 ghost use Rattle.permit_sql.specs.Tested.{first_tally, next_tally, is_ended};
-ghost use Rattle.permit_sql.specs.Named.{fault_at, fault_at_end, IsUnended};
+ghost use Rattle.permit_sql.specs.Named.{fault_at, fault_at_end, unended_from};
 
 use crate::fault::{Fault, FileRule, PaperRule};
 use permit_core::state::FileState;
@@ -77,7 +77,7 @@ impl Tally {
     }
 
     /// What is wrong of the file where not all papers or not all open notices were read.
-    fn fault_at_end(self, file: Option<u32>) -> Fault
+    fn fault_at_end(self, file: u32) -> Fault
         ensures { result ≡ fault_at_end self file }
     {
         let rule = if self.number == u32::from(self.papers) {
@@ -85,7 +85,10 @@ impl Tally {
         } else {
             FileRule::Papers
         };
-        Fault::File { number: file, rule }
+        Fault::File {
+            number: Some(file),
+            rule,
+        }
     }
 
     /// Whether all papers and all open notices were read.
@@ -103,10 +106,18 @@ pub(crate) fn are_ended(tallies: &[Tally]) -> bool
     tallies.iter().all(|tally| tally.is_ended())
 }
 
-/// What is wrong of the first file of which not all papers or not all open notices were read.
-pub(crate) fn first_unended(tallies: &[Tally]) -> Option<Fault>
-    ensures { IfSome result (IsUnended tallies.now) }
+/// What is wrong of the first file of which not all papers or not all open notices were read. The files are numbered from 1.
+pub(crate) fn first_unended(mut tallies: &[Tally]) -> Option<Fault>
+    ensures { length tallies.entry.now < 2 ^ 32 → result ≡ unended_from 1 tallies.entry.now }
 {
-    let at = tallies.iter().position(|tally| !tally.is_ended())?;
-    Some(tallies[at].fault_at_end(u32::try_from(at + 1).ok()))
+    let mut number = 1usize;
+    'tallies: while let [tally, more @ ..] = tallies {
+        if !tally.is_ended() {
+            let file = u32::try_from(number).unwrap_or(u32::MAX);
+            return Some(tally.fault_at_end(file));
+        }
+        number = number.saturating_add(1);
+        tallies = more;
+    }
+    None
 }

@@ -7,14 +7,13 @@ ghost use Rattle.permit_sql_rows.specs.Rows.{int};
 use crate::fault::{
     DeskRule, FileRule, InterestRule, PaperRule, ParcelRule, PartyRule, UpgradeRule,
 };
-use crate::sound_row::{is_begun, is_done_in, is_printable, is_stoppable};
+use crate::sound_row::{is_begun, is_done_in, is_stoppable};
 use permit_base::limits::{LATEST_DAY, MOST_CENTS, MOST_DAYS, MOST_PAPERS, MOST_RECORDS};
 use permit_base::values::Digest;
 use permit_base::words::{Edition, Kind, PaperSort, Role, Stage, Step, Word};
 use permit_core::steps::required_steps;
-use permit_sql_rows::fields::whole_number;
+use permit_sql_rows::fields::{has_text, string_in, whole_number};
 use sqlite::Row;
-use sqlite_value::value::ValueRef;
 
 /// The greatest number of a party, a parcel or a file.
 const MOST: i64 = MOST_RECORDS as i64;
@@ -50,22 +49,6 @@ pub(crate) fn number_in(row: &Row, at: usize) -> Option<u32>
     ensures { (n : ℕ) → n < 2 ^ 32 → column row.now at ≡ int n → result ≡ Some n }
 {
     u32::try_from(whole_number(row, at)?).ok()
-}
-
-/// The text in a column, where it is one in UTF-8.
-fn text_in(row: &Row, at: usize) -> Option<&str> {
-    match row.get_ref(at) {
-        Ok(ValueRef::Text(bytes)) => str::from_utf8(bytes).ok(),
-        _ => None,
-    }
-}
-
-/// Whether a column has a text within its limits.
-fn has_text(row: &Row, at: usize) -> bool {
-    match text_in(row, at) {
-        Some(text) => is_printable(text),
-        None => false,
-    }
 }
 
 /// A rule that a row breaks which isn't a desk's.
@@ -232,7 +215,7 @@ pub(crate) fn paper_rule(row: &Row) -> PaperRule {
     ];
     match first_outside(row, &columns) {
         Some(rule) => rule,
-        None if text_in(row, 6).is_none() => PaperRule::Text,
+        None if string_in(row, 6).is_none() => PaperRule::Text,
         None => PaperRule::Terms,
     }
 }

@@ -1,11 +1,14 @@
 //! The first of typed parcels, interests and files that isn't sound.
 
-ghost use Rattle.std.specs.Prelude.{◌≡◌, false, map, is_none, IsTrue, MatchBool, IfOk, IfSome};
-ghost use Rattle.std.specs.List.{list_all};
+ghost use Rattle.std.specs.Prelude.{◌≡◌, false, map, MatchBool, IsTrue, IfOk, IfSome};
 ghost use Rattle.sqlite.specs.State.{HasCleanDisk};
 ghost use Rattle.sqlite.specs.Held.{state};
-ghost use Rattle.permit_sql.specs.Tested.{fits_parcel, fits_interest, fits_file as fits_state};
-ghost use Rattle.permit_sql.specs.Named.{breaks, NamesParcel, NamesInterest, NamesFile};
+ghost use Rattle.permit_sql_rows.specs.Rows.{shown_parcel, shown_interest, shown_file};
+ghost use Rattle.permit_sql_rows.specs.Typed.{IsParcel, IsInterest};
+ghost use Rattle.permit_sql.specs.Found.{IsGoodFile};
+ghost use Rattle.permit_sql.specs.Named.{breaks};
+ghost use Rattle.permit_sql.specs.First.{of_parcel, of_interest, of_file, first_in, IsFirstInterest, Passes, Names};
+ghost use Rattle.permit_sql_statements.specs.Frames.{IsOpenAfter};
 ghost use Rattle.permit_sql.specs.Frames.{OverTyped, LeavesRows, LeavesOverCrash};
 
 use crate::check::takes_all;
@@ -28,7 +31,9 @@ struct Owned {
 }
 
 impl Taker for Owned {
-    ghost took = { λ a row b good. MatchBool good (b.parties ≡ a.parties) (NamesParcel a.parties row b.fault) };
+    ghost took = { λ a row b good. MatchBool good
+        ((b.parties ≡ a.parties) × Passes IsParcel shown_parcel (of_parcel a.parties) row)
+        (Names IsParcel shown_parcel (of_parcel a.parties) row b.fault) };
 
     fn take(&mut self, row: &Row) -> bool {
         let Some(owner) = owner_in(row) else {
@@ -54,6 +59,9 @@ pub(crate) fn parcel_fault<S: Alter>(
     requires not_in_transaction { conn.old.in_transaction ≡ false }
     ensures named { HasCleanDisk (state S.Store conn.new)
         → OverTyped S.Store edition conn.old (λ t. parties ≡ t.desk.parties → IfOk result (λ o. IfSome o (λ fault. IsTrue (breaks t fault)))) }
+    ensures first { HasCleanDisk (state S.Store conn.new)
+        → OverTyped S.Store edition conn.old (λ t. IfOk result (λ o. o ≡ first_in (of_parcel parties) t.parcels)) }
+    ensures open { IsOpenAfter S.Store conn.new result }
     ensures left { LeavesRows S.Store conn.old conn.new }
     ensures crash { LeavesOverCrash S.Store conn.old conn.new }
     ensures not_in_transaction { conn.new.in_transaction ≡ false }
@@ -77,7 +85,9 @@ struct Declared {
 }
 
 impl Taker for Declared {
-    ghost took = { λ a row b good. MatchBool good ((b.parcels ≡ a.parcels) × (b.parties ≡ a.parties)) (NamesInterest a.parcels a.parties row b.fault) };
+    ghost took = { λ a row b good. MatchBool good
+        ((b.parcels ≡ a.parcels) × (b.parties ≡ a.parties) × Passes IsInterest shown_interest (of_interest a.parcels a.parties) row)
+        (Names IsInterest shown_interest (of_interest a.parcels a.parties) row b.fault) };
 
     fn take(&mut self, row: &Row) -> bool {
         let Some((parcel, party)) = interest_in(row) else {
@@ -110,6 +120,9 @@ pub(crate) fn interest_fault<S: Alter>(
     ensures named { HasCleanDisk (state S.Store conn.new)
         → OverTyped S.Store edition conn.old (λ t. parcels ≡ t.desk.parcels → parties ≡ t.desk.parties
         → IfOk result (λ o. IfSome o (λ fault. IsTrue (breaks t fault)))) }
+    ensures first { HasCleanDisk (state S.Store conn.new)
+        → OverTyped S.Store edition conn.old (λ t. IfOk result (IsFirstInterest parcels parties t.interests)) }
+    ensures open { IsOpenAfter S.Store conn.new result }
     ensures left { LeavesRows S.Store conn.old conn.new }
     ensures crash { LeavesOverCrash S.Store conn.old conn.new }
     ensures not_in_transaction { conn.new.in_transaction ≡ false }
@@ -137,8 +150,9 @@ struct Tested {
 
 impl Taker for Tested {
     ghost took = { λ a row b good. MatchBool good
-        ((b.upgrade ≡ a.upgrade) × ((b.roles.items ≡ a.roles.items) × ((b.parcels ≡ a.parcels) × (b.last ≡ a.last))))
-        (NamesFile a.upgrade a.roles.items a.parcels a.last row b.fault) };
+        ((b.upgrade ≡ a.upgrade) × (b.roles.items ≡ a.roles.items) × (b.parcels ≡ a.parcels) × (b.last ≡ a.last)
+        × Passes (IsGoodFile a.upgrade) shown_file (of_file a.roles.items a.parcels a.last) row)
+        (Names (IsGoodFile a.upgrade) shown_file (of_file a.roles.items a.parcels a.last) row b.fault) };
 
     fn take(&mut self, row: &Row) -> bool {
         let Some(state) = state_in(row, self.upgrade) else {
@@ -168,6 +182,9 @@ pub(crate) fn file_fault<S: Alter>(
     ensures named { HasCleanDisk (state S.Store conn.new)
         → OverTyped S.Store edition conn.old (λ t. t.upgrade ≡ upgrade → roles.items ≡ map (λ p. p.role) t.parties → parcels ≡ t.desk.parcels
         → last ≡ t.desk.last → IfOk result (λ o. IfSome o (λ fault. IsTrue (breaks t fault)))) }
+    ensures first { HasCleanDisk (state S.Store conn.new)
+        → OverTyped S.Store edition conn.old (λ t. t.upgrade ≡ upgrade → IfOk result (λ o. o ≡ first_in (of_file roles.items parcels last) t.files)) }
+    ensures open { IsOpenAfter S.Store conn.new result }
     ensures left { LeavesRows S.Store conn.old conn.new }
     ensures crash { LeavesOverCrash S.Store conn.old conn.new }
     ensures not_in_transaction { conn.new.in_transaction ≡ false }

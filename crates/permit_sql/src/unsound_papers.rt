@@ -8,8 +8,9 @@ ghost use Rattle.permit_base.specs.declared.words.Edition.TheVariants.{Second};
 ghost use Rattle.permit_sql_rows.specs.Kept.{IsFine};
 ghost use Rattle.permit_base.specs.Limits.{most_papers};
 ghost use Rattle.permit_sql.specs.Tested.{first_tally};
-ghost use Rattle.permit_sql.specs.Passed.{PassesPaper};
-ghost use Rattle.permit_sql.specs.Named.{breaks, NamesPaper};
+ghost use Rattle.permit_sql.specs.Named.{breaks};
+ghost use Rattle.permit_sql.specs.First.{first_of_papers, ReadsPaper, NamesPaper};
+ghost use Rattle.permit_sql_statements.specs.Frames.{IsOpenAfter};
 ghost use Rattle.permit_sql.specs.Frames.{OverTyped, LeavesRows, LeavesOverCrash};
 
 use crate::check::takes_all;
@@ -52,7 +53,7 @@ fn fault_of(paper: &Paper, rule: PaperRule) -> Fault
 
 impl Taker for Read {
     ghost took = { λ a row b good. MatchBool good
-        (PassesPaper a.parties a.last a.tallies.items row b.tallies.items × ((b.parties ≡ a.parties) × (b.last ≡ a.last)))
+        ((b.parties ≡ a.parties) × (b.last ≡ a.last) × ReadsPaper a.parties a.last a.tallies.items row b.tallies.items)
         (NamesPaper a.parties a.last a.tallies.items row b.fault b.lacks_memory) };
 
     fn take(&mut self, row: &Row) -> bool {
@@ -94,6 +95,10 @@ fn first_of<S: Alter>(
         → OverTyped S.Store Second conn.old (λ t. desk ≡ t.desk → tallies.items ≡ map (λ f. first_tally f.state) t.files
         → list_all (λ f. nat_le f.state.papers most_papers) t.files ≡ true
         → IfOk result (λ o. IfSome o (λ fault. IsTrue (breaks t fault)))) }
+    ensures first { HasCleanDisk (state S.Store conn.new)
+        → OverTyped S.Store Second conn.old (λ t. desk ≡ t.desk → tallies.items ≡ map (λ f. first_tally f.state) t.files
+        → list_all (λ f. nat_le f.state.papers most_papers) t.files ≡ true → IfOk result (λ o. o ≡ first_of_papers t)) }
+    ensures open { IsOpenAfter S.Store conn.new result }
     ensures left { LeavesRows S.Store conn.old conn.new }
     ensures crash { LeavesOverCrash S.Store conn.old conn.new }
     ensures not_in_transaction { conn.new.in_transaction ≡ false }
@@ -127,6 +132,9 @@ pub(crate) fn papers_fault<S: Alter>(
     ensures named { IsFine (state S.Store conn.new)
         → OverTyped S.Store Second conn.old (λ t. desk ≡ t.desk → t.upgrade ≡ upgrade
         → IfOk result (λ o. IfSome o (λ fault. IsTrue (breaks t fault)))) }
+    ensures first { IsFine (state S.Store conn.new)
+        → OverTyped S.Store Second conn.old (λ t. desk ≡ t.desk → t.upgrade ≡ upgrade → IfOk result (λ o. o ≡ first_of_papers t)) }
+    ensures open { IsOpenAfter S.Store conn.new result }
     ensures left { LeavesRows S.Store conn.old conn.new }
     ensures crash { LeavesOverCrash S.Store conn.old conn.new }
     ensures not_in_transaction { conn.new.in_transaction ≡ false }

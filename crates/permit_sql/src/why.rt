@@ -4,13 +4,16 @@
 //! of their table's type, numbers with gaps, and counts; and then, where they are typed, for what they say together.
 
 ghost use Rattle.std.specs.Prelude.{◌≡◌, false, true, map, None, Some, IsTrue, IfOk, IfSome, IsSome};
+ghost use Rattle.sqlite.specs.State.{HasCleanDisk};
 ghost use Rattle.sqlite.specs.Held.{state};
 ghost use Rattle.permit_base.specs.declared.words.Edition.TheVariants.{Second};
 ghost use Rattle.permit_sql_rows.specs.Kept.{IsFine};
 ghost use Rattle.permit_sql.specs.Found.{KeepsSound};
 ghost use Rattle.permit_sql.specs.Tested.{fits_desk};
 ghost use Rattle.permit_sql.specs.Named.{breaks};
-ghost use Rattle.permit_sql.specs.Frames.{OverTyped, LeavesRows, LeavesOverCrash};
+ghost use Rattle.permit_sql.specs.First.{or_else, first_of_parcels, first_of_interests, first_of_files, first_of_papers, first_of_rows, IsFirst, IsFirstWith};
+ghost use Rattle.permit_sql_statements.specs.Frames.{IsOpenAfter};
+ghost use Rattle.permit_sql.specs.Frames.{OverTyped, LeavesRows, LeavesOverCrash, StaysOpen};
 
 use crate::check::{check_interests, check_parcels, check_parties};
 use crate::check_files::{check_files, check_papers, check_rowids};
@@ -32,6 +35,7 @@ use std::alloc::Global;
 /// What the rows of the desk break, which aren't one row of a desk.
 fn desk_fault<S: Alter>(conn: &mut Connection<S>) -> Got<Fault>
     requires not_in_transaction { conn.old.in_transaction ≡ false }
+    ensures open { IsOpenAfter S.Store conn.new result }
     ensures left { LeavesRows S.Store conn.old conn.new }
     ensures crash { LeavesOverCrash S.Store conn.old conn.new }
     ensures not_in_transaction { conn.new.in_transaction ≡ false }
@@ -49,6 +53,7 @@ fn desk_fault<S: Alter>(conn: &mut Connection<S>) -> Got<Fault>
 /// What the rows of the upgrade break, which aren't one row of an upgrade, of at most the files of the desk.
 fn upgrade_fault<S: Alter>(conn: &mut Connection<S>) -> Got<Fault>
     requires not_in_transaction { conn.old.in_transaction ≡ false }
+    ensures open { IsOpenAfter S.Store conn.new result }
     ensures left { LeavesRows S.Store conn.old conn.new }
     ensures crash { LeavesOverCrash S.Store conn.old conn.new }
     ensures not_in_transaction { conn.new.in_transaction ≡ false }
@@ -72,6 +77,7 @@ fn untyped_or<S: Alter>(
     other: Fault,
 ) -> Got<Option<Fault>>
     requires not_in_transaction { conn.old.in_transaction ≡ false }
+    ensures open { IsOpenAfter S.Store conn.new result }
     ensures left { LeavesRows S.Store conn.old conn.new }
     ensures crash { LeavesOverCrash S.Store conn.old conn.new }
     ensures not_in_transaction { conn.new.in_transaction ≡ false }
@@ -91,6 +97,7 @@ fn untyped_objects<S: Alter>(
     requires not_in_transaction { conn.old.in_transaction ≡ false }
     ensures typed { IsFine (state S.Store conn.new)
         → OverTyped S.Store Second conn.old (λ t. desk ≡ t.desk → IfOk result (λ o. o ≡ None)) }
+    ensures open { IsOpenAfter S.Store conn.new result }
     ensures left { LeavesRows S.Store conn.old conn.new }
     ensures crash { LeavesOverCrash S.Store conn.old conn.new }
     ensures not_in_transaction { conn.new.in_transaction ≡ false }
@@ -119,6 +126,7 @@ fn untyped_files<S: Alter>(
     requires not_in_transaction { conn.old.in_transaction ≡ false }
     ensures typed { IsFine (state S.Store conn.new)
         → OverTyped S.Store Second conn.old (λ t. desk ≡ t.desk → t.upgrade ≡ upgrade → IfOk result (λ o. o ≡ None)) }
+    ensures open { IsOpenAfter S.Store conn.new result }
     ensures left { LeavesRows S.Store conn.old conn.new }
     ensures crash { LeavesOverCrash S.Store conn.old conn.new }
     ensures not_in_transaction { conn.new.in_transaction ≡ false }
@@ -142,6 +150,7 @@ fn untyped_papers<S: Alter>(
     requires not_in_transaction { conn.old.in_transaction ≡ false }
     ensures typed { IsFine (state S.Store conn.new)
         → OverTyped S.Store Second conn.old (λ t. desk ≡ t.desk → t.upgrade ≡ upgrade → IfOk result (λ o. o ≡ None)) }
+    ensures open { IsOpenAfter S.Store conn.new result }
     ensures left { LeavesRows S.Store conn.old conn.new }
     ensures crash { LeavesOverCrash S.Store conn.old conn.new }
     ensures not_in_transaction { conn.new.in_transaction ≡ false }
@@ -175,6 +184,7 @@ fn untyped<S: Alter>(
     requires not_in_transaction { conn.old.in_transaction ≡ false }
     ensures typed { IsFine (state S.Store conn.new)
         → OverTyped S.Store Second conn.old (λ t. desk ≡ t.desk → t.upgrade ≡ upgrade → IfOk result (λ o. o ≡ None)) }
+    ensures open { IsOpenAfter S.Store conn.new result }
     ensures left { LeavesRows S.Store conn.old conn.new }
     ensures crash { LeavesOverCrash S.Store conn.old conn.new }
     ensures not_in_transaction { conn.new.in_transaction ≡ false }
@@ -193,6 +203,9 @@ fn unsound_parcels<S: Alter>(conn: &mut Connection<S>, desk: Desk) -> Got<Option
     requires not_in_transaction { conn.old.in_transaction ≡ false }
     ensures named { IsFine (state S.Store conn.new)
         → OverTyped S.Store Second conn.old (λ t. desk ≡ t.desk → IfOk result (λ o. IfSome o (λ fault. IsTrue (breaks t fault)))) }
+    ensures first { IsFine (state S.Store conn.new)
+        → OverTyped S.Store Second conn.old (λ t. desk ≡ t.desk → IfOk result (λ o. IsFirstWith t (λ u. or_else (first_of_parcels u) (first_of_interests u)) o)) }
+    ensures open { IsOpenAfter S.Store conn.new result }
     ensures left { LeavesRows S.Store conn.old conn.new }
     ensures crash { LeavesOverCrash S.Store conn.old conn.new }
     ensures not_in_transaction { conn.new.in_transaction ≡ false }
@@ -215,6 +228,10 @@ fn unsound_cases<S: Alter>(
     ensures named { IsFine (state S.Store conn.new)
         → OverTyped S.Store Second conn.old (λ t. desk ≡ t.desk → t.upgrade ≡ upgrade → roles.items ≡ map (λ p. p.role) t.parties
         → IfOk result (λ o. IfSome o (λ fault. IsTrue (breaks t fault)))) }
+    ensures first { IsFine (state S.Store conn.new)
+        → OverTyped S.Store Second conn.old (λ t. desk ≡ t.desk → t.upgrade ≡ upgrade → roles.items ≡ map (λ p. p.role) t.parties
+        → IfOk result (λ o. o ≡ or_else (first_of_files t) (first_of_papers t))) }
+    ensures open { IsOpenAfter S.Store conn.new result }
     ensures left { LeavesRows S.Store conn.old conn.new }
     ensures crash { LeavesOverCrash S.Store conn.old conn.new }
     ensures not_in_transaction { conn.new.in_transaction ≡ false }
@@ -244,6 +261,9 @@ fn unsound_rows<S: Alter>(
     ensures named { IsFine (state S.Store conn.new)
         → OverTyped S.Store Second conn.old (λ t. desk ≡ t.desk → t.upgrade ≡ upgrade
         → IfOk result (λ o. IfSome o (λ fault. IsTrue (breaks t fault)))) }
+    ensures first { IsFine (state S.Store conn.new)
+        → OverTyped S.Store Second conn.old (λ t. desk ≡ t.desk → t.upgrade ≡ upgrade → IfOk result (IsFirstWith t first_of_rows)) }
+    ensures open { IsOpenAfter S.Store conn.new result }
     ensures left { LeavesRows S.Store conn.old conn.new }
     ensures crash { LeavesOverCrash S.Store conn.old conn.new }
     ensures not_in_transaction { conn.new.in_transaction ≡ false }
@@ -272,6 +292,9 @@ fn unsound<S: Alter>(
     ensures named { IsFine (state S.Store conn.new)
         → OverTyped S.Store Second conn.old (λ t. desk ≡ t.desk → t.upgrade ≡ upgrade
         → IfOk result (λ o. IfSome o (λ fault. IsTrue (breaks t fault)))) }
+    ensures first { IsFine (state S.Store conn.new)
+        → OverTyped S.Store Second conn.old (λ t. desk ≡ t.desk → t.upgrade ≡ upgrade → IfOk result (IsFirst t)) }
+    ensures open { StaysOpen S.Store conn.old conn.new result }
     ensures left { LeavesRows S.Store conn.old conn.new }
     ensures crash { LeavesOverCrash S.Store conn.old conn.new }
     ensures not_in_transaction { conn.new.in_transaction ≡ false }
@@ -293,6 +316,9 @@ fn fault_under<S: Alter>(
     ensures named { IsFine (state S.Store conn.new)
         → OverTyped S.Store Second conn.old (λ t. desk ≡ t.desk → t.upgrade ≡ upgrade
         → IfOk result (λ o. IfSome o (λ fault. IsTrue (breaks t fault)))) }
+    ensures first { IsFine (state S.Store conn.new)
+        → OverTyped S.Store Second conn.old (λ t. desk ≡ t.desk → t.upgrade ≡ upgrade → IfOk result (IsFirst t)) }
+    ensures open { IsOpenAfter S.Store conn.new result }
     ensures left { LeavesRows S.Store conn.old conn.new }
     ensures crash { LeavesOverCrash S.Store conn.old conn.new }
     ensures not_in_transaction { conn.new.in_transaction ≡ false }
@@ -308,6 +334,8 @@ fn place<S: Alter>(conn: &mut Connection<S>, alloc: Global) -> Got<Option<Fault>
     requires not_in_transaction { conn.old.in_transaction ≡ false }
     ensures named { IsFine (state S.Store conn.new)
         → OverTyped S.Store Second conn.old (λ t. IfOk result (λ o. IfSome o (λ fault. IsTrue (breaks t fault)))) }
+    ensures first { IsFine (state S.Store conn.new) → OverTyped S.Store Second conn.old (λ t. IfOk result (IsFirst t)) }
+    ensures open { IsOpenAfter S.Store conn.new result }
     ensures left { LeavesRows S.Store conn.old conn.new }
     ensures crash { LeavesOverCrash S.Store conn.old conn.new }
     ensures not_in_transaction { conn.new.in_transaction ≡ false }
@@ -325,12 +353,15 @@ fn place<S: Alter>(conn: &mut Connection<S>, alloc: Global) -> Got<Option<Fault>
 }
 
 /// Where the tables of a database aren't sound, the first place. It names one only where the database keeps no sound
-/// tables, and none only where it keeps such; and what it names of typed tables is false of them.
+/// tables, and none only where it keeps such; and what it names of typed tables is false of them, and the first that is: the
+/// tables in their order, the rows in theirs (of interests, one that the database chooses), the rules in theirs.
 pub fn first_fault<S: Alter>(conn: &mut Connection<S>, alloc: Global) -> Got<Option<Fault>>
-    ensures none { IsFine (state S.Store conn.new) → IfOk result (λ o. o ≡ None → KeepsSound (state S.Store conn.old).now) }
-    ensures some { IsFine (state S.Store conn.new) → IfOk result (λ o. IsSome o → ¬ KeepsSound (state S.Store conn.old).now) }
-    ensures named { IsFine (state S.Store conn.new)
+    ensures none { HasCleanDisk (state S.Store conn.new) → IfOk result (λ o. o ≡ None → KeepsSound (state S.Store conn.old).now) }
+    ensures some { HasCleanDisk (state S.Store conn.new) → IfOk result (λ o. IsSome o → ¬ KeepsSound (state S.Store conn.old).now) }
+    ensures named { HasCleanDisk (state S.Store conn.new)
         → OverTyped S.Store Second conn.old (λ t. IfOk result (λ o. IfSome o (λ fault. IsTrue (breaks t fault)))) }
+    ensures first { HasCleanDisk (state S.Store conn.new) → OverTyped S.Store Second conn.old (λ t. IfOk result (λ o. IsSome o → IsFirst t o)) }
+    ensures opened { IsOpenAfter S.Store conn.new result }
     ensures left { LeavesRows S.Store conn.old conn.new }
     ensures crash { LeavesOverCrash S.Store conn.old conn.new }
 {

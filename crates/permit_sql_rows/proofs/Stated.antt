@@ -1,12 +1,14 @@
 -- A file's state is its fields.
 use Rattle.std.proofs.Common.{◌≡◌, ℕ, Bool, Option, None, subst, sym, true≢false}
-use Rattle.std.specs.Prelude.{IsSome, List}
+use Rattle.std.specs.Prelude.{IsSome, List, Result, Err, IfErr}
 use Rattle.permit_base.specs.declared.words.Edition.{Edition}
 use Rattle.permit_base.specs.declared.words.Kind.{Kind}
 use Rattle.permit_base.specs.declared.words.Step.{Step}
 use Rattle.permit_base.specs.declared.words.Stage.{Stage}
 use Rattle.permit_model.specs.Tables.{State, FileRow}
 use Rattle.permit_model.specs.Routes.{Found}
+use Rattle.permit_sql_rows.specs.declared.fields.RowFault.{RowFault}
+use Rattle.permit_sql_rows.specs.declared.fields.RowFault.TheVariants.{NoMemory}
 
 pub state_is : (s : State)
     (parcel_1 : ℕ) (applicant_1 : ℕ) (contractor_1 : Option ℕ) (reviewer_1 : Option ℕ) (inspector_1 : Option ℕ) (kind_1 : Kind) (edition_1 : Edition)
@@ -69,3 +71,7 @@ row_is f id state valuation description a b c d = λ i. record { id = a i; state
 pub found_is : (f : Found) (row : FileRow) (owner : Option ℕ) (conflict : Bool) → row ≡ f.row → owner ≡ f.owner → conflict ≡ f.conflict →
     ◌≡◌ {A = Found} (record { row = row; owner = owner; conflict = conflict }) f
 found_is f row owner conflict a b c = λ i. record { row = a i; owner = b i; conflict = c i }
+
+-- what is said of an error, where memory was refused
+pub on_memory : {A P : Type 0} {r : Result A RowFault} (e : RowFault) → r ≡ Err e → (e ≡ NoMemory → P) → IfErr r (λ e. e ≡ NoMemory → P)
+on_memory {P = P} e is h = subst (λ o. IfErr o (λ e. e ≡ NoMemory → P)) (sym is) h

@@ -3,3 +3,4 @@ pub mod Shape
 pub mod Rows
 pub mod Kept
 pub mod Typed
+pub mod Shown

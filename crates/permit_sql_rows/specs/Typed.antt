@@ -1,5 +1,8 @@
 -- Rows within the limits of the program's types.
 use Rattle.std.specs.Prelude.{◌≡◌, ℕ, zero, suc, ◌<◌, ◌≤◌, ◌^◌, IsTrue, IfSome, IsUtf8, [], ◌∷◌}
+use Rattle.std.specs.Prelude.{List, Bool}
+use Rattle.sqlite.specs.declared.types.Value.{Value}
+use Rattle.sqlite.specs.declared.types.Value.TheVariants.{Text}
 use Rattle.sqlite_value.specs.Order.{Row, column}
 use Rattle.permit_base.specs.Limits.{latest_day, most_cents, most_records, most_papers, most_days}
 use Rattle.permit_base.specs.Texts.{is_printable, is_lot, is_digest}
@@ -22,6 +25,14 @@ IsObject n = (0 < n) × (n ≤ most_records)
 -- a count of 32 bits
 abbrev pub IsCount : ℕ → Type 0
 IsCount n = n < 2 ^ 32
+
+-- a string in UTF-8
+abbrev pub IsString : Value → Type 0
+IsString v = (t : List ℕ) × (v ≡ Text t) × IsUtf8 t
+
+-- a string in UTF-8 that passes the test
+abbrev pub IsStringOf : (List ℕ → Bool) → Value → Type 0
+IsStringOf passes v = (t : List ℕ) × (v ≡ Text t) × IsUtf8 t × IsTrue (passes t)
 
 pub record IsDesk (d : Desk) : Type 0 where
   pub last : d.last ≤ latest_day

@@ -12,13 +12,14 @@ ghost use Rattle.sqlite_value.specs.Order.{column};
 ghost use Rattle.permit_model.specs.Codes.{role_code};
 ghost use Rattle.permit_sql_rows.specs.Rows.{int, flag, shown_desk, shown_upgrade, shown_party, shown_parcel, shown_file, shown_found, shown_interest, shown_paper};
 ghost use Rattle.permit_sql_rows.specs.Kept.{IsNamed};
+ghost use Rattle.permit_sql_rows.specs.Shown.{ShowsParty, ShowsParcel, ShowsPaper, ShowsFile, ShowsFound};
 ghost use Rattle.permit_sql_rows.specs.Typed.{firsts, IsObject, IsDesk, IsParty, IsParcel, IsInterest, IsPaper, IsState, IsFile, IsCount, ShowsState};
 
 use crate::fields::{
-    Read, RowFault, cents, day, day_or_minus_one, days_or_zero, digest, file_number, kind, lot,
-    number, number_or_minus_one, paper_number, parcel_number, party_number, party_or_null,
-    party_or_zero, readable, role, short_number, small_number, sort, stage, step_or_minus_one,
-    string, text, truth,
+    Read, RowFault, cents, day, day_or_minus_one, days_or_zero, digest, file_number, has_lot,
+    has_string, kind, lot, number, number_or_minus_one, paper_number, parcel_number, party_number,
+    party_or_null, party_or_zero, readable, role, short_number, small_number, sort, stage,
+    step_or_minus_one, string, text, truth,
 };
 use permit_base::values::{FileId, ParcelId, PartyId};
 use permit_base::words::{Edition, Role};
@@ -92,12 +93,13 @@ pub fn party_of(row: &Row) -> Read<Party>
     ensures back { IfOk result (λ p. firsts 4 0 row.now ≡ shown_party p) }
     ensures typed { IfOk result IsParty }
     ensures some { (is : TheParty) → IsParty is → row.now ≡ shown_party is → IfErr result (λ e. e ≡ RowFault.NoMemory) }
+    ensures memory { IfErr result (λ e. e ≡ RowFault.NoMemory → ShowsParty row.now) }
 {
     Ok(Party {
         id: readable(party_number(row, 0))?,
-        name: text(row, 1)?,
         role: readable(role(row, 2))?,
-        digest: digest(row, 3)?,
+        digest: readable(digest(row, 3))?,
+        name: text(row, 1)?,
     })
 }
 
@@ -116,12 +118,16 @@ pub fn parcel_of(row: &Row) -> Read<Parcel>
     ensures back { IfOk result (λ p. firsts 4 0 row.now ≡ shown_parcel p) }
     ensures typed { IfOk result IsParcel }
     ensures some { (is : TheParcel) → IsParcel is → row.now ≡ shown_parcel is → IfErr result (λ e. e ≡ RowFault.NoMemory) }
+    ensures memory { IfErr result (λ e. e ≡ RowFault.NoMemory → ShowsParcel row.now) }
 {
+    if !has_lot(row, 1) {
+        return Err(RowFault::Unreadable);
+    }
     Ok(Parcel {
         id: readable(parcel_number(row, 0))?,
-        lot: lot(row, 1)?,
-        address: text(row, 2)?,
         owner: readable(party_number(row, 3))?,
+        address: text(row, 2)?,
+        lot: lot(row, 1)?,
     })
 }
 
@@ -160,7 +166,11 @@ pub fn paper_of(row: &Row) -> Read<Paper>
     ensures back { IfOk result (λ p. firsts 9 0 row.now ≡ shown_paper p) }
     ensures typed { IfOk result IsPaper }
     ensures some { (is : ThePaper) → IsPaper is → row.now ≡ shown_paper is → IfErr result (λ e. e ≡ RowFault.NoMemory) }
+    ensures memory { IfErr result (λ e. e ≡ RowFault.NoMemory → ShowsPaper row.now) }
 {
+    if !has_string(row, 7) {
+        return Err(RowFault::Unreadable);
+    }
     Ok(Paper {
         file: readable(file_number(row, 0))?,
         number: readable(paper_number(row, 1))?,
@@ -168,9 +178,9 @@ pub fn paper_of(row: &Row) -> Read<Paper>
         author: readable(party_number(row, 3))?,
         sort: readable(sort(row, 4))?,
         days: readable(number(row, 5))?,
+        is_open: readable(truth(row, 8))?,
         text: string(row, 6)?,
         terms: string(row, 7)?,
-        is_open: readable(truth(row, 8))?,
     })
 }
 
@@ -240,6 +250,7 @@ pub fn file_of(row: &Row, upgrade: Option<u32>) -> Read<FileRow>
     ensures typed { IfOk result IsFile }
     ensures some { (is : TheRow) (more : List Value) → IsFile is → IsNamed upgrade is.id is.state → row.now ≡ shown_file is ++ more
         → IfErr result (λ e. e ≡ RowFault.NoMemory) }
+    ensures memory { IfErr result (λ e. e ≡ RowFault.NoMemory → ShowsFile upgrade row.now) }
 {
     let id = readable(file_number(row, 0))?;
     Ok(FileRow {
@@ -253,12 +264,16 @@ pub fn file_of(row: &Row, upgrade: Option<u32>) -> Read<FileRow>
 /// A file's row as a selection shows it, with its parcel's owner and whether the caller has an interest in the parcel.
 pub fn found_of(row: &Row, upgrade: Option<u32>) -> Read<Found>
     ensures read { (is : TheFound) → IsNamed upgrade is.row.id is.row.state → row.now ≡ shown_found is → IfOk result (λ f. f ≡ is) }
+    ensures back { IfOk result (λ f. firsts 22 0 row.now ≡ shown_found f) }
+    ensures named { IfOk result (λ f. IsNamed upgrade f.row.id f.row.state) }
+    ensures typed { IfOk result (λ f. IsFile f.row × IfSome f.owner IsObject) }
     ensures some { (is : TheFound) → IsFile is.row → IfSome is.owner IsObject → IsNamed upgrade is.row.id is.row.state → row.now ≡ shown_found is
         → IfErr result (λ e. e ≡ RowFault.NoMemory) }
+    ensures memory { IfErr result (λ e. e ≡ RowFault.NoMemory → ShowsFound upgrade row.now) }
 {
     Ok(Found {
-        row: file_of(row, upgrade)?,
         owner: readable(party_or_null(row, 20))?,
         conflict: readable(truth(row, 21))?,
+        row: file_of(row, upgrade)?,
     })
 }

@@ -1,17 +1,18 @@
 //! A field of a row as a typed value, or none where the field isn't one.
 
-ghost use Rattle.std.specs.Prelude.{◌≡◌, ◌≢◌, ◌<◌, ◌≤◌, ◌^◌, ℕ, ℤ, IsUtf8, List, IfOk, IsSome, IsTrue, IfErr, Bool, Option, Some, None, IfSome, string_bytes, slice_get, option_map, length};
+ghost use Rattle.std.specs.Prelude.{◌≡◌, ◌≢◌, ◌<◌, ◌≤◌, ◌^◌, ◌↔◌, ℕ, ℤ, IsUtf8, List, IfOk, IsSome, IsTrue, IfErr, Bool, Option, Some, None, IfSome, string_bytes, slice_get, option_map, length};
 ghost use Rattle.sqlite.specs.declared.types.Value.TheVariants.{Int, Text as TextValue};
 ghost use Rattle.sqlite_value.specs.Order.{column};
 ghost use Rattle.permit_base.specs.Limits.{latest_day, most_cents, most_days, most_papers};
 ghost use Rattle.permit_base.specs.Texts.{is_printable, is_lot, is_digest};
 ghost use Rattle.permit_base.specs.declared.words.Step.{Step as TheStep};
 ghost use Rattle.permit_sql_rows.specs.Rows.{int, or_zero, or_minus_one, or_null, step_value, flag};
-ghost use Rattle.permit_sql_rows.specs.Typed.{IsObject};
+ghost use Rattle.permit_sql_rows.specs.Typed.{IsObject, IsString, IsStringOf};
 ghost use Rattle.permit_model.specs.Codes.{role_code, kind_code, stage_code, sort_code, step_code};
 
 use permit_base::values::{
-    Cents, Day, Days, Digest, FileId, Lot, PaperNumber, ParcelId, PartyId, Text,
+    Cents, Day, Days, Digest, FileId, Lot, LotNumber, PaperNumber, ParcelId, PartyId, Printable,
+    Text, TextKind,
 };
 use permit_base::words::{Kind, PaperSort, Role, Stage, Step, Word};
 use sqlite::{Error, ErrorCode, Row};
@@ -171,6 +172,7 @@ pub(crate) fn party_or_zero(row: &Row, at: usize) -> Option<Option<PartyId>>
 /// The number of a party, where Null stands for none.
 pub(crate) fn party_or_null(row: &Row, at: usize) -> Option<Option<PartyId>>
     ensures read { (o : Option ℕ) → column row.now at ≡ or_null o → IfSome result (λ x. x ≡ o) }
+    ensures back { IfSome result (λ x. column row.now at ≡ or_null x) }
     ensures some { (o : Option ℕ) → IfSome o IsObject → at < length row.now → column row.now at ≡ or_null o → IsSome result }
 {
     match row.get_ref(at) {
@@ -203,12 +205,52 @@ pub(crate) fn day_or_minus_one(row: &Row, at: usize) -> Option<Option<Day>>
     }
 }
 
-/// A string, which may be empty.
+/// The string in a column, where it is one in UTF-8.
+pub fn string_in(row: &Row, at: usize) -> Option<&str>
+    ensures back { IfSome result (λ x. column row.now at ≡ TextValue x.now) }
+    ensures utf8 { IfSome result (λ x. IsUtf8 x.now) }
+    ensures some { (t : List ℕ) → IsUtf8 t → column row.now at ≡ TextValue t → IsSome result }
+{
+    match row.get_ref(at) {
+        Ok(ValueRef::Text(bytes)) => str::from_utf8(bytes).ok(),
+        _ => None,
+    }
+}
+
+/// Whether a column has a string, which may be empty.
+pub(crate) fn has_string(row: &Row, at: usize) -> bool
+    ensures { IsTrue result ↔ IsString (column row.now at) }
+{
+    string_in(row, at).is_some()
+}
+
+/// Whether a column has a text within its limits.
+pub fn has_text(row: &Row, at: usize) -> bool
+    ensures { IsTrue result ↔ IsStringOf is_printable (column row.now at) }
+{
+    match string_in(row, at) {
+        Some(text) => Printable::admits(text.as_bytes()),
+        None => false,
+    }
+}
+
+/// Whether a column has a lot.
+pub(crate) fn has_lot(row: &Row, at: usize) -> bool
+    ensures { IsTrue result ↔ IsStringOf is_lot (column row.now at) }
+{
+    match string_in(row, at) {
+        Some(text) => LotNumber::admits(text.as_bytes()),
+        None => false,
+    }
+}
+
+/// A string, which may be empty. Memory is said to be refused only where there is one.
 pub(crate) fn string(row: &Row, at: usize) -> Read<String>
     ensures read { (t : List ℕ) → column row.now at ≡ TextValue t → IfOk result (λ x. string_bytes x ≡ t) }
     ensures back { IfOk result (λ x. column row.now at ≡ TextValue (string_bytes x)) }
     ensures utf8 { IfOk result (λ x. IsUtf8 (string_bytes x)) }
     ensures some { (t : List ℕ) → IsUtf8 t → column row.now at ≡ TextValue t → IfErr result (λ e. e ≡ RowFault.NoMemory) }
+    ensures memory { IfErr result (λ e. e ≡ RowFault.NoMemory → IsString (column row.now at)) }
 {
     match row.get::<String>(at) {
         Ok(text) => {
@@ -216,40 +258,52 @@ pub(crate) fn string(row: &Row, at: usize) -> Read<String>
             let _bytes = text.as_str();
             Ok(text)
         }
-        Err(Error::SqliteFailure(ErrorCode::OutOfMemory)) => Err(RowFault::NoMemory),
+        Err(Error::SqliteFailure(ErrorCode::OutOfMemory)) if has_string(row, at) => {
+            Err(RowFault::NoMemory)
+        }
         Err(_) => Err(RowFault::Unreadable),
     }
 }
 
-/// A text within its limits.
+/// A text within its limits. Memory is said to be refused only where there is one.
 pub(crate) fn text(row: &Row, at: usize) -> Read<Text>
     ensures read { (t : List ℕ) → column row.now at ≡ TextValue t → IfOk result (λ x. x ≡ t) }
     ensures back { IfOk result (λ x. column row.now at ≡ TextValue x) }
     ensures within { IfOk result (λ x. IsTrue (is_printable x)) }
     ensures utf8 { IfOk result (λ x. IsUtf8 x) }
     ensures some { (t : List ℕ) → IsTrue (is_printable t) → IsUtf8 t → column row.now at ≡ TextValue t → IfErr result (λ e. e ≡ RowFault.NoMemory) }
+    ensures memory { IfErr result (λ e. e ≡ RowFault.NoMemory → IsStringOf is_printable (column row.now at)) }
 {
-    readable(Text::new(string(row, at)?))
+    match string(row, at) {
+        Ok(text) => readable(Text::new(text)),
+        Err(RowFault::NoMemory) if has_text(row, at) => Err(RowFault::NoMemory),
+        Err(_) => Err(RowFault::Unreadable),
+    }
 }
 
-/// A lot.
+/// A lot. Memory is said to be refused only where there is one.
 pub(crate) fn lot(row: &Row, at: usize) -> Read<Lot>
     ensures read { (t : List ℕ) → column row.now at ≡ TextValue t → IfOk result (λ x. x ≡ t) }
     ensures back { IfOk result (λ x. column row.now at ≡ TextValue x) }
     ensures within { IfOk result (λ x. IsTrue (is_lot x)) }
     ensures some { (t : List ℕ) → IsTrue (is_lot t) → column row.now at ≡ TextValue t → IfErr result (λ e. e ≡ RowFault.NoMemory) }
+    ensures memory { IfErr result (λ e. e ≡ RowFault.NoMemory → IsStringOf is_lot (column row.now at)) }
 {
-    readable(Lot::new(string(row, at)?))
+    match string(row, at) {
+        Ok(text) => readable(Lot::new(text)),
+        Err(RowFault::NoMemory) if has_lot(row, at) => Err(RowFault::NoMemory),
+        Err(_) => Err(RowFault::Unreadable),
+    }
 }
 
 /// A digest.
-pub(crate) fn digest(row: &Row, at: usize) -> Read<Digest>
-    ensures read { (t : List ℕ) → column row.now at ≡ TextValue t → IfOk result (λ x. x ≡ t) }
-    ensures back { IfOk result (λ x. column row.now at ≡ TextValue x) }
-    ensures within { IfOk result (λ x. IsTrue (is_digest x)) }
-    ensures some { (t : List ℕ) → IsTrue (is_digest t) → column row.now at ≡ TextValue t → IfErr result (λ e. e ≡ RowFault.NoMemory) }
+pub(crate) fn digest(row: &Row, at: usize) -> Option<Digest>
+    ensures read { (t : List ℕ) → column row.now at ≡ TextValue t → IfSome result (λ x. x ≡ t) }
+    ensures back { IfSome result (λ x. column row.now at ≡ TextValue x) }
+    ensures within { IfSome result (λ x. IsTrue (is_digest x)) }
+    ensures some { (t : List ℕ) → IsTrue (is_digest t) → column row.now at ≡ TextValue t → IsSome result }
 {
-    readable(Digest::read(string(row, at)?.as_str()))
+    Digest::read(string_in(row, at)?)
 }
 
 /// The value, or that the row is unreadable.

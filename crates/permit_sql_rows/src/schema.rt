@@ -96,7 +96,7 @@ fn is_column(column: &Column, field: Field<'_>) -> bool
 }
 
 fn are_columns(mut columns: &[Column], mut fields: &[Field<'_>]) -> bool
-    ensures { IsTrue result → columns.entry.now ≡ map column_of fields.entry.now }
+    ensures { IsTrue result ↔ (columns.entry.now ≡ map column_of fields.entry.now) }
 {
     'fields: while let [column, more @ ..] = columns {
         let [field, rest @ ..] = fields else {
@@ -123,7 +123,7 @@ fn is_reference(reference: &Reference, link: Link<'_>) -> bool
 }
 
 fn are_references(mut references: &[Reference], mut links: &[Link<'_>]) -> bool
-    ensures { IsTrue result → references.entry.now ≡ map reference_of links.entry.now }
+    ensures { IsTrue result ↔ (references.entry.now ≡ map reference_of links.entry.now) }
 {
     'links: while let [reference, more @ ..] = references {
         let [link, rest @ ..] = links else {
@@ -139,14 +139,14 @@ fn are_references(mut references: &[Reference], mut links: &[Link<'_>]) -> bool
 }
 
 fn has_no_terms(terms: &Terms) -> bool
-    ensures { IsTrue result → terms.now ≡ [] }
+    ensures { IsTrue result ↔ (terms.now ≡ []) }
 {
     terms.roots.is_empty()
 }
 
 #[tactic(auto, using(crate::proofs::Shapes::one_key))]
 fn are_keys(table: &Table, unique: &[usize]) -> bool
-    ensures { IsTrue result → table.now.uniques ≡ keys_of unique.now }
+    ensures { IsTrue result ↔ (table.now.uniques ≡ keys_of unique.now) }
 {
     if unique.is_empty() {
         return table.uniques.is_empty();
@@ -158,7 +158,7 @@ fn are_keys(table: &Table, unique: &[usize]) -> bool
 }
 
 fn are_plain(orders: &[Order], unique: &[usize]) -> bool
-    ensures { IsTrue result → orders.now ≡ map (λ _. plain) (keys_of unique.now) }
+    ensures { IsTrue result ↔ (orders.now ≡ map (λ _. plain) (keys_of unique.now)) }
 {
     if unique.is_empty() {
         return orders.is_empty();
@@ -170,13 +170,13 @@ fn are_plain(orders: &[Order], unique: &[usize]) -> bool
 }
 
 fn has_no_stamps(stamps: &Stamps) -> bool
-    ensures { IsTrue result → stamps.now ≡ record { places = []; terms = []; formats = [] } }
+    ensures { IsTrue result ↔ (stamps.now ≡ record { places = []; terms = []; formats = [] }) }
 {
     stamps.places.is_empty() && has_no_terms(&stamps.terms) && stamps.formats.is_empty()
 }
 
 fn is_table(table: &Table, shape: Shape<'_>) -> bool
-    ensures { IsTrue result → table.now ≡ table_of shape.entry }
+    ensures { IsTrue result ↔ (table.now ≡ table_of shape.entry) }
 {
     table.name.as_slice() == shape.name.as_bytes()
         && table.tree == shape.tree
@@ -271,7 +271,7 @@ fn plain_index<'a>(name: &'a str, tree: u32, table: u32, places: &'a [usize]) ->
 
 /// Whether the table is the desk's.
 fn is_desk(table: &Table) -> bool
-    ensures { IsTrue result → table.now ≡ desk_table }
+    ensures { IsTrue result ↔ (table.now ≡ desk_table) }
 {
     is_table(
         table,
@@ -296,7 +296,7 @@ fn is_desk(table: &Table) -> bool
 
 /// Whether the table is the parties'.
 fn is_party(table: &Table) -> bool
-    ensures { IsTrue result → table.now ≡ party_table }
+    ensures { IsTrue result ↔ (table.now ≡ party_table) }
 {
     is_table(
         table,
@@ -314,7 +314,7 @@ fn is_party(table: &Table) -> bool
 
 /// Whether the table is the parcels'.
 fn is_parcel(table: &Table) -> bool
-    ensures { IsTrue result → table.now ≡ parcel_table }
+    ensures { IsTrue result ↔ (table.now ≡ parcel_table) }
 {
     is_table(
         table,
@@ -332,7 +332,7 @@ fn is_parcel(table: &Table) -> bool
 
 /// Whether the table is the interests'.
 fn is_interest(table: &Table) -> bool
-    ensures { IsTrue result → table.now ≡ interest_table }
+    ensures { IsTrue result ↔ (table.now ≡ interest_table) }
 {
     is_table(
         table,
@@ -350,7 +350,7 @@ fn is_interest(table: &Table) -> bool
 
 /// Whether the table is the files'.
 fn is_file(table: &Table) -> bool
-    ensures { IsTrue result → table.now ≡ file_table }
+    ensures { IsTrue result ↔ (table.now ≡ file_table) }
 {
     is_table(
         table,
@@ -389,7 +389,7 @@ fn is_file(table: &Table) -> bool
 
 /// Whether the table is the papers'.
 fn is_paper(table: &Table) -> bool
-    ensures { IsTrue result → table.now ≡ paper_table }
+    ensures { IsTrue result ↔ (table.now ≡ paper_table) }
 {
     is_table(
         table,
@@ -417,7 +417,7 @@ fn is_paper(table: &Table) -> bool
 
 /// Whether the table is the upgrade's.
 fn is_upgrade(table: &Table) -> bool
-    ensures { IsTrue result → table.now ≡ upgrade_table }
+    ensures { IsTrue result ↔ (table.now ≡ upgrade_table) }
 {
     is_table(
         table,
@@ -436,7 +436,7 @@ fn is_upgrade(table: &Table) -> bool
 /// Whether these are the six tables of version 1, made in their order.
 #[tactic(auto, using(crate::proofs::Shapes::six_are))]
 fn are_tables(tables: &[Table]) -> bool
-    ensures { IsTrue result → tables.now ≡ first_tables }
+    ensures { IsTrue result ↔ (tables.now ≡ first_tables) }
 {
     match tables {
         [desk, party, parcel, interest, file, paper] => {
@@ -452,7 +452,7 @@ fn are_tables(tables: &[Table]) -> bool
 }
 
 fn have_form(mut indexes: &[Index], mut searches: &[Search<'_>]) -> bool
-    ensures { IsTrue result → indexes.entry.now ≡ map index_of searches.entry.now }
+    ensures { IsTrue result ↔ (indexes.entry.now ≡ map index_of searches.entry.now) }
 {
     'searches: while let [index, more @ ..] = indexes {
         let [search, rest @ ..] = searches else {
@@ -469,7 +469,7 @@ fn have_form(mut indexes: &[Index], mut searches: &[Search<'_>]) -> bool
 
 /// Whether these are the indexes of the keys and the eight beside them, made in their order.
 fn are_indexes(indexes: &[Index]) -> bool
-    ensures { IsTrue result → indexes.now ≡ key_indexes ++ search_indexes }
+    ensures { IsTrue result ↔ (indexes.now ≡ key_indexes ++ search_indexes) }
 {
     have_form(
         indexes,
@@ -492,7 +492,7 @@ fn are_indexes(indexes: &[Index]) -> bool
 
 /// Whether the first table that was made is the desk's.
 pub fn has_desk(schema: &Schema) -> bool
-    ensures { IsTrue result → slice_get schema.now.tables 0 ≡ Some desk_table }
+    ensures told { IsTrue result ↔ (slice_get schema.now.tables 0 ≡ Some desk_table) }
 {
     match schema.tables.get(0) {
         Some(first) => is_desk(first),
@@ -502,7 +502,7 @@ pub fn has_desk(schema: &Schema) -> bool
 
 /// Whether these are the tables of version 1 and behind them the upgrade's.
 fn are_all_tables(tables: &[Table]) -> bool
-    ensures { IsTrue result → tables.now ≡ first_tables ++ upgrade_table ∷ [] }
+    ensures { IsTrue result ↔ (tables.now ≡ first_tables ++ upgrade_table ∷ []) }
 {
     match tables {
         [first @ .., last] => are_tables(first) && is_upgrade(last),
@@ -512,7 +512,7 @@ fn are_all_tables(tables: &[Table]) -> bool
 
 /// Whether the tables are those of an edition, made in their order.
 fn have_edition(edition: Edition, tables: &[Table]) -> bool
-    ensures { IsTrue result → tables.now ≡ first_tables ++ more_tables edition }
+    ensures { IsTrue result ↔ (tables.now ≡ first_tables ++ more_tables edition) }
 {
     match edition {
         Edition::First => are_tables(tables),
@@ -522,7 +522,7 @@ fn have_edition(edition: Edition, tables: &[Table]) -> bool
 
 /// Whether the schema is the office's under an edition: its tables and indexes, made in their order, and nothing more.
 pub fn is_office(edition: Edition, schema: &Schema) -> bool
-    ensures { IsTrue result → schema.now ≡ schema_of edition }
+    ensures told { IsTrue result ↔ (schema.now ≡ schema_of edition) }
 {
     have_edition(edition, schema.tables.as_slice())
         && are_indexes(schema.indexes.as_slice())

@@ -46,6 +46,7 @@ fn found<'a, S: Alter>(
     ensures none { HasCleanDisk (state S.Store conn.new) → IsTrue (state S.Store conn.new).is_open
         → OnErr result (((state S.Store conn.new).now ≡ (state S.Store conn.old).now)
         × ((state S.Store conn.new).committed ≡ (state S.Store conn.old).committed)) }
+    ensures open { IsOpenAfter S.Store conn.new result }
     ensures not_in_transaction { conn.new.in_transaction ≡ false }
     ensures crash { StatementsSurvive S.Store (founding_statements (bound desk.now) (bound upgrade.now) (bound party.now)) conn.old conn.new }
 {
@@ -89,6 +90,7 @@ pub fn create_in<S: Alter>(conn: &mut Connection<S>, founder: &Founder) -> Resul
     ensures none { HasCleanDisk (state S.Store conn.new) → IsTrue (state S.Store conn.new).is_open
         → OnErr result (((state S.Store conn.new).now ≡ (state S.Store conn.old).now)
         × ((state S.Store conn.new).committed ≡ (state S.Store conn.old).committed)) }
+    ensures open { IsOpenAfter S.Store conn.new result }
     ensures not_in_transaction { conn.new.in_transaction ≡ false }
     ensures crash { Survives (state S.Store conn.old) (state S.Store conn.new)
         (λ trees. (db : _) × Keeps (tables (founding founder.now.name founder.now.digest founder.now.day)) db × (trees ≡ db.trees)) }

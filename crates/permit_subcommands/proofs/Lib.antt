@@ -1,3 +1,5 @@
-pub mod Asked
-pub mod Bodies
+pub mod Connection
+pub mod Dated
+pub mod Printed
 pub mod RegisterRows
+pub mod Shown

@@ -1,18 +1,18 @@
 -- Why the program does not do what its words ask: the line that it prints for each failure, and its status.
-use Rattle.std.specs.Prelude.{◌≡◌, ◌≤◌, ◌==◌, ℕ, List, ◌++◌, codes, decimal, string_bytes, if◌then◌else◌}
+use Rattle.std.specs.Prelude.{◌≡◌, ◌==◌, ℕ, Bool, true, false, List, ◌++◌, codes, decimal, string_bytes, if◌then◌else◌}
 use Rattle.permit_import.specs.declared.fault.ImportFault.{ImportFault}
 use Rattle.permit_import.specs.declared.fault.ImportFault.TheVariants as stopping
 use Rattle.permit_import.specs.declared.tally.Tally.{Tally}
 use Rattle.permit_policy.specs.Fault.{fault_number}
 use Rattle.permit_policy.specs.declared.fault.PolicyError.{PolicyError}
+use Rattle.permit_policy.specs.declared.fault.PolicyFault.{PolicyFault}
+use Rattle.permit_policy.specs.declared.fault.PolicyFault.TheVariants as policy
 use Rattle.permit_store.specs.declared.store.OpenError.{OpenError}
 use Rattle.permit_store.specs.declared.store.OpenError.TheVariants as opening
 use Rattle.permit_import.specs.Refusals.{refused_line}
 use Rattle.permit_import.specs.declared.refused.Refused.TheVariants.{Plain}
 use Rattle.permit_import.specs.declared.refused.RefusalWord.{RefusalWord}
 use Rattle.permit_import.specs.declared.refused.RefusalWord.TheVariants.{Store}
-use Rattle.permit_args.specs.declared.plan.PlanFault.{PlanFault}
-use Rattle.permit_args.specs.declared.plan.PlanFault.TheVariants as planning
 use Rattle.permit_subcommands.specs.declared.failure.Failure.{Failure}
 use Rattle.permit_subcommands.specs.declared.failure.Failure.TheVariants.{Refused, File, Policy, Facts, Database, Day, Zone, Listen, Output}
 
@@ -54,10 +54,14 @@ abbrev pub IsUnheard : List ℕ → Failure → Type 0
 IsUnheard address (Listen told) = string_bytes told ≡ address
 IsUnheard address failure = failure ≡ plain Store
 
--- a policy that is refused is told by its place, unless memory ran out
-abbrev pub IsRefusedPolicy : PolicyError → Failure → Type 0
-IsRefusedPolicy error (Policy told) = told ≡ error
-IsRefusedPolicy error failure = failure ≡ plain Store
+-- want of memory, which is no fault of a policy's text
+abbrev pub is_memory : PolicyFault → Bool
+is_memory policy.Memory = true
+is_memory _ = false
+
+-- a policy that is refused is told by its place, and want of memory as the store's refusal
+abbrev pub policy_failure : PolicyError → Failure
+policy_failure error = if is_memory error.code then plain Store else Policy error
 
 -- an import's records can't be read, memory ran out, or the output failed
 abbrev pub IsFailureOfImport : List ℕ → ImportFault → Failure → Type 0
@@ -65,12 +69,6 @@ IsFailureOfImport path stopping.FirstRecord failure = IsUnread path failure
 IsFailureOfImport path stopping.Reading failure = IsUnread path failure
 IsFailureOfImport path stopping.Memory failure = failure ≡ plain Store
 IsFailureOfImport path stopping.Writing failure = failure ≡ Output
-
--- for words that give no plan: 2 where they are bad, 1 where memory ran out, and for help 0 unless it cannot be printed
-abbrev pub IsStatusOf : PlanFault → ℕ → Type 0
-IsStatusOf (planning.Help text) status = status ≤ 1
-IsStatusOf (planning.Words text) status = status ≡ 2
-IsStatusOf planning.Memory status = status ≡ 1
 
 -- after an import: 1 where a record was refused
 abbrev pub import_status : Tally → ℕ

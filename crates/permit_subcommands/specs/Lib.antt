@@ -1,7 +1,8 @@
-pub mod Asking
+pub mod Answering
 pub mod Days
 pub mod Failures
 pub mod Founders
+pub mod Lines
 pub mod Listings
-pub mod Refusals
+pub mod Printing
 pub mod Requests

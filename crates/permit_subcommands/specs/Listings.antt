@@ -1,7 +1,10 @@
 -- What the program asks of an office for a listing or a register, and what it prints of a listing.
-use Rattle.std.specs.Prelude.{◌≡◌, ◌⊎◌, ℕ, List, [], ◌∷◌, ◌++◌, Option, Result, Ok, Err, codes, decimal}
+use Rattle.std.specs.Prelude.{◌≡◌, ◌⊎◌, ℕ, List, [], ◌∷◌, ◌++◌, Option, Some, None, Result, Ok, Err, codes, decimal}
 use Rattle.std.specs.Io.KnownBytes.{Appends}
+use Rattle.permit_base.specs.declared.request.Filter.{Filter}
+use Rattle.permit_base.specs.declared.request.Filter.TheVariants.{All, InStage}
 use Rattle.permit_base.specs.declared.words.RegisterKind.{RegisterKind}
+use Rattle.permit_base.specs.declared.words.Stage.{Stage}
 use Rattle.permit_model.specs.Register.{register_text}
 use Rattle.permit_model.specs.Machine.{Reply as TheReply, RegisterShown}
 use Rattle.permit_model.specs.Machine as Shown
@@ -18,6 +21,11 @@ use Rattle.permit_import.specs.declared.refused.RefusalWord.TheVariants.{Store}
 use Rattle.permit_subcommands.specs.Failures.{plain}
 use Rattle.permit_subcommands.specs.declared.failure.Failure.{Failure}
 use Rattle.permit_subcommands.specs.declared.failure.Failure.TheVariants.{Output, Refused as refused}
+
+-- the files of a stage, or all without one
+abbrev pub filter_of : Option Stage → Filter
+filter_of None = All
+filter_of (Some stage) = InStage stage
 
 -- the files' numbers, a line each
 abbrev pub number_lines : List FileView → List ℕ

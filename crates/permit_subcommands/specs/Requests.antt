@@ -1,5 +1,5 @@
 -- The request that words make.
-use Rattle.std.specs.Prelude.{◌≡◌, ◌⊎◌, ℕ, Bool, false, ◌&&◌, List, [], ◌++◌, length, nat_le, Option, None, Some, codes, decimal}
+use Rattle.std.specs.Prelude.{◌≡◌, ◌⊎◌, ℕ, Bool, false, ◌&&◌, IsTrue, List, [], ◌++◌, length, nat_le, Option, None, Some, codes, decimal}
 use Rattle.std.specs.Borrow.{Bor}
 use Rattle.std.specs.List.{list_all}
 use Rattle.permit_base.specs.Texts.{is_token}
@@ -27,9 +27,9 @@ request_text method path token body =
     method ++ (codes " " ++ (path ++ (codes " HTTP/1.1\r\nHost: localhost\r\nAuthorization: Bearer " ++ (token
     ++ (codes "\r\nContent-Length: " ++ (decimal (length body) ++ (codes "\r\n\r\n" ++ body)))))))
 
--- why the words make no request
+-- why the words make no request: the method and the path are tested before anything else, and then the token
 abbrev pub IsRefusedFor : ActWords → Failure → Type 0
 IsRefusedFor words why =
-    (why ≡ plain Store)
-    ⊎ (((why ≡ plain Syntax) × ((is_word words.method.now && is_word words.path.now) ≡ false))
-    ⊎ ((why ≡ plain Caller) × (is_token words.office.token.now ≡ false)))
+    ((why ≡ plain Syntax) × ((is_word words.method.now && is_word words.path.now) ≡ false))
+    ⊎ (IsTrue (is_word words.method.now && is_word words.path.now)
+    × ((why ≡ plain Store) ⊎ ((why ≡ plain Caller) × (is_token words.office.token.now ≡ false))))

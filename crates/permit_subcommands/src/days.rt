@@ -5,9 +5,10 @@ ghost use Rattle.jiff.specs.Placed.{IsPosixZone};
 ghost use Rattle.jiff.specs.Words.{plain_zone};
 ghost use Rattle.permit_base.specs.Limits.{latest_day};
 ghost use Rattle.permit_days.specs.Dates.{IsTextOf};
-ghost use Rattle.permit_subcommands.specs.Days.{is_zone, zone_of, IsRefusedFor};
+ghost use Rattle.permit_subcommands.specs.Days.{is_zone, zone_of, IsClockDay, IsDayAtReading, IsDayOn, IsDayOnIn, IsRefusedFor};
 ghost use Rattle.permit_subcommands.specs.declared.failure.Failure.TheVariants as failure;
 
+use crate::clock::Readings;
 use crate::failure::Failure;
 use jiff::Timestamp;
 use jiff::tz::TimeZone;
@@ -15,7 +16,6 @@ use permit_args::plan::DayWords;
 use permit_base::values::Day;
 use permit_days::dates::read_date;
 use permit_days::instants::day_of;
-use std::time::Clock;
 
 /// The day that a date names.
 fn dated(date: &str) -> Result<Day, Failure>
@@ -39,12 +39,24 @@ fn no_day() -> Day
     }
 }
 
-/// The day on the clock in a zone; day 0 where the clock gives none that the office takes, so that the office refuses.
-fn on_the_clock<R: Clock>(rt: &R, zone: &TimeZone<'_>) -> Day {
-    match Timestamp::now(rt) {
-        Ok(now) => day_of(now, zone).unwrap_or(no_day()),
-        Err(_) => no_day(),
+/// The day at a reading of the clock in a zone; day 0 where it gives none that the office takes, so that the office refuses.
+pub fn day_at(now: Option<Timestamp>, zone: &TimeZone<'_>) -> Day
+    ensures { IsDayAtReading (plain_zone zone.now) now result }
+{
+    match now {
+        Some(now) => match day_of(now, zone) {
+            Ok(day) => day,
+            Err(_) => no_day(),
+        },
+        None => no_day(),
     }
+}
+
+/// The day on the clock in a zone.
+fn on_the_clock<R: Readings>(clock: &R, zone: &TimeZone<'_>) -> Day
+    ensures { IsDayOn R.gave clock.now (plain_zone zone.now) result }
+{
+    day_at(clock.reading(), zone)
 }
 
 /// The zone of the clock.
@@ -59,18 +71,15 @@ fn zone(words: &DayWords<'_>) -> Result<TimeZone<'static>, Failure>
     }
 }
 
-/// The day of a run: a date goes before the clock. The zone is read first, and with a date too.
-pub fn day_of_run<R: Clock>(rt: &R, words: &DayWords<'_>) -> Result<Day, Failure>
+/// The day of a run: a date goes before the clock, which is asked without one alone. The zone is read first, and with a date too.
+pub fn day_of_run<R: Readings>(rt: &R, words: &DayWords<'_>) -> Result<Day, Failure>
     ensures read { IfSome words.now.day (λ date. IfOk result (λ day. IsTextOf day date.now)) }
     ensures every { IfSome words.now.day (λ date. IsTrue (is_zone (zone_of words.now)) → (day : ℕ) → day ≤ latest_day → IsTextOf day date.now → result ≡ Ok day) }
+    ensures clock { IfNone words.now.day (IfOk result (IsDayOnIn R.gave rt.now (zone_of words.now))) }
     ensures within { OnOk result (IsTrue (is_zone (zone_of words.now))) }
     ensures refused { IfErr result (IsRefusedFor words.now) }
 {
-    let zone = zone(words)?;
-    match words.day {
-        Some(date) => dated(date),
-        None => Ok(on_the_clock(rt, &zone)),
-    }
+    Ok(days_of_run(words)?.today(rt))
 }
 
 /// The days of a run that goes on: a date, or what the clock gives each time.
@@ -104,8 +113,10 @@ pub fn days_of_run(words: &DayWords<'_>) -> Result<RunDays, Failure>
 
 impl RunDays {
     /// The day: the date, or the clock's; day 0 where that gives none that the office takes.
-    pub fn today<R: Clock>(&self, rt: &R) -> Day
-        ensures { IfSome self.now.date (λ day. result ≡ day) }
+    pub fn today<R: Readings>(&self, rt: &R) -> Day
+        ensures dated { IfSome self.now.date (λ day. result ≡ day) }
+        ensures clock { IfNone self.now.date (IsClockDay (plain_zone self.now.zone) result) }
+        ensures reading { IfNone self.now.date (IsDayOn R.gave rt.now (plain_zone self.now.zone) result) }
     {
         match self.date {
             Some(date) => date,

@@ -1,7 +1,8 @@
 //! Why the program does not do what its words ask, and its status then.
 
 ghost use Rattle.std.specs.Prelude.{◌≡◌, ◌≤◌, Some};
-ghost use Rattle.permit_subcommands.specs.Failures.{failure_line, failure_status, import_status, plain, IsFailureOfImport, IsRefusedPolicy, IsUnheard, IsUnread};
+ghost use Rattle.std.specs.IoError.{error_kind};
+ghost use Rattle.permit_subcommands.specs.Failures.{failure_line, failure_status, import_status, plain, policy_failure, IsFailureOfImport, IsUnheard, IsUnread};
 ghost use Rattle.permit_import.specs.declared.refused.RefusalWord.TheVariants.{Store};
 
 use crate::refused::{RefusalWord, Refused};
@@ -73,7 +74,8 @@ impl Failure {
 
     /// Why a file could not be read: its path is named, unless memory ran out.
     pub fn of_reading(alloc: Global, path: &str, error: &io::Error) -> Failure
-        ensures { IsUnread path.now result }
+        ensures path { IsUnread path.now result }
+        ensures memory { error_kind error.now ≡ ErrorKind.OutOfMemory → result ≡ plain Store }
     {
         if error.kind() == ErrorKind::OutOfMemory {
             Failure::memory()
@@ -96,12 +98,11 @@ impl Failure {
 
     /// Why a policy was refused: by its place, unless memory ran out.
     pub fn of_policy(error: PolicyError) -> Failure
-        ensures { IsRefusedPolicy error result }
+        ensures { result ≡ policy_failure error }
     {
-        if error.code == PolicyFault::Memory {
-            Failure::memory()
-        } else {
-            Failure::Policy(error)
+        match error.code {
+            PolicyFault::Memory => Failure::memory(),
+            _ => Failure::Policy(error),
         }
     }
 

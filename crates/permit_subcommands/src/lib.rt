@@ -1,13 +1,17 @@
 //! What the program's subcommands do with an office, over any store, reader and writer.
 //!
-//! `founding`, `request`, `asking` and `refused` are what `init` and `act` do, and `listing` what `list` and `register` do.
-//! `days` is the day that a run counts; `failure` has the lines and statuses of all that can go wrong.
+//! `founding`, `request` and `answering` are what `init` and `act` do, and `listing` what `list` and `register` do.
+//! `days` is the day that a run counts, by the readings of a `clock`; `lines` and `printing` are what is printed of what was
+//! done, and `failure` has the lines and statuses of all that can go wrong.
 #![tactic(auto)]
 
-pub mod asking;
+pub mod answering;
+pub mod clock;
 pub mod days;
 pub mod failure;
 pub mod founding;
+pub mod lines;
 pub mod listing;
+pub mod printing;
 pub mod refused;
 pub mod request;

@@ -10,11 +10,11 @@ ghost use Rattle.permit_office.specs.declared.reply.Reply.{Reply as TheReply};
 ghost use Rattle.permit_office.specs.declared.showing.RowsEnd.{RowsEnd as TheEnd};
 ghost use Rattle.permit_store.specs.Frames.{OverHistory};
 ghost use Rattle.permit_wire.specs.Serving.{Steps};
-ghost use Rattle.permit_subcommands.specs.Listings.{listed, listing_text, Tells, Writes, WritesSome};
+ghost use Rattle.permit_subcommands.specs.Listings.{filter_of, listed, listing_text, Tells, Writes, WritesSome};
 
 use crate::failure::Failure;
 use crate::refused::Refused;
-use permit_base::request::{Asked, Filter, Request};
+use permit_base::request::{Asked, FileStage, Filter, Request};
 use permit_base::values::{Day, Token};
 use permit_base::words::RegisterKind;
 use permit_office::office::Office;
@@ -35,6 +35,16 @@ fn listed(reply: Reply) -> Result<Listing, Failure>
         Reply::Refused(why) => Err(Failure::Refused(Refused::from(why))),
         // The office gives no other reply to a request for a listing.
         _ => Err(Failure::memory()),
+    }
+}
+
+/// The files of a stage, or all without one.
+pub fn filter_of(stage: Option<FileStage>) -> Filter
+    ensures { result ≡ filter_of stage }
+{
+    match stage {
+        Some(stage) => Filter::InStage(stage),
+        None => Filter::All,
     }
 }
 

@@ -3,6 +3,7 @@
 ghost use Rattle.std.specs.Prelude.{◌≡◌, ℕ, List, ◌++◌, true, false, Ok, None, IfErr};
 ghost use Rattle.std.specs.Io.KnownBytes.{Keeps};
 ghost use Rattle.permit_http.specs.Errors.{StopsAt, fault_of};
+ghost use Rattle.permit_http.specs.Needed.{ReadsNeeded};
 ghost use Rattle.permit_http.specs.Stream.{stream};
 ghost use Rattle.permit_http.specs.Spans.{Holds, message_at, view_of};
 ghost use Rattle.permit_wire.specs.Asked.{asked_in};
@@ -13,12 +14,12 @@ use permit_http::error::WireError;
 use permit_http::fault::Fault;
 use permit_http::inbox::Inbox;
 use permit_http::message::{Message, MessageSpans};
+use permit_http::source::Source;
 use permit_routes::bearer::read_token;
 use permit_routes::fault::BodyFault;
 use permit_routes::requests::read_body;
 use permit_routes::routing::Routes;
 use std::alloc::Global;
-use std::io::Read;
 
 /// What a whole message asks: its route, then its token, then its body.
 fn asked_by(routes: &mut Routes, message: &Message<'_>) -> Result<Asked, Fault>
@@ -62,8 +63,8 @@ fn read_out(routes: &mut Routes, inbox: &mut Inbox, spans: &MessageSpans) -> Res
 /// came. The bytes of a request that was read whole, also of one with such a fault, are dropped, and it counts
 /// among the 100 answers of the connection, which closes with the 100th or where the head asks for it. After another
 /// fault the connection is closed. Memory is taken for the request's texts alone, and for the routes of its method where they
-/// aren't made yet.
-pub fn read_by<R: Read>(
+/// aren't made yet. No read is made behind bytes that hold a whole request or a head with a fault.
+pub fn read_by<R: Source>(
     routes: &mut Routes,
     inbox: &mut Inbox,
     reader: &mut R,
@@ -76,6 +77,7 @@ pub fn read_by<R: Read>(
     ensures shut { inbox.old.closed ≡ true → (result ≡ Ok None) × Keeps (R.remaining reader.old) (R.remaining reader.new) }
     ensures nothing { result ≡ Ok None → inbox.new ≡ inbox.old }
     ensures closes { IfErr result (λ error. stays_open error ≡ false → inbox.new.closed ≡ true) }
+    ensures needed { (last : List ℕ) × ReadsNeeded R.gave inbox.old reader.old last reader.new }
 {
     match inbox.read_message(reader) {
         Ok(Some(spans)) => match read_out(routes, inbox, &spans) {
@@ -88,7 +90,7 @@ pub fn read_by<R: Read>(
 }
 
 /// Reads the next request of a connection as `read_by` does, by routes that are made for it alone.
-pub fn read_request<R: Read>(
+pub fn read_request<R: Source>(
     alloc: Global,
     inbox: &mut Inbox,
     reader: &mut R,
@@ -101,6 +103,7 @@ pub fn read_request<R: Read>(
     ensures shut { inbox.old.closed ≡ true → (result ≡ Ok None) × Keeps (R.remaining reader.old) (R.remaining reader.new) }
     ensures nothing { result ≡ Ok None → inbox.new ≡ inbox.old }
     ensures closes { IfErr result (λ error. stays_open error ≡ false → inbox.new.closed ≡ true) }
+    ensures needed { (last : List ℕ) × ReadsNeeded R.gave inbox.old reader.old last reader.new }
 {
     read_by(&mut Routes::new(alloc), inbox, reader)
 }

@@ -3,6 +3,7 @@
 ghost use Rattle.std.specs.Prelude.{◌≡◌, ◌≢◌, ◌≤◌, ◌++◌, ℕ, List, Some, true};
 ghost use Rattle.std.specs.Io.KnownBytes.{Keeps};
 ghost use Rattle.permit_http.specs.Message.{IsUnfinished};
+ghost use Rattle.permit_http.specs.Needed.{ReadsNeeded};
 ghost use Rattle.permit_http.specs.Stream.{stream};
 ghost use Rattle.permit_answer.specs.AnswerText.{answer_data};
 ghost use Rattle.permit_wire.specs.Serving.{AsksOnce, GoesOutAs, Moves, Serves, ServesBy, is_shut, is_silent};
@@ -15,11 +16,12 @@ use permit_base::request::action;
 use permit_base::values::Day;
 use permit_http::error::WireError;
 use permit_http::inbox::Inbox;
+use permit_http::source::Source;
 use permit_office::office::Office;
 use permit_routes::routing::Routes;
 use permit_store::store::Store;
 use std::alloc::Global;
-use std::io::{Read, Write};
+use std::io::Write;
 
 /// How serving one request ended.
 #[derive(Clone, Copy, PartialEq, Eq)]
@@ -82,7 +84,7 @@ pub fn answer_with<W: Write>(
 /// The routes stay for the next request. The bytes behind the request stay in the inbox. A fault leaves the service as it
 /// was; a request is answered by the one reply that the service gave to it. After `Closed`, `ReadFailed` and `WriteFailed` the connection is closed: a further
 /// call reads nothing and answers `Ended`.
-pub fn serve_by<C, T: Service<C>, R: Read, W: Write>(
+pub fn serve_by<C, T: Service<C>, R: Source, W: Write>(
     routes: &mut Routes,
     service: &mut T,
     by: &C,
@@ -101,6 +103,7 @@ pub fn serve_by<C, T: Service<C>, R: Read, W: Write>(
     ensures grown { result.served ≡ Served.ReadFailed → (more : List ℕ) × (inbox.new.bytes ≡ inbox.old.bytes ++ more) }
     ensures ended { result.served ≡ Served.Ended → inbox.new ≡ inbox.old }
     ensures shut { result.served ≢ Served.Ended → inbox.new.closed ≡ is_shut result.served }
+    ensures needed { (last : List ℕ) × ReadsNeeded R.gave inbox.old reader.old last reader.new }
 {
     let alloc = routes.allocator();
     match read_by(routes, inbox, reader) {
@@ -139,7 +142,7 @@ pub fn serve_by<C, T: Service<C>, R: Read, W: Write>(
 /// The bytes behind the request stay in the inbox. A fault leaves the office as it was; a request is answered by the one
 /// step that the office made for it. After `Closed`, `ReadFailed` and `WriteFailed` the connection is closed: a further
 /// call reads nothing and answers `Ended`.
-pub fn serve_one<S: Store + Drop, R: Read, W: Write>(
+pub fn serve_one<S: Store + Drop, R: Source, W: Write>(
     alloc: Global,
     office: &mut Office<S>,
     inbox: &mut Inbox,
@@ -158,6 +161,7 @@ pub fn serve_one<S: Store + Drop, R: Read, W: Write>(
     ensures grown { result ≡ Served.ReadFailed → (more : List ℕ) × (inbox.new.bytes ≡ inbox.old.bytes ++ more) }
     ensures ended { result ≡ Served.Ended → inbox.new ≡ inbox.old }
     ensures shut { result ≢ Served.Ended → inbox.new.closed ≡ is_shut result }
+    ensures needed { (last : List ℕ) × ReadsNeeded R.gave inbox.old reader.old last reader.new }
 {
     serve_by(&mut Routes::new(alloc), office, &day, inbox, reader, writer).served
 }

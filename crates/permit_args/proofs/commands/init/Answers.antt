@@ -1,6 +1,4 @@
-use Rattle.std.proofs.Common.{ap, ◌∙◌}
-use Rattle.std.proofs.lemmas.Result.{IfOk-weaker}
-use Rattle.permit_args.specs.Plans.{init_app, with_days}
+use Rattle.permit_args.specs.Plans.{init_app}
 use Rattle.permit_args.proofs.Added.{added}
 use Rattle.permit_args.proofs.commands.init.Goals as goal
 
@@ -10,4 +8,4 @@ returns c =
     let db = added c.in_ok-arg.ensures c.database.ensures.own c.database.ensures.rule c.in_ok-subcommand.ensures in
     let name = added c.in_ok-arg-2.ensures c.required_option.ensures.own c.required_option.ensures.rule db in
     let token = added c.in_ok-command.ensures c.required_option-2.ensures.own c.required_option-2.ensures.rule name in
-    IfOk-weaker c.with_days.result _ _ (λ r h. h ∙ ap with_days token) c.with_days.ensures
+    c.with_days.ensures _ token

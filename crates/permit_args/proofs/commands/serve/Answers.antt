@@ -1,6 +1,5 @@
-use Rattle.std.proofs.Common.{ap, ◌∙◌}
 use Rattle.std.proofs.lemmas.Result.{IfOk-weaker}
-use Rattle.permit_args.specs.Plans.{serve_app, with_days}
+use Rattle.permit_args.specs.Plans.{serve_app}
 use Rattle.permit_args.proofs.Added.{added}
 use Rattle.permit_args.proofs.commands.serve.Goals as goal
 
@@ -9,7 +8,7 @@ unfolding serve_app
 returns c =
     let db = added c.in_ok-arg.ensures c.database.ensures.own c.database.ensures.rule c.in_ok-subcommand.ensures in
     let policy = added c.in_ok-command.ensures c.policy.ensures.own c.policy.ensures.rule db in
-    let days = c.in_ok-with_days.ensures ∙ ap with_days policy in
+    let days = c.in_ok-with_days.ensures _ policy in
     let listen = added c.in_ok-arg-2.ensures c.required_option.ensures.own c.required_option.ensures.rule days in
     let workers = added c.in_ok-arg-3.ensures c.option.ensures.own c.option.ensures.rule listen in
     IfOk-weaker c.arg-5.result _ _ (λ r h. added h c.option-2.ensures.own c.option-2.ensures.rule workers) c.arg-5.ensures

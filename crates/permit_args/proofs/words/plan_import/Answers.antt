@@ -1,14 +1,23 @@
-use Rattle.std.proofs.Common.{ap, ◌∙◌, map, string_bytes}
-use Rattle.clap.specs.Words.{is_simple, matches_of}
-use Rattle.permit_args.proofs.Matched.{import_of}
+use Rattle.std.proofs.Common.{map, string_bytes}
+use Rattle.permit_args.specs.Plans.{IsImportOf}
 use Rattle.permit_args.proofs.Simple.{import_simple}
+use Rattle.permit_args.proofs.Unread.{found_for, passed_on, read_as, unread_of_parser, unread_of_value}
 use Rattle.permit_args.proofs.words.plan_import.Goals as goal
 
-pub returns : goal.returns
-returns c =
-    let is = c.in_ok-import.ensures in
-    let rows = c.in_ok-matches.ensures (ap is_simple is ∙ import_simple) ∙ ap (λ a. matches_of a (map string_bytes c.args.words.now)) is in
-    import_of rows (record {
-      office = c.in_ok-office.ensures;
-      file = c.in_ok-required.ensures;
-    })
+pub returns-clause-plan : goal.returns-clause-plan
+returns-clause-plan c = read_as IsImportOf _ (found_for c.in_ok-import.ensures.reads import_simple c.in_ok-matches.ensures.found) (record {
+  office = c.in_ok-office.ensures.found;
+  file = c.in_ok-required.ensures.value;
+})
+
+pub returns-in_err-matches-clause-refused : goal.returns-in_err-matches-clause-refused
+returns-in_err-matches-clause-refused c = passed_on _ _ _ c.from_residual-in_err-matches.ensures.1 (
+    unread_of_parser (map string_bytes c.args.words.now) IsImportOf _ c.in_ok-import.ensures.reads import_simple c.in_err-matches.ensures.refused)
+
+pub returns-in_err-office-clause-refused : goal.returns-in_err-office-clause-refused
+returns-in_err-office-clause-refused c = passed_on _ _ _ c.from_residual-in_err-office.ensures.1 (
+    unread_of_value IsImportOf _ _ (found_for c.in_ok-import.ensures.reads import_simple c.in_ok-matches.ensures.found) c.in_err-office.ensures.refused (λ x is. (x.office, is.office)))
+
+pub returns-in_err-required-clause-refused : goal.returns-in_err-required-clause-refused
+returns-in_err-required-clause-refused c = passed_on _ _ _ c.from_residual-in_err-required.ensures.1 (
+    unread_of_value IsImportOf _ _ (found_for c.in_ok-import.ensures.reads import_simple c.in_ok-matches.ensures.found) c.in_err-required.ensures.refused (λ x is. (x.file.now, is.file)))

@@ -1,18 +1,39 @@
-use Rattle.std.proofs.Common.{ap, ◌∙◌, map, string_bytes}
-use Rattle.clap.specs.Words.{is_simple, matches_of}
-use Rattle.permit_args.proofs.Matched.{serve_of}
+use Rattle.std.proofs.Common.{map, string_bytes}
+use Rattle.permit_args.specs.Plans.{IsServeOf}
 use Rattle.permit_args.proofs.Simple.{serve_simple}
+use Rattle.permit_args.proofs.Unread.{found_for, passed_on, read_as, unread_of_parser, unread_of_value}
 use Rattle.permit_args.proofs.words.plan_serve.Goals as goal
 
-pub returns : goal.returns
-returns c =
-    let is = c.in_ok-serve.ensures in
-    let rows = c.in_ok-matches.ensures (ap is_simple is ∙ serve_simple) ∙ ap (λ a. matches_of a (map string_bytes c.args.words.now)) is in
-    serve_of rows (record {
-      db = c.in_ok-required.ensures;
-      policy = c.in_ok-required-2.ensures;
-      days = c.days.ensures;
-      listen = c.in_ok-required-3.ensures;
-      workers = c.in_ok-workers.ensures.number;
-      connections = c.in_ok-connections.ensures.number;
-    })
+pub returns-clause-plan : goal.returns-clause-plan
+returns-clause-plan c = read_as IsServeOf _ (found_for c.in_ok-serve.ensures.reads serve_simple c.in_ok-matches.ensures.found) (record {
+  db = c.in_ok-required.ensures.value;
+  policy = c.in_ok-required-2.ensures.value;
+  days = c.days.ensures;
+  listen = c.in_ok-required-3.ensures.value;
+  workers = c.in_ok-workers.ensures.number;
+  connections = c.in_ok-connections.ensures.number;
+})
+
+pub returns-in_err-matches-clause-refused : goal.returns-in_err-matches-clause-refused
+returns-in_err-matches-clause-refused c = passed_on _ _ _ c.from_residual-in_err-matches.ensures.1 (
+    unread_of_parser (map string_bytes c.args.words.now) IsServeOf _ c.in_ok-serve.ensures.reads serve_simple c.in_err-matches.ensures.refused)
+
+pub returns-in_err-required-clause-refused : goal.returns-in_err-required-clause-refused
+returns-in_err-required-clause-refused c = passed_on _ _ _ c.from_residual-in_err-required.ensures.1 (
+    unread_of_value IsServeOf _ _ (found_for c.in_ok-serve.ensures.reads serve_simple c.in_ok-matches.ensures.found) c.in_err-required.ensures.refused (λ x is. (x.db.now, is.db)))
+
+pub returns-in_err-required-2-clause-refused : goal.returns-in_err-required-2-clause-refused
+returns-in_err-required-2-clause-refused c = passed_on _ _ _ c.from_residual-in_err-required-2.ensures.1 (
+    unread_of_value IsServeOf _ _ (found_for c.in_ok-serve.ensures.reads serve_simple c.in_ok-matches.ensures.found) c.in_err-required-2.ensures.refused (λ x is. (x.policy.now, is.policy)))
+
+pub returns-in_err-required-3-clause-refused : goal.returns-in_err-required-3-clause-refused
+returns-in_err-required-3-clause-refused c = passed_on _ _ _ c.from_residual-in_err-required-3.ensures.1 (
+    unread_of_value IsServeOf _ _ (found_for c.in_ok-serve.ensures.reads serve_simple c.in_ok-matches.ensures.found) c.in_err-required-3.ensures.refused (λ x is. (x.listen.now, is.listen)))
+
+pub returns-in_err-workers-clause-refused : goal.returns-in_err-workers-clause-refused
+returns-in_err-workers-clause-refused c = passed_on _ _ _ c.from_residual-in_err-workers.ensures.1 (
+    unread_of_value IsServeOf _ _ (found_for c.in_ok-serve.ensures.reads serve_simple c.in_ok-matches.ensures.found) c.in_err-workers.ensures.refused (λ x is. (x.workers, is.workers)))
+
+pub returns-in_err-connections-clause-refused : goal.returns-in_err-connections-clause-refused
+returns-in_err-connections-clause-refused c = passed_on _ _ _ c.from_residual-in_err-connections.ensures.1 (
+    unread_of_value IsServeOf _ _ (found_for c.in_ok-serve.ensures.reads serve_simple c.in_ok-matches.ensures.found) c.in_err-connections.ensures.refused (λ x is. (x.connections, is.connections)))

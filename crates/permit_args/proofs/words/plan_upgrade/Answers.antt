@@ -1,11 +1,18 @@
-use Rattle.std.proofs.Common.{ap, ◌∙◌, map, string_bytes}
-use Rattle.clap.specs.Words.{is_simple, matches_of}
-use Rattle.permit_args.proofs.Matched.{database_of}
+use Rattle.std.proofs.Common.{map, string_bytes}
+use Rattle.permit_args.specs.Plans.{IsDatabaseOf}
 use Rattle.permit_args.proofs.Simple.{upgrade_simple}
+use Rattle.permit_args.proofs.Unread.{found_for, passed_on, read_as, unread_of_parser, unread_of_value}
 use Rattle.permit_args.proofs.words.plan_upgrade.Goals as goal
 
-pub returns : goal.returns
-returns c =
-    let is = c.in_ok-upgrade.ensures in
-    let rows = c.in_ok-matches.ensures (ap is_simple is ∙ upgrade_simple) ∙ ap (λ a. matches_of a (map string_bytes c.args.words.now)) is in
-    database_of rows (record { db = c.in_ok-required.ensures })
+pub returns-clause-plan : goal.returns-clause-plan
+returns-clause-plan c = read_as IsDatabaseOf _ (found_for c.in_ok-upgrade.ensures.reads upgrade_simple c.in_ok-matches.ensures.found) (record {
+  db = c.in_ok-required.ensures.value;
+})
+
+pub returns-in_err-matches-clause-refused : goal.returns-in_err-matches-clause-refused
+returns-in_err-matches-clause-refused c = passed_on _ _ _ c.from_residual-in_err-matches.ensures.1 (
+    unread_of_parser (map string_bytes c.args.words.now) IsDatabaseOf _ c.in_ok-upgrade.ensures.reads upgrade_simple c.in_err-matches.ensures.refused)
+
+pub returns-in_err-required-clause-refused : goal.returns-in_err-required-clause-refused
+returns-in_err-required-clause-refused c = passed_on _ _ _ c.from_residual-in_err-required.ensures.1 (
+    unread_of_value IsDatabaseOf _ _ (found_for c.in_ok-upgrade.ensures.reads upgrade_simple c.in_ok-matches.ensures.found) c.in_err-required.ensures.refused (λ x is. (x.db.now, is.db)))

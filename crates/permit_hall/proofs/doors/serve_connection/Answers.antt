@@ -14,8 +14,8 @@ loop-init g c =
     let first = c.args.session.now in let begun = g.O.Write.contents c.args.writer.now in (
       c.requires.session,
       (refl, refl, refl),
-      c.requires.count.0,
-      c.requires.count.1,
+      c.requires.even,
+      c.requires.count,
       (none, sym (append-nil (put_by first)), sym (append-nil (got_by first))),
       λ bytes e. (
         bytes,
@@ -27,8 +27,8 @@ loop-init g c =
 pub loop-preserved : goal.loop-preserved
 loop-preserved g c =
     let h = c.loop.invariant in let turn = c.serve_by-turn in let first = c.args.session.now in let s = c.loop.session in let t = turn.new.service in
-    let counts = counts s t turn.result.asked c.loop.count c.from.result c.in_ok-count.count turn.ensures.asks c.from.ensures
-    c.in_ok-count.ensures.1 h.2 h.3 in
+    let counts = counts s t turn.result.asked c.loop.count c.from.result c.saturating_add-count.result turn.ensures.asks c.from.ensures
+    c.saturating_add-count.ensures h.2 h.3 in
     let stays = kept turn.result.served (sym c.is_shut.ensures ∙ c.if-is_shut.false) in (
       turn.ensures.ready,
       places s t first turn.result.asked turn.ensures.asks h.1,

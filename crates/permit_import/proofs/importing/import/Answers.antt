@@ -62,8 +62,10 @@ returns-in_err-read_next-2-clause-imports g c =
 pub returns-in_err-write_counts-clause-imports : goal.returns-in_err-write_counts-clause-imports
 returns-in_err-write_counts-clause-imports g c =
     let inv = c.loop-number.invariant in
+    let all = when_false _ _ c.if-not-branch-2.true (c.in_ok-read_next-2.ensures.next (g.R.Read.remaining c.args.reader)
+    (header ∷ inv.progress.rows) inv.progress.behind) in
     let p = err_from_is_err_and c.from_residual-in_err-write_counts.result c.from_residual-in_err-write_counts.ensures.1 in
-    rw (p.1, p.2) (counts_short _ _ _ _ _ _ _ _ _ _ _ _ _ _ inv.progress inv.few c.in_err-write_counts.ensures.short)
+    rw (p.1, p.2) (counts_short _ _ _ _ _ _ _ _ _ _ _ _ _ _ inv.progress inv.few all c.in_err-write_counts.ensures.short)
 
 pub returns-then-not-branch-2-clause-imports : goal.returns-then-not-branch-2-clause-imports
 returns-then-not-branch-2-clause-imports g c =

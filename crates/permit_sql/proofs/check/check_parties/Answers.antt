@@ -1,4 +1,4 @@
-use Rattle.std.proofs.Common.{eqb-true, true≢false, refl, false, sym, ◌∙◌, arith}
+use Rattle.std.proofs.Common.{eqb-true, true≢false, sym, ◌∙◌, arith}
 use Rattle.std.proofs.lemmas.Bool.Decides.{nat_tests}
 use Rattle.permit_sql.proofs.WholeMeanings.{each_party_plain}
 use Rattle.permit_sql.proofs.Checks.{parties_are}

@@ -7,12 +7,12 @@ use Rattle.permit_sql.proofs.check.takes_all.Goals as goal
 
 pub each_row-requires-clause-plain : goal.each_row-requires-clause-plain
 each_row-requires-clause-plain g c =
-    let office = sym c.schema.ensures.value ∙ c.is_office.ensures c.if-not-is_office.false in
+    let office = sym c.schema.ensures.value ∙ c.is_office.ensures.told.0 c.if-not-is_office.false in
     subst (λ s. IsPlain (understood s c.args.sql.now)) (sym office) c.requires.plain
 
 pub returns-in-Ok-clause-all : goal.returns-in-Ok-clause-all
 returns-in-Ok-clause-all g c clean said = (
-  sym c.schema.ensures.value ∙ c.is_office.ensures c.if-not-is_office.false,
+  sym c.schema.ensures.value ∙ c.is_office.ensures.told.0 c.if-not-is_office.false,
   go c.in-Ok.all (c.in-Ok.ensures.ok clean) said,
 )
   where

@@ -1,9 +1,7 @@
-use Rattle.std.proofs.Common.{[], refl}
+use Rattle.std.proofs.Common.{refl}
 use Rattle.permit_sql.proofs.WholeMeanings.{each_rowid_plain}
 use Rattle.permit_sql.proofs.FileChecks.{rowids_are}
 use Rattle.permit_sql.proofs.Refused.{took_every, rowids_taken}
-use Rattle.sqlite.specs.Held.{state}
-use Rattle.permit_sql_statements.proofs.KeptLemmas.{shown_still}
 use Rattle.permit_sql.proofs.check_files.check_rowids.Goals as goal
 
 pub takes_all-requires-clause-plain : goal.takes_all-requires-clause-plain
@@ -17,8 +15,3 @@ returns-clause-good g c clean said =
 pub returns-clause-kept : goal.returns-clause-kept
 returns-clause-kept g c clean t typed k = took_every (rowids_taken c.args.edition g.S.Store c.args.conn.now c.takes_all.new.conn t typed k _ _ _ refl
     (c.in_ok-all.ensures.handed clean)) c.if-rowids.false
-
-pub returns-clause-open : goal.returns-clause-open
-returns-clause-open g c clean said =
-    let took = (c.in_ok-all.ensures.all clean said).1 in
-    shown_still _ [] (state g.S.Store took.1) (state g.S.Store c.takes_all.new.conn) took.0 took.4

@@ -1,4 +1,4 @@
-use Rattle.std.proofs.Common.{◌≡◌, Bool, true, ℕ, List, [], ◌∷◌, ◌++◌, not, refl, ap, subst, ◌∙◌, rules, arith}
+use Rattle.std.proofs.Common.{◌≡◌, Bool, true, IsTrue, ℕ, List, [], ◌∷◌, ◌++◌, not, refl, ap, subst, ◌∙◌, rules, arith}
 use Rattle.sqlite_value.specs.Order.{Row}
 use Rattle.sqlite.specs.Listing.{understood}
 use Rattle.sqlite.specs.State.{State, HasCleanDisk, Survives, FailsToQuery, CommitsShowing}
@@ -69,6 +69,22 @@ returns-then-not-take-clause-ok g c clean =
       given_begin g.S.Store sql params now (was.0 ++ c.in-Some.row.now ∷ []) given,
       (c.rows.taker, was.3, rw c.if-not-take.true at c.take.ensures),
     )
+
+pub returns-in_default-clause-open : goal.returns-in_default-clause-open
+returns-in_default-clause-open g c clean =
+    let moved = c.next.follows.holds-at-none in
+    let now = c.next.follows.lender-at-none.conn.now in
+    let late : HasCleanDisk (state g.S.Store now) = search rules in
+    let kept = rw c.in_ok-row.was at (moved.same late) in
+    let last : IsTrue (state g.S.Store now).is_open = kept.0.is_open in search rules
+
+pub returns-then-not-take-clause-open : goal.returns-then-not-take-clause-open
+returns-then-not-take-clause-open g c clean =
+    let moved = c.next.follows.holds-at-none in
+    let now = c.next.follows.lender-at-none.conn.now in
+    let late : HasCleanDisk (state g.S.Store now) = search rules in
+    let kept = rw c.in_ok-row.was at (moved.same late) in
+    let last : IsTrue (state g.S.Store now).is_open = kept.0.is_open in search rules
 
 pub rows-preserved : goal.rows-preserved
 rows-preserved g c =

@@ -31,8 +31,7 @@ returns-clause-good g c fine office =
     let found = tables_found e old d u cases.counts office now desk upgrade objects.parties objects.parcels objects.interests cases.files cases.counted cases.papers cases.apart in
     let told = c.in_ok-are_sound.ensures.told fine found.0 found.1
     (subst (KeepsUnder e found.0) (sym (fourth.1 ∙ third.1 ∙ second.1 ∙ first.1)) found.2) found.3 found.4 in
-    let last : c.desk-2.inside.files ≡ d.files = search rules in
-    (found.0, found.1, told.0 c.if-not-branch-3.false, found.2, ap (λ (x : Desk). x.files) found.3 ∙ sym last, found.4)
+    (found.0, found.1, told.0 c.if-not-branch-3.false, found.2, found.3, found.4)
 
 pub returns-then-not-branch-3-clause-kept : goal.returns-then-not-branch-3-clause-kept
 returns-then-not-branch-3-clause-kept g c fine has =

@@ -6,7 +6,7 @@ use Rattle.permit_sql.proofs.open.find_upgrade.Goals as goal
 pub returns-in-Some-clause-good : goal.returns-in-Some-clause-good
 returns-in-Some-clause-good g c fine =
     let was = c.upgrade_seen.ensures.left fine in
-    let office = sym c.schema.ensures.value ∙ c.is_office.ensures c.if-not-is_office.false in
+    let office = sym c.schema.ensures.value ∙ c.is_office.ensures.told.0 c.if-not-is_office.false in
     let shown = c.in-Some.ensures.back in
     record {
       told = c.in-Second.is;

@@ -1,8 +1,6 @@
-use Rattle.std.proofs.Common.{[], sym, ap, ◌∙◌}
+use Rattle.std.proofs.Common.{sym, ap, ◌∙◌}
 use Rattle.std.specs.Prelude.{◌&&◌}
 use Rattle.std.specs.List.{list_all}
-use Rattle.sqlite.specs.Held.{state}
-use Rattle.permit_sql_statements.proofs.KeptLemmas.{shown_still}
 use Rattle.permit_sql.specs.Tested.{is_ended}
 use Rattle.permit_sql.proofs.WholeMeanings.{each_paper_plain}
 use Rattle.permit_sql.proofs.Passing.{unless, entered_taken}
@@ -23,8 +21,3 @@ returns-clause-told g c clean t typed k parties last tallies few =
     (c.in_ok-all.ensures.handed clean)) c.if-entered.false in
     c.are_ended.ensures ∙ ap (list_all is_ended) c.deref.ensures.value
     ∙ sym (ap (λ x. x && list_all is_ended c.takes_all.new.taker.tallies.items) c.if-not-all.false) ∙ took
-
-pub returns-clause-open : goal.returns-clause-open
-returns-clause-open g c clean said =
-    let took = (c.in_ok-all.ensures.all clean c.if-not-all.false).1 in
-    shown_still _ [] (state g.S.Store took.1) (state g.S.Store c.takes_all.new.conn) took.0 took.4

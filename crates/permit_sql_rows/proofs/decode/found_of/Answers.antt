@@ -1,7 +1,9 @@
-use Rattle.std.proofs.Common.{[], ◌∷◌, ap, sym, subst, IfSome, ◌≡◌, ◌<◌, length, arith, rules}
+use Rattle.std.proofs.Common.{[], ◌∷◌, ap, sym, subst, IfSome, ◌≡◌, ◌<◌, length, arith, rules, ◌∙◌}
+use Rattle.std.proofs.lemmas.Result.{err_from_is_err_and}
 use Rattle.sqlite_value.specs.Order.{column}
 use Rattle.permit_sql_rows.specs.Rows.{or_null, flag}
-use Rattle.permit_sql_rows.proofs.Stated.{found_is, not_some}
+use Rattle.permit_sql_rows.proofs.Shown.{found_columns}
+use Rattle.permit_sql_rows.proofs.Stated.{found_is, not_some, on_memory}
 use Rattle.permit_sql_rows.proofs.decode.found_of.Goals as goal
 
 pub returns-clause-read : goal.returns-clause-read
@@ -24,3 +26,21 @@ returns-in_err-readable-clause-some c = λ is good owner named e.
 pub returns-in_err-readable-2-clause-some : goal.returns-in_err-readable-2-clause-some
 returns-in_err-readable-2-clause-some c = λ is good owner named e.
     not_some _ c.in_err-readable-2.ensures.err.0 (c.truth.ensures.some is.conflict (ap (λ r. column r 21) e))
+
+pub returns-clause-back : goal.returns-clause-back
+returns-clause-back c =
+    let row = c.args.row.now in
+    found_columns row c.in_ok-file_of.field-0 _ _ c.in_ok-file_of.ensures.back
+    (subst (λ o. IfSome o (λ x. column row 20 ≡ or_null x)) c.in_ok-readable.ensures.ok c.party_or_null.ensures.back)
+    (subst (λ o. IfSome o (λ x. column row 21 ≡ flag x)) c.in_ok-readable-2.ensures.ok c.truth.ensures.back)
+
+pub returns-in_err-file_of-clause-memory : goal.returns-in_err-file_of-clause-memory
+returns-in_err-file_of-clause-memory c =
+    let p = err_from_is_err_and c.from_residual-in_err-file_of.result c.from_residual-in_err-file_of.ensures.1 in
+    on_memory p.0 p.1 (λ none.
+    let row = c.args.row.now in
+    let file = c.in_err-file_of.ensures.memory (sym p.2 ∙ none) in
+    let whole = found_columns row file.0 _ _ file.3
+    (subst (λ o. IfSome o (λ x. column row 20 ≡ or_null x)) c.in_ok-readable.ensures.ok c.party_or_null.ensures.back)
+    (subst (λ o. IfSome o (λ x. column row 21 ≡ flag x)) c.in_ok-readable-2.ensures.ok c.truth.ensures.back) in
+    (record { row = file.0; owner = _; conflict = _ }, file.1, search rules, file.2, whole))

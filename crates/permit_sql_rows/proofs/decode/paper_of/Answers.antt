@@ -1,8 +1,12 @@
-use Rattle.std.proofs.Common.{◌≡◌, ℕ, Bool, List, IfSome, ap, subst, refl}
-use Rattle.permit_sql_rows.proofs.Stated.{not_some}
+use Rattle.std.proofs.Common.{rules, ◌≡◌, ℕ, Bool, List, IfSome, ap, subst, refl, sym, ◌∙◌, true≢false}
+use Rattle.std.proofs.lemmas.Result.{err_from_is_err_and}
+use Rattle.permit_sql_rows.proofs.Stated.{not_some, on_memory}
 use Rattle.sqlite_value.specs.Order.{column}
 use Rattle.permit_base.specs.declared.words.PaperSort.{PaperSort}
+use Rattle.permit_model.specs.Codes.{sort_code}
 use Rattle.permit_model.specs.Tables.{Paper}
+use Rattle.permit_sql_rows.specs.Rows.{int, flag}
+use Rattle.permit_sql_rows.proofs.Shown.{paper_shown}
 use Rattle.permit_sql_rows.proofs.decode.paper_of.Goals as goal
 
 paper_is : (is : Paper) (file number day author : ℕ) (sort : PaperSort) (days : ℕ) (text terms : List ℕ) (is_open : Bool) → file ≡ is.file →
@@ -61,3 +65,58 @@ returns-in_err-readable-6-clause-some c = λ is good e. not_some _ (rw c.in_err-
 pub returns-in_err-readable-7-clause-some : goal.returns-in_err-readable-7-clause-some
 returns-in_err-readable-7-clause-some c = λ is good e. not_some _ (rw c.in_err-readable-7.was at c.readable-7.ensures.err).0
     (c.truth.ensures.some is.is_open (ap (λ r. column r 8) e))
+
+pub returns-then-not-has_string-clause-some : goal.returns-then-not-has_string-clause-some
+returns-then-not-has_string-clause-some c = λ is good e.
+    absurd (true≢false (sym (c.has_string.ensures.1 (is.terms, ap (λ r. column r 7) e, good.terms)) ∙ c.if-not-has_string.true))
+
+pub returns-in_err-string-clause-memory : goal.returns-in_err-string-clause-memory
+returns-in_err-string-clause-memory c =
+    let p = err_from_is_err_and c.from_residual-in_err-string.result c.from_residual-in_err-string.ensures.1 in
+    on_memory p.0 p.1 (λ none.
+    let row = c.args.row.now in
+    let text = c.in_err-string.ensures.memory (sym p.2 ∙ none) in
+    let terms = c.has_string.ensures.0 c.if-not-has_string.false in
+    paper_shown row
+    (subst (λ o. IfSome o (λ x. column row 0 ≡ int x)) c.in_ok-readable.ensures.ok c.file_number.ensures.back)
+    (subst (λ o. IfSome o (λ x. column row 1 ≡ int x)) c.in_ok-readable-2.ensures.ok c.paper_number.ensures.back)
+    (subst (λ o. IfSome o (λ x. column row 2 ≡ int x)) c.in_ok-readable-3.ensures.ok c.day.ensures.back)
+    (subst (λ o. IfSome o (λ x. column row 3 ≡ int x)) c.in_ok-readable-4.ensures.ok c.party_number.ensures.back)
+    (subst (λ o. IfSome o (λ x. column row 4 ≡ int (sort_code x))) c.in_ok-readable-5.ensures.ok c.sort.ensures.back)
+    (subst (λ o. IfSome o (λ x. column row 5 ≡ int x)) c.in_ok-readable-6.ensures.ok c.number.ensures.back)
+    text.1 terms.1
+    (subst (λ o. IfSome o (λ x. column row 8 ≡ flag x)) c.in_ok-readable-7.ensures.ok c.truth.ensures.back)
+    (record {
+      file = search rules;
+      number = search rules;
+      day = search rules;
+      author = search rules;
+      days = search rules;
+      text = text.2;
+      terms = terms.2;
+    }))
+
+pub returns-in_err-string-2-clause-memory : goal.returns-in_err-string-2-clause-memory
+returns-in_err-string-2-clause-memory c =
+    let p = err_from_is_err_and c.from_residual-in_err-string-2.result c.from_residual-in_err-string-2.ensures.1 in
+    on_memory p.0 p.1 (λ none.
+    let row = c.args.row.now in
+    let terms = c.in_err-string-2.ensures.memory (sym p.2 ∙ none) in
+    paper_shown row
+    (subst (λ o. IfSome o (λ x. column row 0 ≡ int x)) c.in_ok-readable.ensures.ok c.file_number.ensures.back)
+    (subst (λ o. IfSome o (λ x. column row 1 ≡ int x)) c.in_ok-readable-2.ensures.ok c.paper_number.ensures.back)
+    (subst (λ o. IfSome o (λ x. column row 2 ≡ int x)) c.in_ok-readable-3.ensures.ok c.day.ensures.back)
+    (subst (λ o. IfSome o (λ x. column row 3 ≡ int x)) c.in_ok-readable-4.ensures.ok c.party_number.ensures.back)
+    (subst (λ o. IfSome o (λ x. column row 4 ≡ int (sort_code x))) c.in_ok-readable-5.ensures.ok c.sort.ensures.back)
+    (subst (λ o. IfSome o (λ x. column row 5 ≡ int x)) c.in_ok-readable-6.ensures.ok c.number.ensures.back)
+    c.in_ok-string.ensures.back terms.1
+    (subst (λ o. IfSome o (λ x. column row 8 ≡ flag x)) c.in_ok-readable-7.ensures.ok c.truth.ensures.back)
+    (record {
+      file = search rules;
+      number = search rules;
+      day = search rules;
+      author = search rules;
+      days = search rules;
+      text = c.in_ok-string.ensures.utf8;
+      terms = terms.2;
+    }))

@@ -1,6 +1,6 @@
 use Rattle.std.proofs.Common.{inr, ap, Err}
 use Rattle.permit_http.proofs.Streams.{on_stream}
-use Rattle.permit_http.proofs.Given.{stops, whole, lacks_body}
+use Rattle.permit_http.proofs.Given.{needed, stops, whole, lacks_body}
 use Rattle.permit_http.proofs.Unique.{covered_shows_none, shown_is}
 use Rattle.permit_http.specs.declared.error.WireError.TheVariants.{Fault}
 use Rattle.permit_http.proofs.inbox.Inbox.read_found.Goals as goal
@@ -81,3 +81,24 @@ pub returns-in-Err-fill_to-clause-at_once : goal.returns-in-Err-fill_to-clause-a
 returns-in-Err-fill_to-clause-at_once g c = λ fault shown.
     let x = c.requires.found in
     absurd (covered_shows_none _ c.in-Ok.parts x.0 fault (rw c.as_slice.ensures at (c.in-Ok.ensures.parts x.0 (rw c.as_slice.ensures x.1))) shown)
+
+pub returns-in-Ok-true-clause-needed : goal.returns-in-Ok-true-clause-needed
+returns-in-Ok-true-clause-needed g c =
+    let x = c.requires.found in
+    let covers = rw c.as_slice.ensures at (c.in-Ok.ensures.parts x.0 (rw c.as_slice.ensures x.1)) in
+    let ordered = rw c.as_slice.ensures at c.in-Ok.ensures.ordered in
+    needed _ _ _ _ _ c.in-Ok.parts x.0 covers ordered c.fill_to.ensures.needed
+
+pub returns-in-Ok-false-clause-needed : goal.returns-in-Ok-false-clause-needed
+returns-in-Ok-false-clause-needed g c =
+    let x = c.requires.found in
+    let covers = rw c.as_slice.ensures at (c.in-Ok.ensures.parts x.0 (rw c.as_slice.ensures x.1)) in
+    let ordered = rw c.as_slice.ensures at c.in-Ok.ensures.ordered in
+    needed _ _ _ _ _ c.in-Ok.parts x.0 covers ordered c.fill_to.ensures.needed
+
+pub returns-in-Err-fill_to-clause-needed : goal.returns-in-Err-fill_to-clause-needed
+returns-in-Err-fill_to-clause-needed g c =
+    let x = c.requires.found in
+    let covers = rw c.as_slice.ensures at (c.in-Ok.ensures.parts x.0 (rw c.as_slice.ensures x.1)) in
+    let ordered = rw c.as_slice.ensures at c.in-Ok.ensures.ordered in
+    needed _ _ _ _ _ c.in-Ok.parts x.0 covers ordered c.fill_to.ensures.needed

@@ -1,10 +1,11 @@
-use Rattle.std.proofs.Common.{◌≡◌, refl, sym, subst, ap, ◌∙◌, inl}
+use Rattle.std.proofs.Common.{◌≡◌, refl, sym, subst, ◌∙◌, inl}
 use Rattle.permit_http.specs.Head.{NeverHasHead}
 use Rattle.permit_http.specs.Message.{ShowsFault}
 use Rattle.permit_http.specs.declared.fault.Fault.{Fault}
 use Rattle.permit_http.specs.Stream.{InboxData}
 use Rattle.permit_http.proofs.Filling.{filled_on}
 use Rattle.permit_http.proofs.Streams.{split, same_stream, never-append}
+use Rattle.permit_http.proofs.ReadsMade.{reads_then}
 use Rattle.permit_http.proofs.Unique.{shown_not_open}
 use Rattle.permit_http.proofs.inbox.Inbox.read_open.Goals as goal
 
@@ -32,3 +33,6 @@ returns-in-Refused-clause-gives g c = λ bytes e.
     (same_stream c.args.self.now c.head.new.self (g.R.Read.remaining c.args.reader.now) (g.R.Read.remaining c.head.new.reader) bytes
     c.head.ensures.filled e) in
     inl (refl, subst NeverHasHead (sym t.1) (never-append c.head.new.self.bytes t.0 c.in-Refused.ensures.sought))
+
+pub returns-in-Head-clause-needed : goal.returns-in-Head-clause-needed
+returns-in-Head-clause-needed g c = reads_then _ _ _ _ _ _ _ _ c.head.ensures.needed c.read_found.ensures.needed

@@ -1,0 +1,20 @@
+-- What is told of a database's tables.
+use Rattle.std.proofs.Common.{◌≡◌, inl, ℕ, List, Option, Result, Ok, sym, subst}
+use Rattle.permit_model.specs.Tables.{Desk}
+use Rattle.permit_subcommands.specs.Lines.{sound_line, upgraded_line}
+use Rattle.permit_subcommands.specs.declared.failure.Failure.{Failure}
+use Rattle.permit_cli.specs.Telling.{IsTold, PrintsThen}
+use Rattle.permit_cli.specs.declared.outcome.Outcome.{Outcome}
+use Rattle.permit_cli.specs.declared.outcome.Outcome.TheVariants as outcome
+
+-- a text that was made of a count of files is printed
+pub upgraded_told : (o : Outcome) (files : ℕ) (text : List ℕ) (before after : Option (List ℕ)) (result : Result ℕ Failure) → o ≡ outcome.Upgraded files →
+    text ≡ upgraded_line files → PrintsThen text (Ok 0) before after result → IsTold o before after result
+upgraded_told o files text before after result is made printed = subst (λ (o : Outcome). IsTold o before after result) (sym is)
+    (inl (subst (λ (text : List ℕ). PrintsThen text (Ok 0) before after result) made printed))
+
+-- a text that was made of a desk is printed
+pub sound_told : (o : Outcome) (desk : Desk) (text : List ℕ) (before after : Option (List ℕ)) (result : Result ℕ Failure) → o ≡ outcome.Sound desk →
+    text ≡ sound_line desk → PrintsThen text (Ok 0) before after result → IsTold o before after result
+sound_told o desk text before after result is made printed = subst (λ (o : Outcome). IsTold o before after result) (sym is)
+    (inl (subst (λ (text : List ℕ). PrintsThen text (Ok 0) before after result) made printed))

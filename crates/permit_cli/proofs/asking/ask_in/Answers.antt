@@ -1,0 +1,16 @@
+use Rattle.std.proofs.Common.{inl, ap, ◌∙◌}
+use Rattle.permit_cli.proofs.Doings.{told_of}
+use Rattle.permit_cli.proofs.asking.ask_in.Goals as goal
+
+pub returns-in-Ok : goal.returns-in-Ok
+returns-in-Ok g c = record {
+  asked = inl record {
+    office = c.in-Ok.office;
+    left = c.ask_of-done.new.office;
+    opens = c.in-Ok.ensures.opened;
+    policy_is = c.in-Ok.ensures.policy;
+    answered = c.ask_of-done.ensures.answered;
+    back_is = c.into_connection.ensures.conn ∙ ap (λ s. s.conn) c.into_store.ensures;
+  };
+  told = told_of _ _ _ _ _ _ _ _ _ c.ask_of-done.ensures.answered;
+}

@@ -1,0 +1,13 @@
+use Rattle.std.proofs.Common.{◌∙◌}
+use Rattle.permit_cli.proofs.Tellings.{sound_told, upgraded_told}
+use Rattle.permit_cli.proofs.telling.tell.Goals as goal
+
+pub returns-in_ok-upgraded_text-in-Upgraded-clause-told : goal.returns-in_ok-upgraded_text-in-Upgraded-clause-told
+returns-in_ok-upgraded_text-in-Upgraded-clause-told g c =
+    upgraded_told _ c.in-Upgraded.files _ _ _ _ c.in-Upgraded.is (c.as_str-in-Upgraded.ensures.value ∙ c.in_ok-upgraded_text-in-Upgraded.ensures)
+    c.tell_text-in-Upgraded.ensures
+
+pub returns-in_ok-sound_text-in-Sound-clause-told : goal.returns-in_ok-sound_text-in-Sound-clause-told
+returns-in_ok-sound_text-in-Sound-clause-told g c =
+    sound_told _ c.in-Sound.desk _ _ _ _ c.in-Sound.is (c.as_str-in-Sound.ensures.value ∙ c.in_ok-sound_text-in-Sound.ensures)
+    c.tell_text-in-Sound.ensures

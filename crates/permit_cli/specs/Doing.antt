@@ -1,0 +1,156 @@
+-- What a plan comes to, whatever the disk and the clock give, and how the program's run ends.
+use Rattle.std.specs.Prelude.{◌≡◌, ◌⊎◌, ◌++◌, ℕ, Bool, List, Option, Some, Result, Ok, Err, IfSome, IfNone, IsTrue, length, string_bytes}
+use Rattle.permit_base.specs.Actions.{action_of}
+use Rattle.permit_base.specs.declared.request.Asked.{Asked}
+use Rattle.permit_base.specs.declared.words.RegisterKind.{RegisterKind}
+use Rattle.jiff.specs.Placed.{IsPosixZone}
+use Rattle.jiff_tz.specs.declared.timezone.TimeZone.{TimeZone}
+use Rattle.permit_days.specs.Dates.{IsTextOf}
+use Rattle.permit_model.specs.Facts.{Facts}
+use Rattle.permit_model.specs.Policy.{Policy, decision}
+use Rattle.permit_policy.specs.Explained.{explanation}
+use Rattle.permit_office.specs.declared.reply.Reply.{Reply}
+use Rattle.permit_http.specs.declared.error.WireError.TheVariants as error
+use Rattle.permit_answer.specs.declared.answer.Answer.TheVariants as answer
+use Rattle.permit_import.specs.Importing.{EndsOf}
+use Rattle.permit_import.specs.Outcomes.{outcomes_of}
+use Rattle.permit_import.specs.Records.{Fields}
+use Rattle.permit_args.specs.Checks.{TellsDead, decided_line, rules_line, tried_lines}
+use Rattle.permit_args.specs.FactsText.{facts_in, pieces}
+use Rattle.permit_args.specs.declared.plan.ActWords.{ActWords}
+use Rattle.permit_args.specs.declared.plan.Check.{Check}
+use Rattle.permit_args.specs.declared.plan.Check.TheVariants as check
+use Rattle.permit_args.specs.declared.plan.DayWords.{DayWords}
+use Rattle.permit_args.specs.declared.plan.Plan.{Plan}
+use Rattle.permit_args.specs.declared.plan.Plan.TheVariants as plan
+use Rattle.permit_args.specs.declared.plan.RegisterWords.{RegisterWords}
+use Rattle.permit_subcommands.specs.Answering.{AreReadAs}
+use Rattle.permit_args.specs.Faults.{IsNoPlan}
+use Rattle.permit_args.specs.Plans.{IsPlanOf}
+use Rattle.permit_args.specs.declared.plan.PlanFault.{PlanFault}
+use Rattle.permit_subcommands.specs.Days.{IsClockDay, zone_of}
+use Rattle.permit_subcommands.specs.Printing.{TellsNoPlan}
+use Rattle.permit_subcommands.specs.Failures.{failure_status}
+use Rattle.permit_subcommands.specs.Listings.{WritesSome}
+use Rattle.permit_subcommands.specs.Requests.{body_of, request_text}
+use Rattle.permit_subcommands.specs.declared.failure.Failure.{Failure}
+use Rattle.permit_sockets.specs.Listening.{SaysListening}
+use Rattle.permit_cli.specs.Telling.{IsTold, SaysEnd, SaysNoPlan}
+use Rattle.permit_cli.specs.declared.outcome.Outcome.{Outcome}
+use Rattle.permit_cli.specs.declared.outcome.Outcome.TheVariants as outcome
+use Rattle.permit_cli.specs.declared.question.Question.{Question}
+use Rattle.permit_cli.specs.declared.question.Question.TheVariants as question
+
+-- the clock's day in the zone of a rule
+abbrev pub IsClockDayIn : List ℕ → ℕ → Type 0
+IsClockDayIn rule day = (zone : TimeZone) × IsPosixZone rule zone × IsClockDay zone day
+
+-- the day of a run by its words: the date that they name, or else the clock's in their zone
+abbrev pub IsRunDay : DayWords → ℕ → Type 0
+IsRunDay words day = IfSome words.day (λ date. IsTextOf day date.now) × IfNone words.day (IsClockDayIn (zone_of words) day)
+
+-- ---- what is told of a question
+
+-- the answer to what the bytes ask, with the day, or their fault
+abbrev pub IsAnswerTo : ℕ → List ℕ → Outcome → Type 0
+IsAnswerTo day request (outcome.Answered (answer.Replied reply action on)) =
+    (asked : Asked) × AreReadAs request (Ok (Some asked)) × (action ≡ action_of asked.request) × (on ≡ day)
+IsAnswerTo day request (outcome.Answered (answer.Fault why)) = AreReadAs request (Err (error.Fault why))
+IsAnswerTo day request _ = ⊥
+
+abbrev pub IsListing : Outcome → Type 0
+IsListing (outcome.Listed listing) = Unit {0}
+IsListing _ = ⊥
+
+-- the register of some files is written
+abbrev pub IsRegistered : RegisterKind → ℕ → Option (List ℕ) → Option (List ℕ) → Outcome → Type 0
+IsRegistered kind day before after done = (done ≡ outcome.Registered) × WritesSome kind day before after (Ok tt)
+
+-- the lines of some records and their counts are written, which are told
+abbrev pub IsImported : Option (List ℕ) → Option (List ℕ) → Outcome → Type 0
+IsImported before after (outcome.Imported tally) =
+    (left : Option (List ℕ)) × (rows : List Fields) × (replies : List Reply) × EndsOf left before after (Ok tally) rows (outcomes_of rows replies)
+IsImported before after _ = ⊥
+
+-- what is told of a question to some office on the day, and written on the way
+abbrev pub IsToldOf : {R : Type 0} → ℕ → Question R → Option (List ℕ) → Option (List ℕ) → Outcome → Type 0
+IsToldOf day (question.Serve request) before after done = IsAnswerTo day (string_bytes request) done × (after ≡ before)
+IsToldOf day (question.List token filter) before after done = IsListing done × (after ≡ before)
+IsToldOf day (question.Register token kind) before after done = IsRegistered kind day before after done
+IsToldOf day (question.Import token path records) before after done = IsImported before after done
+
+-- the same on the day of a run
+abbrev pub IsToldOnRunDay : {R : Type 0} → DayWords → Question R → Option (List ℕ) → Option (List ℕ) → Outcome → Type 0
+IsToldOnRunDay words asked before after done = (day : ℕ) × IsRunDay words day × IsToldOf day asked before after done
+
+-- ---- what is told of a plan
+
+-- what is said of some policy
+abbrev pub Says : Check → List ℕ → Type 0
+Says check.Rules text = (policy : Policy) × (text ≡ rules_line (length policy))
+Says check.Dead text = (policy : Policy) × TellsDead policy text
+Says (check.Facts words) text = (policy : Policy) × (facts : Facts) × (facts_in (pieces 44 words.now) ≡ Some facts)
+    × (text ≡ tried_lines (explanation policy facts) ++ decided_line (decision policy facts))
+
+abbrev pub IsPolicyChecked : Check → Outcome → Type 0
+IsPolicyChecked check (outcome.Checked text) = Says check (string_bytes text)
+IsPolicyChecked check _ = ⊥
+
+abbrev pub IsUpgrade : Outcome → Type 0
+IsUpgrade (outcome.Upgraded files) = Unit {0}
+IsUpgrade _ = ⊥
+
+-- sound tables, or a place where one is asked for
+abbrev pub IsCheck : Bool → Outcome → Type 0
+IsCheck why (outcome.Sound desk) = Unit {0}
+IsCheck why (outcome.Unsound fault) = IsTrue why
+IsCheck why _ = ⊥
+
+-- what comes of the words of `act` and of `register`, on the day of the run
+abbrev pub ActsAs : ActWords → Option (List ℕ) → Option (List ℕ) → Outcome → Type 0
+ActsAs words before after done = (day : ℕ) × IsRunDay words.office.days day
+    × IsAnswerTo day (request_text words.method.now words.path.now words.office.token.now (body_of words.body)) done × (after ≡ before)
+
+abbrev pub RegistersAs : RegisterWords → Option (List ℕ) → Option (List ℕ) → Outcome → Type 0
+RegistersAs words before after done = (day : ℕ) × IsRunDay words.office.days day × IsRegistered words.kind day before after done
+
+abbrev pub ListsAs : Option (List ℕ) → Option (List ℕ) → Outcome → Type 0
+ListsAs before after done = IsListing done × (after ≡ before)
+
+-- the office was served, and the line of its address was written
+abbrev pub ServesAs : Option (List ℕ) → Option (List ℕ) → Outcome → Type 0
+ServesAs before after done = (done ≡ outcome.Ended) × SaysListening before after
+
+-- what a plan that succeeds comes to, and what is written on the way
+abbrev pub ComesTo : Plan → Option (List ℕ) → Option (List ℕ) → Outcome → Type 0
+ComesTo plan.Name before after done = (done ≡ outcome.Name) × (after ≡ before)
+ComesTo (plan.CheckPolicy words) before after done = IsPolicyChecked words.check done × (after ≡ before)
+ComesTo (plan.Init words) before after done = (done ≡ outcome.Founded) × (after ≡ before)
+ComesTo (plan.Act words) before after done = ActsAs words before after done
+ComesTo (plan.List words) before after done = ListsAs before after done
+ComesTo (plan.Register words) before after done = RegistersAs words before after done
+ComesTo (plan.Import words) before after done = IsImported before after done
+ComesTo (plan.Serve words) before after done = ServesAs before after done
+ComesTo (plan.Upgrade words) before after done = IsUpgrade done × (after ≡ before)
+ComesTo (plan.CheckDb words) before after done = IsCheck words.why done × (after ≡ before)
+
+-- ---- how a run ends
+
+-- What a plan came to is told, and the run ends so; or there is a failure, with which it ends.
+abbrev pub Performs : Plan → Option (List ℕ) → Option (List ℕ) → Result ℕ Failure → Type 0
+Performs plan before after result =
+    ((done : Outcome) × (between : Option (List ℕ)) × ComesTo plan before between done × IsTold done between after result)
+    ⊎ ((why : Failure) × (result ≡ Err why))
+
+-- the status: the one that is given, or the failure's
+abbrev pub status_of : Result ℕ Failure → ℕ
+status_of (Ok status) = status
+status_of (Err why) = failure_status why
+
+-- How the program ends that runs on words: they give no plan, and that is told and said; or they give one, which is performed, and
+-- a failure is said. The first two are the output before and after, the next two the errors.
+abbrev pub RunsAs : List (List ℕ) → (before after said saying : Option (List ℕ)) → ℕ → Type 0
+RunsAs words before after said saying status =
+    ((fault : PlanFault) × IsNoPlan words fault × TellsNoPlan fault before after status × SaysNoPlan fault said saying status)
+    ⊎ ((planned : Plan) × (ended : Result ℕ Failure) × IsPlanOf words planned × Performs planned before after ended × SaysEnd ended said saying
+    × (status ≡ status_of ended))

@@ -1,0 +1,70 @@
+-- What is printed of an outcome, and the program's status.
+use Rattle.std.specs.Prelude.{◌≡◌, ◌⊎◌, ◌++◌, ℕ, List, Option, Result, Ok, Err, codes, string_bytes}
+use Rattle.std.specs.Io.KnownBytes.{Appends}
+use Rattle.permit_import.specs.declared.refused.RefusalWord.TheVariants.{Store}
+use Rattle.permit_answer.specs.AnswerText.{answer_data}
+use Rattle.permit_store.specs.declared.store.OpenError.TheVariants as opening
+use Rattle.permit_sql.specs.FaultText.{fault_text}
+use Rattle.permit_subcommands.specs.Answering.{Shows}
+use Rattle.permit_args.specs.declared.plan.PlanFault.{PlanFault}
+use Rattle.permit_args.specs.declared.plan.PlanFault.TheVariants.{Help, Words, Memory}
+use Rattle.permit_subcommands.specs.Failures.{failure_line, import_status, plain}
+use Rattle.permit_subcommands.specs.Lines.{founded_line, name_line, sound_line, upgraded_line}
+use Rattle.permit_subcommands.specs.Listings.{listing_text}
+use Rattle.permit_subcommands.specs.Printing.{Prints}
+use Rattle.permit_subcommands.specs.declared.failure.Failure.{Failure}
+use Rattle.permit_subcommands.specs.declared.failure.Failure.TheVariants as failure
+use Rattle.permit_cli.specs.declared.outcome.Outcome.{Outcome}
+use Rattle.permit_cli.specs.declared.outcome.Outcome.TheVariants as outcome
+
+-- The text is printed whole, and then this is the end of the run; or the output failed, and a beginning of the text stands.
+abbrev pub PrintsThen : List ℕ → Result ℕ Failure → Option (List ℕ) → Option (List ℕ) → Result ℕ Failure → Type 0
+PrintsThen text end before after result =
+    ((result ≡ end) × Appends before after text) ⊎ ((result ≡ Err failure.Output) × Prints text before after (Err failure.Output))
+
+-- the same of a text that is made first; without memory for it nothing is printed
+abbrev pub MakesAndPrints : List ℕ → Result ℕ Failure → Option (List ℕ) → Option (List ℕ) → Result ℕ Failure → Type 0
+MakesAndPrints text end before after result =
+    PrintsThen text end before after result ⊎ ((result ≡ Err (plain Store)) × (after ≡ before))
+
+-- nothing is printed, and this is the end of the run
+abbrev pub Silent : Result ℕ Failure → Option (List ℕ) → Option (List ℕ) → Result ℕ Failure → Type 0
+Silent end before after result = (result ≡ end) × (after ≡ before)
+
+-- an answer's refusal is the failure, and without one the status is 0
+abbrev pub as_status : Result (Unit {0}) Failure → Result ℕ Failure
+as_status (Ok done) = Ok 0
+as_status (Err why) = Err why
+
+-- what is printed of each outcome, and how the run ends; a place that is named is damage
+abbrev pub IsTold : Outcome → Option (List ℕ) → Option (List ℕ) → Result ℕ Failure → Type 0
+IsTold outcome.Name before after result = PrintsThen name_line (Ok 0) before after result
+IsTold (outcome.Checked text) before after result = PrintsThen (string_bytes text) (Ok 0) before after result
+IsTold outcome.Founded before after result = PrintsThen founded_line (Ok 0) before after result
+IsTold (outcome.Upgraded files) before after result = MakesAndPrints (upgraded_line files) (Ok 0) before after result
+IsTold (outcome.Sound desk) before after result = MakesAndPrints (sound_line desk) (Ok 0) before after result
+IsTold (outcome.Unsound fault) before after result =
+    MakesAndPrints (fault_text fault ++ codes "\n") (Err (failure.Database opening.Damaged)) before after result
+IsTold (outcome.Answered answer) before after result =
+    (shown : Result (Unit {0}) Failure) × Shows (answer_data answer) before after shown × (result ≡ as_status shown)
+IsTold (outcome.Listed listing) before after result = MakesAndPrints (listing_text listing.files.items listing.read) (Ok 0) before after result
+IsTold outcome.Registered before after result = Silent (Ok 0) before after result
+IsTold (outcome.Imported tally) before after result = Silent (Ok (import_status tally)) before after result
+IsTold outcome.Ended before after result = Silent (Ok 0) before after result
+
+-- ---- on standard error
+
+-- the failure's line is said, or a beginning of it where the writer fails
+abbrev pub Complains : Failure → Option (List ℕ) → Option (List ℕ) → Type 0
+Complains why before after = (said : Result (Unit {0}) Failure) × Prints (failure_line why ++ codes "\n") before after said
+
+-- what is said where words give no plan: of help only that it can't be printed, of bad words their text
+abbrev pub SaysNoPlan : PlanFault → Option (List ℕ) → Option (List ℕ) → ℕ → Type 0
+SaysNoPlan (Help text) before after status = ((status ≡ 0) × (after ≡ before)) ⊎ ((status ≡ 1) × Complains failure.Output before after)
+SaysNoPlan (Words text) before after status = (said : Result (Unit {0}) Failure) × Prints (string_bytes text) before after said
+SaysNoPlan Memory before after status = Complains (plain Store) before after
+
+-- what is said at the end of a run: the failure, where there is one
+abbrev pub SaysEnd : Result ℕ Failure → Option (List ℕ) → Option (List ℕ) → Type 0
+SaysEnd (Ok status) before after = after ≡ before
+SaysEnd (Err why) before after = Complains why before after

@@ -1,0 +1,108 @@
+//! What is done on the tables of a database: an office is founded in it, it is upgraded, or it is tested.
+
+ghost use Rattle.std.specs.Prelude.{◌≡◌, ◌≢◌, ◌⊎◌, false, true, Err, IfErr, IfOk, IsTrue, OnErr, OnOk};
+ghost use Rattle.sqlite.specs.State.{HasCleanDisk};
+ghost use Rattle.sqlite.specs.Held.{state};
+ghost use Rattle.permit_base.specs.declared.words.Edition.TheVariants.{First, Second};
+ghost use Rattle.permit_model.specs.History.{History, upgraded};
+ghost use Rattle.permit_model.specs.Machine.{IsHistory};
+ghost use Rattle.permit_model.specs.Tables.{tables};
+ghost use Rattle.permit_store.specs.Founding.{founding};
+ghost use Rattle.permit_store.specs.declared.store.OpenError.TheVariants as opening;
+ghost use Rattle.permit_sql_rows.specs.Kept.{Keeps, KeepsUnder, IsFine};
+ghost use Rattle.permit_sql_rows.specs.Schema.{empty_schema};
+ghost use Rattle.permit_sql.specs.Opening.{HasOtherVersion};
+ghost use Rattle.permit_subcommands.specs.declared.failure.Failure.TheVariants.{Database};
+ghost use Rattle.permit_cli.specs.Checked.{IsCheckedAs, IsNamedAs};
+ghost use Rattle.permit_cli.specs.Doing.{IsCheck, IsUpgrade};
+ghost use Rattle.permit_cli.specs.Founded.{IsFoundedAs, IsUpgradedAs};
+
+use crate::outcome::Outcome;
+use permit_sql::counts::sound_desk;
+use permit_sql::store::SqlStore;
+use permit_sql::why::first_fault;
+use permit_store::founder::Founder;
+use permit_store::store::OpenError;
+use permit_subcommands::failure::Failure;
+use sqlite::{Alter, Connection};
+use std::alloc::Global;
+
+/// Founds an office in a database.
+pub(crate) fn found_in<S: Alter + Drop>(
+    alloc: Global,
+    conn: Connection<S>,
+    founder: &Founder,
+) -> (Connection<S>, Result<Outcome, Failure>)
+    ensures founded { OnOk result.1 (HasCleanDisk (state S.Store result.0)
+        → Keeps (tables (founding founder.now.name founder.now.digest founder.now.day)) (state S.Store result.0).now) }
+    ensures told { IsFoundedAs (state S.Store conn).now result.1 }
+    ensures kind { IfOk result.1 (λ done. done ≡ Outcome.Founded) }
+    ensures exists { conn.in_transaction ≡ false → (state S.Store conn).now.schema ≢ empty_schema → result.1 ≡ Err (Database opening.Exists) }
+    ensures same { OnErr result.1 (IsFine (state S.Store result.0) → (state S.Store result.0).now ≡ (state S.Store conn).now) }
+{
+    match SqlStore::create(alloc, conn, founder) {
+        Ok(store) => (store.into_connection(), Ok(Outcome::Founded)),
+        Err((conn, why)) => (conn, Err(Failure::Database(why))),
+    }
+}
+
+/// Makes of a database of the version before one of this version.
+pub(crate) fn upgrade_in<S: Alter + Drop>(
+    alloc: Global,
+    conn: Connection<S>,
+) -> (Connection<S>, Result<Outcome, Failure>)
+    ensures made { OnOk result.1 (HasCleanDisk (state S.Store result.0) → (h : History) → IsHistory h
+        → KeepsUnder First (tables h) (state S.Store conn).now → Keeps (tables (upgraded h)) (state S.Store result.0).now) }
+    ensures kind { IfOk result.1 IsUpgrade }
+    ensures told { HasCleanDisk (state S.Store result.0) → IsUpgradedAs (state S.Store conn).now (state S.Store result.0).now result.1 }
+    ensures version { HasCleanDisk (state S.Store result.0) → HasOtherVersion First (state S.Store conn).now
+        → (result.1 ≡ Err (Database opening.Version)) ⊎ (result.1 ≡ Err (Database opening.Store)) }
+    ensures same { OnErr result.1 (IsFine (state S.Store result.0) → (state S.Store result.0).now ≡ (state S.Store conn).now) }
+{
+    let mut conn = conn;
+    match SqlStore::upgrade(alloc, &mut conn) {
+        Ok(files) => (conn, Ok(Outcome::Upgraded(files))),
+        Err(why) => (conn, Err(Failure::Database(why))),
+    }
+}
+
+/// The first place at which the tables of a damaged database aren't sound. Where it can't be told, they are damaged all the
+/// same.
+fn named_in<S: Alter + Drop>(
+    alloc: Global,
+    conn: Connection<S>,
+) -> (Connection<S>, Result<Outcome, Failure>)
+    ensures kind { IfOk result.1 (IsCheck true) }
+    ensures named { HasCleanDisk (state S.Store result.0) → IsNamedAs (state S.Store conn).now result.1 }
+    ensures open { HasCleanDisk (state S.Store result.0) → OnOk result.1 (IsTrue (state S.Store result.0).is_open) }
+    ensures clean { HasCleanDisk (state S.Store result.0) → HasCleanDisk (state S.Store conn) }
+    ensures left { IsFine (state S.Store result.0) → IsFine (state S.Store conn) × ((state S.Store result.0).now ≡ (state S.Store conn).now) }
+{
+    let mut conn = conn;
+    match first_fault(&mut conn, alloc) {
+        Ok(Some(fault)) => (conn, Ok(Outcome::Unsound(fault))),
+        _ => (conn, Err(Failure::Database(OpenError::Damaged))),
+    }
+}
+
+/// Tests the tables of a database, which stays as it is, and counts their records. Where they aren't sound, the first place
+/// is told if that is asked for.
+pub(crate) fn check_in<S: Alter + Drop>(
+    alloc: Global,
+    conn: Connection<S>,
+    why: bool,
+) -> (Connection<S>, Result<Outcome, Failure>)
+    ensures kind { IfOk result.1 (IsCheck why) }
+    ensures checked { HasCleanDisk (state S.Store result.0) → IsCheckedAs why (state S.Store conn).now result.1 }
+    ensures version { HasCleanDisk (state S.Store result.0) → HasOtherVersion Second (state S.Store conn).now
+        → (result.1 ≡ Err (Database opening.Version)) ⊎ (result.1 ≡ Err (Database opening.Store)) }
+    ensures open { HasCleanDisk (state S.Store result.0) → OnOk result.1 (IsTrue (state S.Store result.0).is_open) }
+    ensures left { IsFine (state S.Store result.0) → (state S.Store result.0).now ≡ (state S.Store conn).now }
+{
+    let mut conn = conn;
+    match sound_desk(&mut conn, alloc) {
+        Ok(desk) => (conn, Ok(Outcome::Sound(desk))),
+        Err(OpenError::Damaged) if why => named_in(alloc, conn),
+        Err(refusal) => (conn, Err(Failure::Database(refusal))),
+    }
+}

@@ -1,0 +1,34 @@
+//! What the program's work came to, and so what is printed.
+
+use permit_answer::answer::Answer;
+use permit_import::tally::Tally;
+use permit_office::reply::Listing;
+use permit_sql::fault::Fault;
+use permit_store::rows::Desk;
+
+/// What a plan came to.
+#[derive(Drop)]
+pub enum Outcome {
+    /// The program's name was asked for.
+    Name,
+    /// What is said of a policy.
+    Checked(String),
+    /// The office stands, with its first party.
+    Founded,
+    /// The database is of this version, with this many files that keep their list of inspections.
+    Upgraded(u32),
+    /// The database's tables are sound, and the desk counts its records.
+    Sound(Desk),
+    /// They aren't, and this is the first place.
+    Unsound(Fault),
+    /// The answer to a request.
+    Answered(Answer),
+    /// The files that may be listed.
+    Listed(Listing),
+    /// The register is written.
+    Registered,
+    /// The records are imported, and their lines are written.
+    Imported(Tally),
+    /// The office was served until its workers ended.
+    Ended,
+}

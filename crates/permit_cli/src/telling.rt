@@ -1,0 +1,79 @@
+//! What is printed of an outcome or a failure, and the program's status.
+
+ghost use Rattle.std.specs.Prelude.{◌≡◌, ◌≤◌, ◌++◌, Err, IfOk, Ok, codes};
+ghost use Rattle.permit_store.specs.declared.store.OpenError.TheVariants as opening;
+ghost use Rattle.permit_sql.specs.FaultText.{fault_text};
+ghost use Rattle.permit_subcommands.specs.declared.failure.Failure.TheVariants as failure;
+ghost use Rattle.permit_subcommands.specs.Printing.{TellsNoPlan};
+ghost use Rattle.permit_cli.specs.Telling.{IsTold, MakesAndPrints, PrintsThen, SaysNoPlan};
+
+use crate::complaining::complain;
+use crate::outcome::Outcome;
+use permit_args::plan::PlanFault;
+use permit_sql::fault::Fault;
+use permit_store::store::OpenError;
+use permit_subcommands::answering::show;
+use permit_subcommands::failure::{Failure, status_after};
+use permit_subcommands::lines::{sound_text, upgraded_text};
+use permit_subcommands::listing::listing_text;
+use permit_subcommands::printing::print_text;
+use std::alloc::Global;
+use std::io::Write;
+
+/// Says why the words give no plan, or the help that they ask for.
+pub(crate) fn without_plan<O: Write, E: Write>(fault: &PlanFault, out: &mut O, err: &mut E) -> u8
+    ensures tells { TellsNoPlan fault.now (O.contents out.old) (O.contents out.new) result }
+    ensures says { SaysNoPlan fault.now (E.contents err.old) (E.contents err.new) result }
+{
+    match fault {
+        PlanFault::Help(text) => match print_text(out, text.as_str()) {
+            Ok(()) => 0,
+            Err(failure) => complain(&failure, err),
+        },
+        PlanFault::Words(text) => {
+            let _ = print_text(err, text.as_str());
+            2
+        }
+        PlanFault::Memory => complain(&Failure::memory(), err),
+    }
+}
+
+/// Prints a text, after which the run ends with status 0.
+fn tell_text<O: Write>(out: &mut O, text: &str) -> Result<u8, Failure>
+    ensures { PrintsThen text.now (Ok 0) (O.contents out.old) (O.contents out.new) result }
+{
+    print_text(out, text)?;
+    Ok(0)
+}
+
+/// Prints the first place at which a database is damaged, and reports the damage.
+fn tell_unsound<O: Write>(alloc: Global, fault: Fault, out: &mut O) -> Result<u8, Failure>
+    ensures { MakesAndPrints (fault_text fault ++ codes "\n") (Err (failure.Database opening.Damaged))
+        (O.contents out.old) (O.contents out.new) result }
+{
+    print_text(out, format!(in alloc; "{fault}\n")?.as_str())?;
+    Err(Failure::Database(OpenError::Damaged))
+}
+
+/// Prints what a plan came to, and gives the status. The refusal that an answer says is the failure then, and damage is once
+/// its place is printed.
+pub(crate) fn tell<O: Write>(alloc: Global, outcome: &Outcome, out: &mut O) -> Result<u8, Failure>
+    ensures told { IsTold outcome.now (O.contents out.old) (O.contents out.new) result }
+    ensures within { IfOk result (λ status. status ≤ 1) }
+{
+    match outcome {
+        Outcome::Name => tell_text(out, "permit\n"),
+        Outcome::Checked(text) => tell_text(out, text.as_str()),
+        Outcome::Founded => tell_text(out, "party 1\n"),
+        Outcome::Upgraded(files) => tell_text(out, upgraded_text(alloc, *files)?.as_str()),
+        Outcome::Sound(desk) => tell_text(out, sound_text(alloc, desk)?.as_str()),
+        Outcome::Unsound(fault) => tell_unsound(alloc, *fault, out),
+        Outcome::Answered(answer) => {
+            show(alloc, answer, out)?;
+            Ok(0)
+        }
+        Outcome::Listed(listing) => tell_text(out, listing_text(alloc, listing)?.as_str()),
+        Outcome::Registered | Outcome::Ended => Ok(0),
+        Outcome::Imported(tally) => Ok(status_after(tally)),
+    }
+}

@@ -1,0 +1,21 @@
+-- Which of the two stores a read asks.
+use Rattle.std.specs.Prelude.{◌≡◌, Bool, IsFalse, Result, OnOk}
+use Rattle.permit_base.specs.declared.route.Route.{Route}
+use Rattle.permit_base.specs.declared.route.Route.TheVariants.{Every, Cell}
+
+-- Memory answered. While the store that keeps the tables is trusted, it isn't asked, and stays trusted; it is trusted behind
+-- each answer.
+pub record IsFromMemory {S A E : Type 0} (was_wary is_wary : Bool) (old_kept new_kept : S) (result : Result A E) : Type 0 where
+  pub unasked : IsFalse was_wary → new_kept ≡ old_kept
+  pub stays : IsFalse was_wary → IsFalse is_wary
+  pub trusted : OnOk result (IsFalse is_wary)
+
+-- The store that keeps the tables answered. Memory wasn't asked, and that store is trusted behind an answer.
+pub record IsFromKept {M A E : Type 0} (is_wary : Bool) (old_memory new_memory : M) (result : Result A E) : Type 0 where
+  pub unasked : new_memory ≡ old_memory
+  pub trusted : OnOk result (IsFalse is_wary)
+
+-- every file is read from memory, and the files of a cell from the store that keeps the tables
+abbrev pub IsFromOne : Route → (memory kept : Type 0) → Type 0
+IsFromOne Every memory kept = memory
+IsFromOne (Cell by stage stopped timing) memory kept = kept

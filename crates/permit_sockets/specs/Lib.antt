@@ -1,0 +1,4 @@
+pub mod Pace
+pub mod Taking
+pub mod Listening
+pub mod Ending

@@ -1,0 +1,43 @@
+use Rattle.std.proofs.Common.{rules, ◌≡◌, ◌-◌, ◌<◌, length, Some, inl, refl, sym, ap, subst, ◌∙◌}
+use Rattle.std.specs.Prelude.{slice_get}
+use Rattle.std.proofs.lemmas.Option.{slice_get_read}
+use Rattle.permit_model.specs.Tables.{Paper}
+use Rattle.permit_sql.specs.Named.{fault_at}
+use Rattle.permit_sql.proofs.Turns.{turn_broken, turn_passed}
+use Rattle.permit_sql.proofs.unsound_papers.ReadTaker.take.Goals as goal
+
+pub returns-in_default-after : goal.returns-in_default-after
+returns-in_default-after c = λ p good is.
+    let read = c.in-Ok.ensures.read p is in
+    let told = c.args.self.now.tallies.items in
+    let inside : c.get.result ≡ c.in-Ok.paper.file = search rules in
+    let file : c.get.result ≡ p.file = inside ∙ ap (λ (q : Paper). q.file) read in
+    let long : c.len.result ≡ length told = search rules in
+    let low : c.get.result - 1 < c.len.result = search rules in
+    let here = slice_get_read told c.len.result (c.get.result - 1) c.index.result.now long low c.index.ensures in
+    let there = slice_get_read told c.len.result (c.get.result - 1) c.index-in_default-after.result.now long low c.index-in_default-after.ensures in
+    let again : c.index-in_default-after.result.now ≡ c.index.result.now = (let e : Some c.index-in_default-after.result.now ≡ Some c.index.result.now = sym there ∙ here in cc) in
+    let at = subst (λ n. slice_get told (n - 1) ≡ Some c.index.result.now) file here in
+    inl (
+      ap Some (c.fault_at.ensures ∙ ap (λ w. fault_at w c.in-Ok.paper) again)
+          ∙ turn_broken c.args.self.now.parties c.args.self.now.last told p _ _ read c.in_default.ensures.exact at
+          (sym c.after.ensures ∙ c.in_default-after.is),
+      refl,
+    )
+
+pub returns : goal.returns
+returns c = (
+  refl,
+  refl,
+  λ p good is.
+      let read = c.in-Ok.ensures.read p is in
+      let told = c.args.self.now.tallies.items in
+      let inside : c.get.result ≡ c.in-Ok.paper.file = search rules in
+      let file : c.get.result ≡ p.file = inside ∙ ap (λ (q : Paper). q.file) read in
+      let long : c.len.result ≡ length told = search rules in
+      let low : c.get.result - 1 < c.len.result = search rules in
+      let here = slice_get_read told c.len.result (c.get.result - 1) c.index.result.now long low c.index.ensures in
+      let at = subst (λ n. slice_get told (n - 1) ≡ Some c.index.result.now) file here in
+      turn_passed c.args.self.now.parties c.args.self.now.last told p _ _ read c.in_default.ensures.exact at c.in-Some-after.next (c.get.result - 1)
+      (sym c.after.ensures ∙ c.in-Some-after.is) (ap (λ n. n - 1) file),
+)
