@@ -23,6 +23,7 @@ pub mod Listing
 pub mod Opened
 pub mod Routes
 pub mod Machine
+pub mod Renewal
 pub mod StandardPolicy
 pub mod Register
 pub mod HallRun

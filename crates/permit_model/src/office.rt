@@ -1,6 +1,6 @@
 //! Worked examples of callers, the clock, the policy as a whole, and parcels from a list.
 
-ghost use Rattle.std.specs.Prelude.{◌≡◌, ◌∷◌, [], Some, codes};
+ghost use Rattle.std.specs.Prelude.{◌≡◌, ◌∷◌, [], None, Some, codes};
 ghost use Rattle.permit_base.specs.declared.words.Kind.TheVariants.{Construct};
 ghost use Rattle.permit_base.specs.declared.words.Stage.TheVariants as stage;
 ghost use Rattle.permit_base.specs.declared.words.Timing.TheVariants as timing;
@@ -9,10 +9,13 @@ ghost use Rattle.permit_base.specs.declared.refusal.Refusal.TheVariants as refus
 ghost use Rattle.permit_base.specs.declared.request.Command.TheVariants.{NameContractor, StartReview};
 ghost use Rattle.permit_base.specs.declared.request.Filter.TheVariants.{All};
 ghost use Rattle.permit_base.specs.declared.request.Request.TheVariants.{ReadParcel, File, ReadFile, ListFiles, OnFile};
+ghost use Rattle.permit_base.specs.Digests.{digest_of};
+ghost use Rattle.permit_model.specs.Caller.{parties};
 ghost use Rattle.permit_model.specs.Machine.{ParcelShown, Listed, Refused, replies_to};
 ghost use Rattle.permit_model.specs.Tables.{tables};
+ghost use Rattle.permit_model.specs.Renewal.{renewed, with_renewed, against_renewal};
 ghost use Rattle.permit_model.specs.StandardPolicy.{standard_policy};
-ghost use Rattle.permit_model.specs.Examples.{founded_with_token, opening_requests, opening, asks, on_one, replies, after, last_reply, done, made, denied, not_admitted, house_state, file_shown, reply_under, opened_for, three_files, transfer_turns, declaring_turns, parcel_list};
+ghost use Rattle.permit_model.specs.Examples.{founded_with_token, opening_requests, opening, asks, on_one, replies, after, last_reply, done, made, denied, not_admitted, house_state, file_shown, reply_under, opened_for, three_files, transfer_turns, declaring_turns, parcel_list, founded};
 
 /// The opening by tokens, whose digests are computed by SHA-256: a token that is taken, one of no party, a member of
 /// the public who may add no parcel, and a file that isn't there.
@@ -56,6 +59,22 @@ pub fn second_declaration()
         done ∷ not_admitted reason.Taken ∷ done ∷ Refused refusal.Record ∷ done ∷ denied (codes "default") ∷ [] }
     ensures interests { (tables (after declaring_turns opening)).interests ≡
         record { parcel = 1; party = 7 } ∷ record { parcel = 2; party = 7 } ∷ record { parcel = 1; party = 4 } ∷ [] }
+{}
+
+/// The founder's token is renewed, and the digest is computed by SHA-256.
+pub fn renewed_founder()
+    ensures founder { renewed 1 (codes "abcdefghijklmnopqrstuvwxyz") founded ≡ founded_with_token }
+{}
+
+/// A token is renewed in a history that has a parcel of the party's number too: the party's digest is another
+/// one, and nothing else. A party that isn't there, and a digest that a party has already, are refused.
+pub fn renewals()
+    ensures tables { tables (renewed 1 (codes "abcdefghijklmnopqrstuvwxyz") opening) ≡
+        with_renewed 1 (digest_of (codes "abcdefghijklmnopqrstuvwxyz")) (tables opening) }
+    ensures inspector { tables (renewed 4 (codes "inspector0000004") opening) ≡ with_renewed 4 (digest_of (codes "inspector0000004")) (tables opening) }
+    ensures free { against_renewal (parties founded) 1 (codes "1") ≡ None }
+    ensures missing { against_renewal (parties founded) 2 (codes "1") ≡ Some refusal.Record }
+    ensures taken { against_renewal (parties founded) 1 (codes "0") ≡ Some (refusal.NotAdmitted reason.Taken) }
 {}
 
 /// A policy without rules denies every request on one record by the rule `default`, and a listing under it is empty
