@@ -27,3 +27,7 @@ mod DeskNamed
 mod InOrder
 mod Firsts
 mod Turns
+pub mod Renewals
+pub mod RenewedHistories
+pub mod SoundRenewal
+pub mod Renewing

@@ -2,6 +2,7 @@ pub use Rattle.permit_sql_rows.specs.Schema
 pub use Rattle.permit_sql_rows.specs.Kept
 pub mod Opening
 pub mod Upgrading
+pub mod Renewing
 pub mod Taken
 pub mod Tested
 pub mod Passed

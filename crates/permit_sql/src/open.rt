@@ -60,7 +60,7 @@ pub(crate) fn desk_seen<S: Alter>(conn: &mut Connection<S>) -> Got<Vec<Row>>
 }
 
 /// Whether the desk's one row says another version than that of the tables under the edition.
-fn has_other_version<S: Alter>(conn: &mut Connection<S>, edition: Edition) -> Got<bool>
+pub(crate) fn has_other_version<S: Alter>(conn: &mut Connection<S>, edition: Edition) -> Got<bool>
     requires not_in_transaction { conn.old.in_transaction ≡ false }
     requires desk { slice_get (state S.Store conn.old).now.schema.tables 0 ≡ Some desk_table }
     ensures other { HasCleanDisk (state S.Store conn.new)

@@ -23,3 +23,4 @@ pub mod Closing
 pub mod Commits
 pub mod Committing
 pub mod KeptLemmas
+pub mod Renewing

@@ -6,3 +6,4 @@ pub mod Statements
 pub mod TextAndParams
 pub mod Founding
 pub mod Frames
+pub mod Renewing

@@ -10,6 +10,7 @@ pub mod create;
 pub mod query;
 mod question;
 pub mod read;
+pub mod renew;
 mod runs;
 pub mod select;
 mod statements;

@@ -12,6 +12,8 @@ mod database;
 #[cfg(test)]
 mod opening;
 #[cfg(test)]
+mod renewing;
+#[cfg(test)]
 mod reopening;
 #[cfg(test)]
 mod rows;

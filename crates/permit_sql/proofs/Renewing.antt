@@ -1,0 +1,122 @@
+-- What is looked up before a party's token is renewed, and what a renewal leaves of typed tables.
+use Rattle.std.proofs.Common.{◌≡◌, ◌⊎◌, inl, inr, ℕ, suc, ◌==◌, Bool, true, false, cond, not, List, [], ◌∷◌, map, filter, find, length, None, Some, Result, Ok, Err, OnOk, refl, sym, ap, subst, ◌∙◌, arith}
+use Rattle.std.specs.Prelude.{is_some, bytes_eq, IsTrue, IfErr}
+use Rattle.std.specs.List.{AllByRecursion}
+use Rattle.std.proofs.lemmas.Bool.Decides.{nat_tests}
+use Rattle.std.proofs.lemmas.List.{length-map}
+use Rattle.sqlite.specs.declared.types.Value.TheVariants.{Text}
+use Rattle.sqlite_value.specs.Order.{Row}
+use Rattle.sqlite.specs.Effect.{Database}
+use Rattle.sqlite.specs.State.{State, Shown}
+use Rattle.permit_base.specs.Digests.{digest_of}
+use Rattle.permit_base.specs.declared.refusal.Reason.TheVariants as reason
+use Rattle.permit_base.specs.declared.refusal.Refusal.TheVariants as refused
+use Rattle.permit_base.specs.Texts.{is_digest}
+use Rattle.permit_model.specs.Caller.{Party, parties}
+use Rattle.permit_model.specs.History.{History}
+use Rattle.permit_model.specs.Machine.{IsHistory}
+use Rattle.permit_model.specs.Tables.{Tables, tables}
+use Rattle.permit_model.specs.Renewal.{renewed, with_digest, with_renewed, against_renewal}
+use Rattle.permit_model.specs.Sound.{IsSoundTables}
+use Rattle.permit_store.specs.declared.store.OpenError.TheVariants as open_error
+use Rattle.permit_sql_rows.specs.Rows.{int, shown_party}
+use Rattle.permit_sql_rows.specs.Kept.{Keeps}
+use Rattle.permit_sql_rows.specs.Typed.{IsParty}
+use Rattle.permit_sql_statements.specs.declared.texts.TheConstants.{READ_PARTY, FIND_PARTY}
+use Rattle.permit_sql_statements.proofs.ReadLemmas.{party_shown, digest_shown}
+use Rattle.permit_sql.specs.declared.renew.RenewError.{RenewError}
+use Rattle.permit_sql.specs.declared.renew.RenewError.TheVariants as renew_error
+use Rattle.permit_sql.specs.Found.{AreTyped, IsNumbered, KeepsSound}
+use Rattle.permit_sql.proofs.Renewals.{number_alike, tables_renewed}
+use Rattle.permit_sql.proofs.RenewedHistories.{renewed_follows}
+use Rattle.permit_sql.proofs.SoundRenewal.{sound_renewed}
+
+-- ---- look-ups
+
+there_is : (n : ℕ) → not (suc n == 0) ≡ true
+there_is n = grind (arith, nat_tests)
+
+-- a row is shown where one is found
+some_shown : {A : Type 0} (f : A → Row) (test : A → Bool) (xs : List A) → not (length (map f (filter test xs)) == 0) ≡ is_some (find test xs)
+some_shown f test [] = refl
+some_shown {A} f test (x ∷ xs) = go (test x) (some_shown f test xs)
+  where
+    go : (b : Bool) → not (length (map f (filter test xs)) == 0) ≡ is_some (find test xs) →
+        not (length (map f (cond b (x ∷ filter test xs) (filter test xs))) == 0) ≡ is_some (cond b (Some x) (find test xs))
+    go true more = there_is (length (map f (filter test xs)))
+    go false more = more
+
+module _ (old new : State) (t : Tables) (rows : List Row) (has : Bool) (k : Keeps t old.now) (is : has ≡ not (length rows == 0)) where
+  pub party_told : (id : ℕ) → Shown READ_PARTY.now (int id ∷ []) old new rows → has ≡ is_some (find (λ (p : Party). p.id == id) t.parties)
+  party_told id shown =
+      is ∙ ap (λ l. not (length l == 0)) (party_shown old new t rows k id shown) ∙ some_shown shown_party (λ (p : Party). p.id == id) t.parties
+
+  pub digest_told : (digest : List ℕ) → Shown FIND_PARTY.now (Text digest ∷ []) old new rows →
+      has ≡ is_some (find (λ (p : Party). bytes_eq p.digest digest) t.parties)
+  digest_told digest shown =
+      is ∙ ap (λ l. not (length l == 0)) (digest_shown old new t rows k digest shown)
+      ∙ some_shown shown_party (λ (p : Party). bytes_eq p.digest digest) t.parties
+
+-- ---- typed tables
+
+module _ (party : ℕ) (digest : List ℕ) (good : IsTrue (is_digest digest)) where
+  typed_by : (p : Party) (b : Bool) → IsParty p → IsParty (cond b (record p { digest = digest }) p)
+  typed_by p true typed = record { id = typed.id; name = typed.name; utf8 = typed.utf8; digest = good }
+  typed_by p false typed = typed
+
+  typed_parties : (ps : List Party) → AllByRecursion IsParty ps → AllByRecursion IsParty (map (with_digest party digest) ps)
+  typed_parties [] typed = tt
+  typed_parties (p ∷ ps) typed = (typed_by p (p.id == party) typed.0, typed_parties ps typed.1)
+
+  numbers_stay : (n : ℕ) (ps : List Party) → IsNumbered (λ (p : Party). p.id) n ps → IsNumbered (λ (p : Party). p.id) n (map (with_digest party digest) ps)
+  numbers_stay n [] up = tt
+  numbers_stay n (p ∷ ps) up = (number_alike party digest p ∙ up.0, numbers_stay (suc n) ps up.1)
+
+  pub typed_renewed : (t : Tables) → AreTyped t → AreTyped (with_renewed party digest t)
+  typed_renewed t typed = record {
+    desk = typed.desk;
+    parties = typed_parties t.parties typed.parties;
+    parcels = typed.parcels;
+    interests = typed.interests;
+    files = typed.files;
+    papers = typed.papers;
+    party_numbers = numbers_stay 1 t.parties typed.party_numbers;
+    parcel_numbers = typed.parcel_numbers;
+    file_numbers = typed.file_numbers;
+    party_count = length-map t.parties (with_digest party digest) ∙ typed.party_count;
+    parcel_count = typed.parcel_count;
+    file_count = typed.file_count;
+  }
+
+-- ---- sound tables and histories
+
+pub sound_after : (party : ℕ) (digest : List ℕ) → IsTrue (is_digest digest) → (new : Database) (t : Tables) → AreTyped t → IsSoundTables t →
+    Keeps (with_renewed party digest t) new → KeepsSound new
+sound_after party digest good new t typed sound made =
+    (with_renewed party digest t, typed_renewed party digest good t typed, sound_renewed party digest t good sound, made)
+
+-- the tables of a history turn into those of the history in which the party had the token
+pub history_after : (party : ℕ) (token : List ℕ) (new : Database) (h : History) → IsHistory h → against_renewal (parties h) party (digest_of token) ≡ None →
+    Keeps (with_renewed party (digest_of token) (tables h)) new → IsHistory (renewed party token h) × Keeps (tables (renewed party token h)) new
+history_after party token new h is none made =
+    (renewed_follows party token h is none, subst (λ t. Keeps t new) (sym (tables_renewed party token h)) made)
+
+-- two facts of a success give a third
+pub joined : {A E P Q R : Type 0} (r : Result A E) → OnOk r P → OnOk r Q → (P → Q → R) → OnOk r R
+joined (Ok x) p q both = both p q
+joined (Err e) p q both = tt
+
+-- what was so before a success is so after it
+pub always : {A E P : Type 0} (r : Result A E) → P → OnOk r P
+always (Ok x) p = p
+always (Err e) p = tt
+
+-- once the tables were tested, nothing is told as damaged
+pub never_damaged : {A : Type 0} (P : Type 0) (r : Result A RenewError) →
+    IfErr r (λ e. (e ≡ renew_error.Refused refused.Record) ⊎ ((e ≡ renew_error.Refused (refused.NotAdmitted reason.Taken))
+    ⊎ (e ≡ renew_error.Open open_error.Store)))
+    → IfErr r (λ e. e ≡ renew_error.Open open_error.Damaged → P)
+never_damaged P (Ok x) told = tt
+never_damaged P (Err e) (inl told) = λ is. absurd (let a = told in let b = is in cc)
+never_damaged P (Err e) (inr (inl told)) = λ is. absurd (let a = told in let b = is in cc)
+never_damaged P (Err e) (inr (inr told)) = λ is. absurd (let a = told in let b = is in cc)

@@ -1,0 +1,203 @@
+//! A new token for a party.
+
+ghost use Rattle.std.specs.Prelude.{◌≡◌, ◌≢◌, ◌==◌, ◌⊎◌, ℕ, List, false, not, length, find, is_some, bytes_eq, None, Some, Err, IsTrue, IfOk, IfErr, OnOk, OnErr};
+ghost use Rattle.sqlite_value.specs.Order.{Row as SqlRow};
+ghost use Rattle.sqlite.specs.Given.{IsPlain};
+ghost use Rattle.sqlite.specs.Listing.{understood};
+ghost use Rattle.sqlite.specs.State.{HasCleanDisk, Shown, Survives};
+ghost use Rattle.sqlite.specs.Values.{bound};
+ghost use Rattle.sqlite.specs.Held.{state};
+ghost use Rattle.permit_base.specs.Digests.{digest_of};
+ghost use Rattle.permit_base.specs.declared.refusal.Refusal.{Refusal as TheRefusal};
+ghost use Rattle.permit_base.specs.declared.refusal.Refusal.TheVariants as refused;
+ghost use Rattle.permit_base.specs.declared.refusal.Reason.TheVariants as reason;
+ghost use Rattle.permit_base.specs.declared.words.Edition.TheVariants.{Second};
+ghost use Rattle.permit_model.specs.History.{History};
+ghost use Rattle.permit_model.specs.Machine.{IsHistory};
+ghost use Rattle.permit_model.specs.Renewal.{renewed, with_renewed, against_renewal};
+ghost use Rattle.permit_model.specs.Tables.{Tables, tables};
+ghost use Rattle.permit_store.specs.declared.store.OpenError.TheVariants as open_error;
+ghost use Rattle.permit_sql_rows.specs.Schema.{office_schema};
+ghost use Rattle.permit_sql_rows.specs.Kept.{IsFine, Keeps};
+ghost use Rattle.permit_sql_statements.specs.Frames.{IsOpenAfter};
+ghost use Rattle.permit_sql.specs.Found.{KeepsSound};
+ghost use Rattle.permit_sql.specs.Frames.{LeavesOverCrash, LeavesRows};
+ghost use Rattle.permit_sql.specs.Opening.{HasOtherVersion};
+ghost use Rattle.permit_sql.specs.Renewing.{OverKept, IsRenewed};
+ghost use Rattle.permit_sql.specs.declared.renew.RenewError.TheVariants as renew_error;
+
+use crate::open::check;
+use crate::store::SqlStore;
+use permit_base::digests::digest;
+use permit_base::refusal::{Reason, Refusal};
+use permit_base::values::{Digest, Token};
+use permit_base::words::Edition;
+use permit_sql_rows::schema::is_office;
+use permit_sql_statements::query::read_all;
+use permit_sql_statements::renew::renew_in;
+use permit_sql_statements::texts::{FIND_PARTY, READ_PARTY};
+use permit_store::store::{Got, OpenError, StoreError};
+use sqlite::{Alter, Connection, params};
+use sqlite_value::value::ValueRef;
+use std::alloc::Global;
+
+/// Why a party has no new token. The database is as before.
+#[derive(Clone, Copy, PartialEq, Eq)]
+pub enum RenewError {
+    /// There is no such party (`Record`), or a party has the token (`NotAdmitted` for `Taken`).
+    Refused(Refusal),
+    /// The tables aren't those of an office that can be opened (`Damaged`, `Version`), or a call failed (`Store`).
+    Open(OpenError),
+}
+
+/// Whether the answer to a query has a row, in a database of the office's schema; with another it fails. The database
+/// stays as it is.
+fn has_row<S: Alter>(conn: &mut Connection<S>, sql: &str, params: &[ValueRef<'_>]) -> Got<bool>
+    requires not_in_transaction { conn.old.in_transaction ≡ false }
+    requires plain { IsPlain (understood office_schema sql.now) }
+    ensures shown { HasCleanDisk (state S.Store conn.new) → IfOk result (λ has. (rows : List SqlRow)
+        × Shown sql.now (bound params.now) (state S.Store conn.old) (state S.Store conn.new) rows × (has ≡ not (length rows == 0))) }
+    ensures open { IsOpenAfter S.Store conn.new result }
+    ensures left { LeavesRows S.Store conn.old conn.new }
+    ensures crash { LeavesOverCrash S.Store conn.old conn.new }
+    ensures not_in_transaction { conn.new.in_transaction ≡ false }
+{
+    if !is_office(Edition::Second, conn.schema()) {
+        return Err(StoreError);
+    }
+    match read_all(conn, sql, params) {
+        Ok(rows) => Ok(rows.len() != 0),
+        Err(_) => Err(StoreError),
+    }
+}
+
+/// Whether there is a party with the number.
+fn has_party<S: Alter>(conn: &mut Connection<S>, party: u32) -> Got<bool>
+    requires not_in_transaction { conn.old.in_transaction ≡ false }
+    ensures found { OverKept S.Store conn.old conn.new (λ t. IfOk result (λ has. has ≡ is_some (find (λ p. p.id == party) t.parties))) }
+    ensures open { IsOpenAfter S.Store conn.new result }
+    ensures left { LeavesRows S.Store conn.old conn.new }
+    ensures crash { LeavesOverCrash S.Store conn.old conn.new }
+    ensures not_in_transaction { conn.new.in_transaction ≡ false }
+{
+    has_row(conn, READ_PARTY, params![party])
+}
+
+/// Whether a party has the digest.
+fn has_digest<S: Alter>(conn: &mut Connection<S>, digest: &Digest) -> Got<bool>
+    requires not_in_transaction { conn.old.in_transaction ≡ false }
+    ensures found { OverKept S.Store conn.old conn.new (λ t. IfOk result (λ has. has ≡ is_some (find (λ p. bytes_eq p.digest digest.now) t.parties))) }
+    ensures open { IsOpenAfter S.Store conn.new result }
+    ensures left { LeavesRows S.Store conn.old conn.new }
+    ensures crash { LeavesOverCrash S.Store conn.old conn.new }
+    ensures not_in_transaction { conn.new.in_transaction ≡ false }
+{
+    has_row(conn, FIND_PARTY, params![digest.as_str()])
+}
+
+/// What stands against giving the party the digest.
+fn find_against<S: Alter>(
+    conn: &mut Connection<S>,
+    party: u32,
+    digest: &Digest,
+) -> Got<Option<Refusal>>
+    requires not_in_transaction { conn.old.in_transaction ≡ false }
+    ensures found { OverKept S.Store conn.old conn.new (λ t. IfOk result (λ against. against ≡ against_renewal t.parties party digest.now)) }
+    ensures two { IfOk result (λ against. (against ≡ None) ⊎ ((against ≡ Some refused.Record) ⊎ (against ≡ Some (refused.NotAdmitted reason.Taken)))) }
+    ensures open { IsOpenAfter S.Store conn.new result }
+    ensures left { LeavesRows S.Store conn.old conn.new }
+    ensures crash { LeavesOverCrash S.Store conn.old conn.new }
+    ensures not_in_transaction { conn.new.in_transaction ≡ false }
+{
+    if !has_party(conn, party)? {
+        return Ok(Some(Refusal::Record));
+    }
+    if has_digest(conn, digest)? {
+        Ok(Some(Refusal::NotAdmitted(Reason::Taken)))
+    } else {
+        Ok(None)
+    }
+}
+
+/// Gives the party the digest where nothing stands against it, in one transaction.
+fn give_digest<S: Alter>(
+    conn: &mut Connection<S>,
+    party: u32,
+    digest: &Digest,
+) -> Result<(), RenewError>
+    requires not_in_transaction { conn.old.in_transaction ≡ false }
+    ensures made { OverKept S.Store conn.old conn.new (λ t. OnOk result (Keeps (with_renewed party digest.now t) (state S.Store conn.new).now)) }
+    ensures admitted { OverKept S.Store conn.old conn.new (λ t. OnOk result (against_renewal t.parties party digest.now ≡ None)) }
+    ensures refused { OverKept S.Store conn.old conn.new (λ t. IfErr result (λ e. (why : TheRefusal) → e ≡ renew_error.Refused why
+        → against_renewal t.parties party digest.now ≡ Some why)) }
+    ensures opened { HasCleanDisk (state S.Store conn.new) → OnOk result (IsTrue (state S.Store conn.new).is_open) }
+    ensures judged { HasCleanDisk (state S.Store conn.new)
+        → IfErr result (λ e. e ≢ renew_error.Open open_error.Store → IsTrue (state S.Store conn.new).is_open) }
+    ensures same { IsFine (state S.Store conn.new) → OnErr result ((state S.Store conn.new).now ≡ (state S.Store conn.old).now) }
+    ensures fine { IsFine (state S.Store conn.new) → IsFine (state S.Store conn.old) }
+    ensures refusal { IfErr result (λ e. (e ≡ renew_error.Refused refused.Record) ⊎ ((e ≡ renew_error.Refused (refused.NotAdmitted reason.Taken))
+        ⊎ (e ≡ renew_error.Open open_error.Store))) }
+    ensures crash { Survives (state S.Store conn.old) (state S.Store conn.new) (IsRenewed party digest.now (state S.Store conn.old).now) }
+    ensures not_in_transaction { conn.new.in_transaction ≡ false }
+{
+    match find_against(conn, party, digest) {
+        Ok(None) => match renew_in(conn, party, digest) {
+            Ok(()) => Ok(()),
+            Err(_) => Err(RenewError::Open(OpenError::Store)),
+        },
+        Ok(Some(why)) => Err(RenewError::Refused(why)),
+        Err(StoreError) => Err(RenewError::Open(OpenError::Store)),
+    }
+}
+
+impl<S: Alter> SqlStore<S> {
+    /// Gives a party another token: the tables are then those of the same history in which the party had that token, and
+    /// the old one is nobody's. It tests the tables first, as `open` does, and makes the change in one transaction. It
+    /// refuses a number that no party has as `Record`, and a token that a party has, be it this one, as `NotAdmitted`
+    /// for `Taken`. It fails as `open` does: as `Version`, as `Damaged`, and as `Store`, also where a transaction is
+    /// open. With a refusal or a failure the database is as before. A crash inside leaves what was there, or the tables
+    /// with the new token whole.
+    pub fn renew_token(
+        alloc: Global,
+        conn: &mut Connection<S>,
+        party: u32,
+        token: &Token,
+    ) -> Result<(), RenewError>
+        ensures made { OverKept S.Store conn.old conn.new
+            (λ t. OnOk result (Keeps (with_renewed party (digest_of token.now) t) (state S.Store conn.new).now)) }
+        ensures history { HasCleanDisk (state S.Store conn.new) → (h : History) → IsHistory h → Keeps (tables h) (state S.Store conn.old).now
+            → OnOk result (IsHistory (renewed party token.now h) × Keeps (tables (renewed party token.now h)) (state S.Store conn.new).now) }
+        ensures admitted { OverKept S.Store conn.old conn.new (λ t. OnOk result (against_renewal t.parties party (digest_of token.now) ≡ None)) }
+        ensures refused { OverKept S.Store conn.old conn.new (λ t. IfErr result (λ e. (why : TheRefusal) → e ≡ renew_error.Refused why
+            → against_renewal t.parties party (digest_of token.now) ≡ Some why)) }
+        ensures tested { HasCleanDisk (state S.Store conn.new) → OnOk result (KeepsSound (state S.Store conn.old).now) }
+        ensures sound { HasCleanDisk (state S.Store conn.new) → OnOk result (KeepsSound (state S.Store conn.new).now) }
+        ensures opened { HasCleanDisk (state S.Store conn.new) → OnOk result (IsTrue (state S.Store conn.new).is_open) }
+        ensures same { IsFine (state S.Store conn.new) → OnErr result ((state S.Store conn.new).now ≡ (state S.Store conn.old).now) }
+        ensures version { HasCleanDisk (state S.Store conn.new)
+            → IfErr result (λ e. e ≡ renew_error.Open open_error.Version → HasOtherVersion Second (state S.Store conn.old).now) }
+        ensures told { HasCleanDisk (state S.Store conn.new) → HasOtherVersion Second (state S.Store conn.old).now
+            → (result ≡ Err (renew_error.Open open_error.Version)) ⊎ (result ≡ Err (renew_error.Open open_error.Store)) }
+        ensures damaged { HasCleanDisk (state S.Store conn.new)
+            → IfErr result (λ e. e ≡ renew_error.Open open_error.Damaged → ¬ KeepsSound (state S.Store conn.old).now) }
+        ensures schema { HasCleanDisk (state S.Store conn.new)
+            → IfErr result (λ e. e ≡ renew_error.Open open_error.Damaged → (state S.Store conn.old).now.schema ≡ office_schema) }
+        ensures judged { HasCleanDisk (state S.Store conn.new)
+            → IfErr result (λ e. e ≢ renew_error.Open open_error.Store → IsTrue (state S.Store conn.new).is_open) }
+        ensures busy { IsTrue conn.old.in_transaction → result ≡ Err (renew_error.Open open_error.Store) }
+        ensures refusal { IfErr result (λ e. (e ≡ renew_error.Refused refused.Record) ⊎ ((e ≡ renew_error.Refused (refused.NotAdmitted reason.Taken))
+            ⊎ ((e ≡ renew_error.Open open_error.Damaged) ⊎ ((e ≡ renew_error.Open open_error.Version)
+            ⊎ (e ≡ renew_error.Open open_error.Store))))) }
+        ensures crash { Survives (state S.Store conn.old) (state S.Store conn.new)
+            (λ trees. KeepsSound (state S.Store conn.old).now × IsRenewed party (digest_of token.now) (state S.Store conn.old).now trees) }
+        ensures transaction { conn.new.in_transaction ≡ conn.old.in_transaction }
+    {
+        let Ok(digest) = digest(token) else {
+            unreachable!()
+        };
+        match check(conn, alloc, Edition::Second) {
+            Ok(_) => give_digest(conn, party, &digest),
+            Err(why) => Err(RenewError::Open(why)),
+        }
+    }
+}

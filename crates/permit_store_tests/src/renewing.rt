@@ -1,0 +1,84 @@
+//! A token that is renewed in a database.
+
+use crate::database::{founded, over_database};
+use permit_base::refusal::{Reason, Refusal};
+use permit_samples::ask::TOKENS;
+use permit_samples::makers::{digest_of, token};
+use permit_samples::opening::OPENING;
+use permit_samples::script::play;
+use permit_sql::renew::RenewError;
+use permit_sql::store::SqlStore;
+use permit_store::store::{OpenError, Store};
+use sqlite::{Connection, MemStore};
+use std::alloc::Global;
+use std::test::Fail;
+
+/// A token that nobody has at first, and one that nobody ever has.
+const NEW: &str = "renewed2renewed2renewed2";
+
+const OTHER: &str = "nobody0nobody0nobody0";
+
+/// The number of the party that has the token, and 0 where nobody has it.
+fn holder(alloc: Global, store: &mut SqlStore<MemStore>, letters: &str) -> Result<u32, Fail> {
+    match store.party_by_token(&digest_of(alloc, letters)?)? {
+        Some(party) => Ok(party.id.get()),
+        None => Ok(0),
+    }
+}
+
+/// What a renewal answers.
+fn renewal(
+    alloc: Global,
+    conn: &mut Connection<MemStore>,
+    party: u32,
+    letters: &str,
+) -> Result<Result<(), RenewError>, Fail> {
+    Ok(SqlStore::renew_token(alloc, conn, party, &token(alloc, letters)?))
+}
+
+#[test]
+fn a_renewed_token_is_the_party_s_only_one(rt: HostRuntime) -> Result<(), Fail> {
+    let alloc = rt.alloc();
+    let mut office = over_database(alloc)?;
+    play(alloc, &mut office, OPENING)?;
+    let mut conn = office.into_store().into_connection();
+    assert!(rt; renewal(alloc, &mut conn, 2, NEW)? == Ok(()));
+    let taken = Err(RenewError::Refused(Refusal::NotAdmitted(Reason::Taken)));
+    for (party, letters) in [(2, NEW), (3, NEW), (3, TOKENS[0])] {
+        assert!(rt; renewal(alloc, &mut conn, party, letters)? == taken);
+    }
+    for party in [0, 99, 100_000] {
+        let missing = Err(RenewError::Refused(Refusal::Record));
+        assert!(rt; renewal(alloc, &mut conn, party, OTHER)? == missing);
+    }
+    let mut store = match SqlStore::open(alloc, conn) {
+        Ok(store) => store,
+        Err((_, why)) => return Err(why)?,
+    };
+    for (party, letters) in [
+        (1, TOKENS[0]),
+        (2, NEW),
+        (3, TOKENS[2]),
+        (0, TOKENS[1]),
+        (0, OTHER),
+    ] {
+        assert_eq!(rt; holder(alloc, &mut store, letters)?, party);
+    }
+    Ok(())
+}
+
+#[test]
+fn what_is_no_office_has_no_token_renewed(rt: HostRuntime) -> Result<(), Fail> {
+    let alloc = rt.alloc();
+    let mut conn = founded(alloc)?.into_connection();
+    conn.execute("UPDATE desk SET version = 1", &[])?;
+    let other = Err(RenewError::Open(OpenError::Version));
+    assert!(rt; renewal(alloc, &mut conn, 1, NEW)? == other);
+    conn.execute("UPDATE desk SET version = 2, parties = 2", &[])?;
+    let damaged = Err(RenewError::Open(OpenError::Damaged));
+    assert!(rt; renewal(alloc, &mut conn, 1, NEW)? == damaged);
+    let mut none = Connection::open_in_memory(alloc)?;
+    let store = Err(RenewError::Open(OpenError::Store));
+    assert!(rt; renewal(alloc, &mut none, 1, NEW)? == store);
+    Ok(())
+}
