@@ -1,5 +1,6 @@
 pub mod RecordLemmas
 pub mod ReadLemmas
 pub mod WriteLemmas
+pub mod HeadingLemmas
 pub mod Progress
 pub mod Ending

@@ -1,14 +1,15 @@
 -- What an import does.
-use Rattle.std.specs.Prelude.{◌≡◌, ◌≤◌, ◌⊎◌, ℕ, ◌+◌, List, [], ◌∷◌, ◌++◌, length, Option, Result, Ok, Err}
-use Rattle.std.specs.Io.KnownBytes.{Appends, Keeps}
+use Rattle.std.specs.Prelude.{◌≡◌, ◌≤◌, ◌⊎◌, ℕ, ◌+◌, Bool, List, [], ◌∷◌, ◌++◌, length, Option, Result, Ok, Err}
+use Rattle.std.specs.Io.KnownBytes.{Appends}
 use Rattle.permit_store.specs.Frames.{StoreView, OverHistory}
 use Rattle.permit_office.specs.Frames.{Steps}
 use Rattle.permit_office.specs.Office.{OfficeView}
 use Rattle.permit_office.specs.Runs.{Ran}
 use Rattle.permit_office.specs.declared.reply.Reply.{Reply}
-use Rattle.permit_import.specs.Lines.{count_line, lines_from, record_line}
+use Rattle.permit_import.specs.Headings.{StopsInHeading, TellsHeading}
+use Rattle.permit_import.specs.Lines.{count_line, lines_from, record_lines}
 use Rattle.permit_import.specs.Outcomes.{outcomes_of, tally_of}
-use Rattle.permit_import.specs.Reading.{AreAll, BeginWith, LacksHeader}
+use Rattle.permit_import.specs.Reading.{AreAll, BeginWith}
 use Rattle.permit_import.specs.Records.{Fields, header, requests_of}
 use Rattle.permit_import.specs.Written.{WroteInto}
 use Rattle.permit_import.specs.declared.fault.ImportFault.{ImportFault}
@@ -21,42 +22,44 @@ abbrev pub HaveBegun : Option (List ℕ) → List Fields → Type 0
 HaveBegun left rows = (rows ≡ []) ⊎ BeginWith left (header ∷ rows)
 
 -- each record that was tried has its line, but the last
-pub record LosesLast (before after : Option (List ℕ)) (outcomes : List Outcome) : Type 0 where
+pub record LosesLast (asked : Bool) (before after : Option (List ℕ)) (outcomes : List Outcome) : Type 0 where
   pub told : List Outcome
   pub lost : Outcome
   pub are : outcomes ≡ told ++ lost ∷ []
-  pub wrote : Appends before after (lines_from 1 told)
+  pub wrote : Appends before after (lines_from asked 1 told)
 
 -- each record that was tried has its line, but of that of the last only a beginning is out
-pub record StopsInLast (before after : Option (List ℕ)) (outcomes : List Outcome) : Type 0 where
+pub record StopsInLast (asked : Bool) (before after : Option (List ℕ)) (outcomes : List Outcome) : Type 0 where
   pub told : List Outcome
   pub last : Outcome
   pub are : outcomes ≡ told ++ last ∷ []
-  pub wrote : WroteInto before after (lines_from 1 told) (record_line (length told + 1) last)
+  pub wrote : WroteInto before after (lines_from asked 1 told) (record_lines asked (length told + 1) last)
 
 -- Which records were tried, and what is written. With a tally these are all behind the first, with their lines and the
 -- counts. Where the first is wrong nothing is tried, where reading fails each that was tried has its line, and where memory
 -- runs out each, or each but the last. Where the writer fails it was inside the line of the last record that was tried, or
--- behind the lines of all, inside the counts.
-abbrev pub EndsOf : Option (List ℕ) → Option (List ℕ) → Option (List ℕ) → Result Tally ImportFault → List Fields → List Outcome → Type 0
-EndsOf left before after (Ok tally) rows outcomes =
-    AreAll left (header ∷ rows) × (tally ≡ tally_of outcomes) × Appends before after (lines_from 1 outcomes ++ count_line tally)
-EndsOf left before after (Err FirstRecord) rows outcomes = (rows ≡ []) × LacksHeader left × Keeps before after
-EndsOf left before after (Err Reading) rows outcomes = HaveBegun left rows × Appends before after (lines_from 1 outcomes)
-EndsOf left before after (Err Memory) rows outcomes =
-    HaveBegun left rows × (Appends before after (lines_from 1 outcomes) ⊎ LosesLast before after outcomes)
-EndsOf left before after (Err Writing) rows outcomes =
-    (BeginWith left (header ∷ rows) × StopsInLast before after outcomes)
-    ⊎ (AreAll left (header ∷ rows) × WroteInto before after (lines_from 1 outcomes) (count_line (tally_of outcomes)))
+-- behind the lines of all, inside the counts, or inside the line of a heading that is wrong. With a line goes the one that says
+-- why the record is refused, where that is asked for.
+abbrev pub EndsOf : Bool → Option (List ℕ) → Option (List ℕ) → Option (List ℕ) → Result Tally ImportFault → List Fields → List Outcome → Type 0
+EndsOf asked left before after (Ok tally) rows outcomes =
+    AreAll left (header ∷ rows) × (tally ≡ tally_of outcomes) × Appends before after (lines_from asked 1 outcomes ++ count_line tally)
+EndsOf asked left before after (Err FirstRecord) rows outcomes = (rows ≡ []) × TellsHeading asked left before after
+EndsOf asked left before after (Err Reading) rows outcomes = HaveBegun left rows × Appends before after (lines_from asked 1 outcomes)
+EndsOf asked left before after (Err Memory) rows outcomes =
+    HaveBegun left rows × (Appends before after (lines_from asked 1 outcomes) ⊎ LosesLast asked before after outcomes)
+EndsOf asked left before after (Err Writing) rows outcomes =
+    (BeginWith left (header ∷ rows) × StopsInLast asked before after outcomes)
+    ⊎ (AreAll left (header ∷ rows) × WroteInto before after (lines_from asked 1 outcomes) (count_line (tally_of outcomes)))
+    ⊎ ((rows ≡ []) × StopsInHeading asked left before after)
 
 -- An import of the bytes that a reader has left, with a writer that held some before and after. It tried these records, at
 -- most 999999, and the office gave these replies to those that are requests, each by one step: they and the tables are the
 -- machine's over the requests that the store didn't refuse.
-pub record Imports {S : Type 0} (view : S → StoreView) (token : List ℕ) (day : ℕ) (left before after : Option (List ℕ)) (old new : OfficeView S)
+pub record Imports {S : Type 0} (view : S → StoreView) (token : List ℕ) (day : ℕ) (asked : Bool) (left before after : Option (List ℕ)) (old new : OfficeView S)
     (result : Result Tally ImportFault) : Type 0 where
   pub rows : List Fields
   pub replies : List Reply
   pub few : length rows ≤ 999999
   pub steps : Steps view (requests_of token day rows) replies old new
   pub model : OverHistory (view old.store) (view new.store) (λ h. Ran (view new.store).holds old.policy (requests_of token day rows) replies h)
-  pub ends : EndsOf left before after result rows (outcomes_of rows replies)
+  pub ends : EndsOf asked left before after result rows (outcomes_of rows replies)

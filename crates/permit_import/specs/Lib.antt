@@ -1,8 +1,10 @@
 pub mod Refusals
+pub mod Causes
 pub mod Outcomes
 pub mod Lines
 pub mod Records
 pub mod Reading
+pub mod Headings
 pub mod Trying
 pub mod Written
 pub mod Importing

@@ -17,9 +17,9 @@ abbrev pub BeginWith : Option (List ℕ) → List Fields → Type 0
 BeginWith left rows = (bytes : List ℕ) → left ≡ Some bytes
     → (state : State) × (rest : List ℕ) × Reached default_config st.StartRecord (strip_bom bytes) rows state rest
 
--- there is no record, or the first is another than that of a parcel list
-abbrev pub LacksHeader : Option (List ℕ) → Type 0
-LacksHeader left = AreAll left [] ⊎ ((first : Fields) × (first ≢ header) × BeginWith left (first ∷ []))
+-- there is no record, or these are the fields of the first, which is another than that of a parcel list
+abbrev pub LacksHeader : Option (List ℕ) → Fields → Type 0
+LacksHeader left first = (AreAll left [] × (first ≡ [])) ⊎ ((first ≢ header) × BeginWith left (first ∷ []))
 
 -- a reader over the bytes stands behind these records
 pub record Behind {R : Type 0} (remaining : R → Option (List ℕ)) (left : Option (List ℕ)) (reader : Reader R) (rows : List Fields) : Type 0 where

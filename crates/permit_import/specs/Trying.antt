@@ -8,6 +8,7 @@ use Rattle.permit_office.specs.Frames.{IsStep}
 use Rattle.permit_office.specs.Office.{OfficeView}
 use Rattle.permit_office.specs.declared.reply.Reply.{Reply}
 use Rattle.permit_import.specs.Outcomes.{outcome_of, unasked}
+use Rattle.permit_import.specs.Records.{Fields}
 use Rattle.permit_import.specs.declared.outcome.Outcome.{Outcome}
 
 -- the office made one step, and the reply is the machine's, or the store's refusal
@@ -16,6 +17,6 @@ pub record Stepped {S : Type 0} (view : S → StoreView) (digest : List ℕ) (da
   pub model : OverHistory (view old.store) (view new.store) (λ h. Answers (view new.store).holds reply (step_as old.policy h digest request day) h)
 
 -- a record that is no request never reaches the office; any other comes to what the reply to its request makes of it
-abbrev pub Tries : {S : Type 0} → (S → StoreView) → List ℕ → ℕ → Option Request → OfficeView S → OfficeView S → Outcome → Type 0
-Tries view digest day None old new outcome = (new ≡ old) × (outcome ≡ unasked)
-Tries view digest day (Some request) old new outcome = (reply : Reply) × Stepped view digest day request old new reply × (outcome ≡ outcome_of reply)
+abbrev pub Tries : {S : Type 0} → (S → StoreView) → List ℕ → ℕ → Fields → Option Request → OfficeView S → OfficeView S → Outcome → Type 0
+Tries view digest day row None old new outcome = (new ≡ old) × (outcome ≡ unasked row)
+Tries view digest day row (Some request) old new outcome = (reply : Reply) × Stepped view digest day request old new reply × (outcome ≡ outcome_of reply)

@@ -6,8 +6,8 @@ ghost use Rattle.permit_import.specs.Records.{request_of_record};
 ghost use Rattle.permit_import.specs.Trying.{Tries};
 
 use crate::outcome::Outcome;
-use crate::refused::{RefusalWord, Refused};
 use crate::requests::request_of;
+use crate::why::RecordFault;
 use csv::ByteRecord;
 use permit_base::values::{Day, Digest};
 use permit_office::office::Office;
@@ -22,7 +22,7 @@ pub(crate) fn add<S: Store + Drop>(
     day: Day,
     row: &ByteRecord,
 ) -> Result<Outcome, AllocError>
-    ensures tries { IfOk result (Tries S.view digest.now day (request_of_record (fields_of row.now)) office.old office.new) }
+    ensures tries { IfOk result (Tries S.view digest.now day (fields_of row.now) (request_of_record (fields_of row.now)) office.old office.new) }
     ensures err { OnErr result (office.new ≡ office.old) }
 {
     match request_of(alloc, row)? {
@@ -30,6 +30,6 @@ pub(crate) fn add<S: Store + Drop>(
             let reply = office.step_as(digest, &request, day);
             Ok(Outcome::of(&reply))
         }
-        None => Ok(Outcome::Refused(Refused::Plain(RefusalWord::Syntax))),
+        None => Ok(Outcome::Malformed(RecordFault::of(row))),
     }
 }

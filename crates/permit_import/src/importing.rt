@@ -5,7 +5,8 @@ ghost use Rattle.permit_import.specs.Importing.{Imports};
 
 use crate::adding::add;
 use crate::fault::ImportFault;
-use crate::records::{is_header, read_next, records};
+use crate::heading::read_heading;
+use crate::records::{read_next, records};
 use crate::tally::Tally;
 use crate::writing::{write_counts, write_outcome};
 use csv::ByteRecord;
@@ -19,8 +20,8 @@ use std::io::{Read, Write};
 /// The most records behind the first.
 const MOST_RECORDS: u32 = 999999;
 
-/// More bytes than any line has.
-const LINE_ROOM: usize = 128;
+/// More bytes than the lines of one record have, or the line of a heading.
+const LINE_ROOM: usize = 384;
 
 /// Imports a parcel list for the caller of the token, on the day.
 ///
@@ -30,6 +31,9 @@ const LINE_ROOM: usize = 128;
 /// record that has another number of fields, a field that is not UTF-8 or a value out of its limits. The line of the
 /// counts stands behind them. One record is held at a time, so memory does not grow with the list.
 ///
+/// With `why`, a line `K why: FIELD: WHAT` follows each `K refused: ..`, with the field and what is wrong with it, and a first
+/// record that isn't the one above has a line that shows it.
+///
 /// After a fault what was tried before it stands, and the lines of the records that were tried are out. Of the last one's
 /// only a beginning is where the writer failed, and maybe nothing where memory ran out. Where the writer failed inside the
 /// counts, all were tried. A record that the store refuses has that refusal in its line, and the import goes on.
@@ -38,10 +42,11 @@ pub fn import<S: Store + Drop, R: Read + Drop, W: Write>(
     office: &mut Office<S>,
     token: &Token,
     day: Day,
+    why: bool,
     reader: R,
     out: &mut W,
 ) -> Result<Tally, ImportFault>
-    ensures imports { Imports S.view token.now day (R.remaining reader) (W.contents out.old) (W.contents out.new) office.old office.new result }
+    ensures imports { Imports S.view token.now day why (R.remaining reader) (W.contents out.old) (W.contents out.new) office.old office.new result }
     ensures policy { office.new.policy ≡ office.old.policy }
     ensures doubt { (S.view office.old.store).doubt ≤ (S.view office.new.store).doubt }
 {
@@ -49,9 +54,7 @@ pub fn import<S: Store + Drop, R: Read + Drop, W: Write>(
     let mut line = String::with_capacity(alloc, LINE_ROOM)?;
     let mut records = records(alloc, reader);
     let mut row = ByteRecord::new(alloc);
-    if !read_next(&mut records, &mut row)? || !is_header(&row) {
-        return Err(ImportFault::FirstRecord);
-    }
+    read_heading(&mut records, &mut row, out, &mut line, why)?;
     let mut tally = Tally::new();
     for number in 1..MOST_RECORDS + 2 {
         if !read_next(&mut records, &mut row)? {
@@ -62,7 +65,7 @@ pub fn import<S: Store + Drop, R: Read + Drop, W: Write>(
             break;
         }
         let outcome = add(alloc, office, &digest, day, &row)?;
-        write_outcome(out, &mut line, number, outcome)?;
+        write_outcome(out, &mut line, why, number, outcome)?;
         tally.count(outcome);
     }
     Err(ImportFault::Reading)

@@ -2,15 +2,18 @@
 //!
 //! `importing::import` reads the records one at a time, has the office add the parcel of each, and writes a line for
 //! each and one with the counts. `records` reads, `requests` says what a record asks for, `outcome` what became of it,
-//! and `refused` has the line of a refusal, which the whole program shares.
+//! `why` says what is wrong with a record that is
+//! refused, and `refused` has the line of a refusal, which the whole program shares.
 #![tactic(auto)]
 
 mod adding;
 pub mod fault;
+mod heading;
 pub mod importing;
 pub mod outcome;
 mod records;
 pub mod refused;
 mod requests;
 pub mod tally;
+pub mod why;
 mod writing;

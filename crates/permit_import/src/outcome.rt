@@ -2,9 +2,10 @@
 
 ghost use Rattle.std.specs.Prelude.{◌≡◌, Some};
 ghost use Rattle.permit_import.specs.Lines.{outcome_text};
-ghost use Rattle.permit_import.specs.Outcomes.{outcome_of};
+ghost use Rattle.permit_import.specs.Outcomes.{outcome_of, why_of};
 
 use crate::refused::{RefusalWord, Refused};
+use crate::why::{RecordFault, Why};
 use permit_base::refusal::{Reason, Refusal};
 use permit_office::reply::Reply;
 use std::fmt;
@@ -16,7 +17,9 @@ pub enum Outcome {
     Added { number: u32 },
     /// A parcel of its lot is there already.
     Kept,
-    /// It is refused.
+    /// It is no request for a parcel, and so refused.
+    Malformed(RecordFault),
+    /// The office refuses its request.
     Refused(Refused),
 }
 
@@ -35,6 +38,17 @@ impl Outcome {
             _ => Outcome::Refused(Refused::Plain(RefusalWord::Store)),
         }
     }
+
+    /// Why the record is refused, or none where it isn't.
+    pub fn why(self) -> Option<Why>
+        ensures { result ≡ why_of self }
+    {
+        match self {
+            Outcome::Added { .. } | Outcome::Kept => None,
+            Outcome::Malformed(fault) => Some(Why::Record(fault)),
+            Outcome::Refused(refused) => Some(Why::Office(refused)),
+        }
+    }
 }
 
 impl fmt::Display for Outcome {
@@ -44,6 +58,7 @@ impl fmt::Display for Outcome {
         match self {
             Outcome::Added { number } => write!(f, "added {number}"),
             Outcome::Kept => f.write_str("kept"),
+            Outcome::Malformed(_) => f.write_str("refused: syntax"),
             Outcome::Refused(why) => write!(f, "{why}"),
         }
     }

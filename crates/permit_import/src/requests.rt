@@ -11,7 +11,7 @@ use permit_routes::id;
 use std::alloc::{AllocError, Global};
 
 /// The text of a field, where it is there and is UTF-8.
-fn text_at(row: &ByteRecord, place: usize) -> Option<&str>
+pub(crate) fn text_at(row: &ByteRecord, place: usize) -> Option<&str>
     ensures { option_map (λ s. s.now) result ≡ option_and_then text_in (field_at (fields_of row.now) place) }
 {
     match str::from_utf8(row.get(place)?) {

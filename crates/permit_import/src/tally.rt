@@ -37,7 +37,7 @@ impl Tally {
         match outcome {
             Outcome::Added { .. } => self.added += 1,
             Outcome::Kept => self.kept += 1,
-            Outcome::Refused(_) => self.refused += 1,
+            Outcome::Malformed(_) | Outcome::Refused(_) => self.refused += 1,
         }
     }
 }

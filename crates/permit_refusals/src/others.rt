@@ -195,6 +195,7 @@ pub fn imported(
         &mut office,
         &token,
         on,
+        false,
         list.as_str().as_bytes(),
         &mut out,
     );

@@ -36,7 +36,7 @@ fn imported<R: Read + Drop>(
 ) -> Result<(Result<Tally, ImportFault>, String), Fail> {
     let token = token(alloc, letters)?;
     let mut out = Vec::new(alloc);
-    let ended = import(alloc, office, &token, day(number)?, reader, &mut out);
+    let ended = import(alloc, office, &token, day(number)?, false, reader, &mut out);
     Ok((ended, String::from_utf8(out).ok().ok_or("lines are text")?))
 }
 
@@ -169,6 +169,7 @@ fn a_writer_that_fails_leaves_what_was_tried(rt: HostRuntime) -> Result<(), Fail
             &mut office,
             &token,
             day(19700)?,
+            false,
             LIST.as_bytes(),
             &mut out,
         );
@@ -203,5 +204,98 @@ fn quotes_marks_and_empty_lines_are_read_as_such(rt: HostRuntime) -> Result<(), 
         address_of(rt.alloc(), office, 3)?.as_str(),
         "1, High \"St\""
     );
+    Ok(())
+}
+
+/// What an import by a party writes that is asked to say why, with whether it ended with its counts.
+fn explained(
+    alloc: Global,
+    office: &mut Office<PlainStore>,
+    letters: &str,
+    number: u32,
+    list: &[u8],
+) -> Result<(bool, String), Fail> {
+    let token = token(alloc, letters)?;
+    let mut out = Vec::new(alloc);
+    let ended = import(alloc, office, &token, day(number)?, true, list, &mut out);
+    Ok((
+        ended.is_ok(),
+        String::from_utf8(out).ok().ok_or("lines are text")?,
+    ))
+}
+
+#[test]
+fn each_refusal_is_explained_after_its_line(rt: HostRuntime) -> Result<(), Fail> {
+    let mut office = opened(rt.alloc())?;
+    let list =
+        b"lot,address,owner\nB-1,1 High St\nB-1,\xff,5\nb-1,1 High St,5\nB-1,,5\nB-1,1 High St,05\nB-1,1 High St,99\nB-1,1 High St,5\nB-1,Other,5\n";
+    let (whole, lines) = explained(rt.alloc(), &mut office, TOKENS[1], 19700, list)?;
+    assert!(rt; whole);
+    assert_eq!(rt;
+        lines.as_str(),
+        "1 refused: syntax\n1 why: record: field count 2: lot,address,owner\n2 refused: syntax\n2 why: address: not UTF-8\n3 refused: syntax\n3 why: lot: 1 to 20 of A-Z, 0-9 and -\n4 refused: syntax\n4 why: address: 1 to 2000 bytes without a control character\n5 refused: syntax\n5 why: owner: a party's number, 1 to 99999\n6 refused: not admitted, person\n6 why: owner: no party has this number\n7 added 3\n8 kept\nadded 1 kept 1 refused 6\n"
+    );
+    Ok(())
+}
+
+#[test]
+fn what_the_office_refuses_is_explained(rt: HostRuntime) -> Result<(), Fail> {
+    let list = b"lot,address,owner\nB-1,1 High St,5\n";
+    for (letters, number, wanted) in [
+        (
+            TOKENS[4],
+            19700,
+            "1 refused: denied by default\n1 why: policy: denied by default\nadded 0 kept 0 refused 1\n",
+        ),
+        (
+            "nobodyhasthistoken",
+            19700,
+            "1 refused: caller\n1 why: token: no party has it\nadded 0 kept 0 refused 1\n",
+        ),
+        (
+            TOKENS[1],
+            0,
+            "1 refused: clock\n1 why: day: before that of the last accepted command\nadded 0 kept 0 refused 1\n",
+        ),
+    ] {
+        let mut office = opened(rt.alloc())?;
+        let (whole, lines) = explained(rt.alloc(), &mut office, letters, number, list)?;
+        assert!(rt; whole);
+        assert_eq!(rt; lines.as_str(), wanted);
+    }
+    Ok(())
+}
+
+#[test]
+fn a_heading_that_is_wrong_is_shown(rt: HostRuntime) -> Result<(), Fail> {
+    let empty: &[u8] = b"";
+    let semicolons: &[u8] = b"lot;address;owner\nB-1;1 High St;5\n";
+    let others: &[u8] = b"Lot,\x1b[1maddress,owner,more,still more\n";
+    let long: &[u8] =
+        b"lot,an-address-that-goes-on-and-on-and-on-and-on-and-on-and-on-and-on-and-on\n";
+    for (list, wanted) in [
+        (empty, "heading: lot,address,owner\n"),
+        (
+            semicolons,
+            "heading `lot;address;owner`: lot,address,owner\n",
+        ),
+        (
+            others,
+            "heading `Lot` `?[1maddress` `owner` `more`: lot,address,owner\n",
+        ),
+        (
+            long,
+            "heading `lot` `an-address-that-goes-on-and-on-and-on-and-on-and-on-and-on-a`: lot,address,owner\n",
+        ),
+    ] {
+        let mut office = opened(rt.alloc())?;
+        let (whole, lines) = explained(rt.alloc(), &mut office, TOKENS[1], 19700, list)?;
+        assert!(rt; !whole);
+        assert_eq!(rt; lines.as_str(), wanted);
+        let (ended, fixed) = imported(rt.alloc(), &mut office, TOKENS[1], 19700, list)?;
+        assert!(rt; ended == Err(ImportFault::FirstRecord));
+        assert_eq!(rt; fixed.as_str(), "");
+        assert_eq!(rt; parcels(office)?, 2);
+    }
     Ok(())
 }
