@@ -5,16 +5,7 @@ use Rattle.std.proofs.lemmas.Slice.Eq.{bytes_eq-Decides}
 use Rattle.std.specs.Str.Parse.{ParsesUnsigned}
 use Rattle.std.proofs.lemmas.Fmt.{parse-decimal}
 use Rattle.clap.specs.Words.{Text}
-use Rattle.permit_args.specs.Faults.{IsOfWords, Refuses}
 use Rattle.permit_args.specs.Plans.{IsCountOf}
-use Rattle.permit_args.specs.declared.plan.PlanFault.{PlanFault}
-use Rattle.permit_args.specs.declared.plan.PlanFault.TheVariants.{Help, Words, Memory}
-
--- bad words are refused where no value is theirs
-pub refuses : {A : Type 0} (IsOf : A → Type 0) (fault : PlanFault) → IsOfWords fault → ((x : A) → IsOf x → ⊥) → Refuses IsOf fault
-refuses IsOf (Help text) told none = told
-refuses IsOf (Words text) told none = none
-refuses IsOf Memory told none = tt
 
 -- a word of a count is read as that count
 pub parsed : {E : Type 0} (greatest : ℕ) (text : Text) (r : Result ℕ E) (n : ℕ) → greatest < 2 ^ 32 → ParsesUnsigned 32 10 text r

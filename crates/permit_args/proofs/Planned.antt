@@ -1,32 +1,84 @@
--- What a subcommand reads is the only plan that its words can have.
-use Rattle.std.proofs.Common.{◌≡◌, ◌∙◌, List, [], ◌∷◌, None, Some, ap, false, length, map, subst, sym, true}
+-- The plan that a subcommand finds is the only one that its words can have.
+use Rattle.std.proofs.Common.{◌≡◌, ◌∙◌, List, [], ◌∷◌, Option, None, Some, Result, Ok, Err, IfErr, IfOk, ap, false, inl, inr, length, map, refl, string_bytes, subst, sym, true}
 use Rattle.std.specs.Bool.{◌==◌}
-use Rattle.clap.specs.Words.{App, Row, Text}
-use Rattle.permit_args.specs.Faults.{AsksHelp, AsksNoHelp, FindsNothing, IsNoPlan, IsUnread}
-use Rattle.permit_args.specs.Plans.{IsActOf, IsCheckDbOf, IsCheckPolicyOf, IsDatabaseOf, IsImportOf, IsInitOf, IsListOf, IsPlanOf, IsReadAs, IsRegisterOf, IsServeOf}
-use Rattle.permit_args.specs.Plans.{act_app, check_db_app, check_policy_app, import_app, init_app, list_app, reader_of, register_app, serve_app, subcommand_in, upgrade_app}
+use Rattle.clap.specs.Words.{Row, Text, is_simple_and_free}
+use Rattle.permit_args.specs.Blames.{Blames}
+use Rattle.permit_args.specs.Faults.{IsFoundIn, IsNoPlan, IsParserFault, IsUnread, Refuses}
+use Rattle.permit_args.specs.Plans.{IsActOf, IsCheckPolicyOf, IsDatabaseOf, IsImportOf, IsInitOf, IsListOf, IsRegisterOf, IsRenewalOf, IsServeOf}
+use Rattle.permit_args.specs.Plans.{reader_of, subcommand_in, subcommand_of, IsFoundAs, IsPlanBy, IsPlanFor, IsPlanIn, IsPlanOf}
 use Rattle.permit_args.specs.declared.plan.Plan.{Plan}
 use Rattle.permit_args.specs.declared.plan.Plan.TheVariants as plan
 use Rattle.permit_args.specs.declared.plan.PlanFault.{PlanFault}
 use Rattle.permit_args.specs.declared.plan.PlanFault.TheVariants.{Help, Words, Memory}
 use Rattle.permit_args.specs.declared.plan.Subcommand.{Subcommand}
 use Rattle.permit_args.specs.declared.plan.Subcommand.TheVariants as named
+use Rattle.permit_args.proofs.Simple.{act_simple, check_db_simple, check_policy_simple, import_simple, init_simple, list_simple, program_simple}
+use Rattle.permit_args.proofs.Simple.{register_simple, renew_token_simple, serve_simple, upgrade_simple}
+use Rattle.permit_args.proofs.Unread.{none_among}
 
--- no value of this kind is read
-abbrev NoneRead : {A : Type 0} → App → List Text → (List Row → A → Type 0) → Type 0
-NoneRead {A} app words IsOf = (x : A) → IsReadAs app words IsOf x → ⊥
+-- what reads the words is simple
+pub simple_reader : (o : Option Subcommand) → is_simple_and_free (reader_of o) ≡ true
+simple_reader None = program_simple
+simple_reader (Some named.CheckPolicy) = check_policy_simple
+simple_reader (Some named.Init) = init_simple
+simple_reader (Some named.Act) = act_simple
+simple_reader (Some named.List) = list_simple
+simple_reader (Some named.Register) = register_simple
+simple_reader (Some named.Import) = import_simple
+simple_reader (Some named.Serve) = serve_simple
+simple_reader (Some named.Upgrade) = upgrade_simple
+simple_reader (Some named.CheckDb) = check_db_simple
+simple_reader (Some named.RenewToken) = renew_token_simple
 
--- the subcommand reads nothing
-abbrev ReadsNone : Subcommand → List Text → Type 0
-ReadsNone named.CheckPolicy words = NoneRead check_policy_app words IsCheckPolicyOf
-ReadsNone named.Init words = NoneRead init_app words IsInitOf
-ReadsNone named.Act words = NoneRead act_app words IsActOf
-ReadsNone named.List words = NoneRead list_app words IsListOf
-ReadsNone named.Register words = NoneRead register_app words IsRegisterOf
-ReadsNone named.Import words = NoneRead import_app words IsImportOf
-ReadsNone named.Serve words = NoneRead serve_app words IsServeOf
-ReadsNone named.Upgrade words = NoneRead upgrade_app words IsDatabaseOf
-ReadsNone named.CheckDb words = NoneRead check_db_app words IsCheckDbOf
+-- ---- what a subcommand finds
+
+-- nothing of this kind is found
+abbrev NoneIs : {A : Type 0} → (A → Type 0) → Type 0
+NoneIs {A} IsOf = (x : A) → IsOf x → ⊥
+
+-- the subcommand finds nothing
+abbrev FindsNone : Subcommand → List Row → Type 0
+FindsNone named.CheckPolicy rows = NoneIs (IsCheckPolicyOf rows)
+FindsNone named.Init rows = NoneIs (IsInitOf rows)
+FindsNone named.Act rows = NoneIs (IsActOf rows)
+FindsNone named.List rows = NoneIs (IsListOf rows)
+FindsNone named.Register rows = NoneIs (IsRegisterOf rows)
+FindsNone named.Import rows = NoneIs (IsImportOf rows)
+FindsNone named.Serve rows = NoneIs (IsServeOf rows)
+FindsNone named.Upgrade rows = NoneIs (IsDatabaseOf rows)
+FindsNone named.CheckDb rows = NoneIs (IsDatabaseOf rows)
+FindsNone named.RenewToken rows = NoneIs (IsRenewalOf rows)
+
+module _ (s : Subcommand) (rows : List Row) where
+  of_own : (t : Subcommand) → Some t ≡ Some s → FindsNone s rows → FindsNone t rows
+  of_own t own none = let same : s ≡ t = cc in subst (λ x. FindsNone x rows) same none
+
+  none_in : (p : Plan) → FindsNone s rows → IsPlanIn s rows p → ⊥
+  none_in plan.Name none is = is.found
+  none_in (plan.CheckPolicy x) none is = of_own named.CheckPolicy is.own none x is.found
+  none_in (plan.Init x) none is = of_own named.Init is.own none x is.found
+  none_in (plan.Act x) none is = of_own named.Act is.own none x is.found
+  none_in (plan.List x) none is = of_own named.List is.own none x is.found
+  none_in (plan.Register x) none is = of_own named.Register is.own none x is.found
+  none_in (plan.Import x) none is = of_own named.Import is.own none x is.found
+  none_in (plan.Serve x) none is = of_own named.Serve is.own none x is.found
+  none_in (plan.Upgrade x) none is = of_own named.Upgrade is.own none x is.found
+  none_in (plan.CheckDb x) none is = of_own named.CheckDb is.own none x is.found
+  none_in (plan.RenewToken x) none is = of_own named.RenewToken is.own none x is.found
+
+  -- where the subcommand finds nothing, it finds no plan
+  refused_as : {A : Type 0} (IsOf : A → Type 0) (fault : PlanFault) → (NoneIs IsOf → FindsNone s rows)
+      → Refuses IsOf (Blames (Some s) rows) fault → Refuses (IsPlanIn s rows) (Blames (Some s) rows) fault
+  refused_as IsOf (Help text) none refused = refused
+  refused_as IsOf (Words text) none refused = (λ p. none_in p (none refused.0), refused.1)
+  refused_as IsOf Memory none refused = tt
+
+  pub refused_plan : {A : Type 0} (o : Subcommand) (IsOf : A → Type 0) (fault : PlanFault) → o ≡ s → (NoneIs IsOf → FindsNone s rows)
+      → Refuses IsOf (Blames (Some s) rows) fault → Refuses (IsPlanIn o rows) (Blames (Some o) rows) fault
+  refused_plan o IsOf fault is none refused =
+      subst (λ x. Refuses (IsPlanIn x rows) (Blames (Some x) rows) fault) (sym is) (refused_as IsOf fault none refused)
+
+-- ---- the plan of the words
 
 -- where there are words, their texts are not none
 pub some_mapped : {A B : Type 0} (f : A → B) (xs : List A) → false ≡ (length xs == 0) → map f xs ≡ [] → ⊥
@@ -34,44 +86,59 @@ some_mapped f [] some none = let bad : false ≡ true = some in cc
 some_mapped f (x ∷ xs) some none = cc
 
 module _ (words : List Text) (s : Subcommand) (e : subcommand_in words ≡ Some s) where
-  -- the subcommand that a plan's words name is this one
-  same : (t : Subcommand) → subcommand_in words ≡ Some t → s ≡ t
-  same t is = let both : Some s ≡ Some t = sym e ∙ is in cc
+  -- a plan of the words is one by their subcommand
+  by_subcommand : (p : Plan) (o : Option Subcommand) → subcommand_of p ≡ o → IsPlanFor o words p → (subcommand_of p ≡ Some s) × IsPlanBy s words p
+  by_subcommand p None own is = let bad : Some s ≡ None = sym e ∙ ap subcommand_in is in cc
+  by_subcommand p (Some t) own is =
+      let both : Some t ≡ Some s = sym is.named ∙ e in
+      let same : t ≡ s = cc in
+      subst (λ x. (subcommand_of p ≡ Some x) × IsPlanBy x words p) same (own, is)
 
-  no_plan : ReadsNone s words → (p : Plan) → IsPlanOf words p → ⊥
-  no_plan none plan.Name is = let bad : Some s ≡ None = sym e ∙ ap subcommand_in is in cc
-  no_plan none (plan.CheckPolicy x) is = subst (λ t. ReadsNone t words) (same _ is.0) none x is.1
-  no_plan none (plan.Init x) is = subst (λ t. ReadsNone t words) (same _ is.0) none x is.1
-  no_plan none (plan.Act x) is = subst (λ t. ReadsNone t words) (same _ is.0) none x is.1
-  no_plan none (plan.List x) is = subst (λ t. ReadsNone t words) (same _ is.0) none x is.1
-  no_plan none (plan.Register x) is = subst (λ t. ReadsNone t words) (same _ is.0) none x is.1
-  no_plan none (plan.Import x) is = subst (λ t. ReadsNone t words) (same _ is.0) none x is.1
-  no_plan none (plan.Serve x) is = subst (λ t. ReadsNone t words) (same _ is.0) none x is.1
-  no_plan none (plan.Upgrade x) is = subst (λ t. ReadsNone t words) (same _ is.0) none x is.1
-  no_plan none (plan.CheckDb x) is = subst (λ t. ReadsNone t words) (same _ is.0) none x is.1
+  -- what the subcommand finds is the plan of the words
+  pub planned : {rows : List Row} (r : Result Plan PlanFault) → IsFoundIn (reader_of (Some s)) words rows → IfOk r (IsPlanIn s rows) → IfOk r (IsPlanOf words)
+  planned (Ok p) found is = subst (λ o. IsPlanFor o words p) (sym is.own) (record {
+    named = e;
+    taken = found.taken;
+    found = subst (λ r. IsFoundAs r p) found.found is.found;
+  })
+  planned (Err fault) found is = tt
 
-  -- where the subcommand reads nothing, there is no plan
-  pub unplanned : {A : Type 0} (IsOf : List Row → A → Type 0) (fault : PlanFault) → (NoneRead (reader_of (Some s)) words IsOf → ReadsNone s words)
-      → IsUnread (reader_of (Some s)) words IsOf fault → IsNoPlan words fault
-  unplanned IsOf (Help text) none unread = subst (λ o. AsksHelp (reader_of o) words) (sym e) unread
-  unplanned IsOf (Words text) none unread = (subst (λ o. AsksNoHelp (reader_of o) words) (sym e) unread.0, no_plan (none unread.1))
-  unplanned IsOf Memory none unread = tt
+  no_plan : {rows : List Row} → IsFoundIn (reader_of (Some s)) words rows → ((p : Plan) → IsPlanIn s rows p → ⊥) → (p : Plan) → IsPlanOf words p → ⊥
+  no_plan found none p is =
+      let by = by_subcommand p (subcommand_of p) refl is in
+      none p (record { own = by.0; found = subst (λ r. IsFoundAs r p) (sym found.found) by.1.found })
+
+  -- where the subcommand refuses what it finds, there is no plan
+  pub unplanned : {rows : List Row} (r : Result Plan PlanFault) → IsFoundIn (reader_of (Some s)) words rows
+      → IfErr r (Refuses (IsPlanIn s rows) (Blames (Some s) rows)) → IfErr r (IsNoPlan words)
+  unplanned (Ok p) found refused = tt
+  unplanned (Err (Help text)) found refused = absurd refused
+  unplanned (Err (Words text)) found refused = (
+    subst (λ o. IsUnread o words (Words text)) (sym e) (inr (record {
+      taken = found.taken;
+      blames = subst (λ r. Blames (Some s) r (string_bytes text)) found.found refused.1;
+    })),
+    no_plan found refused.0,
+  )
+  unplanned (Err Memory) found refused = tt
+
+  -- where the library refuses the words, there is no plan
+  pub unplanned_by_parser : (fault : PlanFault) → IsParserFault (reader_of (Some s)) words fault → IsNoPlan words fault
+  unplanned_by_parser (Help text) is = subst (λ o. IsUnread o words (Help text)) (sym e) is
+  unplanned_by_parser (Words text) is = (
+    subst (λ o. IsUnread o words (Words text)) (sym e) (inl is),
+    λ p plan. none_among is.0 _ is.1 (by_subcommand p (subcommand_of p) refl plan).1.taken,
+  )
+  unplanned_by_parser Memory is = tt
 
 module _ (words : List Text) (e : subcommand_in words ≡ None) (some : words ≡ [] → ⊥) where
-  unnamed : (p : Plan) → IsPlanOf words p → ⊥
-  unnamed plan.Name is = some is
-  unnamed (plan.CheckPolicy x) is = let bad : None ≡ Some named.CheckPolicy = sym e ∙ is.0 in cc
-  unnamed (plan.Init x) is = let bad : None ≡ Some named.Init = sym e ∙ is.0 in cc
-  unnamed (plan.Act x) is = let bad : None ≡ Some named.Act = sym e ∙ is.0 in cc
-  unnamed (plan.List x) is = let bad : None ≡ Some named.List = sym e ∙ is.0 in cc
-  unnamed (plan.Register x) is = let bad : None ≡ Some named.Register = sym e ∙ is.0 in cc
-  unnamed (plan.Import x) is = let bad : None ≡ Some named.Import = sym e ∙ is.0 in cc
-  unnamed (plan.Serve x) is = let bad : None ≡ Some named.Serve = sym e ∙ is.0 in cc
-  unnamed (plan.Upgrade x) is = let bad : None ≡ Some named.Upgrade = sym e ∙ is.0 in cc
-  unnamed (plan.CheckDb x) is = let bad : None ≡ Some named.CheckDb = sym e ∙ is.0 in cc
+  unnamed : (p : Plan) (o : Option Subcommand) → IsPlanFor o words p → ⊥
+  unnamed p None is = some is
+  unnamed p (Some s) is = let bad : None ≡ Some s = sym e ∙ is.named in cc
 
   -- where no subcommand is named, there is no plan
-  pub unplanned_unnamed : (fault : PlanFault) → IsUnread (reader_of None) words FindsNothing fault → IsNoPlan words fault
-  unplanned_unnamed (Help text) unread = subst (λ o. AsksHelp (reader_of o) words) (sym e) unread
-  unplanned_unnamed (Words text) unread = (subst (λ o. AsksNoHelp (reader_of o) words) (sym e) unread.0, unnamed)
+  pub unplanned_unnamed : (fault : PlanFault) → IsUnread None words fault → IsNoPlan words fault
+  unplanned_unnamed (Help text) unread = subst (λ o. IsUnread o words (Help text)) (sym e) unread
+  unplanned_unnamed (Words text) unread =
+      (subst (λ o. IsUnread o words (Words text)) (sym e) unread, λ p is. unnamed p (subcommand_of p) is)
   unplanned_unnamed Memory unread = tt

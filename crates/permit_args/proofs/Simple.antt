@@ -2,7 +2,7 @@
 use Rattle.std.proofs.Common.{◌≡◌, true, refl}
 use Rattle.clap.specs.Words.{is_simple_and_free}
 use Rattle.clap.proofs.OnLiterals.{clap_on_literals}
-use Rattle.permit_args.specs.Plans.{act_app, check_db_app, check_policy_app, import_app, init_app, list_app, program_app, register_app, serve_app, upgrade_app}
+use Rattle.permit_args.specs.Plans.{act_app, check_db_app, check_policy_app, import_app, init_app, list_app, program_app, register_app, renew_token_app, serve_app, upgrade_app}
 
 pub check_policy_simple : is_simple_and_free check_policy_app ≡ true
 unfolding check_policy_app clap_on_literals
@@ -40,6 +40,10 @@ pub upgrade_simple : is_simple_and_free upgrade_app ≡ true
 unfolding upgrade_app clap_on_literals
 upgrade_simple = refl
 
+pub renew_token_simple : is_simple_and_free renew_token_app ≡ true
+unfolding renew_token_app clap_on_literals
+renew_token_simple = refl
+
 pub program_simple : is_simple_and_free program_app ≡ true
-unfolding check_policy_app init_app act_app list_app register_app import_app serve_app check_db_app upgrade_app program_app clap_on_literals
+unfolding check_policy_app init_app act_app list_app register_app import_app serve_app check_db_app upgrade_app renew_token_app program_app clap_on_literals
 program_simple = refl

@@ -1,13 +1,17 @@
 -- Words that give nothing, and what they are then.
-use Rattle.std.proofs.Common.{◌≡◌, ◌&&◌, ◌⊎◌, ◌∙◌, Bool, List, [], Result, Ok, Err, IfErr, ap, refl, subst, sym, true, false, inl, inr}
+use Rattle.std.proofs.Common.{◌≡◌, ◌&&◌, ◌⊎◌, ◌∙◌, Bool, List, [], Result, Ok, Err, IfErr, Option, Some, ap, refl, subst, sym, true, false, inl, inr}
 use Rattle.std.specs.Result.{IsErrAnd}
-use Rattle.clap.specs.Words.{App, IsAmong, Kinds, Row, Text, fault_of, is_simple, is_simple_and_free}
+use Rattle.clap.specs.Words.{App, IsAmong, Kinds, Row, Text, fault_of, first_of, is_simple, is_simple_and_free, matches_of}
 use Rattle.clap.specs.declared.error.kind.ErrorKind.{ErrorKind}
 use Rattle.clap.specs.declared.error.kind.ErrorKind.TheVariants.{OutOfMemory}
-use Rattle.permit_args.specs.Faults.{is_help, is_memory, FindsNothing, IsFaultBy, IsFoundIn, IsOfWords, IsParserFault, IsUnread, Refuses}
-use Rattle.permit_args.specs.Plans.{IsReadAs, IsTaken}
+use Rattle.permit_args.specs.Faults.{is_help, is_memory, IsFaultBy, IsFoundIn, IsParserFault, IsUnread, Refuses, Says}
+use Rattle.permit_args.specs.Blames.{name_of, Blames, BlamesPlace, IsTakenAt, Misses}
+use Rattle.permit_args.specs.Lines.{invalid_line}
+use Rattle.permit_args.specs.Plans.{reader_of, IsTaken}
+use Rattle.permit_args.specs.declared.places.Place.{Place}
 use Rattle.permit_args.specs.declared.plan.PlanFault.{PlanFault}
 use Rattle.permit_args.specs.declared.plan.PlanFault.TheVariants.{Help, Words, Memory}
+use Rattle.permit_args.specs.declared.plan.Subcommand.{Subcommand}
 
 -- no kind of error is among none
 pub none_among : (k : ErrorKind) (kinds : Kinds) → IsAmong k kinds → kinds ≡ [] → ⊥
@@ -34,43 +38,68 @@ pub found_for : {app other : App} {words : List Text} {rows : List Row} → app 
     → (is_simple_and_free app ≡ true → IsFoundIn app words rows) → IsFoundIn other words rows
 found_for {words = words} {rows = rows} is simple found = subst (λ a. IsFoundIn a words rows) is (found (ap is_simple_and_free is ∙ simple))
 
--- what the library finds in the words is what is read of them
-pub read_as : {A : Type 0} {app : App} {words : List Text} {rows : List Row} (IsOf : List Row → A → Type 0) (x : A) → IsFoundIn app words rows → IsOf rows x
-    → IsReadAs app words IsOf x
-read_as IsOf x found is = record { taken = found.taken; found = subst (λ r. IsOf r x) found.found is }
+pub parser_fault_for : {app other : App} (words : List Text) (fault : PlanFault) → app ≡ other → is_simple_and_free other ≡ true
+    → (is_simple_and_free app ≡ true → IsParserFault app words fault) → IsParserFault other words fault
+parser_fault_for words fault is simple told = subst (λ a. IsParserFault a words fault) is (told (ap is_simple_and_free is ∙ simple))
 
-unread : {A : Type 0} (app : App) (words : List Text) (IsOf : List Row → A → Type 0) (fault : PlanFault) → IsParserFault app words fault
-    → IsUnread app words IsOf fault
-unread app words IsOf (Help text) is = is
-unread app words IsOf (Words text) is = (inr is, λ x read. none_among is.0 _ is.1 read.taken)
-unread app words IsOf Memory is = tt
+-- words that the library refuses are unread
+pub unread_by_parser : (o : Option Subcommand) (words : List Text) (fault : PlanFault) → IsParserFault (reader_of o) words fault → IsUnread o words fault
+unread_by_parser o words (Help text) is = is
+unread_by_parser o words (Words text) is = inl is
+unread_by_parser o words Memory is = tt
 
--- where the library finds nothing, nothing is read
-pub unread_of_parser : {A : Type 0} {app other : App} (words : List Text) (IsOf : List Row → A → Type 0) (fault : PlanFault) → app ≡ other
-    → is_simple_and_free other ≡ true → (is_simple_and_free app ≡ true → IsParserFault app words fault) → IsUnread other words IsOf fault
-unread_of_parser {other = other} words IsOf fault is simple told =
-    unread other words IsOf fault (subst (λ a. IsParserFault a words fault) is (told (ap is_simple_and_free is ∙ simple)))
+-- so are words that a line blames
+pub blamed : (o : Option Subcommand) (words : List Text) (line : Text) (fault : PlanFault) → IsTaken (reader_of o) words → Says line fault
+    → Blames o (matches_of (reader_of o) words) line → IsUnread o words fault
+blamed o words line (Help text) taken said blames = absurd said
+blamed o words line (Words text) taken said blames = inr (record { taken = taken; blames = subst (Blames o (matches_of (reader_of o) words)) (sym said) blames })
+blamed o words line Memory taken said blames = tt
 
--- bad words where no subcommand is named
-pub unread_of_words : (app : App) (words : List Text) (fault : PlanFault) → IsTaken app words → IsOfWords fault → IsUnread app words FindsNothing fault
-unread_of_words app words (Help text) taken told = absurd told
-unread_of_words app words (Words text) taken told = (inl taken, λ x read. read.found)
-unread_of_words app words Memory taken told = tt
+-- words are refused where no value is theirs, by the line that is said
+pub refuses : {A : Type 0} (IsOf : A → Type 0) (Blames : Text → Type 0) (line : Text) (fault : PlanFault) → Says line fault → ((x : A) → IsOf x → ⊥)
+    → Blames line → Refuses IsOf Blames fault
+refuses IsOf Blames line (Help text) said none blames = said
+refuses IsOf Blames line (Words text) said none blames = (none, subst Blames (sym said) blames)
+refuses IsOf Blames line Memory said none blames = tt
 
--- where the library finds something and a part of it is refused, nothing is read
-pub unread_of_value : {A B : Type 0} {app : App} {words : List Text} {rows : List Row} (IsOf : List Row → A → Type 0) (IsPart : B → Type 0) (fault : PlanFault)
-    → IsFoundIn app words rows → Refuses IsPart fault → ((x : A) → IsOf rows x → (y : B) × IsPart y) → IsUnread app words IsOf fault
-unread_of_value IsOf IsPart (Help text) found refused part = absurd refused
-unread_of_value IsOf IsPart (Words text) found refused part =
-    (inl found.taken, λ x read. let is = part x (subst (λ r. IsOf r x) (sym found.found) read.found) in refused is.0 is.1)
-unread_of_value IsOf IsPart Memory found refused part = tt
+-- the same where no other line is right
+pub refuses_by : {A : Type 0} (IsOf : A → Type 0) (line : Text) (fault : PlanFault) → Says line fault → ((x : A) → IsOf x → ⊥) → Refuses IsOf (λ l. l ≡ line) fault
+refuses_by IsOf line fault said none = refuses IsOf (λ l. l ≡ line) line fault said none refl
 
--- a whole is refused where a part of it is
-pub refused_part : {A B : Type 0} (IsOf : A → Type 0) (IsPart : B → Type 0) (fault : PlanFault) → Refuses IsPart fault
-    → ((x : A) → IsOf x → (y : B) × IsPart y) → Refuses IsOf fault
-refused_part IsOf IsPart (Help text) refused part = refused
-refused_part IsOf IsPart (Words text) refused part = λ x is. let p = part x is in refused p.0 p.1
-refused_part IsOf IsPart Memory refused part = tt
+-- a whole is refused where a part of it is, and what blames the part blames the whole
+pub refused_part : {A B : Type 0} (IsOf : A → Type 0) (Blames : Text → Type 0) (IsPart : B → Type 0) (BlamesPart : Text → Type 0) (fault : PlanFault)
+    → Refuses IsPart BlamesPart fault → ((x : A) → IsOf x → (y : B) × IsPart y)
+    → (((y : B) → IsPart y → ⊥) → (line : Text) → BlamesPart line → Blames line) → Refuses IsOf Blames fault
+refused_part IsOf Blames IsPart BlamesPart (Help text) refused part blames = refused
+refused_part IsOf Blames IsPart BlamesPart (Words text) refused part blames =
+    (λ x is. let p = part x is in refused.0 p.0 p.1, blames refused.0 _ refused.1)
+refused_part IsOf Blames IsPart BlamesPart Memory refused part blames = tt
+
+-- the same of a value that has to be there
+pub refused_without : {A : Type 0} (name : Text) (rows : List Row) (IsOf : A → Type 0) (Says : Text → Type 0) (fault : PlanFault)
+    → Refuses (λ (text : Text). first_of name rows ≡ Some text) (Misses name rows) fault → ((x : A) → IsOf x → (text : Text) × (first_of name rows ≡ Some text))
+    → ((line : Text) → Misses name rows line → Says line) → Refuses IsOf Says fault
+refused_without name rows IsOf Says fault refused part blames =
+    refused_part IsOf Says (λ (text : Text). first_of name rows ≡ Some text) (Misses name rows) fault refused part (λ none. blames)
+
+-- the same of a place's value
+pub refused_at : {A B : Type 0} (place : Place) (rows : List Row) (value : Text) (IsOf : A → Type 0) (Says : Text → Type 0) (IsPart : B → Type 0)
+    (fault : PlanFault) → Refuses IsPart (λ line. line ≡ invalid_line place value) fault → ((x : A) → IsOf x → (y : B) × IsPart y)
+    → first_of (name_of place) rows ≡ Some value → (IsTakenAt place value → (y : B) × IsPart y) → ((line : Text) → BlamesPlace place rows line → Says line)
+    → Refuses IsOf Says fault
+refused_at place rows value IsOf Says IsPart fault refused part there taken blames =
+    refused_part IsOf Says IsPart (λ line. line ≡ invalid_line place value) fault refused part (λ none line h. blames line (record {
+      value = value;
+      found = there;
+      refused = λ is. let t = taken is in none t.0 t.1;
+      said = h;
+    }))
+
+-- what is said of a fault that a call returns
+pub if_refused : {A : Type 0} (r : Result A PlanFault) (IsFault IsOther : PlanFault → Type 0) → ((fault : PlanFault) → IsFault fault → IsOther fault)
+    → IfErr r IsFault → IfErr r IsOther
+if_refused (Ok x) IsFault IsOther so is = tt
+if_refused (Err fault) IsFault IsOther so is = so fault is
 
 -- what a call passes on to its caller is the fault that it was told
 pub passed_on : {A : Type 0} (IsFault : PlanFault → Type 0) (fault : PlanFault) (r : Result A PlanFault) → IsErrAnd r (λ f. f ≡ fault) → IsFault fault → IfErr r IsFault

@@ -1,12 +1,18 @@
 -- Values that words refuse.
-use Rattle.std.proofs.Common.{◌≡◌, ◌∙◌, IsTrue, List, None, Option, Some, false, true, sym, codes}
+use Rattle.std.proofs.Common.{◌≡◌, ◌∙◌, ℕ, IsSome, IsSomeAnd, IsTrue, List, MatchOption, None, Option, Some, false, true, refl, subst, sym, codes}
 use Rattle.clap.specs.Words.{Row, Text, first_of}
 use Rattle.permit_base.specs.Stages.{is_file_stage}
 use Rattle.permit_base.specs.Words.{stage_word}
 use Rattle.permit_base.specs.declared.words.Stage.{Stage}
-use Rattle.permit_args.specs.Plans.{is_given, IsCheckOf, IsStageOf}
+use Rattle.permit_args.specs.Plans.{is_given, most_connections, most_workers, IsCheckOf, IsConnectionsOf, IsCountOf, IsStageOf, IsTokenOf, IsWorkersOf}
 use Rattle.permit_args.specs.declared.plan.Check.{Check}
 use Rattle.permit_args.specs.declared.plan.Check.TheVariants.{Rules, Dead, Facts}
+use Rattle.permit_args.specs.declared.plan.TokenWords.{TokenWords}
+use Rattle.permit_args.specs.declared.plan.TokenWords.TheVariants.{Given, File}
+
+-- what is something is some
+pub is_some_of : {A : Type 0} (o : Option A) (x : A) → o ≡ Some x → IsSome o
+is_some_of o x is = subst IsSome (sym is) refl
 
 -- a word that is no file's stage is the word of no stage
 pub no_stage : (rows : List Row) (text : Text) → first_of (codes "stage") rows ≡ Some text → ((s : Stage) → stage_word s ≡ text → IsTrue (is_file_stage s) → ⊥)
@@ -23,3 +29,41 @@ pub no_check : (rows : List Row) (text : Text) → is_given (codes "dead") rows 
 no_check rows text dead facts Rules is = let bad : true ≡ false = sym dead ∙ is.0 in cc
 no_check rows text dead facts Dead is = let bad : Some text ≡ None = sym facts ∙ is.1 in cc
 no_check rows text dead facts (Facts x) is = let bad : true ≡ false = sym dead ∙ is.0 in cc
+
+-- neither a token nor its file is no token
+pub no_token : (rows : List Row) → first_of (codes "token") rows ≡ None → first_of (codes "token-file") rows ≡ None → (token : TokenWords)
+    → IsTokenOf rows token → ⊥
+no_token rows token file (Given text) is = let bad : None ≡ Some text.now = sym token ∙ is.0 in cc
+no_token rows token file (File path) is = let bad : None ≡ Some path.now = sym file ∙ is.1 in cc
+
+-- nor are both
+pub two_tokens : (rows : List Row) (one other : Text) → first_of (codes "token") rows ≡ Some one → first_of (codes "token-file") rows ≡ Some other
+    → (token : TokenWords) → IsTokenOf rows token → ⊥
+two_tokens rows one other token file (Given text) is = let bad : Some other ≡ None = sym file ∙ is.1 in cc
+two_tokens rows one other token file (File path) is = let bad : Some one ≡ None = sym token ∙ is.0 in cc
+
+-- ---- counts
+
+-- a count of what is found is one of its text
+pub counted : (greatest : ℕ) (found : Option Text) (text : Text) (n : ℕ) → found ≡ Some text → IsSomeAnd found (λ t. IsCountOf greatest t n)
+    → IsCountOf greatest text n
+counted greatest found text n there is = subst (λ o. IsSomeAnd o (λ t. IsCountOf greatest t n)) there is
+
+pub some_counted : (greatest : ℕ) (found : Option Text) (text : Text) (n : ℕ) → found ≡ Some text → IsCountOf greatest text n
+    → IsSomeAnd found (λ t. IsCountOf greatest t n)
+some_counted greatest found text n there is = subst (λ o. IsSomeAnd o (λ t. IsCountOf greatest t n)) (sym there) is
+
+-- where a count is found, a text is
+pub some_found : (greatest : ℕ) (found : Option Text) (n : ℕ) → IsSomeAnd found (λ t. IsCountOf greatest t n) → (text : Text) × (found ≡ Some text)
+some_found greatest None n is = absurd is
+some_found greatest (Some text) n is = (text, refl)
+
+-- the workers that are found are those of the text
+pub workers_of : (rows : List Row) (text : Text) (n : ℕ) → first_of (codes "workers") rows ≡ Some text → IsWorkersOf rows n → IsCountOf most_workers text n
+workers_of rows text n there is = subst (λ o. MatchOption o (n ≡ 4) (λ t. IsCountOf most_workers t n)) there is
+
+-- so are the connections
+pub connections_of : (rows : List Row) (text : Text) (x : Option ℕ) → first_of (codes "connections") rows ≡ Some text → IsConnectionsOf rows x
+    → (n : ℕ) × IsCountOf most_connections text n
+connections_of rows text None there is = let bad : Some text ≡ None = sym there ∙ is in cc
+connections_of rows text (Some n) there is = (n, counted most_connections _ text n there is)

@@ -1,12 +1,14 @@
 -- Why words give no plan.
-use Rattle.std.specs.Prelude.{◌≡◌, ◌⊎◌, List, Bool, true, false}
+use Rattle.std.specs.Prelude.{◌≡◌, ◌⊎◌, List, Bool, Option, true, false, string_bytes}
 use Rattle.clap.specs.Words.{App, IsAmong, Row, Text, fault_of, matches_of}
 use Rattle.clap.specs.declared.error.kind.ErrorKind.{ErrorKind}
 use Rattle.clap.specs.declared.error.kind.ErrorKind.TheVariants as kind
-use Rattle.permit_args.specs.Plans.{IsPlanOf, IsReadAs, IsTaken, reader_of, subcommand_in}
+use Rattle.permit_args.specs.Blames.{Blames}
+use Rattle.permit_args.specs.Plans.{IsPlanOf, IsTaken, reader_of, subcommand_in}
 use Rattle.permit_args.specs.declared.plan.Plan.{Plan}
 use Rattle.permit_args.specs.declared.plan.PlanFault.{PlanFault}
 use Rattle.permit_args.specs.declared.plan.PlanFault.TheVariants.{Help, Words, Memory}
+use Rattle.permit_args.specs.declared.plan.Subcommand.{Subcommand}
 
 -- ---- the library's errors
 
@@ -48,37 +50,36 @@ pub record IsFoundIn (app : App) (words : List Text) (rows : List Row) : Type 0 
 
 -- ---- values
 
--- the words are bad, or memory ran out: help isn't asked for
-abbrev pub IsOfWords : PlanFault → Type 0
-IsOfWords (Help text) = ⊥
-IsOfWords (Words text) = Unit {0}
-IsOfWords Memory = Unit {0}
+-- the line is said, or memory ran out for it: help isn't asked for
+abbrev pub Says : Text → PlanFault → Type 0
+Says line (Help text) = ⊥
+Says line (Words text) = string_bytes text ≡ line
+Says line Memory = Unit {0}
 
--- words are refused only where no value is theirs; that memory ran out says nothing of them
-abbrev pub Refuses : {A : Type 0} → (A → Type 0) → PlanFault → Type 0
-Refuses {A} IsOf (Help text) = ⊥
-Refuses {A} IsOf (Words text) = (x : A) → IsOf x → ⊥
-Refuses {A} IsOf Memory = Unit {0}
+-- Words are refused only where no value is theirs, and by a line that blames what is wrong; that memory ran out says nothing of
+-- them.
+abbrev pub Refuses : {A : Type 0} → (A → Type 0) → (Text → Type 0) → PlanFault → Type 0
+Refuses {A} IsOf Blames (Help text) = ⊥
+Refuses {A} IsOf Blames (Words text) = ((x : A) → IsOf x → ⊥) × Blames (string_bytes text)
+Refuses {A} IsOf Blames Memory = Unit {0}
 
 -- ---- plans
 
--- help isn't asked for: the library takes the words, or refuses them otherwise
-abbrev pub AsksNoHelp : App → List Text → Type 0
-AsksNoHelp app words = IsTaken app words ⊎ IsRefused app words
+-- the library takes the words of the subcommand, or of none, and the line blames what is wrong with what it finds
+pub record IsBlamed (o : Option Subcommand) (words : List Text) (line : Text) : Type 0 where
+  pub taken : IsTaken (reader_of o) words
+  pub blames : Blames o (matches_of (reader_of o) words) line
 
--- why the words of a command give nothing: they ask for help, or no value is theirs
-abbrev pub IsUnread : {A : Type 0} → App → List Text → (List Row → A → Type 0) → PlanFault → Type 0
-IsUnread {A} app words IsOf (Help text) = AsksHelp app words
-IsUnread {A} app words IsOf (Words text) = AsksNoHelp app words × ((x : A) → IsReadAs app words IsOf x → ⊥)
-IsUnread {A} app words IsOf Memory = Unit {0}
+-- what is said of the words of a subcommand, or of none, that are refused: help where they ask for it, else the library's error, or
+-- the program's own line
+abbrev pub IsUnread : Option Subcommand → List Text → PlanFault → Type 0
+IsUnread o words (Help text) = AsksHelp (reader_of o) words
+IsUnread o words (Words text) = IsRefused (reader_of o) words ⊎ IsBlamed o words (string_bytes text)
+IsUnread o words Memory = Unit {0}
 
--- nothing is found where no subcommand is named
-abbrev pub FindsNothing : List Row → Plan → Type 0
-FindsNothing rows plan = ⊥
-
--- Why words give no plan: help is what the library answers them with, where they ask for it; they are bad only where they don't,
--- and no plan is theirs. That memory ran out says nothing of them.
+-- Why words give no plan: help is what the library answers them with, where they ask for it; they are bad only where no plan is
+-- theirs, and the line is right. That memory ran out says nothing of them.
 abbrev pub IsNoPlan : List Text → PlanFault → Type 0
-IsNoPlan words (Help text) = AsksHelp (reader_of (subcommand_in words)) words
-IsNoPlan words (Words text) = AsksNoHelp (reader_of (subcommand_in words)) words × ((plan : Plan) → IsPlanOf words plan → ⊥)
+IsNoPlan words (Help text) = IsUnread (subcommand_in words) words (Help text)
+IsNoPlan words (Words text) = IsUnread (subcommand_in words) words (Words text) × ((plan : Plan) → IsPlanOf words plan → ⊥)
 IsNoPlan words Memory = Unit {0}

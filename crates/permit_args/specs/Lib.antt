@@ -1,5 +1,7 @@
+pub mod Blames
 pub mod Checks
 pub mod Commands
 pub mod FactsText
 pub mod Faults
+pub mod Lines
 pub mod Plans

@@ -6,16 +6,19 @@ use Rattle.std.specs.Borrow.{Bor}
 use Rattle.clap.specs.Simple.{new_shape}
 use Rattle.clap.specs.Words.{App, Row, Rule, Text, fault_of, first_of, matches_of, new_app, new_rule, with_rule, with_subcommand}
 use Rattle.clap.specs.declared.builder.ArgAction.TheVariants.{Set, SetTrue}
+use Rattle.permit_base.specs.Limits.{most_records}
 use Rattle.permit_base.specs.Stages.{is_file_stage}
 use Rattle.permit_base.specs.Words.{register_word, stage_word}
 use Rattle.permit_base.specs.declared.words.Stage.{Stage}
 use Rattle.permit_args.specs.declared.plan.Check.{Check}
 use Rattle.permit_args.specs.declared.plan.Check.TheVariants.{Rules, Dead, Facts}
-use Rattle.permit_args.specs.declared.plan.CheckDbWords.{CheckDbWords}
 use Rattle.permit_args.specs.declared.plan.CheckPolicyWords.{CheckPolicyWords}
 use Rattle.permit_args.specs.declared.plan.DatabaseWords.{DatabaseWords}
 use Rattle.permit_args.specs.declared.plan.DayWords.{DayWords}
 use Rattle.permit_args.specs.declared.plan.InitWords.{InitWords}
+use Rattle.permit_args.specs.declared.plan.RenewTokenWords.{RenewTokenWords}
+use Rattle.permit_args.specs.declared.plan.TokenWords.{TokenWords}
+use Rattle.permit_args.specs.declared.plan.TokenWords.TheVariants.{Given, File}
 use Rattle.permit_args.specs.declared.plan.OfficeWords.{OfficeWords}
 use Rattle.permit_args.specs.declared.plan.ActWords.{ActWords}
 use Rattle.permit_args.specs.declared.plan.ListWords.{ListWords}
@@ -23,7 +26,7 @@ use Rattle.permit_args.specs.declared.plan.RegisterWords.{RegisterWords}
 use Rattle.permit_args.specs.declared.plan.ImportWords.{ImportWords}
 use Rattle.permit_args.specs.declared.plan.ServeWords.{ServeWords}
 use Rattle.permit_args.specs.declared.plan.Subcommand.{Subcommand}
-use Rattle.permit_args.specs.declared.plan.Subcommand.TheVariants.{CheckPolicy, Init, Act, List as List', Register, Import, Serve, Upgrade, CheckDb}
+use Rattle.permit_args.specs.declared.plan.Subcommand.TheVariants.{CheckPolicy, Init, Act, List as List', Register, Import, Serve, Upgrade, CheckDb, RenewToken}
 use Rattle.permit_args.specs.declared.plan.Plan.{Plan}
 use Rattle.permit_args.specs.declared.plan.Plan.TheVariants as plan
 
@@ -49,24 +52,31 @@ optional_word name = record (new_rule name) { value_names = 1; action = Some Set
 abbrev pub required_word : Text → Rule
 required_word name = record (optional_word name) { required = true }
 
+-- the option for which failures are explained
+abbrev pub with_why : App → App
+with_why app = with_rule app (flag (codes "why"))
+
 -- the options for the day
 abbrev pub with_days : App → App
 with_days app = with_rule (with_rule app (optional_option (codes "day"))) (optional_option (codes "zone"))
 
+-- the options for a token, of which one is to be given
+abbrev pub with_token : App → App
+with_token app = with_rule (with_rule app (optional_option (codes "token"))) (optional_option (codes "token-file"))
+
 -- the options for the office that is asked
 abbrev pub with_office : App → App
-with_office app = with_days (with_rule (with_rule (with_rule app
-    (required_option (codes "db"))) (required_option (codes "policy"))) (required_option (codes "token")))
+with_office app = with_why (with_days (with_token (with_rule (with_rule app (required_option (codes "db"))) (required_option (codes "policy")))))
 
 -- the subcommand that reads a policy
 unfoldable pub check_policy_app : App
-check_policy_app = with_rule (with_rule (with_rule (new_app (codes "check-policy"))
-    (required_option (codes "policy"))) (flag (codes "dead"))) (optional_option (codes "facts"))
+check_policy_app = with_why (with_rule (with_rule (with_rule (new_app (codes "check-policy"))
+    (required_option (codes "policy"))) (flag (codes "dead"))) (optional_option (codes "facts")))
 
 -- the subcommand that founds an office
 unfoldable pub init_app : App
-init_app = with_days (with_rule (with_rule (with_rule (new_app (codes "init"))
-    (required_option (codes "db"))) (required_option (codes "name"))) (required_option (codes "token")))
+init_app = with_why (with_days (with_token (with_rule (with_rule (new_app (codes "init"))
+    (required_option (codes "db"))) (required_option (codes "name")))))
 
 -- the subcommand that has the office serve one request
 unfoldable pub act_app : App
@@ -87,9 +97,22 @@ import_app = with_rule (with_office (new_app (codes "import"))) (required_word (
 
 -- the subcommand that serves the office
 unfoldable pub serve_app : App
-serve_app = with_rule (with_rule (with_rule (with_days (with_rule (with_rule (new_app (codes "serve"))
+serve_app = with_why (with_rule (with_rule (with_rule (with_days (with_rule (with_rule (new_app (codes "serve"))
     (required_option (codes "db"))) (required_option (codes "policy"))))
-    (required_option (codes "listen"))) (optional_option (codes "workers"))) (optional_option (codes "connections"))
+    (required_option (codes "listen"))) (optional_option (codes "workers"))) (optional_option (codes "connections")))
+
+-- the subcommand that says whether a database's tables are sound
+unfoldable pub check_db_app : App
+check_db_app = with_why (with_rule (new_app (codes "check-db")) (required_option (codes "db")))
+
+-- the subcommand that upgrades a database
+unfoldable pub upgrade_app : App
+upgrade_app = with_why (with_rule (new_app (codes "upgrade")) (required_option (codes "db")))
+
+-- the subcommand that replaces a party's token
+unfoldable pub renew_token_app : App
+renew_token_app = with_why (with_token (with_rule (with_rule (new_app (codes "renew-token"))
+    (required_option (codes "db"))) (required_option (codes "party"))))
 
 -- ---- what their words give
 
@@ -106,13 +129,10 @@ pub record IsDaysOf (rows : List Row) (words : DayWords) : Type 0 where
 abbrev pub is_given : Text → List Row → Bool
 is_given name rows = option_map_or (bytes_eq (codes "true")) (first_of name rows) false
 
--- the subcommand that says whether a database's tables are sound
-unfoldable pub check_db_app : App
-check_db_app = with_rule (with_rule (new_app (codes "check-db")) (required_option (codes "db"))) (flag (codes "why"))
-
--- the subcommand that upgrades a database
-unfoldable pub upgrade_app : App
-upgrade_app = with_rule (new_app (codes "upgrade")) (required_option (codes "db"))
+-- the token that was found, or its file, and not both
+abbrev pub IsTokenOf : List Row → TokenWords → Type 0
+IsTokenOf rows (Given text) = (first_of (codes "token") rows ≡ Some text.now) × (first_of (codes "token-file") rows ≡ None)
+IsTokenOf rows (File path) = (first_of (codes "token") rows ≡ None) × (first_of (codes "token-file") rows ≡ Some path.now)
 
 -- what is said of a policy: its dead rules or how it decides for some facts, not both, and without either its rules
 abbrev pub IsCheckOf : List Row → Check → Type 0
@@ -124,20 +144,23 @@ IsCheckOf rows (Facts text) = (is_given (codes "dead") rows ≡ false) × (first
 pub record IsCheckPolicyOf (rows : List Row) (words : CheckPolicyWords) : Type 0 where
   pub policy : first_of (codes "policy") rows ≡ Some words.policy.now
   pub check : IsCheckOf rows words.check
+  pub why : is_given (codes "why") rows ≡ words.why
 
 -- the founding that was found
 pub record IsInitOf (rows : List Row) (words : InitWords) : Type 0 where
   pub db : first_of (codes "db") rows ≡ Some words.db.now
   pub name : first_of (codes "name") rows ≡ Some words.name.now
-  pub token : first_of (codes "token") rows ≡ Some words.token.now
+  pub token : IsTokenOf rows words.token
   pub days : IsDaysOf rows words.days
+  pub why : is_given (codes "why") rows ≡ words.why
 
 -- the office that was found
 pub record IsOfficeOf (rows : List Row) (words : OfficeWords) : Type 0 where
   pub db : first_of (codes "db") rows ≡ Some words.db.now
   pub policy : first_of (codes "policy") rows ≡ Some words.policy.now
-  pub token : first_of (codes "token") rows ≡ Some words.token.now
+  pub token : IsTokenOf rows words.token
   pub days : IsDaysOf rows words.days
+  pub why : is_given (codes "why") rows ≡ words.why
 
 -- the request that was found
 pub record IsActOf (rows : List Row) (words : ActWords) : Type 0 where
@@ -197,14 +220,22 @@ pub record IsServeOf (rows : List Row) (words : ServeWords) : Type 0 where
   pub listen : first_of (codes "listen") rows ≡ Some words.listen.now
   pub workers : IsWorkersOf rows words.workers
   pub connections : IsConnectionsOf rows words.connections
+  pub why : is_given (codes "why") rows ≡ words.why
 
 -- the database that was found
 pub record IsDatabaseOf (rows : List Row) (words : DatabaseWords) : Type 0 where
   pub db : first_of (codes "db") rows ≡ Some words.db.now
+  pub why : is_given (codes "why") rows ≡ words.why
 
--- the database that was found, and whether the place is named
-pub record IsCheckDbOf (rows : List Row) (words : CheckDbWords) : Type 0 where
+-- the party's number that was found
+abbrev pub IsPartyOf : List Row → ℕ → Type 0
+IsPartyOf rows party = IsSomeAnd (first_of (codes "party") rows) (λ text. IsCountOf most_records text party)
+
+-- the renewal that was found
+pub record IsRenewalOf (rows : List Row) (words : RenewTokenWords) : Type 0 where
   pub db : first_of (codes "db") rows ≡ Some words.db.now
+  pub party : IsPartyOf rows words.party
+  pub token : IsTokenOf rows words.token
   pub why : is_given (codes "why") rows ≡ words.why
 
 -- ---- the plan
@@ -219,8 +250,8 @@ bare_app = record {
 -- the program itself, which reads the words where the first names no subcommand
 unfoldable pub program_app : App
 program_app = with_subcommand (with_subcommand (with_subcommand (with_subcommand (with_subcommand (with_subcommand (with_subcommand
-    (with_subcommand (with_subcommand bare_app check_policy_app.top) init_app.top) act_app.top) list_app.top) register_app.top)
-    import_app.top) serve_app.top) upgrade_app.top) check_db_app.top
+    (with_subcommand (with_subcommand (with_subcommand bare_app check_policy_app.top) init_app.top) act_app.top) list_app.top) register_app.top)
+    import_app.top) serve_app.top) upgrade_app.top) check_db_app.top) renew_token_app.top
 
 -- the subcommand of a word
 abbrev pub named : Text → Option Subcommand
@@ -233,7 +264,8 @@ named word =
     if bytes_eq word (codes "import") then Some Import else (
     if bytes_eq word (codes "serve") then Some Serve else (
     if bytes_eq word (codes "upgrade") then Some Upgrade else (
-    if bytes_eq word (codes "check-db") then Some CheckDb else None))))))))
+    if bytes_eq word (codes "check-db") then Some CheckDb else (
+    if bytes_eq word (codes "renew-token") then Some RenewToken else None)))))))))
 
 -- the subcommand that the first word names
 abbrev pub subcommand_in : List Text → Option Subcommand
@@ -252,26 +284,55 @@ reader_of (Some Import) = import_app
 reader_of (Some Serve) = serve_app
 reader_of (Some Upgrade) = upgrade_app
 reader_of (Some CheckDb) = check_db_app
+reader_of (Some RenewToken) = renew_token_app
+
+-- the subcommand that a plan is of; the plan to print the name is of none
+abbrev pub subcommand_of : Plan → Option Subcommand
+subcommand_of plan.Name = None
+subcommand_of (plan.CheckPolicy checked) = Some CheckPolicy
+subcommand_of (plan.Init founding) = Some Init
+subcommand_of (plan.Act request) = Some Act
+subcommand_of (plan.List listing) = Some List'
+subcommand_of (plan.Register register) = Some Register
+subcommand_of (plan.Import imported) = Some Import
+subcommand_of (plan.Serve serving) = Some Serve
+subcommand_of (plan.Upgrade upgrade) = Some Upgrade
+subcommand_of (plan.CheckDb check) = Some CheckDb
+subcommand_of (plan.RenewToken renewal) = Some RenewToken
+
+-- the plan is what was found
+abbrev pub IsFoundAs : List Row → Plan → Type 0
+IsFoundAs rows plan.Name = ⊥
+IsFoundAs rows (plan.CheckPolicy checked) = IsCheckPolicyOf rows checked
+IsFoundAs rows (plan.Init founding) = IsInitOf rows founding
+IsFoundAs rows (plan.Act request) = IsActOf rows request
+IsFoundAs rows (plan.List listing) = IsListOf rows listing
+IsFoundAs rows (plan.Register register) = IsRegisterOf rows register
+IsFoundAs rows (plan.Import imported) = IsImportOf rows imported
+IsFoundAs rows (plan.Serve serving) = IsServeOf rows serving
+IsFoundAs rows (plan.Upgrade upgrade) = IsDatabaseOf rows upgrade
+IsFoundAs rows (plan.CheckDb check) = IsDatabaseOf rows check
+IsFoundAs rows (plan.RenewToken renewal) = IsRenewalOf rows renewal
+
+-- the plan is one of the subcommand, and what was found
+pub record IsPlanIn (s : Subcommand) (rows : List Row) (plan : Plan) : Type 0 where
+  pub own : subcommand_of plan ≡ Some s
+  pub found : IsFoundAs rows plan
 
 -- the library takes the words: it finds no fault in them
 abbrev pub IsTaken : App → List Text → Type 0
 IsTaken app words = fault_of app words ≡ []
 
--- the library takes the words for the command, and what it finds there is this
-pub record IsReadAs {A : Type 0} (app : App) (words : List Text) (IsOf : List Row → A → Type 0) (x : A) : Type 0 where
-  pub taken : IsTaken app words
-  pub found : IsOf (matches_of app words) x
+-- the first word names the subcommand, which takes the words, and the plan is what is found there
+pub record IsPlanBy (s : Subcommand) (words : List Text) (plan : Plan) : Type 0 where
+  pub named : subcommand_in words ≡ Some s
+  pub taken : IsTaken (reader_of (Some s)) words
+  pub found : IsFoundAs (matches_of (reader_of (Some s)) words) plan
 
--- No words give the plan to print the name; else the first word names the subcommand, which takes the words, and the plan is what is
--- found there.
+-- the plan is one by its subcommand; no words give the plan to print the name
+abbrev pub IsPlanFor : Option Subcommand → List Text → Plan → Type 0
+IsPlanFor None words plan = words ≡ []
+IsPlanFor (Some s) words plan = IsPlanBy s words plan
+
 abbrev pub IsPlanOf : List Text → Plan → Type 0
-IsPlanOf words plan.Name = words ≡ []
-IsPlanOf words (plan.CheckPolicy checked) = (subcommand_in words ≡ Some CheckPolicy) × IsReadAs check_policy_app words IsCheckPolicyOf checked
-IsPlanOf words (plan.Init founding) = (subcommand_in words ≡ Some Init) × IsReadAs init_app words IsInitOf founding
-IsPlanOf words (plan.Act request) = (subcommand_in words ≡ Some Act) × IsReadAs act_app words IsActOf request
-IsPlanOf words (plan.List listing) = (subcommand_in words ≡ Some List') × IsReadAs list_app words IsListOf listing
-IsPlanOf words (plan.Register register) = (subcommand_in words ≡ Some Register) × IsReadAs register_app words IsRegisterOf register
-IsPlanOf words (plan.Import imported) = (subcommand_in words ≡ Some Import) × IsReadAs import_app words IsImportOf imported
-IsPlanOf words (plan.Serve serving) = (subcommand_in words ≡ Some Serve) × IsReadAs serve_app words IsServeOf serving
-IsPlanOf words (plan.Upgrade upgrade) = (subcommand_in words ≡ Some Upgrade) × IsReadAs upgrade_app words IsDatabaseOf upgrade
-IsPlanOf words (plan.CheckDb check) = (subcommand_in words ≡ Some CheckDb) × IsReadAs check_db_app words IsCheckDbOf check
+IsPlanOf words plan = IsPlanFor (subcommand_of plan) words plan

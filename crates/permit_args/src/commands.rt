@@ -1,11 +1,13 @@
 //! The subcommands, as they are declared to the command line library.
 
-ghost use Rattle.std.specs.Prelude.{◌≡◌, IfOk, codes, false};
+ghost use Rattle.std.specs.Prelude.{◌≡◌, IfOk, Some, codes, false};
 ghost use Rattle.clap.specs.Words.{App, new_app, rule_of};
 ghost use Rattle.permit_args.specs.Commands.{IsCommandOf};
 ghost use Rattle.permit_args.specs.Plans.{act_app, bare_app, check_db_app, check_policy_app, flag, import_app, init_app, list_app, optional_option, optional_word, upgrade_app};
-ghost use Rattle.permit_args.specs.Plans.{program_app, register_app, required_option, required_word, serve_app, with_days, with_office};
+ghost use Rattle.permit_args.specs.Plans.{program_app, reader_of, register_app, renew_token_app, required_option, required_word, serve_app};
+ghost use Rattle.permit_args.specs.Plans.{with_days, with_office, with_token, with_why};
 
+use crate::plan::Subcommand;
 use clap::{Arg, ArgAction, Command};
 use std::alloc::{AllocError, Global};
 
@@ -88,6 +90,17 @@ fn policy<'a>(alloc: Global) -> Arg<'a>
     required_option(alloc, "policy", "POLICY", "The policy's path")
 }
 
+/// The subcommand with the option for which failures are explained.
+fn with_why<'a>(alloc: Global, command: Command<'a>) -> Result<Command<'a>, AllocError>
+    ensures { (app : App) → IsCommandOf app command.entry → IfOk result (IsCommandOf (with_why app)) }
+{
+    command.arg(flag(
+        alloc,
+        "why",
+        "On a failure, says in one more line what is wrong",
+    ))
+}
+
 /// The subcommand with the words for the day.
 fn with_days<'a>(alloc: Global, command: Command<'a>) -> Result<Command<'a>, AllocError>
     ensures { (app : App) → IsCommandOf app command.entry → IfOk result (IsCommandOf (with_days app)) }
@@ -107,24 +120,39 @@ fn with_days<'a>(alloc: Global, command: Command<'a>) -> Result<Command<'a>, All
         ))
 }
 
+/// The subcommand with the options for a token.
+fn with_token<'a>(alloc: Global, command: Command<'a>) -> Result<Command<'a>, AllocError>
+    ensures { (app : App) → IsCommandOf app command.entry → IfOk result (IsCommandOf (with_token app)) }
+{
+    command
+        .arg(option(
+            alloc,
+            "token",
+            "TOKEN",
+            "The token, unless --token-file is given; other users of the machine can see it",
+        ))?
+        .arg(option(
+            alloc,
+            "token-file",
+            "PATH",
+            "The path of a file whose first line is the token; - is standard input",
+        ))
+}
+
 /// The subcommand with the options for the office that is asked.
 fn with_office<'a>(alloc: Global, command: Command<'a>) -> Result<Command<'a>, AllocError>
     ensures { (app : App) → IsCommandOf app command.entry → IfOk result (IsCommandOf (with_office app)) }
 {
-    let command = command.arg(database(alloc))?.arg(policy(alloc))?.arg(required_option(
-        alloc,
-        "token",
-        "TOKEN",
-        "The caller's token",
-    ))?;
-    with_days(alloc, command)
+    let command = command.arg(database(alloc))?.arg(policy(alloc))?;
+    let command = with_token(alloc, command)?;
+    with_why(alloc, with_days(alloc, command)?)
 }
 
 /// The subcommand that reads a policy.
-pub(crate) fn check_policy<'a>(alloc: Global) -> Result<Command<'a>, AllocError>
+fn check_policy<'a>(alloc: Global) -> Result<Command<'a>, AllocError>
     ensures { IfOk result (IsCommandOf check_policy_app) }
 {
-    subcommand(
+    let command = subcommand(
         alloc,
         "check-policy",
         "permit check-policy",
@@ -142,28 +170,29 @@ pub(crate) fn check_policy<'a>(alloc: Global) -> Result<Command<'a>, AllocError>
         "facts",
         "FACTS",
         "Tells how the policy decides: ROLE,RELATIONS,ACTION,STAGE,STOPPED,TIMING, where RELATIONS are joined by + or - for none, and STOPPED is yes or no",
-    ))
+    ))?;
+    with_why(alloc, command)
 }
 
 /// The subcommand that founds an office.
-pub(crate) fn init<'a>(alloc: Global) -> Result<Command<'a>, AllocError>
+fn init<'a>(alloc: Global) -> Result<Command<'a>, AllocError>
     ensures { IfOk result (IsCommandOf init_app) }
 {
     let command = subcommand(
         alloc,
         "init",
         "permit init",
-        "Founds an office in a database",
-        "Example: permit init --db office.db --name Chief --token abcdefghijklmnop",
+        "Founds an office in a database, with its first official, who has the token",
+        "Example: permit init --db office.db --name Chief --token-file chief.token",
     )?
     .arg(database(alloc))?
-    .arg(required_option(alloc, "name", "NAME", "The first official's name"))?
-    .arg(required_option(alloc, "token", "TOKEN", "The first official's token"))?;
-    with_days(alloc, command)
+    .arg(required_option(alloc, "name", "NAME", "The first official's name"))?;
+    let command = with_token(alloc, command)?;
+    with_why(alloc, with_days(alloc, command)?)
 }
 
 /// The subcommand that has the office serve one request.
-pub(crate) fn act<'a>(alloc: Global) -> Result<Command<'a>, AllocError>
+fn act<'a>(alloc: Global) -> Result<Command<'a>, AllocError>
     ensures { IfOk result (IsCommandOf act_app) }
 {
     let command = subcommand(
@@ -171,7 +200,7 @@ pub(crate) fn act<'a>(alloc: Global) -> Result<Command<'a>, AllocError>
         "act",
         "permit act",
         "Has the office serve one request, and prints the answer's body",
-        "Example: permit act GET /files/1 --db office.db --policy policy.toml --token abcdefghijklmnop",
+        "Example: permit act GET /files/1 --db office.db --policy policy.toml --token-file caller.token",
     )?;
     with_office(alloc, command)?
         .arg(required_word(alloc, "method", "METHOD", "The request's method"))?
@@ -180,7 +209,7 @@ pub(crate) fn act<'a>(alloc: Global) -> Result<Command<'a>, AllocError>
 }
 
 /// The subcommand that lists files.
-pub(crate) fn list<'a>(alloc: Global) -> Result<Command<'a>, AllocError>
+fn list<'a>(alloc: Global) -> Result<Command<'a>, AllocError>
     ensures { IfOk result (IsCommandOf list_app) }
 {
     let command = subcommand(
@@ -188,7 +217,7 @@ pub(crate) fn list<'a>(alloc: Global) -> Result<Command<'a>, AllocError>
         "list",
         "permit list",
         "Prints the numbers of the files that the caller may list, one a line, and how many rows were read for them",
-        "Example: permit list --stage review --db office.db --policy policy.toml --token abcdefghijklmnop",
+        "Example: permit list --stage review --db office.db --policy policy.toml --token-file caller.token",
     )?;
     with_office(alloc, command)?.arg(option(
         alloc,
@@ -199,7 +228,7 @@ pub(crate) fn list<'a>(alloc: Global) -> Result<Command<'a>, AllocError>
 }
 
 /// The subcommand that writes a register.
-pub(crate) fn register<'a>(alloc: Global) -> Result<Command<'a>, AllocError>
+fn register<'a>(alloc: Global) -> Result<Command<'a>, AllocError>
     ensures { IfOk result (IsCommandOf register_app) }
 {
     let command = subcommand(
@@ -207,7 +236,7 @@ pub(crate) fn register<'a>(alloc: Global) -> Result<Command<'a>, AllocError>
         "register",
         "permit register",
         "Prints a register of the files that the caller may list",
-        "Example: permit register deadlines --db office.db --policy policy.toml --token abcdefghijklmnop",
+        "Example: permit register deadlines --db office.db --policy policy.toml --token-file caller.token",
     )?;
     with_office(alloc, command)?.arg(required_word(
         alloc,
@@ -218,7 +247,7 @@ pub(crate) fn register<'a>(alloc: Global) -> Result<Command<'a>, AllocError>
 }
 
 /// The subcommand that imports parcels.
-pub(crate) fn import<'a>(alloc: Global) -> Result<Command<'a>, AllocError>
+fn import<'a>(alloc: Global) -> Result<Command<'a>, AllocError>
     ensures { IfOk result (IsCommandOf import_app) }
 {
     let command = subcommand(
@@ -226,7 +255,7 @@ pub(crate) fn import<'a>(alloc: Global) -> Result<Command<'a>, AllocError>
         "import",
         "permit import",
         "Adds the parcels of a file of comma-separated records, and says of each record what became of it",
-        "Example: permit import parcels.csv --db office.db --policy policy.toml --token abcdefghijklmnop",
+        "Example: permit import parcels.csv --db office.db --policy policy.toml --token-file caller.token",
     )?;
     with_office(alloc, command)?.arg(required_word(
         alloc,
@@ -237,7 +266,7 @@ pub(crate) fn import<'a>(alloc: Global) -> Result<Command<'a>, AllocError>
 }
 
 /// The subcommand that serves the office.
-pub(crate) fn serve<'a>(alloc: Global) -> Result<Command<'a>, AllocError>
+fn serve<'a>(alloc: Global) -> Result<Command<'a>, AllocError>
     ensures { IfOk result (IsCommandOf serve_app) }
 {
     let command = subcommand(
@@ -249,7 +278,7 @@ pub(crate) fn serve<'a>(alloc: Global) -> Result<Command<'a>, AllocError>
     )?
     .arg(database(alloc))?
     .arg(policy(alloc))?;
-    with_days(alloc, command)?
+    let command = with_days(alloc, command)?
         .arg(required_option(
             alloc,
             "listen",
@@ -267,40 +296,73 @@ pub(crate) fn serve<'a>(alloc: Global) -> Result<Command<'a>, AllocError>
             "connections",
             "CONNECTIONS",
             "After how many connections a worker ends, 1 to 99999; never without it",
-        ))
+        ))?;
+    with_why(alloc, command)
 }
 
 /// The subcommand that says whether a database's tables are sound.
-pub(crate) fn check_db<'a>(alloc: Global) -> Result<Command<'a>, AllocError>
+fn check_db<'a>(alloc: Global) -> Result<Command<'a>, AllocError>
     ensures { IfOk result (IsCommandOf check_db_app) }
 {
-    subcommand(
+    let command = subcommand(
         alloc,
         "check-db",
         "permit check-db",
-        "Says whether the tables of a database are sound, and how many parties, parcels and files there are; changes nothing",
+        "Says whether the tables of a database are sound, and how many parties, parcels and files there are; with --why also the first place that is wrong; changes nothing",
         "Example: permit check-db --db office.db",
     )?
-    .arg(database(alloc))?
-    .arg(flag(
-        alloc,
-        "why",
-        "Where they aren't, prints the first place as well: table, number and the rule that it breaks",
-    ))
+    .arg(database(alloc))?;
+    with_why(alloc, command)
 }
 
 /// The subcommand that upgrades a database.
-pub(crate) fn upgrade<'a>(alloc: Global) -> Result<Command<'a>, AllocError>
+fn upgrade<'a>(alloc: Global) -> Result<Command<'a>, AllocError>
     ensures { IfOk result (IsCommandOf upgrade_app) }
 {
-    subcommand(
+    let command = subcommand(
         alloc,
         "upgrade",
         "permit upgrade",
         "Makes of a database of schema version 1 one of version 2, whole or not at all; there is no way back but a backup",
         "Example: permit upgrade --db office.db",
     )?
-    .arg(database(alloc))
+    .arg(database(alloc))?;
+    with_why(alloc, command)
+}
+
+/// The subcommand that replaces a party's token.
+fn renew_token<'a>(alloc: Global) -> Result<Command<'a>, AllocError>
+    ensures { IfOk result (IsCommandOf renew_token_app) }
+{
+    let command = subcommand(
+        alloc,
+        "renew-token",
+        "permit renew-token",
+        "Gives a party of a closed office a new token, whole or not at all; the old one is nobody's then",
+        "Example: permit renew-token --db office.db --party 2 --token-file new.token",
+    )?
+    .arg(database(alloc))?
+    .arg(required_option(alloc, "party", "N", "The party's number, 1 to 99999"))?;
+    let command = with_token(alloc, command)?;
+    with_why(alloc, command)
+}
+
+/// The command of a subcommand.
+pub(crate) fn command<'a>(alloc: Global, named: Subcommand) -> Result<Command<'a>, AllocError>
+    ensures { IfOk result (IsCommandOf (reader_of (Some named))) }
+{
+    match named {
+        Subcommand::CheckPolicy => check_policy(alloc),
+        Subcommand::Init => init(alloc),
+        Subcommand::Act => act(alloc),
+        Subcommand::List => list(alloc),
+        Subcommand::Register => register(alloc),
+        Subcommand::Import => import(alloc),
+        Subcommand::Serve => serve(alloc),
+        Subcommand::Upgrade => upgrade(alloc),
+        Subcommand::CheckDb => check_db(alloc),
+        Subcommand::RenewToken => renew_token(alloc),
+    }
 }
 
 /// The program without its subcommands.
@@ -330,5 +392,6 @@ pub(crate) fn program<'a>(alloc: Global) -> Result<Command<'a>, AllocError>
         .subcommand(import(alloc)?)?
         .subcommand(serve(alloc)?)?
         .subcommand(upgrade(alloc)?)?
-        .subcommand(check_db(alloc)?)
+        .subcommand(check_db(alloc)?)?
+        .subcommand(renew_token(alloc)?)
 }

@@ -28,7 +28,9 @@ pub enum Plan<'a> {
     /// Makes of a database of the schema's first version one of the second.
     Upgrade(DatabaseWords<'a>),
     /// Says whether a database's tables are sound.
-    CheckDb(CheckDbWords<'a>),
+    CheckDb(DatabaseWords<'a>),
+    /// Replaces a party's token.
+    RenewToken(RenewTokenWords<'a>),
 }
 
 /// The subcommands.
@@ -43,6 +45,16 @@ pub enum Subcommand {
     Serve,
     Upgrade,
     CheckDb,
+    RenewToken,
+}
+
+/// Where a token is.
+#[derive(Clone, Copy, PartialEq, Drop)]
+pub enum TokenWords<'a> {
+    /// The token itself.
+    Given(&'a str),
+    /// The path of the file whose first line is the token; `-` is standard input.
+    File(&'a str),
 }
 
 /// Which policy is read, and what is said of it.
@@ -52,6 +64,8 @@ pub struct CheckPolicyWords<'a> {
     pub policy: &'a str,
     /// What is said of it.
     pub check: Check<'a>,
+    /// Whether a failure is explained.
+    pub why: bool,
 }
 
 /// What is said of a policy.
@@ -82,9 +96,11 @@ pub struct InitWords<'a> {
     /// The first official's name.
     pub name: &'a str,
     /// The first official's token.
-    pub token: &'a str,
+    pub token: TokenWords<'a>,
     /// The founding day.
     pub days: DayWords<'a>,
+    /// Whether a failure is explained.
+    pub why: bool,
 }
 
 /// Which office is asked, by whom and when.
@@ -95,9 +111,11 @@ pub struct OfficeWords<'a> {
     /// The policy's path.
     pub policy: &'a str,
     /// The caller's token.
-    pub token: &'a str,
+    pub token: TokenWords<'a>,
     /// The day on which the office is asked.
     pub days: DayWords<'a>,
+    /// Whether a failure is explained.
+    pub why: bool,
 }
 
 /// One request, and the office that serves it.
@@ -155,6 +173,30 @@ pub struct ServeWords<'a> {
     pub workers: u32,
     /// After how many connections a worker ends, 1 to 99999; without it never.
     pub connections: Option<u32>,
+    /// Whether a failure is explained.
+    pub why: bool,
+}
+
+/// Which database is upgraded or checked.
+#[derive(Clone, Copy, PartialEq, Drop)]
+pub struct DatabaseWords<'a> {
+    /// The database's path.
+    pub db: &'a str,
+    /// Whether a failure is explained; of `check-db` also whether the first place that is wrong is named.
+    pub why: bool,
+}
+
+/// Whose token is replaced, and by which one.
+#[derive(Clone, Copy, PartialEq, Drop)]
+pub struct RenewTokenWords<'a> {
+    /// The database's path.
+    pub db: &'a str,
+    /// The party's number, 1 to 99999.
+    pub party: u32,
+    /// The party's new token.
+    pub token: TokenWords<'a>,
+    /// Whether a failure is explained.
+    pub why: bool,
 }
 
 /// Why words give no plan.
@@ -176,20 +218,4 @@ impl From<AllocError> for PlanFault {
     fn from(_error: AllocError) -> PlanFault {
         PlanFault::Memory
     }
-}
-
-/// Which database is upgraded.
-#[derive(Clone, Copy, PartialEq, Drop)]
-pub struct DatabaseWords<'a> {
-    /// The database's path.
-    pub db: &'a str,
-}
-
-/// Which database is checked.
-#[derive(Clone, Copy, PartialEq, Drop)]
-pub struct CheckDbWords<'a> {
-    /// The database's path.
-    pub db: &'a str,
-    /// Whether the first place that is wrong is named.
-    pub why: bool,
 }

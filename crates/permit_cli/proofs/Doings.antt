@@ -1,5 +1,5 @@
 -- What is told of a plan, by what an office makes of its question.
-use Rattle.std.proofs.Common.{◌≡◌, ◌⊎◌, inl, inr, ℕ, List, Option, None, Some, Result, Ok, Err, refl, sym, subst}
+use Rattle.std.proofs.Common.{◌≡◌, ◌⊎◌, inl, inr, ℕ, Bool, List, Option, None, Some, Result, Ok, Err, refl, sym, subst}
 use Rattle.std.specs.Prelude.{IfOk, IfSome, IfNone, OnOk, string_bytes}
 use Rattle.jiff_core.specs.declared.timestamp.Timestamp.{Timestamp}
 use Rattle.permit_base.specs.declared.words.RegisterKind.{RegisterKind}
@@ -18,6 +18,7 @@ use Rattle.permit_args.specs.declared.plan.Plan.{Plan}
 use Rattle.permit_args.specs.declared.plan.RegisterWords.{RegisterWords}
 use Rattle.permit_subcommands.specs.Days.{IsDayOnIn, zone_of}
 use Rattle.permit_subcommands.specs.Listings.{WritesSome}
+use Rattle.permit_subcommands.specs.Tokens.{IsTokenOf}
 use Rattle.permit_subcommands.specs.declared.failure.Failure.{Failure}
 use Rattle.permit_subcommands.specs.declared.failure.Failure.TheVariants as failure
 use Rattle.permit_subcommands.specs.Failures.{plain}
@@ -28,7 +29,7 @@ use Rattle.sqlite.specs.Held.{Held}
 use Rattle.permit_model.specs.Policy.{Policy}
 use Rattle.permit_days.specs.Dates.{IsTextOf}
 use Rattle.permit_cli.specs.Opening.{IsUnopened, IsWithoutMemory}
-use Rattle.permit_cli.specs.Served.{IsServed}
+use Rattle.permit_cli.specs.Served.{Ending, IsServed}
 use Rattle.permit_cli.specs.Asked.{AsksFiles, AsksImport, AsksRegister, AsksRequest}
 use Rattle.permit_cli.specs.Doing.{ActsAs, ComesTo, IsAnswerTo, IsClockDayIn, IsImported, IsListing, IsRegistered, IsRunDay, IsToldOf, IsToldOnRunDay, ListsAs, RegistersAs}
 use Rattle.permit_cli.specs.Questions.{AnswersWith, IsAnswered, TellsImport, told_as}
@@ -54,13 +55,13 @@ register_told : (kind : RegisterKind) (day : ℕ) (before after : Option (List �
 register_told kind day before after done (Ok _) told some = ((cc), some)
 register_told kind day before after done (Err why) told some = cc
 
-import_told : {S : Type 0} (view : S → StoreView) (token : List ℕ) (day : ℕ) (path : List ℕ) (left before after : Option (List ℕ)) (old new : OfficeView S)
-    (done : Outcome) (ended : Result Tally ImportFault) → TellsImport path ended (Ok done) → Imports view token day left before after old new ended →
-    IsImported before after done
-import_told view token day path left before after old new done (Ok tally) told imports =
+import_told : {S : Type 0} (view : S → StoreView) (token : List ℕ) (day : ℕ) (why : Bool) (path : List ℕ) (left before after : Option (List ℕ))
+    (old new : OfficeView S) (done : Outcome) (ended : Result Tally ImportFault) → TellsImport path ended (Ok done) →
+    Imports view token day why left before after old new ended → IsImported why before after done
+import_told view token day why path left before after old new done (Ok tally) told imports =
     let is : outcome.Imported tally ≡ done = cc in
-    subst (IsImported before after) is (left, imports.rows, imports.replies, imports.ends)
-import_told view token day path left before after old new done (Err fault) told imports = let is : Ok done ≡ Err told.0 = told.2 in cc
+    subst (IsImported why before after) is (left, imports.rows, imports.replies, imports.ends)
+import_told view token day why path left before after old new done (Err fault) told imports = let is : Ok done ≡ Err told.0 = told.2 in cc
 
 -- what an office makes of a question, as the program tells it
 pub told_of : {S R : Type 0} (view : S → StoreView) (remaining : R → Option (List ℕ)) (day : ℕ) (asked : Question R) (old new : OfficeView S)
@@ -71,8 +72,8 @@ told_of view remaining day (question.Serve request) old new before after (Ok don
 told_of view remaining day (question.List token filter) old new before after (Ok done) h = (listing_told done _ h.0.told, h.1)
 told_of view remaining day (question.Register token kind) old new before after (Ok done) h =
     register_told kind day before after done h.written h.told h.some
-told_of view remaining day (question.Import token path records) old new before after (Ok done) h =
-    import_told view token day path.now (remaining records) before after old new done h.ended h.told h.imports
+told_of view remaining day (question.Import token path records why) old new before after (Ok done) h =
+    import_told view token day why path.now (remaining records) before after old new done h.ended h.told h.imports
 told_of view remaining day asked old new before after (Err why) h = tt
 
 -- ---- the day
@@ -93,35 +94,37 @@ run_day gave clock words day dated of_clock = (
 
 -- ---- what is told of the words
 
-pub acts_as : {R : Type 0} (words : ActWords) (asked : Question R) (before after : Option (List ℕ)) (done : Outcome) → AsksRequest words asked →
-    IsToldOnRunDay words.office.days asked before after done → ActsAs words before after done
-acts_as words (question.Serve request) before after done asks told =
-    (told.0, told.1, subst (λ (bytes : List ℕ). IsAnswerTo told.0 bytes done) asks told.2.0, told.2.1)
-acts_as words (question.List _ _) before after done asks told = absurd asks
-acts_as words (question.Register _ _) before after done asks told = absurd asks
-acts_as words (question.Import _ _ _) before after done asks told = absurd asks
+pub acts_as : {R : Type 0} (words : ActWords) (token : List ℕ) (asked : Question R) (before after : Option (List ℕ)) (done : Outcome) →
+    IsTokenOf words.office.token token → AsksRequest words token asked → IsToldOnRunDay words.office.days asked before after done →
+    ActsAs words before after done
+acts_as words token (question.Serve request) before after done named asks told =
+    (token, named, told.0, told.1, subst (λ (bytes : List ℕ). IsAnswerTo told.0 bytes done) asks told.2.0, told.2.1)
+acts_as words token (question.List _ _) before after done named asks told = absurd asks
+acts_as words token (question.Register _ _) before after done named asks told = absurd asks
+acts_as words token (question.Import _ _ _ _) before after done named asks told = absurd asks
 
-pub lists_as : {R : Type 0} (words : ListWords) (asked : Question R) (before after : Option (List ℕ)) (done : Outcome) → AsksFiles words asked →
-    IsToldOnRunDay words.office.days asked before after done → ListsAs before after done
-lists_as words (question.Serve _) before after done asks told = absurd asks
-lists_as words (question.List token filter) before after done asks told = told.2
-lists_as words (question.Register _ _) before after done asks told = absurd asks
-lists_as words (question.Import _ _ _) before after done asks told = absurd asks
+pub lists_as : {R : Type 0} (words : ListWords) (token : List ℕ) (asked : Question R) (before after : Option (List ℕ)) (done : Outcome) →
+    AsksFiles words token asked → IsToldOnRunDay words.office.days asked before after done → ListsAs before after done
+lists_as words token (question.Serve _) before after done asks told = absurd asks
+lists_as words token (question.List by filter) before after done asks told = told.2
+lists_as words token (question.Register _ _) before after done asks told = absurd asks
+lists_as words token (question.Import _ _ _ _) before after done asks told = absurd asks
 
-pub registers_as : {R : Type 0} (words : RegisterWords) (asked : Question R) (before after : Option (List ℕ)) (done : Outcome) → AsksRegister words asked →
-    IsToldOnRunDay words.office.days asked before after done → RegistersAs words before after done
-registers_as words (question.Serve _) before after done asks told = absurd asks
-registers_as words (question.List _ _) before after done asks told = absurd asks
-registers_as words (question.Register token kind) before after done asks told =
+pub registers_as : {R : Type 0} (words : RegisterWords) (token : List ℕ) (asked : Question R) (before after : Option (List ℕ)) (done : Outcome) →
+    AsksRegister words token asked → IsToldOnRunDay words.office.days asked before after done → RegistersAs words before after done
+registers_as words token (question.Serve _) before after done asks told = absurd asks
+registers_as words token (question.List _ _) before after done asks told = absurd asks
+registers_as words token (question.Register by kind) before after done asks told =
     (told.0, told.1, subst (λ (k : RegisterKind). IsRegistered k told.0 before after done) asks.1 told.2)
-registers_as words (question.Import _ _ _) before after done asks told = absurd asks
+registers_as words token (question.Import _ _ _ _) before after done asks told = absurd asks
 
 pub imports_as : {R : Type 0} (words : ImportWords) (token : List ℕ) (records : R) (asked : Question R) (before after : Option (List ℕ)) (done : Outcome) →
-    AsksImport words token records asked → IsToldOnRunDay words.office.days asked before after done → IsImported before after done
+    AsksImport words token records asked → IsToldOnRunDay words.office.days asked before after done → IsImported words.office.why before after done
 imports_as words token records (question.Serve _) before after done asks told = absurd asks
 imports_as words token records (question.List _ _) before after done asks told = absurd asks
 imports_as words token records (question.Register _ _) before after done asks told = absurd asks
-imports_as words token records (question.Import _ _ _) before after done asks told = told.2
+imports_as words token records (question.Import by path from why) before after done asks told =
+    subst (λ (w : Bool). IsImported w before after done) asks.3 told.2
 
 -- each result of which something is said has that said of it
 pub if_ok : {A E : Type 0} {P Q : A → Type 0} (result : Result A E) → ((a : A) → P a → Q a) → IfOk result P → IfOk result Q
@@ -142,12 +145,12 @@ comes_to known planned before after result is said = subst (λ (p : Plan). IfOk 
 
 -- an office that was served has the line of its address written
 pub says_told : {S T C : Type 0} (g : Ghosts S) (view : T → StoreView) (conn_of : T → Held S) (tick : C → ℕ → C → Type 0) (c d : C) (policy : Policy)
-    (workers : ℕ) (conn back : Held S) (before after : Option (List ℕ)) (result : Result (Unit {0}) Failure) →
-    IsServed g view conn_of tick c d policy workers conn back before after result
+    (HasEnded : Ending) (workers : ℕ) (conn back : Held S) (before after : Option (List ℕ)) (result : Result (Unit {0}) Failure) →
+    IsServed g view conn_of tick c d HasEnded policy workers conn back before after result
     ⊎ ((IsUnopened g conn back result ⊎ IsWithoutMemory g conn back result) × (after ≡ before)) → OnOk result (SaysListening before after)
-says_told g view conn_of tick c d policy workers conn back before after (Ok done) (inl served) = served.says
-says_told g view conn_of tick c d policy workers conn back before after (Ok done) (inr other) = elim other.0 [
+says_told g view conn_of tick c d policy HasEnded workers conn back before after (Ok done) (inl served) = served.says
+says_told g view conn_of tick c d policy HasEnded workers conn back before after (Ok done) (inr other) = elim other.0 [
   | inl unopened ↦ let is : Ok done ≡ Err (failure.Database unopened.why) = unopened.told in cc
   | inr lacking ↦ let is : Ok done ≡ Err (plain Store) = lacking.told in cc
 ]
-says_told g view conn_of tick c d policy workers conn back before after (Err why) served = tt
+says_told g view conn_of tick c d policy HasEnded workers conn back before after (Err why) served = tt

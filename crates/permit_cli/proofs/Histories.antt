@@ -21,7 +21,7 @@ module _ {C : Type 0} (tick : C → ℕ → C → Type 0) where
       All-cons (λ (e : Entry Asked Dated). P e.day) e es one.1 (all_days keeps P each gives.0 es d one.0 gives.2)
 
   -- an office and a clock that are as they were have the empty history
-  none_served : {S : Type 0} (view : S → StoreView) (workers : ℕ) (old new : OfficeView S) (c d : C) → new ≡ old → d ≡ c →
+  pub none_served : {S : Type 0} (view : S → StoreView) (workers : ℕ) (old new : OfficeView S) (c d : C) → new ≡ old → d ≡ c →
       OneHistory view tick workers old new c d []
   none_served {S} view workers old new c d same still = record {
     run = subst (λ (o : OfficeView S). IsRun view [] [] old o) (sym same)
@@ -30,11 +30,14 @@ module _ {C : Type 0} (tick : C → ℕ → C → Type 0) where
     each = All-nil (λ (e : Entry Asked Dated). e.from < workers);
   }
 
-  -- what serving gave is a history, and the empty one where it failed
-  pub history_of : {S A E : Type 0} (view : S → StoreView) (workers : ℕ) (ended : A → List (Entry Asked Dated) → Type 0) (old new : OfficeView S)
-      (c d : C) (result : Result A E) →
+  -- of a serving that succeeded, what is said of it
+  pub at_ok : {S A E : Type 0} (view : S → StoreView) (workers : ℕ) (ended : A → List (Entry Asked Dated) → Type 0) (old new : OfficeView S)
+      (c d : C) (result : Result A E) (a : A) → result ≡ Ok a →
       IfOk result (λ a. (served : List (Entry Asked Dated)) × OneHistory view tick workers old new c d served × ended a served) →
-      OnErr result ((new ≡ old) × (d ≡ c)) →
-      (served : List (Entry Asked Dated)) × OneHistory view tick workers old new c d served
-  history_of view workers ended old new c d (Ok done) ok err = (ok.0, ok.1)
-  history_of view workers ended old new c d (Err why) ok err = ([], none_served view workers old new c d err.0 err.1)
+      (served : List (Entry Asked Dated)) × OneHistory view tick workers old new c d served × ended a served
+  at_ok {A = A} {E = E} view workers ended old new c d result a is said =
+      subst (λ (r : Result A E). IfOk r (λ a. (served : List (Entry Asked Dated)) × OneHistory view tick workers old new c d served × ended a served)) is said
+
+-- of one that failed
+pub at_err : {A E P : Type 0} (result : Result A E) (e : E) → result ≡ Err e → OnErr result P → P
+at_err {A = A} {E = E} {P = P} result e is said = subst (λ (r : Result A E). OnErr r P) is said

@@ -14,21 +14,21 @@ use Rattle.permit_cli.specs.declared.question.Question.{Question}
 use Rattle.permit_cli.specs.declared.question.Question.TheVariants as question
 
 -- the request of the method, the path, the token and the body
-abbrev pub AsksRequest : {R : Type 0} → ActWords → Question R → Type 0
-AsksRequest words (question.Serve request) =
-    string_bytes request ≡ request_text words.method.now words.path.now words.office.token.now (body_of words.body)
-AsksRequest words _ = ⊥
+abbrev pub AsksRequest : {R : Type 0} → ActWords → List ℕ → Question R → Type 0
+AsksRequest words token (question.Serve request) = string_bytes request ≡ request_text words.method.now words.path.now token (body_of words.body)
+AsksRequest words token _ = ⊥
 
-abbrev pub AsksFiles : {R : Type 0} → ListWords → Question R → Type 0
-AsksFiles words (question.List token filter) = (token ≡ words.office.token.now) × (filter ≡ filter_of words.stage)
-AsksFiles words _ = ⊥
+abbrev pub AsksFiles : {R : Type 0} → ListWords → List ℕ → Question R → Type 0
+AsksFiles words token (question.List by filter) = (by ≡ token) × (filter ≡ filter_of words.stage)
+AsksFiles words token _ = ⊥
 
-abbrev pub AsksRegister : {R : Type 0} → RegisterWords → Question R → Type 0
-AsksRegister words (question.Register token kind) = (token ≡ words.office.token.now) × (kind ≡ words.kind)
-AsksRegister words _ = ⊥
+abbrev pub AsksRegister : {R : Type 0} → RegisterWords → List ℕ → Question R → Type 0
+AsksRegister words token (question.Register by kind) = (by ≡ token) × (kind ≡ words.kind)
+AsksRegister words token _ = ⊥
 
 abbrev pub AsksImport : {R : Type 0} → ImportWords → List ℕ → R → Question R → Type 0
-AsksImport words token records (question.Import by path from) = (by ≡ token) × (path.now ≡ words.file.now) × (from ≡ records)
+AsksImport words token records (question.Import by path from why) =
+    (by ≡ token) × (path.now ≡ words.file.now) × (from ≡ records) × (why ≡ words.office.why)
 AsksImport words token records _ = ⊥
 
 -- the token has another form, or memory ran out

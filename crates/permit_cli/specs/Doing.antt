@@ -33,8 +33,10 @@ use Rattle.permit_subcommands.specs.Printing.{TellsNoPlan}
 use Rattle.permit_subcommands.specs.Failures.{failure_status}
 use Rattle.permit_subcommands.specs.Listings.{WritesSome}
 use Rattle.permit_subcommands.specs.Requests.{body_of, request_text}
+use Rattle.permit_subcommands.specs.Tokens.{IsTokenOf}
 use Rattle.permit_subcommands.specs.declared.failure.Failure.{Failure}
 use Rattle.permit_sockets.specs.Listening.{SaysListening}
+use Rattle.permit_cli.specs.Explained.{FailsWith}
 use Rattle.permit_cli.specs.Telling.{IsTold, SaysEnd, SaysNoPlan}
 use Rattle.permit_cli.specs.declared.outcome.Outcome.{Outcome}
 use Rattle.permit_cli.specs.declared.outcome.Outcome.TheVariants as outcome
@@ -66,18 +68,18 @@ IsListing _ = ⊥
 abbrev pub IsRegistered : RegisterKind → ℕ → Option (List ℕ) → Option (List ℕ) → Outcome → Type 0
 IsRegistered kind day before after done = (done ≡ outcome.Registered) × WritesSome kind day before after (Ok tt)
 
--- the lines of some records and their counts are written, which are told
-abbrev pub IsImported : Option (List ℕ) → Option (List ℕ) → Outcome → Type 0
-IsImported before after (outcome.Imported tally) =
-    (left : Option (List ℕ)) × (rows : List Fields) × (replies : List Reply) × EndsOf left before after (Ok tally) rows (outcomes_of rows replies)
-IsImported before after _ = ⊥
+-- the lines of some records and their counts are written, which are told, and with a reason after a refusal where it is asked for
+abbrev pub IsImported : Bool → Option (List ℕ) → Option (List ℕ) → Outcome → Type 0
+IsImported why before after (outcome.Imported tally) =
+    (left : Option (List ℕ)) × (rows : List Fields) × (replies : List Reply) × EndsOf why left before after (Ok tally) rows (outcomes_of rows replies)
+IsImported why before after _ = ⊥
 
 -- what is told of a question to some office on the day, and written on the way
 abbrev pub IsToldOf : {R : Type 0} → ℕ → Question R → Option (List ℕ) → Option (List ℕ) → Outcome → Type 0
 IsToldOf day (question.Serve request) before after done = IsAnswerTo day (string_bytes request) done × (after ≡ before)
 IsToldOf day (question.List token filter) before after done = IsListing done × (after ≡ before)
 IsToldOf day (question.Register token kind) before after done = IsRegistered kind day before after done
-IsToldOf day (question.Import token path records) before after done = IsImported before after done
+IsToldOf day (question.Import token path records why) before after done = IsImported why before after done
 
 -- the same on the day of a run
 abbrev pub IsToldOnRunDay : {R : Type 0} → DayWords → Question R → Option (List ℕ) → Option (List ℕ) → Outcome → Type 0
@@ -106,10 +108,10 @@ IsCheck why (outcome.Sound desk) = Unit {0}
 IsCheck why (outcome.Unsound fault) = IsTrue why
 IsCheck why _ = ⊥
 
--- what comes of the words of `act` and of `register`, on the day of the run
+-- what comes of the words of `act`, for the caller of the token that they name, and of `register`, on the day of the run
 abbrev pub ActsAs : ActWords → Option (List ℕ) → Option (List ℕ) → Outcome → Type 0
-ActsAs words before after done = (day : ℕ) × IsRunDay words.office.days day
-    × IsAnswerTo day (request_text words.method.now words.path.now words.office.token.now (body_of words.body)) done × (after ≡ before)
+ActsAs words before after done = (token : List ℕ) × IsTokenOf words.office.token token × (day : ℕ) × IsRunDay words.office.days day
+    × IsAnswerTo day (request_text words.method.now words.path.now token (body_of words.body)) done × (after ≡ before)
 
 abbrev pub RegistersAs : RegisterWords → Option (List ℕ) → Option (List ℕ) → Outcome → Type 0
 RegistersAs words before after done = (day : ℕ) × IsRunDay words.office.days day × IsRegistered words.kind day before after done
@@ -129,18 +131,20 @@ ComesTo (plan.Init words) before after done = (done ≡ outcome.Founded) × (aft
 ComesTo (plan.Act words) before after done = ActsAs words before after done
 ComesTo (plan.List words) before after done = ListsAs before after done
 ComesTo (plan.Register words) before after done = RegistersAs words before after done
-ComesTo (plan.Import words) before after done = IsImported before after done
+ComesTo (plan.Import words) before after done = IsImported words.office.why before after done
 ComesTo (plan.Serve words) before after done = ServesAs before after done
 ComesTo (plan.Upgrade words) before after done = IsUpgrade done × (after ≡ before)
 ComesTo (plan.CheckDb words) before after done = IsCheck words.why done × (after ≡ before)
+ComesTo (plan.RenewToken words) before after done = (done ≡ outcome.Renewed words.party) × (after ≡ before)
 
 -- ---- how a run ends
 
--- What a plan came to is told, and the run ends so; or there is a failure, with which it ends.
+-- What a plan came to is told, and the run ends so; or there is a failure, which is explained where that is asked for, and with
+-- which it ends.
 abbrev pub Performs : Plan → Option (List ℕ) → Option (List ℕ) → Result ℕ Failure → Type 0
 Performs plan before after result =
     ((done : Outcome) × (between : Option (List ℕ)) × ComesTo plan before between done × IsTold done between after result)
-    ⊎ ((why : Failure) × (result ≡ Err why))
+    ⊎ ((why : Failure) × (between : Option (List ℕ)) × FailsWith plan why between after result)
 
 -- the status: the one that is given, or the failure's
 abbrev pub status_of : Result ℕ Failure → ℕ

@@ -1,12 +1,23 @@
--- What is told of a database in which an office is founded, and of one that is upgraded.
-use Rattle.std.specs.Prelude.{◌≡◌, ◌≢◌, Result, Ok, Err}
+-- What is told of a database in which an office is founded, of one that is upgraded, and of one in which a token is renewed.
+use Rattle.std.specs.Prelude.{◌≡◌, ◌≢◌, ◌⊎◌, ℕ, List, Option, None, Some, Result, Ok, Err}
 use Rattle.sqlite.specs.Effect.{Database}
-use Rattle.permit_base.specs.declared.words.Edition.TheVariants.{First}
+use Rattle.permit_base.specs.Digests.{digest_of}
+use Rattle.permit_base.specs.declared.refusal.Reason.TheVariants as reason
+use Rattle.permit_base.specs.declared.refusal.Refusal.{Refusal}
+use Rattle.permit_base.specs.declared.refusal.Refusal.TheVariants as refusal
+use Rattle.permit_base.specs.declared.words.Edition.TheVariants.{First, Second}
+use Rattle.permit_model.specs.Renewal.{against_renewal}
+use Rattle.permit_model.specs.Tables.{Tables}
+use Rattle.permit_import.specs.Refusals.{refused_by}
+use Rattle.permit_import.specs.declared.refused.Refused.{Refused}
 use Rattle.permit_store.specs.declared.store.OpenError.TheVariants as opening
+use Rattle.permit_sql_rows.specs.Kept.{Keeps}
 use Rattle.permit_sql_rows.specs.Schema.{empty_schema}
-use Rattle.permit_sql.specs.Found.{KeepsSoundUnder}
+use Rattle.permit_sql.specs.Found.{KeepsSound, KeepsSoundUnder}
 use Rattle.permit_sql.specs.Opening.{HasOtherVersion}
 use Rattle.permit_sql.specs.Upgrading.{IsUpgraded}
+use Rattle.permit_sql.specs.declared.renew.RenewError.{RenewError}
+use Rattle.permit_sql.specs.declared.renew.RenewError.TheVariants as renewal
 use Rattle.permit_subcommands.specs.declared.failure.Failure.{Failure}
 use Rattle.permit_subcommands.specs.declared.failure.Failure.TheVariants as failure
 use Rattle.permit_cli.specs.declared.outcome.Outcome.{Outcome}
@@ -28,3 +39,29 @@ IsUpgradedAs old new (Err (failure.Database opening.Damaged)) = ¬ KeepsSoundUnd
 IsUpgradedAs old new (Err (failure.Database opening.Version)) = HasOtherVersion First old
 IsUpgradedAs old new (Err (failure.Database opening.Store)) = Unit {0}
 IsUpgradedAs old new (Err _) = ⊥
+
+-- why a party has no new token
+abbrev pub renewal_failure : RenewError → Failure
+renewal_failure (renewal.Refused why) = failure.Refused (refused_by why)
+renewal_failure (renewal.Open why) = failure.Database why
+
+-- what stands against giving the party the token, in the tables that the database keeps
+abbrev pub StandsAgainst : ℕ → List ℕ → Database → Option Refusal → Type 0
+StandsAgainst party token db against = (t : Tables) → Keeps t db → against_renewal t.parties party (digest_of token) ≡ against
+
+-- It is told that there is no such party, or that a party has the token, where that stands against it.
+abbrev pub IsRefusedRenewal : ℕ → List ℕ → Database → Refused → Type 0
+IsRefusedRenewal party token db why =
+    (against : Refusal) × (why ≡ refused_by against) × ((against ≡ refusal.Record) ⊎ (against ≡ refusal.NotAdmitted reason.Taken))
+    × StandsAgainst party token db (Some against)
+
+-- It is told by the party's number where nothing stood against it, or why the party has no new token. A failed call says nothing of
+-- the tables.
+abbrev pub IsRenewedAs : ℕ → List ℕ → Database → Result Outcome Failure → Type 0
+IsRenewedAs party token db (Ok (outcome.Renewed number)) = (number ≡ party) × KeepsSound db × StandsAgainst party token db None
+IsRenewedAs party token db (Ok _) = ⊥
+IsRenewedAs party token db (Err (failure.Refused why)) = IsRefusedRenewal party token db why
+IsRenewedAs party token db (Err (failure.Database opening.Damaged)) = ¬ KeepsSound db
+IsRenewedAs party token db (Err (failure.Database opening.Version)) = HasOtherVersion Second db
+IsRenewedAs party token db (Err (failure.Database opening.Store)) = Unit {0}
+IsRenewedAs party token db (Err _) = ⊥

@@ -1,8 +1,10 @@
 pub mod Asked
 pub mod Checked
 pub mod Doing
+pub mod Explained
 pub mod Founded
 pub mod Opening
 pub mod Questions
+pub mod Reasons
 pub mod Served
 pub mod Telling

@@ -1,5 +1,5 @@
 -- What an office makes of what it is asked, and how the program tells it.
-use Rattle.std.specs.Prelude.{◌≡◌, ℕ, List, Option, Result, Ok, Err, string_bytes}
+use Rattle.std.specs.Prelude.{◌≡◌, ℕ, Bool, List, Option, Result, Ok, Err, string_bytes}
 use Rattle.sqlite_trees.specs.declared.store.Store.{Ghosts}
 use Rattle.sqlite.specs.Held.{Held}
 use Rattle.permit_base.specs.Digests.{digest_of}
@@ -73,11 +73,11 @@ TellsImport path (Ok tally) result = result ≡ Ok (outcome.Imported tally)
 TellsImport path (Err fault) result = (why : Failure) × IsFailureOfImport path fault why × (result ≡ Err why)
 
 -- the records that are left in the reader of a file are imported
-pub record ImportsRecords {S : Type 0} (view : S → StoreView) (day : ℕ) (token path : List ℕ) (records before after : Option (List ℕ))
+pub record ImportsRecords {S : Type 0} (view : S → StoreView) (day : ℕ) (why : Bool) (token path : List ℕ) (records before after : Option (List ℕ))
     (old new : OfficeView S) (result : Result Outcome Failure) : Type 0 where
   pub ended : Result Tally ImportFault
   pub told : TellsImport path ended result
-  pub imports : Imports view token day records before after old new ended
+  pub imports : Imports view token day why records before after old new ended
 
 -- What the office makes of the question, what is told of it, and what is written on the way: a register, or the lines of
 -- an import, and else nothing.
@@ -89,8 +89,8 @@ IsAnswered view remaining day (question.List token filter) old new before after 
     ListsFiles view day token filter old new result × (after ≡ before)
 IsAnswered view remaining day (question.Register token kind) old new before after result =
     WritesRegister view day token kind before after old new result
-IsAnswered view remaining day (question.Import token path records) old new before after result =
-    ImportsRecords view day token path.now (remaining records) before after old new result
+IsAnswered view remaining day (question.Import token path records why) old new before after result =
+    ImportsRecords view day why token path.now (remaining records) before after old new result
 
 -- an office that is opened over a connection is asked, and the connection of the store that it leaves comes back
 pub record IsAsked {S T R : Type 0} (g : Ghosts S) (view : T → StoreView) (conn_of : T → Held S) (remaining : R → Option (List ℕ)) (policy : Policy)

@@ -1,5 +1,6 @@
 -- An office that is served over TCP.
-use Rattle.std.specs.Prelude.{◌≡◌, ◌⊎◌, ◌<◌, ℕ, List, Option, Result, Ok, Err, All, IfErr, IfNone, IfSome}
+use Rattle.std.specs.Prelude.{◌≡◌, ◌⊎◌, ◌<◌, ℕ, Bool, true, false, List, Option, Result, Ok, Err, All, IfNone, IfSome}
+use Rattle.std.specs.List.{list_any}
 use Rattle.jiff.specs.Words.{plain_zone}
 use Rattle.sqlite_trees.specs.declared.store.Store.{Ghosts}
 use Rattle.sqlite.specs.Held.{Held}
@@ -11,12 +12,15 @@ use Rattle.permit_wire.specs.declared.service.Dated.{Dated}
 use Rattle.permit_hall.specs.OfficeSteps.{IsRun}
 use Rattle.permit_hall.specs.OneHistory.{OneHistory, requests_on, replies_in}
 use Rattle.permit_hall.specs.Runs.{Entry}
+use Rattle.permit_hall.specs.declared.doors.DoorEnd.{DoorEnd}
 use Rattle.permit_import.specs.declared.refused.RefusalWord.TheVariants.{Store}
 use Rattle.permit_subcommands.specs.Failures.{plain}
 use Rattle.permit_subcommands.specs.declared.failure.Failure.{Failure}
 use Rattle.permit_subcommands.specs.declared.failure.Failure.TheVariants.{Output}
 use Rattle.permit_cli.specs.Opening.{OpensInMemory}
+use Rattle.permit_sockets.specs.Ending.{HaveEnded, is_stopped}
 use Rattle.permit_sockets.specs.Listening.{SaysListening}
+use Rattle.permit_sockets.specs.declared.connections.Connections.{Connections}
 use Rattle.permit_subcommands.specs.Days.{IsClockDay}
 use Rattle.permit_subcommands.specs.declared.days.RunDays.{RunDays}
 
@@ -26,22 +30,43 @@ abbrev pub SaysWhere : Option (List ℕ) → Option (List ℕ) → Result (Unit 
 SaysWhere before after (Ok done) = SaysListening before after
 SaysWhere before after (Err why) = (why ≡ Output) ⊎ ((after ≡ before) ⊎ SaysListening before after)
 
--- with a failure other than the store's nothing was served, and no day asked
-abbrev pub IsUnserved : {T C : Type 0} → OfficeView T → OfficeView T → C → C → Result (Unit {0}) Failure → Type 0
-IsUnserved old new c d result = IfErr result (λ why. ((new ≡ old) × (d ≡ c)) ⊎ (why ≡ plain Store))
+-- it failed, and nothing was served
+abbrev pub IsUnserved : {T : Type 0} → OfficeView T → OfficeView T → Result (Unit {0}) Failure → Type 0
+IsUnserved old new (Ok done) = ⊥
+IsUnserved old new (Err why) = new ≡ old
+
+-- what is told of the doors' ends: the store's failure where one of them found the flag set
+abbrev pub told_by : (stopped : Bool) → Result (Unit {0}) Failure
+told_by true = Err (plain Store)
+told_by false = Ok tt
+
+abbrev pub told_of_ends : {C W : Type 0} → List (Option (DoorEnd (Connections C W))) → Result (Unit {0}) Failure
+told_of_ends ends = told_by (list_any is_stopped ends)
+
+-- Doors were open and have ended, by the requests served, and that is told of them.
+pub record HasEndedAs {In Out C W : Type 0} (remaining : In → Option (List ℕ)) (contents : Out → Option (List ℕ))
+    (gave : Connections C W → Option (In × Out) → Connections C W → Type 0) (spent : Connections C W → Type 0) (workers : ℕ) (connections : Option ℕ)
+    (before after : Option (List ℕ)) (served : List (Entry Asked Dated)) (result : Result (Unit {0}) Failure) : Type 0 where
+  pub ends : List (Option (DoorEnd (Connections C W)))
+  pub ended : HaveEnded remaining contents gave spent workers connections before after ends served
+  pub told : result ≡ told_of_ends ends
+
+-- how a serving ends, by the requests that it served
+abbrev pub Ending : Type 1
+Ending = List (Entry Asked Dated) → Result (Unit {0}) Failure → Type 0
 
 -- An office with its tables in memory, opened over a connection, is served by so many workers, and the connection of the store
 -- that it leaves comes back. The requests served are one run of the office, and the clock, which goes from c to d, is asked once
--- for each.
+-- for each. It has ended so, or nothing was served and no day asked.
 pub record IsServed {S T C : Type 0} (g : Ghosts S) (view : T → StoreView) (conn_of : T → Held S) (tick : C → ℕ → C → Type 0) (c d : C)
-    (policy : Policy) (workers : ℕ) (conn back : Held S) (before after : Option (List ℕ)) (result : Result (Unit {0}) Failure) : Type 0 where
+    (HasEnded : Ending) (policy : Policy) (workers : ℕ) (conn back : Held S) (before after : Option (List ℕ)) (result : Result (Unit {0}) Failure) : Type 0 where
   pub office : OfficeView T
   pub left : OfficeView T
   pub opens : OpensInMemory g conn (conn_of office.store) (view office.store)
   pub policy_is : office.policy ≡ policy
   pub served : List (Entry Asked Dated)
   pub history : OneHistory view tick workers office left c d served
-  pub unserved : IsUnserved office left c d result
+  pub ended : HasEnded served result ⊎ (IsUnserved office left result × (d ≡ c))
   pub says : SaysWhere before after result
   pub back_is : back ≡ conn_of left.store
 
@@ -50,8 +75,8 @@ abbrev pub IsDayOfRun : RunDays → ℕ → Type 0
 IsDayOfRun days day = IfSome days.date (λ date. day ≡ date) × IfNone days.date (IsClockDay (plain_zone days.zone) day)
 
 -- the same on the days of a run
-pub record IsServedOnDays {S T : Type 0} (g : Ghosts S) (view : T → StoreView) (conn_of : T → Held S) (days : RunDays) (policy : Policy)
-    (workers : ℕ) (conn back : Held S) (before after : Option (List ℕ)) (result : Result (Unit {0}) Failure) : Type 0 where
+pub record IsServedOnDays {S T : Type 0} (g : Ghosts S) (view : T → StoreView) (conn_of : T → Held S) (days : RunDays) (HasEnded : Ending)
+    (policy : Policy) (workers : ℕ) (conn back : Held S) (before after : Option (List ℕ)) (result : Result (Unit {0}) Failure) : Type 0 where
   pub office : OfficeView T
   pub left : OfficeView T
   pub opens : OpensInMemory g conn (conn_of office.store) (view office.store)
@@ -60,5 +85,6 @@ pub record IsServedOnDays {S T : Type 0} (g : Ghosts S) (view : T → StoreView)
   pub run : IsRun view (requests_on served) (replies_in served) office left
   pub each : All (λ e. e.from < workers) served
   pub dated : All (λ e. IsDayOfRun days e.day) served
+  pub ended : HasEnded served result ⊎ IsUnserved office left result
   pub says : SaysWhere before after result
   pub back_is : back ≡ conn_of left.store

@@ -1,5 +1,5 @@
 -- What is printed of an outcome, and the program's status.
-use Rattle.std.specs.Prelude.{◌≡◌, ◌⊎◌, ◌++◌, ℕ, List, Option, Result, Ok, Err, codes, string_bytes}
+use Rattle.std.specs.Prelude.{◌≡◌, ◌⊎◌, ◌++◌, ℕ, List, Option, Result, Ok, Err, codes, decimal, string_bytes}
 use Rattle.std.specs.Io.KnownBytes.{Appends}
 use Rattle.permit_import.specs.declared.refused.RefusalWord.TheVariants.{Store}
 use Rattle.permit_answer.specs.AnswerText.{answer_data}
@@ -36,6 +36,10 @@ abbrev pub as_status : Result (Unit {0}) Failure → Result ℕ Failure
 as_status (Ok done) = Ok 0
 as_status (Err why) = Err why
 
+-- the number of a party
+abbrev pub party_line : ℕ → List ℕ
+party_line party = codes "party " ++ (decimal party ++ codes "\n")
+
 -- what is printed of each outcome, and how the run ends; a place that is named is damage
 abbrev pub IsTold : Outcome → Option (List ℕ) → Option (List ℕ) → Result ℕ Failure → Type 0
 IsTold outcome.Name before after result = PrintsThen name_line (Ok 0) before after result
@@ -51,6 +55,7 @@ IsTold (outcome.Listed listing) before after result = MakesAndPrints (listing_te
 IsTold outcome.Registered before after result = Silent (Ok 0) before after result
 IsTold (outcome.Imported tally) before after result = Silent (Ok (import_status tally)) before after result
 IsTold outcome.Ended before after result = Silent (Ok 0) before after result
+IsTold (outcome.Renewed party) before after result = PrintsThen (party_line party) (Ok 0) before after result
 
 -- ---- on standard error
 

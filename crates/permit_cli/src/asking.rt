@@ -87,7 +87,8 @@ fn ask_of<S: Store + Drop, R: Read + Drop, O: Write>(
             token,
             path,
             records,
-        } => match import(alloc, office, &token, day, records, out) {
+            why,
+        } => match import(alloc, office, &token, day, why, records, out) {
             Ok(tally) => Ok(Outcome::Imported(tally)),
             Err(fault) => Err(Failure::of_import(alloc, path, fault)),
         },

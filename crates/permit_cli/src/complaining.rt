@@ -16,16 +16,21 @@ use permit_subcommands::printing::print_text;
 use permit_subcommands::refused::Refused;
 use std::io::Write;
 
-/// Prints two texts, one behind the other.
-fn print_two<E: Write>(err: &mut E, first: &str, second: &str) -> Result<(), Failure>
+/// Prints two texts, one after the other.
+pub(crate) fn print_two<E: Write>(err: &mut E, first: &str, second: &str) -> Result<(), Failure>
     ensures { Prints (first.now ++ second.now) (E.contents err.old) (E.contents err.new) result }
 {
     print_text(err, first)?;
     print_text(err, second)
 }
 
-/// Prints three texts, one behind the other.
-fn print_three<E: Write>(err: &mut E, first: &str, second: &str, third: &str) -> Result<(), Failure>
+/// Prints three texts, one after the other.
+pub(crate) fn print_three<E: Write>(
+    err: &mut E,
+    first: &str,
+    second: &str,
+    third: &str,
+) -> Result<(), Failure>
     ensures { Prints (first.now ++ (second.now ++ third.now)) (E.contents err.old) (E.contents err.new) result }
 {
     print_text(err, first)?;

@@ -3,27 +3,32 @@
 //! What works on a database is generic over its store, and each function here names the file for one such: a call of a generic
 //! function at the file's store costs the prover half a minute.
 
-ghost use Rattle.std.specs.Prelude.{◌≡◌, IfErr, IfOk, OnOk};
+ghost use Rattle.std.specs.Prelude.{◌≡◌, IfErr, IfOk, IfSome, IsTrue, OnOk};
 ghost use Rattle.sqlite.specs.declared.error.Error.{Error as TheError};
 ghost use Rattle.permit_sockets.specs.Listening.{SaysListening};
 ghost use Rattle.permit_cli.specs.Doing.{IsCheck, IsToldOf, IsUpgrade};
 ghost use Rattle.permit_cli.specs.Opening.{opening_failure};
+ghost use Rattle.permit_cli.specs.Reasons.{is_of_path, opening_reason, IsReasonFor};
 
 use crate::asking::ask_in;
-use crate::maintenance::{check_in, found_in, upgrade_in};
+use crate::maintenance::{check_in, found_in, renew_in, upgrade_in};
 use crate::outcome::Outcome;
 use crate::question::Question;
+use crate::reason::Reason;
 use crate::serving::serve_on_days;
+use crate::standing::reason_in;
 use permit_args::plan::ServeWords;
-use permit_base::values::Day;
+use permit_base::values::{Day, Token};
+use permit_base::words::Edition;
 use permit_policy::Policy;
 use permit_store::founder::Founder;
 use permit_store::store::OpenError;
 use permit_subcommands::days::RunDays;
 use permit_subcommands::failure::Failure;
 use sqlite::{Connection, Error, ErrorCode, FileStore};
-use std::fs::File;
-use std::io::Write;
+use std::fs::{self, File, Metadata, OpenOptions};
+use std::io::{ErrorKind, Write};
+use std::os::unix::fs::MetadataExt;
 use std::sync::Wait;
 use std::thread::Threads;
 
@@ -82,6 +87,15 @@ pub fn check_at(rt: &HostRuntime, path: &str, why: bool) -> Result<Outcome, Fail
     checked
 }
 
+/// Gives a party of the office in the database at a path a new token.
+pub fn renew_at(rt: &HostRuntime, path: &str, party: u32, token: &Token) -> Result<Outcome, Failure>
+    ensures { IfOk result (λ done. done ≡ Outcome.Renewed party) }
+{
+    let (conn, renewed) = renew_in(rt.alloc(), opened(rt, path)?, party, token);
+    closed(conn);
+    renewed
+}
+
 /// Asks the office in the database at a path. A register and the lines of an import are written to `out` on the way.
 pub fn ask_at<O: Write>(
     rt: &HostRuntime,
@@ -117,4 +131,78 @@ where
     let (conn, served) = serve_on_days(rt, workers, conn, policy, days, words, out);
     closed(conn);
     served
+}
+
+/// What stands against opening a file, where the library only says that it can't.
+fn reason_of_file(rt: &HostRuntime, path: &str, found: &Metadata) -> Reason
+    ensures { IsTrue (is_of_path result) }
+{
+    if !found.is_file() {
+        return Reason::NotRegular;
+    }
+    if found.nlink() != 1 {
+        return Reason::SecondName;
+    }
+    match OpenOptions::new().read(true).write(true).open(rt, path) {
+        Ok(_) => Reason::NoLog,
+        Err(_) => Reason::NoRight,
+    }
+}
+
+/// Why the library doesn't open the file at a path.
+fn reason_unopened(rt: &HostRuntime, path: &str, found: &Metadata, error: Error) -> Reason
+    ensures by_error { IfSome (opening_reason error) (λ reason. result ≡ reason) }
+    ensures of_path { IsTrue (is_of_path result) }
+{
+    match error {
+        Error::SqliteFailure(ErrorCode::CannotOpen) => reason_of_file(rt, path, found),
+        Error::SqliteFailure(ErrorCode::DatabaseBusy) => Reason::InUse,
+        Error::SqliteFailure(ErrorCode::DiskFull) => Reason::DiskFull,
+        Error::SqliteFailure(ErrorCode::OutOfMemory) => Reason::Memory,
+        Error::SqliteFailure(ErrorCode::NotADatabase | ErrorCode::DatabaseCorrupt) =>
+            Reason::NoDatabase,
+        _ => Reason::DiskFails,
+    }
+}
+
+/// Why there is nothing at a path that could be opened, by whether a file was to be made there.
+fn reason_absent(kind: ErrorKind, makes: bool) -> Reason
+    ensures { IsTrue (is_of_path result) }
+{
+    match kind {
+        ErrorKind::NotFound | ErrorKind::NotADirectory if makes => Reason::NoFolder,
+        ErrorKind::NotFound | ErrorKind::NotADirectory => Reason::NoFile,
+        ErrorKind::PermissionDenied => Reason::NoRight,
+        ErrorKind::OutOfMemory => Reason::Memory,
+        _ => Reason::DiskFails,
+    }
+}
+
+/// Why the database at a path can't be used from which the tables of an edition are wanted, as it is found after the failure.
+/// No file is made, whether one was to be made or not.
+pub fn reason_at(
+    rt: &HostRuntime,
+    path: &str,
+    makes: bool,
+    wanted: Edition,
+    why: OpenError,
+) -> Reason
+    ensures { IsReasonFor wanted why result }
+{
+    let found = match fs::metadata(rt, path) {
+        Ok(found) => found,
+        Err(error) => return reason_absent(error.kind(), makes),
+    };
+    if found.is_dir() {
+        return Reason::Folder;
+    }
+    match Connection::open(rt, path) {
+        Ok(conn) => {
+            let mut conn = conn;
+            let reason = reason_in(&mut conn, wanted, why);
+            closed(conn);
+            reason
+        }
+        Err(error) => reason_unopened(rt, path, &found, error),
+    }
 }

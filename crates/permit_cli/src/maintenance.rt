@@ -1,29 +1,36 @@
-//! What is done on the tables of a database: an office is founded in it, it is upgraded, or it is tested.
+//! What is done on the tables of a database: an office is founded in it, it is upgraded, a party of it gets a new token, or it is
+//! tested.
 
 ghost use Rattle.std.specs.Prelude.{◌≡◌, ◌≢◌, ◌⊎◌, false, true, Err, IfErr, IfOk, IsTrue, OnErr, OnOk};
 ghost use Rattle.sqlite.specs.State.{HasCleanDisk};
 ghost use Rattle.sqlite.specs.Held.{state};
 ghost use Rattle.permit_base.specs.declared.words.Edition.TheVariants.{First, Second};
+ghost use Rattle.permit_base.specs.Digests.{digest_of};
 ghost use Rattle.permit_model.specs.History.{History, upgraded};
 ghost use Rattle.permit_model.specs.Machine.{IsHistory};
+ghost use Rattle.permit_model.specs.Renewal.{renewed, with_renewed};
 ghost use Rattle.permit_model.specs.Tables.{tables};
 ghost use Rattle.permit_store.specs.Founding.{founding};
 ghost use Rattle.permit_store.specs.declared.store.OpenError.TheVariants as opening;
 ghost use Rattle.permit_sql_rows.specs.Kept.{Keeps, KeepsUnder, IsFine};
 ghost use Rattle.permit_sql_rows.specs.Schema.{empty_schema};
 ghost use Rattle.permit_sql.specs.Opening.{HasOtherVersion};
+ghost use Rattle.permit_sql.specs.Renewing.{OverKept};
 ghost use Rattle.permit_subcommands.specs.declared.failure.Failure.TheVariants.{Database};
 ghost use Rattle.permit_cli.specs.Checked.{IsCheckedAs, IsNamedAs};
 ghost use Rattle.permit_cli.specs.Doing.{IsCheck, IsUpgrade};
-ghost use Rattle.permit_cli.specs.Founded.{IsFoundedAs, IsUpgradedAs};
+ghost use Rattle.permit_cli.specs.Founded.{renewal_failure, IsFoundedAs, IsRenewedAs, IsUpgradedAs};
 
 use crate::outcome::Outcome;
+use permit_base::values::Token;
 use permit_sql::counts::sound_desk;
+use permit_sql::renew::RenewError;
 use permit_sql::store::SqlStore;
 use permit_sql::why::first_fault;
 use permit_store::founder::Founder;
 use permit_store::store::OpenError;
 use permit_subcommands::failure::Failure;
+use permit_subcommands::refused::Refused;
 use sqlite::{Alter, Connection};
 use std::alloc::Global;
 
@@ -63,6 +70,40 @@ pub(crate) fn upgrade_in<S: Alter + Drop>(
     match SqlStore::upgrade(alloc, &mut conn) {
         Ok(files) => (conn, Ok(Outcome::Upgraded(files))),
         Err(why) => (conn, Err(Failure::Database(why))),
+    }
+}
+
+/// Why a party has no new token.
+fn of_renewal(error: RenewError) -> Failure
+    ensures { result ≡ renewal_failure error }
+{
+    match error {
+        RenewError::Refused(why) => Failure::Refused(Refused::from(why)),
+        RenewError::Open(why) => Failure::Database(why),
+    }
+}
+
+/// Gives a party of the office in a database a new token.
+pub(crate) fn renew_in<S: Alter + Drop>(
+    alloc: Global,
+    conn: Connection<S>,
+    party: u32,
+    token: &Token,
+) -> (Connection<S>, Result<Outcome, Failure>)
+    ensures made { OverKept S.Store conn result.0
+        (λ t. OnOk result.1 (Keeps (with_renewed party (digest_of token.now) t) (state S.Store result.0).now)) }
+    ensures history { HasCleanDisk (state S.Store result.0) → (h : History) → IsHistory h → Keeps (tables h) (state S.Store conn).now
+        → OnOk result.1 (IsHistory (renewed party token.now h) × Keeps (tables (renewed party token.now h)) (state S.Store result.0).now) }
+    ensures kind { IfOk result.1 (λ done. done ≡ Outcome.Renewed party) }
+    ensures told { HasCleanDisk (state S.Store result.0) → IsRenewedAs party token.now (state S.Store conn).now result.1 }
+    ensures version { HasCleanDisk (state S.Store result.0) → HasOtherVersion Second (state S.Store conn).now
+        → (result.1 ≡ Err (Database opening.Version)) ⊎ (result.1 ≡ Err (Database opening.Store)) }
+    ensures same { OnErr result.1 (IsFine (state S.Store result.0) → (state S.Store result.0).now ≡ (state S.Store conn).now) }
+{
+    let mut conn = conn;
+    match SqlStore::renew_token(alloc, &mut conn, party, token) {
+        Ok(()) => (conn, Ok(Outcome::Renewed(party))),
+        Err(error) => (conn, Err(of_renewal(error))),
     }
 }
 

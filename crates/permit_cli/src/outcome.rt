@@ -31,4 +31,6 @@ pub enum Outcome {
     Imported(Tally),
     /// The office was served until its workers ended.
     Ended,
+    /// The party with this number has the new token.
+    Renewed(u32),
 }

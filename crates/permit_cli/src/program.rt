@@ -1,8 +1,9 @@
 //! What the program does: a plan is carried out, and what it came to is told.
 
-ghost use Rattle.std.specs.Prelude.{◌≡◌, ◌≤◌, ◌⊎◌, ℕ, [], IfErr, IfOk, List, None, Ok, Some, map, string_bytes};
+ghost use Rattle.std.specs.Prelude.{◌≡◌, ◌≤◌, ◌⊎◌, ℕ, [], false, IfErr, IfOk, List, None, Ok, Some, map, string_bytes};
 ghost use Rattle.std.specs.Io.KnownBytes.{Appends};
-ghost use Rattle.permit_import.specs.declared.refused.RefusalWord.TheVariants.{Store};
+ghost use Rattle.permit_base.specs.Texts.{is_token};
+ghost use Rattle.permit_import.specs.declared.refused.RefusalWord.TheVariants.{Store, Syntax};
 ghost use Rattle.permit_report.specs.Outgoing.{WroteFront};
 ghost use Rattle.permit_args.specs.FactsText.{facts_in, pieces};
 ghost use Rattle.permit_args.specs.declared.plan.PlanFault.{PlanFault as TheFault};
@@ -15,24 +16,28 @@ ghost use Rattle.permit_cli.specs.Doing.{Performs, RegistersAs, RunsAs, ServesAs
 ghost use Rattle.permit_cli.specs.Telling.{PrintsThen, SaysNoPlan};
 
 use crate::complaining::complain;
-use crate::database::{ask_at, check_at, found_at, serve_at, upgrade_at};
+use crate::database::{ask_at, check_at, found_at, renew_at, serve_at, upgrade_at};
+use crate::explaining::explain;
 use crate::outcome::Outcome;
 use crate::question::Question;
 use crate::telling::{tell, without_plan};
 use permit_args::checking::{dead_text, explained_text, rules_text};
 use permit_args::facts::read_facts;
 use permit_args::plan::{
-    ActWords, Check, CheckDbWords, CheckPolicyWords, DatabaseWords, ImportWords, InitWords,
-    ListWords, OfficeWords, Plan, RegisterWords, ServeWords,
+    ActWords, Check, CheckPolicyWords, DatabaseWords, ImportWords, InitWords, ListWords,
+    OfficeWords, Plan, RegisterWords, RenewTokenWords, ServeWords,
 };
 use permit_args::words::{plan, words_given};
+use permit_base::values::Token;
 use permit_policy::text::read_policy;
 use permit_policy::{Facts, Policy};
 use permit_store::store::OpenError;
 use permit_subcommands::days::{day_of_run, days_of_run};
 use permit_subcommands::failure::Failure;
 use permit_subcommands::founding::founder;
+use permit_subcommands::refused::RefusalWord;
 use permit_subcommands::request::caller;
+use permit_subcommands::token::token_of;
 use std::alloc::Global;
 use std::fs::{self, File};
 use std::io::Write;
@@ -88,7 +93,8 @@ fn init(rt: &HostRuntime, words: &InitWords<'_>) -> Result<Outcome, Failure>
     ensures { IfOk result (λ done. done ≡ Outcome.Founded) }
 {
     let day = day_of_run(rt, &words.days)?;
-    let founder = founder(rt.alloc(), words.name, words.token, day)?;
+    let token = token_of(rt, &words.token)?;
+    let founder = founder(rt.alloc(), words.name, token.as_str(), day)?;
     found_at(rt, words.db, &founder)
 }
 
@@ -119,7 +125,8 @@ fn ask_office<O: Write>(
 fn act<O: Write>(rt: &HostRuntime, words: &ActWords<'_>, out: &mut O) -> Result<Outcome, Failure>
     ensures { IfOk result (ActsAs words.now (O.contents out.old) (O.contents out.new)) }
 {
-    let question = Question::of_act(rt.alloc(), words)?;
+    let token = token_of(rt, &words.office.token)?;
+    let question = Question::of_act(rt.alloc(), words, token.as_str())?;
     ask_office(rt, &words.office, question, out)
 }
 
@@ -127,7 +134,8 @@ fn act<O: Write>(rt: &HostRuntime, words: &ActWords<'_>, out: &mut O) -> Result<
 fn list<O: Write>(rt: &HostRuntime, words: &ListWords<'_>, out: &mut O) -> Result<Outcome, Failure>
     ensures { IfOk result (ListsAs (O.contents out.old) (O.contents out.new)) }
 {
-    let question = Question::of_list(rt.alloc(), words)?;
+    let token = token_of(rt, &words.office.token)?;
+    let question = Question::of_list(rt.alloc(), words, token.as_str())?;
     ask_office(rt, &words.office, question, out)
 }
 
@@ -139,7 +147,8 @@ fn register<O: Write>(
 ) -> Result<Outcome, Failure>
     ensures { IfOk result (RegistersAs words.now (O.contents out.old) (O.contents out.new)) }
 {
-    let question = Question::of_register(rt.alloc(), words)?;
+    let token = token_of(rt, &words.office.token)?;
+    let question = Question::of_register(rt.alloc(), words, token.as_str())?;
     ask_office(rt, &words.office, question, out)
 }
 
@@ -149,9 +158,10 @@ fn import<O: Write>(
     words: &ImportWords<'_>,
     out: &mut O,
 ) -> Result<Outcome, Failure>
-    ensures { IfOk result (IsImported (O.contents out.old) (O.contents out.new)) }
+    ensures { IfOk result (IsImported words.now.office.why (O.contents out.old) (O.contents out.new)) }
 {
-    let token = caller(rt.alloc(), words.office.token)?;
+    let token = token_of(rt, &words.office.token)?;
+    let token = caller(rt.alloc(), token.as_str())?;
     let records = match File::open(rt, words.file) {
         Ok(records) => records,
         Err(error) => return Err(Failure::of_reading(rt.alloc(), words.file, &error)),
@@ -188,11 +198,31 @@ fn upgrade(rt: &HostRuntime, words: &DatabaseWords<'_>) -> Result<Outcome, Failu
 }
 
 /// Tests the tables of a database. None is made where there is none.
-fn check_db(rt: &HostRuntime, words: &CheckDbWords<'_>) -> Result<Outcome, Failure>
+fn check_db(rt: &HostRuntime, words: &DatabaseWords<'_>) -> Result<Outcome, Failure>
     ensures { IfOk result (IsCheck words.now.why) }
 {
     has_database(rt, words.db)?;
     check_at(rt, words.db, words.why)
+}
+
+/// The new token of a text. A text that has another form is refused as syntax.
+fn new_token(text: String) -> Result<Token, Failure>
+    ensures token { IfOk result (λ token. token ≡ string_bytes text) }
+    ensures refused { IfErr result (λ why. (why ≡ plain Syntax) × (is_token (string_bytes text) ≡ false)) }
+{
+    match Token::new(text) {
+        Some(token) => Ok(token),
+        None => Err(Failure::plain(RefusalWord::Syntax)),
+    }
+}
+
+/// Replaces the token of a party. No database is made where there is none.
+fn renew_token(rt: &HostRuntime, words: &RenewTokenWords<'_>) -> Result<Outcome, Failure>
+    ensures { IfOk result (λ done. done ≡ Outcome.Renewed words.now.party) }
+{
+    let token = new_token(token_of(rt, &words.token)?)?;
+    has_database(rt, words.db)?;
+    renew_at(rt, words.db, words.party, &token)
 }
 
 /// Does what a plan asks for. The database is closed before anything else is printed than a register, the lines of an
@@ -220,10 +250,12 @@ where
         Plan::Serve(words) => serve(rt, workers, words, out),
         Plan::Upgrade(words) => upgrade(rt, words),
         Plan::CheckDb(words) => check_db(rt, words),
+        Plan::RenewToken(words) => renew_token(rt, words),
     }
 }
 
-/// Does what a plan asks for, prints what it came to, and gives the status.
+/// Does what a plan asks for, prints what it came to, and returns the status. Before a failure it prints why, where the words ask
+/// for that.
 fn perform<R, O>(rt: &HostRuntime, workers: R, plan: &Plan<'_>, out: &mut O) -> Result<u8, Failure>
 where
     R: Threads + Wait + Copy + Drop + Send + 'static,
@@ -232,8 +264,10 @@ where
     ensures name { plan.now ≡ Plan.Name → PrintsThen name_line (Ok 0) (O.contents out.old) (O.contents out.new) result }
     ensures within { IfOk result (λ status. status ≤ 1) }
 {
-    let outcome = carry_out(rt, workers, plan, out)?;
-    tell(rt.alloc(), &outcome, out)
+    match carry_out(rt, workers, plan, out) {
+        Ok(outcome) => tell(rt.alloc(), &outcome, out),
+        Err(failure) => Err(explain(rt, plan, failure, out)),
+    }
 }
 
 /// Runs the program on the words behind its name, and gives its status: 0 done, 1 refused, 2 bad words or files.

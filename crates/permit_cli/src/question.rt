@@ -30,42 +30,56 @@ pub enum Question<'a, R: Drop> {
         token: Token,
         kind: RegisterKind,
     },
-    /// To import the records that a reader of the file at the path gives, for the caller of the token.
+    /// To import the records that a reader of the file at the path gives, for the caller of the token, and to say after a refusal
+    /// what is wrong where that is asked for.
     Import {
         token: Token,
         path: &'a str,
         records: R,
+        why: bool,
     },
 }
 
 impl<'a, R: Drop> Question<'a, R> {
-    /// The request that the words of `act` make.
-    pub fn of_act(alloc: Global, words: &ActWords<'_>) -> Result<Question<'a, R>, Failure>
-        ensures asks { IfOk result (AsksRequest words.now) }
-        ensures refused { IfErr result (IsRefusedFor words.now) }
+    /// The request that the words of `act` make, for the caller of the token.
+    pub fn of_act(
+        alloc: Global,
+        words: &ActWords<'_>,
+        token: &str,
+    ) -> Result<Question<'a, R>, Failure>
+        ensures asks { IfOk result (AsksRequest words.now token.now) }
+        ensures refused { IfErr result (IsRefusedFor words.now token.now) }
     {
-        let request = request(alloc, words)?;
+        let request = request(alloc, words, token)?;
         Ok(Question::Serve { request })
     }
 
-    /// The files that the words of `list` ask for.
-    pub fn of_list(alloc: Global, words: &ListWords<'_>) -> Result<Question<'a, R>, Failure>
-        ensures asks { IfOk result (AsksFiles words.now) }
-        ensures refused { IfErr result (IsRefusedCaller words.now.office.token.now) }
+    /// The files that the words of `list` ask for, for the caller of the token.
+    pub fn of_list(
+        alloc: Global,
+        words: &ListWords<'_>,
+        token: &str,
+    ) -> Result<Question<'a, R>, Failure>
+        ensures asks { IfOk result (AsksFiles words.now token.now) }
+        ensures refused { IfErr result (IsRefusedCaller token.now) }
     {
-        let token = caller(alloc, words.office.token)?;
+        let token = caller(alloc, token)?;
         Ok(Question::List {
             token,
             filter: filter_of(words.stage),
         })
     }
 
-    /// The register that the words of `register` ask for.
-    pub fn of_register(alloc: Global, words: &RegisterWords<'_>) -> Result<Question<'a, R>, Failure>
-        ensures asks { IfOk result (AsksRegister words.now) }
-        ensures refused { IfErr result (IsRefusedCaller words.now.office.token.now) }
+    /// The register that the words of `register` ask for, for the caller of the token.
+    pub fn of_register(
+        alloc: Global,
+        words: &RegisterWords<'_>,
+        token: &str,
+    ) -> Result<Question<'a, R>, Failure>
+        ensures asks { IfOk result (AsksRegister words.now token.now) }
+        ensures refused { IfErr result (IsRefusedCaller token.now) }
     {
-        let token = caller(alloc, words.office.token)?;
+        let token = caller(alloc, token)?;
         Ok(Question::Register {
             token,
             kind: words.kind,
@@ -80,6 +94,7 @@ impl<'a, R: Drop> Question<'a, R> {
             token,
             path: words.file,
             records,
+            why: words.office.why,
         }
     }
 }

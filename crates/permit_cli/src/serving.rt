@@ -10,17 +10,19 @@ ghost use Rattle.permit_hall.specs.OneHistory.{OneHistory};
 ghost use Rattle.permit_hall.specs.Runs.{Entry};
 ghost use Rattle.permit_sockets.specs.Listening.{SaysListening};
 ghost use Rattle.permit_cli.specs.Opening.{IsUnopened, IsWithoutMemory};
-ghost use Rattle.permit_cli.specs.Served.{IsDayOfRun, IsServed, IsServedOnDays, IsUnserved, SaysWhere};
+ghost use Rattle.permit_cli.specs.Served.{HasEndedAs, IsDayOfRun, IsServed, IsServedOnDays, IsUnserved, SaysWhere};
 
 use crate::asking::store_in;
 use crate::shut::flag;
 use permit_args::plan::ServeWords;
 use permit_base::values::Day;
+use permit_hall::doors::Door;
 use permit_mirror::mirrored::Mirrored;
 use permit_office::office::Office;
 use permit_policy::Policy;
-use permit_sockets::connections::Flag;
-use permit_sockets::serving::serve;
+use permit_sockets::connections::{Connections, Flag};
+use permit_sockets::pace::{AnswerWriter, RequestReader};
+use permit_sockets::serving::{any_stopped, serve};
 use permit_sql::store::SqlStore;
 use permit_store::plain::PlainStore;
 use permit_store::store::Store;
@@ -28,9 +30,8 @@ use permit_subcommands::days::RunDays;
 use permit_subcommands::failure::Failure;
 use sqlite::{Alter, Connection};
 use std::alloc::Global;
-use std::io::Write;
+use std::io::{Read, Write};
 use std::sync::Wait;
-use std::sync::atomic::Ordering;
 use std::thread::Threads;
 
 /// The office over a store, with its tables in memory beside it, under the policy. Where there is no memory for them, or a call
@@ -60,8 +61,8 @@ fn beside_memory<S: Store + Drop>(
     }
 }
 
-/// Serves an office over TCP, until its workers have ended. Where the flag is set by then, a fault of the disk has shut the
-/// office's database meanwhile, and the failure is the store's: only an opening of the file mends that.
+/// Serves an office over TCP, until its workers have ended. Where one of them found the flag set, a fault of the disk has shut the
+/// office's database, and the failure is the store's: only an opening of the file mends that.
 fn serve_over<S, R, T, O>(
     rt: &HostRuntime,
     workers: R,
@@ -77,17 +78,20 @@ where
     R: Threads + Wait + Copy + Drop + Send + 'static,
     O: Write,
     requires { T.IsAlwaysCallable today.old }
-    ensures history { (served : List (Entry Asked Dated)) × OneHistory S.view T.step words.now.workers office result.0 today.old today.new served }
-    ensures unserved { IsUnserved office result.0 today.old today.new result.1 }
+    ensures history { (served : List (Entry Asked Dated)) × OneHistory S.view T.step words.now.workers office result.0 today.old today.new served
+        × (HasEndedAs (⟦<RequestReader<HostRuntime> as Read>⟧.remaining) (⟦<AnswerWriter<HostRuntime> as Write>⟧.contents)
+        (⟦<Connections<HostRuntime, R> as Door>⟧.gave) (⟦<Connections<HostRuntime, R> as Door>⟧.spent) words.now.workers words.now.connections
+        (O.contents out.old) (O.contents out.new) served result.1 ⊎ (IsUnserved office result.0 result.1 × (today.new ≡ today.old))) }
     ensures says { SaysWhere (O.contents out.old) (O.contents out.new) result.1 }
 {
     let (office, served) = serve(rt, workers, office, words, today, shut, out);
     match served {
-        Ok(_ends) => {
-            if shut.load(Ordering::SeqCst) {
-                return (office, Err(Failure::memory()));
+        Ok(ends) => {
+            if any_stopped(&ends) {
+                (office, Err(Failure::memory()))
+            } else {
+                (office, Ok(()))
             }
-            (office, Ok(()))
         }
         Err(failure) => (office, Err(failure)),
     }
@@ -109,8 +113,10 @@ where
     R: Threads + Wait + Copy + Drop + Send + 'static,
     O: Write,
     requires { T.IsAlwaysCallable today.old }
-    ensures served { IsServed S.Store (⟦<Mirrored<SqlStore<S>, PlainStore> as Store>⟧.view) (λ s. s.kept.conn) T.step today.old today.new policy
-        words.now.workers conn result.0 (O.contents out.old) (O.contents out.new) result.1
+    ensures served { IsServed S.Store (⟦<Mirrored<SqlStore<S>, PlainStore> as Store>⟧.view) (λ s. s.kept.conn) T.step today.old today.new
+        (HasEndedAs (⟦<RequestReader<HostRuntime> as Read>⟧.remaining) (⟦<AnswerWriter<HostRuntime> as Write>⟧.contents)
+        (⟦<Connections<HostRuntime, R> as Door>⟧.gave) (⟦<Connections<HostRuntime, R> as Door>⟧.spent) words.now.workers words.now.connections
+        (O.contents out.old) (O.contents out.new)) policy words.now.workers conn result.0 (O.contents out.old) (O.contents out.new) result.1
         ⊎ ((IsUnopened S.Store conn result.0 result.1 ⊎ IsWithoutMemory S.Store conn result.0 result.1)
         × (O.contents out.new ≡ O.contents out.old)) }
 {
@@ -143,8 +149,10 @@ where
     S: Alter + Drop,
     R: Threads + Wait + Copy + Drop + Send + 'static,
     O: Write,
-    ensures served { IsServedOnDays S.Store (⟦<Mirrored<SqlStore<S>, PlainStore> as Store>⟧.view) (λ s. s.kept.conn) days.now policy
-        words.now.workers conn result.0 (O.contents out.old) (O.contents out.new) result.1
+    ensures served { IsServedOnDays S.Store (⟦<Mirrored<SqlStore<S>, PlainStore> as Store>⟧.view) (λ s. s.kept.conn) days.now
+        (HasEndedAs (⟦<RequestReader<HostRuntime> as Read>⟧.remaining) (⟦<AnswerWriter<HostRuntime> as Write>⟧.contents)
+        (⟦<Connections<HostRuntime, R> as Door>⟧.gave) (⟦<Connections<HostRuntime, R> as Door>⟧.spent) words.now.workers words.now.connections
+        (O.contents out.old) (O.contents out.new)) policy words.now.workers conn result.0 (O.contents out.old) (O.contents out.new) result.1
         ⊎ ((IsUnopened S.Store conn result.0 result.1 ⊎ IsWithoutMemory S.Store conn result.0 result.1)
         × (O.contents out.new ≡ O.contents out.old)) }
     ensures says { OnOk result.1 (SaysListening (O.contents out.old) (O.contents out.new)) }

@@ -5,10 +5,11 @@ ghost use Rattle.permit_store.specs.declared.store.OpenError.TheVariants as open
 ghost use Rattle.permit_sql.specs.FaultText.{fault_text};
 ghost use Rattle.permit_subcommands.specs.declared.failure.Failure.TheVariants as failure;
 ghost use Rattle.permit_subcommands.specs.Printing.{TellsNoPlan};
-ghost use Rattle.permit_cli.specs.Telling.{IsTold, MakesAndPrints, PrintsThen, SaysNoPlan};
+ghost use Rattle.permit_cli.specs.Telling.{party_line, IsTold, MakesAndPrints, PrintsThen, SaysNoPlan};
 
-use crate::complaining::complain;
+use crate::complaining::{complain, print_three};
 use crate::outcome::Outcome;
+use itoa::Buffer;
 use permit_args::plan::PlanFault;
 use permit_sql::fault::Fault;
 use permit_store::store::OpenError;
@@ -46,6 +47,15 @@ fn tell_text<O: Write>(out: &mut O, text: &str) -> Result<u8, Failure>
     Ok(0)
 }
 
+/// Prints the number of a party, after which the run ends with status 0. No memory is taken for it.
+fn tell_party<O: Write>(out: &mut O, party: u32) -> Result<u8, Failure>
+    ensures { PrintsThen (party_line party) (Ok 0) (O.contents out.old) (O.contents out.new) result }
+{
+    let mut digits = Buffer::new();
+    print_three(out, "party ", digits.format(party), "\n")?;
+    Ok(0)
+}
+
 /// Prints the first place at which a database is damaged, and reports the damage.
 fn tell_unsound<O: Write>(alloc: Global, fault: Fault, out: &mut O) -> Result<u8, Failure>
     ensures { MakesAndPrints (fault_text fault ++ codes "\n") (Err (failure.Database opening.Damaged))
@@ -75,5 +85,6 @@ pub(crate) fn tell<O: Write>(alloc: Global, outcome: &Outcome, out: &mut O) -> R
         Outcome::Listed(listing) => tell_text(out, listing_text(alloc, listing)?.as_str()),
         Outcome::Registered | Outcome::Ended => Ok(0),
         Outcome::Imported(tally) => Ok(status_after(tally)),
+        Outcome::Renewed(party) => tell_party(out, *party),
     }
 }

@@ -2,7 +2,7 @@
 
 use crate::run::text;
 use permit_answer::answer::Answer;
-use permit_args::plan::{ActWords, DayWords, OfficeWords};
+use permit_args::plan::{ActWords, DayWords, OfficeWords, TokenWords};
 use permit_base::refusal::{Reason, Refusal};
 use permit_base::values::RuleName;
 use permit_base::words::Action;
@@ -50,17 +50,18 @@ fn asked<'x>(
         office: OfficeWords {
             db: "",
             policy: "",
-            token,
+            token: TokenWords::Given(token),
             days: DayWords {
                 day: None,
                 zone: None,
             },
+            why: false,
         },
         method,
         path,
         body: None,
     };
-    match request(alloc, &words) {
+    match request(alloc, &words, token) {
         Ok(request) => shown(alloc, &ask(alloc, office, request.as_str(), day(FOUNDED)?)?),
         Err(fault) => Ok((String::new(alloc), fault.to_string(alloc)?)),
     }

@@ -7,9 +7,15 @@ mod asking;
 #[cfg(test)]
 mod listings;
 #[cfg(test)]
+mod policies;
+#[cfg(test)]
 mod program;
 #[cfg(test)]
+mod reasons;
+#[cfg(test)]
 mod registers;
+#[cfg(test)]
+mod renewals;
 #[cfg(test)]
 mod rows;
 #[cfg(test)]

@@ -39,3 +39,16 @@ pub fn agrees(
     let (status, out, err) = given;
     Err(Fail::new(format!(in rt.alloc(); "status {status}, printed {out}, complained {err}")?))
 }
+
+/// Fails where the program does something else for words.
+pub fn told<R: Threads + Wait + Copy + Drop + Send + 'static>(
+    rt: &HostRuntime,
+    workers: R,
+    words: &[&str],
+    status: u8,
+    out: &str,
+    err: &str,
+) -> Result<(), Fail> {
+    let (is, printed, complained) = run(rt, workers, words)?;
+    agrees(rt, (is, &printed, &complained), (status, out, err))
+}

@@ -1,12 +1,18 @@
 //! The words of a command line, and what the program prints for them.
 
-use crate::run::{agrees, run};
+use crate::run::{run, told};
 use permit_samples::ask::TOKENS;
 use permit_samples::standard::POLICY;
+use std::alloc::Global;
 use std::fs;
-use std::sync::Wait;
 use std::test::Fail;
-use std::thread::Threads;
+
+/// What stands below a line on bad words.
+const HELP: &str = "\n\nFor more information, try '--help'.\n";
+
+/// The stages that `list` takes.
+const STAGES: &str =
+    "filed, review, returned, approved, rejected, issued, working, revoked, finaled, certified, abandoned, lapsed";
 
 /// A policy of two rules.
 const TWO: &str =
@@ -113,19 +119,6 @@ fn bad_words(rt: HostRuntime) -> Result<(), Fail> {
     Ok(())
 }
 
-/// What the program does for words alone.
-fn told<R: Threads + Wait + Copy + Drop + Send + 'static>(
-    rt: &HostRuntime,
-    workers: R,
-    words: &[&str],
-    status: u8,
-    out: &str,
-    err: &str,
-) -> Result<(), Fail> {
-    let (is, printed, complained) = run(rt, workers, words)?;
-    agrees(rt, (is, &printed, &complained), (status, out, err))
-}
-
 /// A rule for clerks, one for all other roles, and one without a condition.
 const DEAD: &str =
     "[[rule]]\nname = \"a\"\neffect = \"deny\"\nrole = [\"clerk\"]\n\n[[rule]]\nname = \"b\"\neffect = \"deny\"\nrole = [\"public\", \"reviewer\", \"inspector\", \"official\"]\n\n[[rule]]\nname = \"c\"\neffect = \"deny\"\n";
@@ -209,9 +202,21 @@ fn facts_in_every_stage(rt: HostRuntime) -> Result<(), Fail> {
     )
 }
 
+/// The line on a value that isn't taken at its place.
+fn invalid(
+    alloc: Global,
+    value: &str,
+    place: &str,
+    taken: &str,
+    example: &str,
+) -> Result<String, Fail> {
+    Ok(format!(in alloc;
+        "error: invalid value '{value}' for '{place}'\n  [possible values: {taken}]\n  [example: {example}]{HELP}"
+    )?)
+}
+
 #[test]
 fn words_that_name_nothing(rt: HostRuntime) -> Result<(), Fail> {
-    let help = "\n\nFor more information, try '--help'.\n";
     let office = [
         "--db",
         "none.db",
@@ -220,25 +225,42 @@ fn words_that_name_nothing(rt: HostRuntime) -> Result<(), Fail> {
         "--token",
         TOKENS[0],
     ];
-    for (words, value, place) in [
-        (["list", "--stage"], "frob", "--stage <STAGE>"),
-        (["list", "--stage"], "new", "--stage <STAGE>"),
-        (["list", "--stage"], "office", "--stage <STAGE>"),
-        (["register", "--"], "frob", "<NAME>"),
+    let stage = ("--stage <STAGE>", STAGES, "--stage review");
+    let register = (
+        "<NAME>",
+        "files, deadlines, inspections",
+        "permit register deadlines",
+    );
+    for (words, value, (place, taken, example)) in [
+        (["list", "--stage"], "frob", stage),
+        (["list", "--stage"], "new", stage),
+        (["list", "--stage"], "office", stage),
+        (["register", "--"], "frob", register),
     ] {
         let mut all = Vec::new(rt.alloc());
         all.push(words[0])?;
         all.extend_from_slice(&office)?;
         all.extend_from_slice(&[words[1], value])?;
-        let line = format!(in rt.alloc(); "error: invalid value '{value}' for '{place}'{help}")?;
+        let line = invalid(rt.alloc(), value, place, taken, example)?;
         told(&rt, rt, &all, 2, "", line.as_str())?;
     }
-    for (option, value, place) in [
-        ("--workers", "0", "--workers <WORKERS>"),
-        ("--workers", "9", "--workers <WORKERS>"),
-        ("--workers", "04", "--workers <WORKERS>"),
-        ("--connections", "100000", "--connections <CONNECTIONS>"),
-        ("--connections", "+1", "--connections <CONNECTIONS>"),
+    Ok(())
+}
+
+#[test]
+fn numbers_out_of_range(rt: HostRuntime) -> Result<(), Fail> {
+    let workers = ("--workers <WORKERS>", "1 to 8", "--workers 4");
+    let connections = (
+        "--connections <CONNECTIONS>",
+        "1 to 99999",
+        "--connections 1000",
+    );
+    for (option, value, (place, taken, example)) in [
+        ("--workers", "0", workers),
+        ("--workers", "9", workers),
+        ("--workers", "04", workers),
+        ("--connections", "100000", connections),
+        ("--connections", "+1", connections),
     ] {
         let words = [
             "serve",
@@ -251,9 +273,27 @@ fn words_that_name_nothing(rt: HostRuntime) -> Result<(), Fail> {
             option,
             value,
         ];
-        let line = format!(in rt.alloc(); "error: invalid value '{value}' for '{place}'{help}")?;
+        let line = invalid(rt.alloc(), value, place, taken, example)?;
         told(&rt, rt, &words, 2, "", line.as_str())?;
     }
+    for value in ["0", "100000", "one"] {
+        let words = [
+            "renew-token",
+            "--db",
+            "none.db",
+            "--token",
+            TOKENS[0],
+            "--party",
+            value,
+        ];
+        let line = invalid(rt.alloc(), value, "--party <N>", "1 to 99999", "--party 2")?;
+        told(&rt, rt, &words, 2, "", line.as_str())?;
+    }
+    Ok(())
+}
+
+#[test]
+fn words_that_exclude_one_another(rt: HostRuntime) -> Result<(), Fail> {
     let both = [
         "check-policy",
         "--policy",
@@ -263,7 +303,19 @@ fn words_that_name_nothing(rt: HostRuntime) -> Result<(), Fail> {
         "x",
     ];
     let line = format!(in rt.alloc();
-        "error: the argument '--dead' cannot be used with '--facts <FACTS>'{help}"
+        "error: the argument '--dead' cannot be used with '--facts <FACTS>'{HELP}"
     )?;
-    told(&rt, rt, &both, 2, "", line.as_str())
+    told(&rt, rt, &both, 2, "", line.as_str())?;
+    let files = ["list", "--db", "none.db", "--policy", "none.toml"];
+    let none = format!(in rt.alloc();
+        "error: the following required arguments were not provided:\n  <--token <TOKEN>|--token-file <PATH>>{HELP}"
+    )?;
+    told(&rt, rt, &files, 2, "", none.as_str())?;
+    let mut words = Vec::new(rt.alloc());
+    words.extend_from_slice(&files)?;
+    words.extend_from_slice(&["--token", TOKENS[0], "--token-file", "-"])?;
+    let two = format!(in rt.alloc();
+        "error: the argument '--token <TOKEN>' cannot be used with '--token-file <PATH>'{HELP}"
+    )?;
+    told(&rt, rt, &words, 2, "", two.as_str())
 }

@@ -1,5 +1,5 @@
 -- How an office ended that was served over TCP.
-use Rattle.std.specs.Prelude.{◌≡◌, ℕ, List, Option, is_some, true}
+use Rattle.std.specs.Prelude.{◌≡◌, ℕ, Bool, List, Option, Some, None, is_some, true, false}
 use Rattle.std.specs.List.{list_any}
 use Rattle.permit_base.specs.declared.request.Asked.{Asked}
 use Rattle.permit_wire.specs.declared.service.Dated.{Dated}
@@ -18,3 +18,8 @@ pub record HaveEnded {In Out C W : Type 0} (remaining : In → Option (List ℕ)
   pub listened : AreOpen workers connections before after doors
   pub done : AreDoorsServed remaining contents gave spent doors ends served
   pub some : list_any is_some ends ≡ true
+
+-- the door of a worker ended because the flag was found set
+abbrev pub is_stopped : {C W : Type 0} → Option (DoorEnd (Connections C W)) → Bool
+is_stopped None = false
+is_stopped (Some end) = is_some end.door.stop

@@ -26,7 +26,7 @@ pub struct Connections<C: Drop, W: Drop> {
     /// Once it is set, no more are taken.
     shut: Flag,
     /// That it was found set.
-    stop: Option<Stop>,
+    pub(crate) stop: Option<Stop>,
     /// How many more it takes; `None` for no end.
     left: Option<u32>,
 }
@@ -43,13 +43,14 @@ impl<C: Clock + Net + Copy + Drop + Send, W: Wait + Copy + Drop + Send> Door for
     fn next(&mut self) -> Option<(RequestReader<C>, AnswerWriter<C>)> {
         let waits = self.waits;
         for _ in waits.forever() {
-            if self.left == Some(0) {
-                return None;
-            }
+            // The flag is looked at first: the worker whose connection set it finds it so, after its last one too.
             if let Some(stop) = Stop::seen(&self.shut) {
                 self.stop = Some(stop);
                 // Another worker that waits here takes this connection, and sees the flag then.
                 let _woken = TcpStream::connect(&self.clock, self.address);
+                return None;
+            }
+            if self.left == Some(0) {
                 return None;
             }
             let Ok((stream, _)) = self.listener.accept() else {

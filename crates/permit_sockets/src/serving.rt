@@ -9,7 +9,7 @@ ghost use Rattle.permit_hall.specs.Runs.{Entry};
 ghost use Rattle.permit_hall.specs.OneHistory.{OneHistory};
 ghost use Rattle.permit_subcommands.specs.Failures.{IsUnheard};
 ghost use Rattle.permit_subcommands.specs.declared.failure.Failure.TheVariants.{Output};
-ghost use Rattle.permit_sockets.specs.Ending.{HaveEnded};
+ghost use Rattle.permit_sockets.specs.Ending.{HaveEnded, is_stopped};
 ghost use Rattle.permit_sockets.specs.Taking.{IsNew};
 ghost use Rattle.permit_sockets.specs.Listening.{AreOpen, SaysListening, listening_line};
 
@@ -92,6 +92,23 @@ fn any_served<R: Drop>(ends: &Ends<R>) -> bool
     ensures { result ≡ list_any is_some ends.now.items }
 {
     ends.iter().any(|end| end.is_some())
+}
+
+/// Whether the door of a worker ended because the flag was found set.
+fn is_stopped<C: Drop, W: Drop>(end: &Option<DoorEnd<Connections<C, W>>>) -> bool
+    ensures { result ≡ is_stopped end.now }
+{
+    match end {
+        Some(end) => end.door.stop.is_some(),
+        None => false,
+    }
+}
+
+/// Whether one door at least ended because the flag was found set.
+pub fn any_stopped<R: Drop>(ends: &Ends<R>) -> bool
+    ensures { result ≡ list_any is_stopped ends.now.items }
+{
+    ends.iter().any(|end| is_stopped(end))
 }
 
 /// Serves an office until its workers have ended, each by its count of connections or with the connection behind which it

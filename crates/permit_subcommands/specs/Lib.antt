@@ -1,8 +1,10 @@
 pub mod Answering
 pub mod Days
+pub mod Explaining
 pub mod Failures
 pub mod Founders
 pub mod Lines
 pub mod Listings
 pub mod Printing
 pub mod Requests
+pub mod Tokens

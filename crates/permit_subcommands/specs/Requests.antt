@@ -28,8 +28,8 @@ request_text method path token body =
     ++ (codes "\r\nContent-Length: " ++ (decimal (length body) ++ (codes "\r\n\r\n" ++ body)))))))
 
 -- why the words make no request: the method and the path are tested before anything else, and then the token
-abbrev pub IsRefusedFor : ActWords → Failure → Type 0
-IsRefusedFor words why =
+abbrev pub IsRefusedFor : ActWords → List ℕ → Failure → Type 0
+IsRefusedFor words token why =
     ((why ≡ plain Syntax) × ((is_word words.method.now && is_word words.path.now) ≡ false))
     ⊎ (IsTrue (is_word words.method.now && is_word words.path.now)
-    × ((why ≡ plain Store) ⊎ ((why ≡ plain Caller) × (is_token words.office.token.now ≡ false))))
+    × ((why ≡ plain Store) ⊎ ((why ≡ plain Caller) × (is_token token ≡ false))))

@@ -54,17 +54,17 @@ pub fn caller(alloc: Global, token: &str) -> Result<Token, Failure>
     }
 }
 
-/// The bytes of the request that the words make. A method or path that is no word is refused as syntax, a token that
-/// has another form as the caller.
-pub fn request(alloc: Global, words: &ActWords<'_>) -> Result<String, Failure>
-    ensures text { IfOk result (λ text. string_bytes text ≡ request_text words.now.method.now words.now.path.now words.now.office.token.now (body_of words.now.body)) }
-    ensures within { OnOk result (IsTrue (is_word words.now.method.now && is_word words.now.path.now && is_token words.now.office.token.now)) }
-    ensures refused { IfErr result (IsRefusedFor words.now) }
+/// The bytes of the request that the words make, with a token that is named apart from them. A method or path that is no word is
+/// refused as syntax, a token that has another form as the caller.
+pub fn request(alloc: Global, words: &ActWords<'_>, token: &str) -> Result<String, Failure>
+    ensures text { IfOk result (λ text. string_bytes text ≡ request_text words.now.method.now words.now.path.now token.now (body_of words.now.body)) }
+    ensures within { OnOk result (IsTrue (is_word words.now.method.now && is_word words.now.path.now && is_token token.now)) }
+    ensures refused { IfErr result (IsRefusedFor words.now token.now) }
 {
     if !is_word(words.method) || !is_word(words.path) {
         return Err(Failure::plain(RefusalWord::Syntax));
     }
-    let token = caller(alloc, words.office.token)?;
+    let token = caller(alloc, token)?;
     let body = words.body.unwrap_or("");
     Ok(request_text(alloc, words.method, words.path, token.as_str(), body)?)
 }

@@ -14,4 +14,5 @@ returns c =
     let imported = extended c.in_ok-subcommand-6.ensures register c.in_ok-import.ensures in
     let serve = extended c.in_ok-subcommand-7.ensures imported c.in_ok-serve.ensures in
     let upgrade = extended c.in_ok-subcommand-8.ensures serve c.in_ok-upgrade.ensures in
-    IfOk-weaker c.subcommand-9.result _ _ (λ r h. extended h upgrade c.in_ok-check_db.ensures) c.subcommand-9.ensures
+    let check_db = extended c.in_ok-subcommand-9.ensures upgrade c.in_ok-check_db.ensures in
+    IfOk-weaker c.subcommand-10.result _ _ (λ r h. extended h check_db c.in_ok-renew_token.ensures) c.subcommand-10.ensures

@@ -1,4 +1,3 @@
-use Rattle.std.proofs.lemmas.Result.{IfOk-weaker}
 use Rattle.permit_args.specs.Plans.{serve_app}
 use Rattle.permit_args.proofs.Added.{added}
 use Rattle.permit_args.proofs.commands.serve.Goals as goal
@@ -11,4 +10,5 @@ returns c =
     let days = c.in_ok-with_days.ensures _ policy in
     let listen = added c.in_ok-arg-2.ensures c.required_option.ensures.own c.required_option.ensures.rule days in
     let workers = added c.in_ok-arg-3.ensures c.option.ensures.own c.option.ensures.rule listen in
-    IfOk-weaker c.arg-5.result _ _ (λ r h. added h c.option-2.ensures.own c.option-2.ensures.rule workers) c.arg-5.ensures
+    let connections = added c.in_ok-command-2.ensures c.option-2.ensures.own c.option-2.ensures.rule workers in
+    c.with_why.ensures _ connections

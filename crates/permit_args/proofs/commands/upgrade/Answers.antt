@@ -1,8 +1,7 @@
-use Rattle.std.proofs.lemmas.Result.{IfOk-weaker}
 use Rattle.permit_args.specs.Plans.{upgrade_app}
 use Rattle.permit_args.proofs.Added.{added}
 use Rattle.permit_args.proofs.commands.upgrade.Goals as goal
 
 pub returns : goal.returns
 unfolding upgrade_app
-returns c = IfOk-weaker c.arg.result _ _ (λ r h. added h c.database.ensures.own c.database.ensures.rule c.in_ok-subcommand.ensures) c.arg.ensures
+returns c = c.with_why.ensures _ (added c.in_ok-command.ensures c.database.ensures.own c.database.ensures.rule c.in_ok-subcommand.ensures)

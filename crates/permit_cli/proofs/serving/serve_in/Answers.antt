@@ -15,7 +15,7 @@ returns-in-Ok-beside_memory g c =
         policy_is = made.ensures.policy;
         served = over.ensures.history.0;
         history = over.ensures.history.1;
-        unserved = over.ensures.unserved;
+        ended = over.ensures.history.2;
         says = over.ensures.says;
         back_is = c.into_connection.ensures.conn ∙ ap (λ s. s.conn) (c.into_kept.ensures.kept ∙ ap (λ s. s.kept) c.into_store.ensures);
       };

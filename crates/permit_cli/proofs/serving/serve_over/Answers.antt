@@ -1,7 +1,26 @@
-use Rattle.permit_cli.proofs.Histories.{history_of}
+use Rattle.std.proofs.Common.{[], inr}
+use Rattle.permit_cli.proofs.Endings.{ended_so, told_spent, told_stopped}
+use Rattle.permit_cli.proofs.Histories.{at_err, at_ok, none_served}
 use Rattle.permit_cli.proofs.serving.serve_over.Goals as goal
 
-pub returns-in-Err-clause-history : goal.returns-in-Err-clause-history
-returns-in-Err-clause-history g c =
-    history_of _ g.S.Store.view c.args.words.now.workers _ c.args.office c.serve-office.result.0
-    c.args.today.now c.serve-office.new.today c.serve-office.result.1 c.serve-office.ensures.run c.serve-office.ensures.same
+pub returns-then-any_stopped-clause-history : goal.returns-then-any_stopped-clause-history
+returns-then-any_stopped-clause-history g c =
+    ended_so g.S.Store.view _ _ _ _ _ c.args.words.now.workers c.args.words.now.connections _ _ c.in-Ok.ends.items c.args.office _ _ _ _
+    (at_ok _ g.S.Store.view c.args.words.now.workers _ c.args.office c.serve-office.result.0 c.args.today.now c.serve-office.new.today
+    c.serve-office.result.1 c.in-Ok.ends c.in-Ok.is c.serve-office.ensures.run)
+    (told_stopped c.in-Ok.ends.items c.any_stopped.result c.memory.result c.any_stopped.ensures c.if-any_stopped.true c.memory.ensures)
+
+pub returns-in-Ok-clause-history : goal.returns-in-Ok-clause-history
+returns-in-Ok-clause-history g c =
+    ended_so g.S.Store.view _ _ _ _ _ c.args.words.now.workers c.args.words.now.connections _ _ c.in-Ok.ends.items c.args.office _ _ _ _
+    (at_ok _ g.S.Store.view c.args.words.now.workers _ c.args.office c.serve-office.result.0 c.args.today.now c.serve-office.new.today
+    c.serve-office.result.1 c.in-Ok.ends c.in-Ok.is c.serve-office.ensures.run)
+    (told_spent c.in-Ok.ends.items c.any_stopped.result c.any_stopped.ensures c.if-any_stopped.false)
+
+pub returns-clause-history : goal.returns-clause-history
+returns-clause-history g c =
+    let kept = at_err c.serve-office.result.1 c.in-Err.failure c.in-Err.is c.serve-office.ensures.same in (
+      [],
+      none_served _ g.S.Store.view c.args.words.now.workers c.args.office c.serve-office.result.0 c.args.today.now c.serve-office.new.today kept.0 kept.1,
+      inr kept,
+    )

@@ -1,0 +1,22 @@
+use Rattle.std.proofs.Common.{Some, codes, inl, inr}
+use Rattle.clap.specs.Words.{found_of, rows_of}
+use Rattle.permit_args.specs.Blames.{Blames, BlamesOffice}
+use Rattle.permit_args.specs.Plans.{IsActOf, IsOfficeOf}
+use Rattle.permit_args.specs.declared.plan.Subcommand.TheVariants as named
+use Rattle.permit_args.proofs.Unread.{passed_on, refused_part, refused_without}
+use Rattle.permit_args.proofs.subcommands.act.Goals as goal
+
+pub returns-in_err-office-clause-refused : goal.returns-in_err-office-clause-refused
+returns-in_err-office-clause-refused c = passed_on _ _ _ c.from_residual.ensures.1 (
+    refused_part (IsActOf (rows_of (found_of c.args.matches.now))) (Blames (Some named.Act) (rows_of (found_of c.args.matches.now))) (IsOfficeOf (rows_of (found_of c.args.matches.now))) (BlamesOffice (rows_of (found_of c.args.matches.now))) _ c.in_err-office.ensures.refused
+    (λ x is. (x.office, is.office)) (λ none line h. inl h))
+
+pub returns-in_err-required-clause-refused : goal.returns-in_err-required-clause-refused
+returns-in_err-required-clause-refused c = passed_on _ _ _ c.from_residual-in_err-required.ensures.1 (
+    refused_without (codes "method") (rows_of (found_of c.args.matches.now)) (IsActOf (rows_of (found_of c.args.matches.now))) (Blames (Some named.Act) (rows_of (found_of c.args.matches.now))) _ c.in_err-required.ensures.refused
+    (λ x is. (x.method.now, is.method)) (λ line h. inr (inl h)))
+
+pub returns-in_err-required-2-clause-refused : goal.returns-in_err-required-2-clause-refused
+returns-in_err-required-2-clause-refused c = passed_on _ _ _ c.from_residual-in_err-required-2.ensures.1 (
+    refused_without (codes "path") (rows_of (found_of c.args.matches.now)) (IsActOf (rows_of (found_of c.args.matches.now))) (Blames (Some named.Act) (rows_of (found_of c.args.matches.now))) _ c.in_err-required-2.ensures.refused
+    (λ x is. (x.path.now, is.path)) (λ line h. inr (inr h)))

@@ -1,0 +1,70 @@
+-- Which line blames what is wrong with the words of a subcommand, where the command line library takes them.
+use Rattle.std.specs.Prelude.{◌≡◌, ◌⊎◌, ℕ, List, Option, None, Some, IsSome, IsTrue, codes}
+use Rattle.clap.specs.Words.{Row, Text, first_of}
+use Rattle.permit_base.specs.Limits.{most_records}
+use Rattle.permit_base.specs.Stages.{is_file_stage}
+use Rattle.permit_base.specs.Words.{register_word, stage_word}
+use Rattle.permit_base.specs.declared.words.RegisterKind.{RegisterKind}
+use Rattle.permit_base.specs.declared.words.Stage.{Stage}
+use Rattle.permit_args.specs.Lines.{invalid_line, missing_line, no_subcommand_line, no_token_line, two_checks_line, two_tokens_line}
+use Rattle.permit_args.specs.Plans.{is_given, most_connections, most_workers, IsCountOf}
+use Rattle.permit_args.specs.declared.places.Place.{Place}
+use Rattle.permit_args.specs.declared.places.Place.TheVariants as place
+use Rattle.permit_args.specs.declared.plan.Subcommand.{Subcommand}
+use Rattle.permit_args.specs.declared.plan.Subcommand.TheVariants.{CheckPolicy, Init, Act, List as List', Register, Import, Serve, Upgrade, CheckDb, RenewToken}
+
+-- the option or the word of a place
+abbrev pub name_of : Place → Text
+name_of place.Stage = codes "stage"
+name_of place.Register = codes "name"
+name_of place.Workers = codes "workers"
+name_of place.Connections = codes "connections"
+name_of place.Party = codes "party"
+
+-- the text is taken at the place
+abbrev pub IsTakenAt : Place → Text → Type 0
+IsTakenAt place.Stage text = (stage : Stage) × (stage_word stage ≡ text) × IsTrue (is_file_stage stage)
+IsTakenAt place.Register text = (kind : RegisterKind) × (register_word kind ≡ text)
+IsTakenAt place.Workers text = (n : ℕ) × IsCountOf most_workers text n
+IsTakenAt place.Connections text = (n : ℕ) × IsCountOf most_connections text n
+IsTakenAt place.Party text = (n : ℕ) × IsCountOf most_records text n
+
+-- what is found at the place isn't taken there, and the line says so
+pub record BlamesPlace (place : Place) (rows : List Row) (line : Text) : Type 0 where
+  pub value : Text
+  pub found : first_of (name_of place) rows ≡ Some value
+  pub refused : IsTakenAt place value → ⊥
+  pub said : line ≡ invalid_line place value
+
+-- the option or the word has to be there and isn't
+abbrev pub Misses : Text → List Row → Text → Type 0
+Misses name rows line = (first_of name rows ≡ None) × (line ≡ missing_line name)
+
+-- neither a token nor its file is there, or both are
+abbrev pub BlamesToken : List Row → Text → Type 0
+BlamesToken rows line =
+    ((first_of (codes "token") rows ≡ None) × (first_of (codes "token-file") rows ≡ None) × (line ≡ no_token_line))
+    ⊎ (IsSome (first_of (codes "token") rows) × IsSome (first_of (codes "token-file") rows) × (line ≡ two_tokens_line))
+
+-- dead rules and facts are there
+abbrev pub BlamesCheck : List Row → Text → Type 0
+BlamesCheck rows line = IsTrue (is_given (codes "dead") rows) × IsSome (first_of (codes "facts") rows) × (line ≡ two_checks_line)
+
+abbrev pub BlamesOffice : List Row → Text → Type 0
+BlamesOffice rows line = Misses (codes "db") rows line ⊎ (Misses (codes "policy") rows line ⊎ BlamesToken rows line)
+
+-- what can be wrong with the words of each subcommand; of none, that none is named
+abbrev pub Blames : Option Subcommand → List Row → Text → Type 0
+Blames None rows line = line ≡ no_subcommand_line
+Blames (Some CheckPolicy) rows line = Misses (codes "policy") rows line ⊎ BlamesCheck rows line
+Blames (Some Init) rows line = Misses (codes "db") rows line ⊎ (Misses (codes "name") rows line ⊎ BlamesToken rows line)
+Blames (Some Act) rows line = BlamesOffice rows line ⊎ (Misses (codes "method") rows line ⊎ Misses (codes "path") rows line)
+Blames (Some List') rows line = BlamesOffice rows line ⊎ BlamesPlace place.Stage rows line
+Blames (Some Register) rows line = BlamesOffice rows line ⊎ (Misses (codes "name") rows line ⊎ BlamesPlace place.Register rows line)
+Blames (Some Import) rows line = BlamesOffice rows line ⊎ Misses (codes "file") rows line
+Blames (Some Serve) rows line = Misses (codes "db") rows line ⊎ (Misses (codes "policy") rows line ⊎ (Misses (codes "listen") rows line
+    ⊎ (BlamesPlace place.Workers rows line ⊎ BlamesPlace place.Connections rows line)))
+Blames (Some Upgrade) rows line = Misses (codes "db") rows line
+Blames (Some CheckDb) rows line = Misses (codes "db") rows line
+Blames (Some RenewToken) rows line = Misses (codes "db") rows line ⊎ (Misses (codes "party") rows line
+    ⊎ (BlamesPlace place.Party rows line ⊎ BlamesToken rows line))

@@ -1,0 +1,60 @@
+-- The lines that say what is wrong with words, where the program finds it and not the command line library.
+use Rattle.std.specs.Prelude.{◌++◌, codes}
+use Rattle.clap.specs.Words.{Text}
+use Rattle.permit_args.specs.declared.places.Place.{Place}
+use Rattle.permit_args.specs.declared.places.Place.TheVariants.{Stage, Register, Workers, Connections, Party}
+
+-- how the line names a place
+abbrev pub place_name : Place → Text
+place_name Stage = codes "--stage <STAGE>"
+place_name Register = codes "<NAME>"
+place_name Workers = codes "--workers <WORKERS>"
+place_name Connections = codes "--connections <CONNECTIONS>"
+place_name Party = codes "--party <N>"
+
+-- what is taken at a place
+abbrev pub taken_text : Place → Text
+taken_text Stage = codes "filed, review, returned, approved, rejected, issued, working, revoked, finaled, certified, abandoned, lapsed"
+taken_text Register = codes "files, deadlines, inspections"
+taken_text Workers = codes "1 to 8"
+taken_text Connections = codes "1 to 99999"
+taken_text Party = codes "1 to 99999"
+
+-- an example of it
+abbrev pub example_text : Place → Text
+example_text Stage = codes "--stage review"
+example_text Register = codes "permit register deadlines"
+example_text Workers = codes "--workers 4"
+example_text Connections = codes "--connections 1000"
+example_text Party = codes "--party 2"
+
+-- a value isn't taken at its place
+abbrev pub invalid_line : Place → Text → Text
+invalid_line place value =
+    codes "error: invalid value '" ++ (value ++ (codes "' for '" ++ (place_name place ++ (codes "'\n  [possible values: " ++ (taken_text place
+    ++ (codes "]\n  [example: " ++ (example_text place ++ codes "]\n\nFor more information, try '--help'.\n")))))))
+
+-- a value that has to be there isn't
+abbrev pub missing_line : Text → Text
+missing_line name = codes "error: no " ++ (name ++ codes " is given\n")
+
+-- neither a token nor its file
+abbrev pub no_token_line : Text
+no_token_line =
+    codes "error: the following required arguments were not provided:\n  <--token <TOKEN>|--token-file <PATH>>\n\nFor more information, try '--help'.\n"
+
+-- a token and a file
+abbrev pub two_tokens_line : Text
+two_tokens_line = codes "error: the argument '--token <TOKEN>' cannot be used with '--token-file <PATH>'\n\nFor more information, try '--help'.\n"
+
+-- dead rules and facts
+abbrev pub two_checks_line : Text
+two_checks_line = codes "error: the argument '--dead' cannot be used with '--facts <FACTS>'\n\nFor more information, try '--help'.\n"
+
+-- no subcommand
+abbrev pub no_subcommand_line : Text
+no_subcommand_line = codes "error: no subcommand is named\n"
+
+-- a word that is no text
+abbrev pub no_text_line : Text
+no_text_line = codes "error: a word is not UTF-8\n"

@@ -1,0 +1,8 @@
+use Rattle.permit_cli.proofs.Renewals.{refused_told}
+use Rattle.permit_cli.proofs.maintenance.renew_in.Goals as goal
+
+pub returns-in-Err-clause-told : goal.returns-in-Err-clause-told
+returns-in-Err-clause-told g c clean =
+    let said = c.in-Err.ensures in
+    refused_told c.args.party c.args.token.now _ c.in-Err.error c.of_renewal.result c.of_renewal.ensures said.refusal (said.refused clean)
+    (said.damaged clean) (said.version clean)
