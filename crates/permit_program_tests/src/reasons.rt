@@ -45,7 +45,7 @@ fn an_office_of_this_version(rt: HostRuntime) -> Result<(), Fail> {
     let words = [
         "init",
         "--db",
-        "office.db",
+        "reasons.db",
         "--name",
         "Chief",
         "--token",
@@ -71,7 +71,7 @@ fn an_office_of_this_version(rt: HostRuntime) -> Result<(), Fail> {
     told(&rt, rt, &words_there, 2, nowhere, "database: store\n")?;
     let line = "an office of version 2\n";
     told(&rt, rt, &words, 2, line, "database: exists\n")?;
-    let words = ["upgrade", "--db", "office.db", "--why"];
+    let words = ["upgrade", "--db", "reasons.db", "--why"];
     told(&rt, rt, &words, 2, line, "database: version\n")
 }
 

@@ -23,7 +23,7 @@ fn renewed<'x, R: Threads + Wait + Copy + Drop + Send + 'static>(
     let words = [
         "renew-token",
         "--db",
-        "office.db",
+        "renewed/office.db",
         "--party",
         party,
         option,
@@ -50,7 +50,8 @@ fn answered<R: Threads + Wait + Copy + Drop + Send + 'static>(
 
 #[test]
 fn a_new_token(rt: HostRuntime) -> Result<(), Fail> {
-    let program = Program::found(&rt, rt, ".")?;
+    fs::create_dir(&rt, "renewed")?;
+    let program = Program::found(&rt, rt, "renewed")?;
     answered(&rt, rt, &program, TOKENS[0], "record")?;
     let taken = "refused: not admitted, taken\n";
     for (party, token, line) in [
@@ -61,12 +62,12 @@ fn a_new_token(rt: HostRuntime) -> Result<(), Fail> {
         renewed(&rt, rt, party, ["--token", token], (1, "", line))?;
         answered(&rt, rt, &program, TOKENS[0], "record")?;
     }
-    fs::write(&rt, "token", "anewtokenofthechief\nand more\n")?;
+    fs::write(&rt, "renewed/token", "anewtokenofthechief\nand more\n")?;
     renewed(
         &rt,
         rt,
         "1",
-        ["--token-file", "token"],
+        ["--token-file", "renewed/token"],
         (0, "party 1\n", ""),
     )?;
     answered(&rt, rt, &program, TOKENS[0], "caller")?;
