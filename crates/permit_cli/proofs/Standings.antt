@@ -1,20 +1,20 @@
 -- Which tables stand in a database, by two looks at its version and two at its schema.
-use Rattle.std.proofs.Common.{◌≡◌, Bool, true, false, refl, sym, ap, ◌∙◌, true≢false}
+use Rattle.std.proofs.Common.{◌≡◌, Bool, true, false, refl, sym, ap, subst, ◌∙◌, true≢false}
 use Rattle.std.specs.Prelude.{◌↔◌, IsTrue}
 use Rattle.sqlite.specs.Effect.{Database}
 use Rattle.sqlite_schema.specs.declared.schema.Schema.{Schema}
 use Rattle.permit_base.specs.declared.words.Edition.{Edition}
 use Rattle.permit_base.specs.declared.words.Edition.TheVariants.{First, Second}
-use Rattle.permit_sql_rows.specs.Schema.{schema_of}
+use Rattle.permit_sql_rows.specs.Schema.{IsOffice}
 use Rattle.permit_sql.specs.Opening.{HasOtherVersion}
 use Rattle.permit_cli.specs.Reasons.{standing_by, HasOffice, HasUnknownVersion, Stands}
 
--- what two looks tell of an edition: whether the desk says another version, and whether the schema is the edition's
+-- what two looks tell of an edition: whether the desk says another version, and whether the schema is an office's under it
 pub record Tells (edition : Edition) (db : Database) (says_other is_schema : Bool) : Type 0 where
   pub other : IsTrue says_other → HasOtherVersion edition db
   pub told : HasOtherVersion edition db → IsTrue says_other
-  pub schema : IsTrue is_schema → db.schema ≡ schema_of edition
-  pub same : db.schema ≡ schema_of edition → IsTrue is_schema
+  pub schema : IsTrue is_schema → IsOffice edition db.schema
+  pub same : IsOffice edition db.schema → IsTrue is_schema
 
 -- no office of the edition
 no_office : (edition : Edition) (db : Database) (says_other is_schema : Bool) → Tells edition db says_other is_schema →
@@ -53,8 +53,13 @@ stands_by db false false false false first second =
 
 -- what the looks tell of a database that stays as it is
 pub tells : (edition : Edition) (db now : Database) (shown : Schema) (says_other is_schema : Bool) → (IsTrue says_other → HasOtherVersion edition db) →
-    (HasOtherVersion edition db → IsTrue says_other) → (IsTrue is_schema ↔ (shown ≡ schema_of edition)) → shown ≡ now.schema → now ≡ db →
+    (HasOtherVersion edition db → IsTrue says_other) → (IsTrue is_schema ↔ IsOffice edition shown) → shown ≡ now.schema → now ≡ db →
     Tells edition db says_other is_schema
 tells edition db now shown says_other is_schema other told same_schema shows same =
     let is : shown ≡ db.schema = shows ∙ ap (λ (d : Database). d.schema) same in
-    record { other = other; told = told; schema = λ shown_so. sym is ∙ same_schema.0 shown_so; same = λ has. same_schema.1 (is ∙ has) }
+    record {
+      other = other;
+      told = told;
+      schema = λ yes. subst (IsOffice edition) is (same_schema.0 yes);
+      same = λ has. same_schema.1 (subst (IsOffice edition) (sym is) has);
+    }

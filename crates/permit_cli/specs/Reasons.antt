@@ -8,7 +8,7 @@ use Rattle.permit_base.specs.declared.words.Edition.{Edition}
 use Rattle.permit_base.specs.declared.words.Edition.TheVariants.{First, Second}
 use Rattle.permit_store.specs.declared.store.OpenError.{OpenError}
 use Rattle.permit_store.specs.declared.store.OpenError.TheVariants as opening
-use Rattle.permit_sql_rows.specs.Schema.{schema_of}
+use Rattle.permit_sql_rows.specs.Schema.{IsOffice}
 use Rattle.permit_sql.specs.Opening.{HasOtherVersion}
 use Rattle.permit_cli.specs.declared.reason.Reason.{Reason}
 use Rattle.permit_cli.specs.declared.reason.Reason.TheVariants as reason
@@ -29,7 +29,7 @@ reason_line reason.DiskFull = codes "the disk is full"
 reason_line reason.DiskFails = codes "the disk fails"
 reason_line reason.Memory = codes "out of memory"
 reason_line reason.NoDatabase = codes "no sound SQLite database"
-reason_line reason.OtherTables = codes "no tables of an office, or tables that are not as the program made them (VACUUM, ANALYZE)"
+reason_line reason.OtherTables = codes "no tables of an office, or more than those (ANALYZE adds some)"
 reason_line reason.FirstVersion = codes "an office of version 1: run \"permit upgrade\""
 reason_line reason.SecondVersion = codes "an office of version 2"
 reason_line reason.OtherVersion = codes "an office of another version: run the program that made it"
@@ -41,7 +41,7 @@ reason_line reason.Failed = codes "the disk is full or fails, or memory ran out"
 
 -- the database has an office's schema under the edition, and its desk says no other version
 pub record HasOffice (edition : Edition) (db : Database) : Type 0 where
-  pub schema : db.schema ≡ schema_of edition
+  pub schema : IsOffice edition db.schema
   pub version : ¬ HasOtherVersion edition db
 
 -- its desk says a version that is neither of the two

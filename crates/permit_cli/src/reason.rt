@@ -70,9 +70,7 @@ impl Reason {
             Reason::DiskFails => "the disk fails",
             Reason::Memory => "out of memory",
             Reason::NoDatabase => "no sound SQLite database",
-            Reason::OtherTables => {
-                "no tables of an office, or tables that are not as the program made them (VACUUM, ANALYZE)"
-            }
+            Reason::OtherTables => "no tables of an office, or more than those (ANALYZE adds some)",
             Reason::FirstVersion => "an office of version 1: run \"permit upgrade\"",
             Reason::SecondVersion => "an office of version 2",
             Reason::OtherVersion => "an office of another version: run the program that made it",

@@ -28,7 +28,7 @@ fn a_path_without_a_database(rt: HostRuntime) -> Result<(), Fail> {
         ),
         (
             "empty.db",
-            "no tables of an office, or tables that are not as the program made them (VACUUM, ANALYZE)\n",
+            "no tables of an office, or more than those (ANALYZE adds some)\n",
             "database: store\n",
         ),
     ] {

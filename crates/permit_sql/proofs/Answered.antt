@@ -16,17 +16,14 @@ use Rattle.sqlite_trees.specs.Tree.{Trees, IsAscending}
 use Rattle.sqlite_keyed.proofs.ListLemmas.{map-map, map_same, ascending-map, ascending_weaker}
 use Rattle.sqlite_keyed.proofs.SortLemmas.{sorted_unique}
 use Rattle.sqlite.specs.State.{State, Shown}
-use Rattle.sqlite.proofs.Callers.{reads_as}
 use Rattle.permit_base.specs.declared.words.Edition.{Edition}
 use Rattle.permit_model.specs.Tables.{Tables}
-use Rattle.permit_sql_rows.specs.Schema.{schema_of}
 use Rattle.permit_sql_rows.specs.Rows.{int, party_row, parcel_row, file_row, shown_party, shown_parcel, shown_file}
 use Rattle.permit_sql_rows.specs.Kept.{KeepsUnder}
 use Rattle.permit_sql.specs.Found.{IsNumbered, AreTyped}
 use Rattle.permit_sql.specs.declared.texts.TheConstants.{EACH_PARTY, EACH_PARCEL, EACH_FILE}
 use Rattle.permit_sql_statements.proofs.Lookups.{plain_query, answers}
-use Rattle.permit_sql.proofs.WholeMeanings.{each_party_query, each_party_is, each_party_plain, each_party_unlisted, each_parcel_query, each_parcel_is}
-use Rattle.permit_sql.proofs.WholeMeanings.{each_parcel_plain, each_parcel_unlisted, each_file_query, each_file_is, each_file_plain, each_file_unlisted}
+use Rattle.permit_sql.proofs.WholeMeanings.{read_in, each_party_query, each_party_text, each_parcel_query, each_parcel_text, each_file_query, each_file_text}
 
 -- ---- a table whose rows are keyed by their numbers
 
@@ -71,18 +68,18 @@ module _ {X : Type 0} (number : X → ℕ) where
 module _ (edition : Edition) (old new : State) (t : Tables) (typed : AreTyped t) (k : KeepsUnder edition t old.now) (rows : List Row) where
   pub parties_shown : Shown EACH_PARTY.now [] old new rows → rows ≡ map shown_party t.parties
   parties_shown h =
-      let read = reads_as EACH_PARTY.now [] old new (schema_of edition) k.schema _ (each_party_is edition) (each_party_plain edition) (each_party_unlisted edition) rows h in
+      let read = read_in edition EACH_PARTY.now each_party_query (each_party_text edition) old new k.schema rows h in
       numbered_shown (λ p. p.id) party_row shown_party 1 each_party_query.project (λ p. refl)
       (overlay old.now.trees []) t.parties 1 typed.party_numbers k.rows.parties rows (read.answer Null)
 
   pub parcels_shown : Shown EACH_PARCEL.now [] old new rows → rows ≡ map shown_parcel t.parcels
   parcels_shown h =
-      let read = reads_as EACH_PARCEL.now [] old new (schema_of edition) k.schema _ (each_parcel_is edition) (each_parcel_plain edition) (each_parcel_unlisted edition) rows h in
+      let read = read_in edition EACH_PARCEL.now each_parcel_query (each_parcel_text edition) old new k.schema rows h in
       numbered_shown (λ p. p.id) parcel_row shown_parcel 3 each_parcel_query.project (λ p. refl)
       (overlay old.now.trees []) t.parcels 1 typed.parcel_numbers k.rows.parcels rows (read.answer Null)
 
   pub files_shown : Shown EACH_FILE.now [] old new rows → rows ≡ map shown_file t.files
   files_shown h =
-      let read = reads_as EACH_FILE.now [] old new (schema_of edition) k.schema _ (each_file_is edition) (each_file_plain edition) (each_file_unlisted edition) rows h in
+      let read = read_in edition EACH_FILE.now each_file_query (each_file_text edition) old new k.schema rows h in
       numbered_shown (λ f. f.id) file_row shown_file 7 each_file_query.project (λ f. refl)
       (overlay old.now.trees []) t.files 1 typed.file_numbers k.rows.files rows (read.answer Null)

@@ -17,6 +17,7 @@ use Rattle.permit_store.specs.declared.change.Change.{Change}
 use Rattle.permit_store.specs.declared.change.Change.TheVariants.{NewParty, NewParcel, NewOwner, NewInterest, NewFile, NewRow}
 use Rattle.permit_store.specs.Counts.{next_count, failed_after}
 use Rattle.permit_store.specs.Frames.{HasOneDesk, Reads, IsCommit}
+use Rattle.permit_sql_rows.specs.Schema.{upgrade_tree}
 use Rattle.permit_sql_rows.specs.Rows.{upgrade_row}
 use Rattle.permit_sql_rows.specs.Kept.{KeepsUnder, Keeps, Shows}
 use Rattle.permit_sql.specs.Seen.{seen}
@@ -47,10 +48,11 @@ one_desk edition t u db one other =
 abbrev count_in : List Row → Option ℕ
 count_in rows = Some (number_at 2 rows)
 
-upgrade_read : (t : Tables) (db : Database) → Keeps t db → t.upgrade ≡ count_in (db.trees 18)
+upgrade_read : (t : Tables) (db : Database) → Keeps t db → t.upgrade ≡ count_in (db.trees (upgrade_tree db.schema))
 upgrade_read t db k = go t.upgrade (k.keyed.edition) k.rows.upgrade
   where
-    go : (o : Option ℕ) → t.desk.edition ≡ edition_by o → IfSome o (λ files. db.trees 18 ≡ upgrade_row files ∷ []) → o ≡ count_in (db.trees 18)
+    go : (o : Option ℕ) → t.desk.edition ≡ edition_by o → IfSome o (λ files. db.trees (upgrade_tree db.schema) ≡ upgrade_row files ∷ []) →
+        o ≡ count_in (db.trees (upgrade_tree db.schema))
     go None told here = absurd (let e = sym k.now ∙ told in cc)
     go (Some files) told here = ap count_in (sym here)
 

@@ -17,27 +17,26 @@ use Rattle.sqlite_sql.specs.Term.{col}
 use Rattle.sqlite_trees.specs.Tree.{rowid, Trees}
 use Rattle.sqlite_trees.specs.declared.store.Store.{Ghosts}
 use Rattle.sqlite_schema.specs.declared.schema.Column.{Column}
-use Rattle.sqlite_schema.specs.declared.command.Command.TheVariants.{Select}
+use Rattle.sqlite_schema.specs.declared.schema.Schema.{Schema}
 use Rattle.sqlite_schema.specs.declared.schema.Constraint.{Constraint}
 use Rattle.sqlite_schema.specs.declared.schema.Constraint.TheVariants.{Datatype, NotNull, Unique}
 use Rattle.sqlite_schema.specs.Rules.{agree, differ, Keeps as KeepsRule}
 use Rattle.sqlite.specs.Effect.{Database}
 use Rattle.sqlite.specs.Held.{Held, state}
-use Rattle.sqlite.specs.Listing.{understood, reads_listing}
-use Rattle.sqlite.proofs.Callers.{reads_as, command_of, IsPlain}
 use Rattle.permit_base.specs.declared.words.Edition.{Edition}
 use Rattle.permit_model.specs.Caller.{Party}
 use Rattle.permit_model.specs.Parcels.{Parcel}
-use Rattle.permit_sql_rows.specs.Schema.{schema_of, key_column, int_column, text_column, party_table, parcel_table}
+use Rattle.permit_sql_rows.specs.Schema.{IsOffice, key_column, int_column, text_column, party_table, parcel_table}
 use Rattle.permit_sql_rows.specs.Rows.{int, party_row, parcel_row, shown_party, shown_parcel}
 use Rattle.permit_sql_rows.specs.Typed.{firsts, IsObject, IsParty, IsParcel}
 use Rattle.permit_sql.specs.Found.{TookTable, TakesNumbered, TakesInterest, RefusesNumbered, HasNumbered, HasParties, HasParcels}
 use Rattle.permit_sql.specs.declared.check.Numbered.{Numbered}
 use Rattle.permit_sql.specs.declared.texts.TheConstants.{EACH_PARTY, EACH_PARCEL}
 use Rattle.permit_sql_statements.proofs.Lookups.{plain_query, text_is, one_test}
-use Rattle.permit_sql_statements.proofs.QueryTexts.{alone, names_of, columns_of}
+use Rattle.permit_sql_statements.proofs.QueryTexts.{columns_of}
 use Rattle.permit_sql_statements.proofs.Wholes.{whole_shown}
-use Rattle.permit_sql.proofs.WholeMeanings.{each_party_is, each_party_plain, each_party_unlisted, each_parcel_is, each_parcel_plain, each_parcel_unlisted}
+use Rattle.permit_sql.proofs.Offices.{laid, rule_of}
+use Rattle.permit_sql.proofs.WholeMeanings.{IsTextIn, read_in, each_party_text, each_parcel_text}
 use Rattle.permit_sql.proofs.Shaped.{IsKeyedRow, keyed_rows}
 use Rattle.permit_sql.proofs.Taking.{took_numbered, in_tree, map_itself}
 use Rattle.permit_sql.proofs.Unclashed.{all_weaker, once_each, unclashed}
@@ -86,18 +85,20 @@ parcel_columns = text_column (codes "lot") ∷ text_column (codes "address") ∷
 abbrev objects_query : ℕ → Query
 objects_query tree = plain_query (inner tree end) [] (col 1 0 ∷ columns_of 3 2) ((col 1 0, ascending Binary) ∷ [])
 
-module _ (edition : Edition) {S : Type 0} (g : Ghosts S) (old new : Held S) (schema : (state g old).now.schema ≡ (schema_of edition)) (count : ℕ) where
+module _ (edition : Edition) {S : Type 0} (g : Ghosts S) (old new : Held S) (office : IsOffice edition (state g old).now.schema) (count : ℕ) where
   abbrev trees : Trees
   trees = (state g old).now.trees
 
+  abbrev schema : Schema
+  schema = laid edition (state g old).now.schema office
+
   abbrev AreKept : Type 0
-  AreKept = (c : Constraint) → KeepsRule c (schema_of edition) trees
+  AreKept = (c : Constraint) → KeepsRule c schema trees
 
   -- all rows of a table of objects were taken, no two of which have the same text in one place
   module _ {X : Type 0} (shown row_of : X → Row) (IsGood : X → Type 0) (number : X → ℕ) (text : X → List ℕ) (place tree : ℕ) (sql : List ℕ)
       (is_stored : (db : Trees) → overlay db [] tree ≡ db tree)
-      (means : command_of (understood (schema_of edition) sql) ≡ Select (alone (objects_query tree)) (names_of (command_of (understood (schema_of edition) sql))))
-      (read_plain : IsPlain (understood (schema_of edition) sql)) (unlisted : reads_listing (schema_of edition) sql ≡ false)
+      (text_is : IsTextIn edition sql (objects_query tree))
       (clash : (x y : X) → same_text place (row_of y) (row_of x) ≡ (bytes_eq (text y) (text x) && not (eqb (number y) (number x))))
       (is_row : (x : X) → with_null (shown x) ≡ row_of x)
       (wholes : AreKept → AllByRecursion (IsKeyedRow 3) (trees tree))
@@ -107,8 +108,9 @@ module _ (edition : Edition) {S : Type 0} (g : Ghosts S) (old new : Held S) (sch
     objects_are a b none took same =
         let was = state g took.1 in
         let q = objects_query tree in
-        let kept : AreKept = λ c. subst (λ s. KeepsRule c s trees) schema (took.3.obeys.rules c) in
-        let read = reads_as sql [] was (state g new) (schema_of edition) (ap (λ (d : Database). d.schema) took.2 ∙ schema) _ means read_plain unlisted took.0 took.4 in
+        let kept : AreKept = rule_of edition (state g old).now office took.3 in
+        let still = subst (λ (d : Database). IsOffice edition d.schema) (sym took.2) office in
+        let read = read_in edition sql q text_is was (state g new) still took.0 took.4 in
         let seen = whole_shown tree q.project q.order (overlay was.now.trees []) took.0 (read.answer Null) in
         let stored = subst (λ l. IsPermutation (map (λ r. column r 0 ∷ firsts 3 2 r) l) took.0) (is_stored was.now.trees) seen in
         let here = subst (λ (d : Database). IsPermutation (map (λ r. column r 0 ∷ firsts 3 2 r) (d.trees tree)) took.0) took.2 stored in
@@ -128,17 +130,17 @@ module _ (edition : Edition) {S : Type 0} (g : Ghosts S) (old new : Held S) (sch
 
   pub parties_are : (a b : Numbered Party) → a.count ≡ 0 → TookTable party_took g EACH_PARTY.now old new a b → b.count ≡ count → HasParties count (trees 1)
   parties_are =
-      objects_are shown_party party_row IsParty (λ p. p.id) (λ p. p.digest) 4 1 EACH_PARTY.now (λ db. refl) (each_party_is edition) (each_party_plain edition)
-      (each_party_unlisted edition) party_clash (λ p. refl)
-      (λ kept. keyed_rows (schema_of edition) trees party_table key_column party_columns refl refl (refl, (refl, (refl, tt))) (omega arith)
+      objects_are shown_party party_row IsParty (λ p. p.id) (λ p. p.digest) 4 1 EACH_PARTY.now (λ db. refl) (each_party_text edition) party_clash
+      (λ p. refl)
+      (λ kept. keyed_rows schema trees party_table key_column party_columns refl refl (refl, (refl, (refl, tt))) (omega arith)
       (trees 1) (kept Datatype).1.0 (kept NotNull).1.0)
       (λ kept. all_weaker (λ r h. not_true _ (and_parts _ _ h).0) (trees 1) (kept Unique).1.0)
 
   pub parcels_are : (a b : Numbered Parcel) → a.count ≡ 0 → TookTable parcel_took g EACH_PARCEL.now old new a b → b.count ≡ count → HasParcels count (trees 3)
   parcels_are =
-      objects_are shown_parcel parcel_row IsParcel (λ p. p.id) (λ p. p.lot) 2 3 EACH_PARCEL.now (λ db. refl) (each_parcel_is edition) (each_parcel_plain edition)
-      (each_parcel_unlisted edition) parcel_clash (λ p. refl)
-      (λ kept. keyed_rows (schema_of edition) trees parcel_table key_column parcel_columns refl refl (refl, (refl, (refl, tt))) (omega arith)
+      objects_are shown_parcel parcel_row IsParcel (λ p. p.id) (λ p. p.lot) 2 3 EACH_PARCEL.now (λ db. refl) (each_parcel_text edition) parcel_clash
+      (λ p. refl)
+      (λ kept. keyed_rows schema trees parcel_table key_column parcel_columns refl refl (refl, (refl, (refl, tt))) (omega arith)
       (trees 3) (kept Datatype).1.1.0 (kept NotNull).1.1.0)
       (λ kept. all_weaker (λ r h. not_true _ (and_parts _ _ h).0) (trees 3) (kept Unique).1.1.0)
 

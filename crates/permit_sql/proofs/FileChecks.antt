@@ -19,14 +19,13 @@ use Rattle.sqlite_trees.specs.Tree.{has_rowid}
 use Rattle.sqlite_trees.specs.declared.store.Store.{Ghosts}
 use Rattle.sqlite_schema.specs.declared.schema.Column.{Column}
 use Rattle.sqlite_schema.specs.declared.schema.Constraint.TheVariants.{Datatype, NotNull}
-use Rattle.sqlite_schema.specs.Rules.{Keeps as KeepsRule}
+use Rattle.sqlite_schema.specs.declared.schema.Schema.{Schema}
 use Rattle.sqlite.specs.Effect.{Database}
 use Rattle.sqlite.specs.Held.{Held, state}
-use Rattle.sqlite.proofs.Callers.{reads_as}
 use Rattle.permit_base.specs.declared.words.Edition.{Edition}
 use Rattle.permit_model.specs.Parcels.{Interest}
 use Rattle.permit_model.specs.Tables.{FileRow, Paper}
-use Rattle.permit_sql_rows.specs.Schema.{schema_of, key_column, file_table, interest_table, paper_table}
+use Rattle.permit_sql_rows.specs.Schema.{IsOffice, key_column, file_table, interest_table, paper_table}
 use Rattle.permit_sql_rows.specs.Rows.{file_row, shown_file, shown_interest, shown_paper}
 use Rattle.permit_sql_rows.specs.Typed.{firsts, IsInterest, IsPaper}
 use Rattle.permit_sql.specs.Taken.{TookAll}
@@ -38,9 +37,9 @@ use Rattle.permit_sql.specs.declared.check_files.Papers.{Papers}
 use Rattle.permit_sql.specs.declared.check_files.Rowids.{Rowids}
 use Rattle.permit_sql.specs.declared.texts.TheConstants.{EACH_INTEREST, EACH_FILE, EACH_PAPER, EACH_ROWID}
 use Rattle.permit_sql_statements.proofs.Wholes.{whole_shown}
-use Rattle.permit_sql.proofs.WholeMeanings.{each_interest_query, each_interest_is, each_interest_plain, each_interest_unlisted, each_file_query, each_file_is}
-use Rattle.permit_sql.proofs.WholeMeanings.{each_file_plain, each_file_unlisted, each_paper_query, each_paper_is, each_paper_plain, each_paper_unlisted}
-use Rattle.permit_sql.proofs.WholeMeanings.{each_rowid_query, each_rowid_is, each_rowid_plain, each_rowid_unlisted}
+use Rattle.permit_sql.proofs.Offices.{laid, rule_of}
+use Rattle.permit_sql.proofs.WholeMeanings.{read_in, each_interest_query, each_interest_text, each_file_query, each_file_text}
+use Rattle.permit_sql.proofs.WholeMeanings.{each_paper_query, each_paper_text, each_rowid_query, each_rowid_text}
 use Rattle.permit_sql.proofs.Shaped.{keyed_rows, paired_rows}
 use Rattle.permit_sql.proofs.Taking.{in_tree, map_itself}
 use Rattle.permit_sql.proofs.Checks.{with_null}
@@ -153,23 +152,25 @@ long_map f (x ∷ xs) = ap suc (long_map f xs)
 abbrev file_columns : List Column
 file_columns = drop 1 file_table.columns
 
-module _ (edition : Edition) {S : Type 0} (g : Ghosts S) (old new : Held S) (schema : (state g old).now.schema ≡ (schema_of edition)) where
-  rule : (sound : Rattle.sqlite.specs.Effect.IsDatabase (state g old).now) (c : Rattle.sqlite_schema.specs.declared.schema.Constraint.Constraint) →
-      KeepsRule c (schema_of edition) (state g old).now.trees
-  rule sound c = subst (λ s. KeepsRule c s (state g old).now.trees) schema (sound.obeys.rules c)
+module _ (edition : Edition) {S : Type 0} (g : Ghosts S) (old new : Held S) (office : IsOffice edition (state g old).now.schema) where
+  abbrev schema : Schema
+  schema = laid edition (state g old).now.schema office
+
+  -- a database that is the same has the same schema
+  still : (db : Database) → db ≡ (state g old).now → IsOffice edition db.schema
+  still db same = subst (λ (d : Database). IsOffice edition d.schema) (sym same) office
 
   pub interests_are : (a b : Interests) → TookTable interest_took g EACH_INTEREST.now old new a b → HasInterests ((state g old).now.trees 5)
   interests_are a b took =
       let was = state g took.1 in
       let now = (state g old).now in
-      let read = reads_as EACH_INTEREST.now [] was (state g new) (schema_of edition)
-      (ap (λ (d : Database). d.schema) took.2 ∙ schema) _ (each_interest_is edition) (each_interest_plain edition) (each_interest_unlisted edition) took.0 took.4 in
+      let read = read_in edition EACH_INTEREST.now each_interest_query (each_interest_text edition) was (state g new) (still was.now took.2) took.0 took.4 in
       let seen = whole_shown 5 each_interest_query.project each_interest_query.order (overlay was.now.trees []) took.0 (read.answer Null) in
       let here = subst (λ (d : Database). IsPermutation (map (λ r. firsts 2 1 r) (d.trees 5)) took.0) took.2 seen in
       let taken = took_interests took.0 a b took.5 in
-      let typed : KeepsRule Datatype (schema_of edition) now.trees = rule took.3 Datatype in
-      let there : KeepsRule NotNull (schema_of edition) now.trees = rule took.3 NotNull in
-      let whole = paired_rows (schema_of edition) now.trees interest_table interest_table.columns refl refl (refl, (refl, tt)) (omega arith)
+      let typed = rule_of edition now office took.3 Datatype in
+      let there = rule_of edition now office took.3 NotNull in
+      let whole = paired_rows schema now.trees interest_table interest_table.columns refl refl (refl, (refl, tt)) (omega arith)
       (now.trees 5) typed.1.1.1.0 there.1.1.1.0 in
       record {
         all = taken.0;
@@ -182,14 +183,13 @@ module _ (edition : Edition) {S : Type 0} (g : Ghosts S) (old new : Held S) (sch
   files_are a b none took =
       let was = state g took.1 in
       let now = (state g old).now in
-      let read = reads_as EACH_FILE.now [] was (state g new) (schema_of edition)
-      (ap (λ (d : Database). d.schema) took.2 ∙ schema) _ (each_file_is edition) (each_file_plain edition) (each_file_unlisted edition) took.0 took.4 in
+      let read = read_in edition EACH_FILE.now each_file_query (each_file_text edition) was (state g new) (still was.now took.2) took.0 took.4 in
       let seen = whole_shown 7 each_file_query.project each_file_query.order (overlay was.now.trees []) took.0 (read.answer Null) in
       let here = subst (λ (d : Database). IsPermutation (map (λ r. column r 0 ∷ firsts 19 2 r) (d.trees 7)) took.0) took.2 seen in
       let taken = took_files took.0 a b took.5 in
-      let typed : KeepsRule Datatype (schema_of edition) now.trees = rule took.3 Datatype in
-      let there : KeepsRule NotNull (schema_of edition) now.trees = rule took.3 NotNull in
-      let whole = keyed_rows (schema_of edition) now.trees file_table key_column file_columns refl refl
+      let typed = rule_of edition now office took.3 Datatype in
+      let there = rule_of edition now office took.3 NotNull in
+      let whole = keyed_rows schema now.trees file_table key_column file_columns refl refl
       (refl, (refl, (refl, (refl, (refl, (refl, (refl, (refl, (refl, (refl, (refl, (refl, (refl, (refl, (refl, (refl, (refl, (refl, (refl, tt)))))))))))))))))))
       (omega arith) (now.trees 7) typed.1.1.1.1.0 there.1.1.1.1.0 in
       let inside = in_tree 20 shown_file file_row (λ r. column r 0 ∷ firsts 19 2 r) with_null (λ r. r) (λ r. refl) (λ p. refl)
@@ -207,14 +207,13 @@ module _ (edition : Edition) {S : Type 0} (g : Ghosts S) (old new : Held S) (sch
   papers_are a b no_file no_number counts has took =
       let was = state g took.1 in
       let now = (state g old).now in
-      let read = reads_as EACH_PAPER.now [] was (state g new) (schema_of edition)
-      (ap (λ (d : Database). d.schema) took.2 ∙ schema) _ (each_paper_is edition) (each_paper_plain edition) (each_paper_unlisted edition) took.0 took.4 in
+      let read = read_in edition EACH_PAPER.now each_paper_query (each_paper_text edition) was (state g new) (still was.now took.2) took.0 took.4 in
       let seen = whole_shown 8 each_paper_query.project each_paper_query.order (overlay was.now.trees []) took.0 (read.answer Null) in
       let here = subst (λ (d : Database). IsPermutation (map (λ r. firsts 9 1 r) (d.trees 8)) took.0) took.2 seen in
       let taken = took_papers took.0 a b counts has took.5 in
-      let typed : KeepsRule Datatype (schema_of edition) now.trees = rule took.3 Datatype in
-      let there : KeepsRule NotNull (schema_of edition) now.trees = rule took.3 NotNull in
-      let whole = paired_rows (schema_of edition) now.trees paper_table paper_table.columns refl refl
+      let typed = rule_of edition now office took.3 Datatype in
+      let there = rule_of edition now office took.3 NotNull in
+      let whole = paired_rows schema now.trees paper_table paper_table.columns refl refl
       (refl, (refl, (refl, (refl, (refl, (refl, (refl, (refl, (refl, tt))))))))) (omega arith) (now.trees 8) typed.1.1.1.1.1.0 there.1.1.1.1.1.0 in
       record {
         all = taken.0;
@@ -228,8 +227,7 @@ module _ (edition : Edition) {S : Type 0} (g : Ghosts S) (old new : Held S) (sch
   rowids_are a b took = λ id.
       let was = state g took.1 in
       let now = (state g old).now in
-      let read = reads_as EACH_ROWID.now [] was (state g new) (schema_of edition)
-      (ap (λ (d : Database). d.schema) took.2 ∙ schema) _ (each_rowid_is edition) (each_rowid_plain edition) (each_rowid_unlisted edition) took.0 took.4 in
+      let read = read_in edition EACH_ROWID.now each_rowid_query (each_rowid_text edition) was (state g new) (still was.now took.2) took.0 took.4 in
       let seen = whole_shown 8 each_rowid_query.project each_rowid_query.order (overlay was.now.trees []) took.0 (read.answer Null) in
       let here = subst (λ (d : Database). IsPermutation (map (λ r. column r 0 ∷ []) (d.trees 8)) took.0) took.2 seen in
       let once = once_above id a.last took.0 (took_rowids took.0 a b took.5) in

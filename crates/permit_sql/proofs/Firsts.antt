@@ -20,7 +20,7 @@ use Rattle.permit_sql.specs.declared.unsound.Owned.{Owned}
 use Rattle.permit_sql.specs.declared.unsound.Declared.{Declared}
 use Rattle.permit_sql.specs.declared.unsound.Tested.{Tested}
 use Rattle.permit_sql.specs.declared.texts.TheConstants.{EACH_PARCEL, EACH_INTEREST, EACH_FILE}
-use Rattle.permit_sql.proofs.WholeMeanings.{each_parcel_is, each_interest_is, each_file_is}
+use Rattle.permit_sql.proofs.WholeMeanings.{each_parcel_text, each_interest_text, each_file_text}
 use Rattle.permit_sql.proofs.Answered.{parcels_shown, files_shown}
 use Rattle.permit_sql.proofs.PapersAnswered.{interests_shown}
 use Rattle.permit_sql.proofs.Refused.{all_or_stopped}
@@ -78,7 +78,7 @@ module _ (edition : Edition) {S : Type 0} (g : Ghosts S) (old new : Held S) (t :
   pub parcels_told : (a b : Owned) (all : Bool) → TookRows owned_took g EACH_PARCEL.now [] old new a b all →
       Told all b.fault (λ o. o ≡ first_in (of_parcel a.parties) t.parcels)
   parcels_told a b all h =
-      after (all_or_stopped edition g old new t k EACH_PARCEL.now _ (each_parcel_is edition) shown_parcel owned_took Fits (λ d. d.fault ≡ first_in of t.parcels)
+      after (all_or_stopped edition g old new t k EACH_PARCEL.now _ (each_parcel_text edition) shown_parcel owned_took Fits (λ d. d.fault ≡ first_in of t.parcels)
       (left_next IsParcel shown_parcel owned_took IsSame of (λ d. d.fault) next stop t.parcels)
       (left_stop IsParcel shown_parcel owned_took IsSame of (λ d. d.fault) next stop t.parcels)
       a b all (λ was late kept rows h. (t.parcels, parcels_shown edition was late t typed kept rows h, (typed.parcels, refl, refl))) h)
@@ -105,7 +105,7 @@ module _ (edition : Edition) {S : Type 0} (g : Ghosts S) (old new : Held S) (t :
   pub interests_told : (a b : Declared) (all : Bool) → TookRows declared_took g EACH_INTEREST.now [] old new a b all →
       Told all b.fault (IsFirstInterest a.parcels a.parties t.interests)
   interests_told a b all h =
-      after (all_or_stopped edition g old new t k EACH_INTEREST.now _ (each_interest_is edition) shown_interest declared_took Fits
+      after (all_or_stopped edition g old new t k EACH_INTEREST.now _ (each_interest_text edition) shown_interest declared_took Fits
       (λ d. IsFirstInterest a.parcels a.parties t.interests d.fault)
       (λ d e i is fits h. (fits.0, fits.1, left_next IsInterest shown_interest declared_took IsSame of (λ d. d.fault) next stop fits.0 d e i is fits.2 h))
       (λ d e i is fits h. (fits.0, fits.1, left_stop IsInterest shown_interest declared_took IsSame of (λ d. d.fault) next stop fits.0 d e i is fits.2 h))
@@ -139,7 +139,7 @@ module _ (edition : Edition) {S : Type 0} (g : Ghosts S) (old new : Held S) (t :
   pub files_told : (a b : Tested) (all : Bool) → a.upgrade ≡ t.upgrade → TookRows tested_took g EACH_FILE.now [] old new a b all →
       Told all b.fault (λ o. o ≡ first_in (of_file a.roles.items a.parcels a.last) t.files)
   files_told a b all upgrade h =
-      after (all_or_stopped edition g old new t k EACH_FILE.now _ (each_file_is edition) shown_file tested_took Fits (λ d. d.fault ≡ first_in of t.files)
+      after (all_or_stopped edition g old new t k EACH_FILE.now _ (each_file_text edition) shown_file tested_took Fits (λ d. d.fault ≡ first_in of t.files)
       (left_next (IsGoodFile a.upgrade) shown_file tested_took IsSame of (λ d. d.fault) next stop t.files)
       (left_stop (IsGoodFile a.upgrade) shown_file tested_took IsSame of (λ d. d.fault) next stop t.files)
       a b all (λ was late kept rows h. (

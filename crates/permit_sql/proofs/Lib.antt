@@ -1,4 +1,6 @@
+pub mod Offices
 pub mod Version
+pub mod UpgradeMeaning
 pub mod Upgrades
 pub mod Reopening
 pub mod WholeMeanings

@@ -7,7 +7,7 @@ use Rattle.sqlite_trees.specs.Tree.{IsAscending}
 use Rattle.sqlite.specs.Effect.{Database}
 use Rattle.permit_base.specs.declared.words.Edition.{Edition}
 use Rattle.permit_model.specs.Tables.{Tables, Desk, FileRow, Paper}
-use Rattle.permit_sql_rows.specs.Schema.{schema_of}
+use Rattle.permit_sql_rows.specs.Schema.{IsOffice, upgrade_tree}
 use Rattle.permit_sql_rows.specs.Kept.{IsNamed, AreKeyed, AreInTrees, papers_counted}
 use Rattle.permit_sql_rows.specs.Typed.{IsFile, IsPaper}
 use Rattle.permit_sql.specs.Found.{IsNumbered, IsLater, IsRising, IsGoodFile, IsApart, counted_in, HasDesk, HasUpgrade, HasParties, HasParcels, HasFiles, HasInterests}
@@ -64,11 +64,11 @@ rise_in f n (p ∷ ps) up file = go (eqb p.file file) refl (rise_in p.file p.num
 
 -- ---- all together
 
-pub tables_found : (edition : Edition) (db : Database) (d : Desk) (upgrade : Option ℕ) (counts : List ℕ) → db.schema ≡ schema_of edition →
-    d.edition ≡ edition → HasDesk d (db.trees 0) → HasUpgrade edition d.files upgrade db.trees → HasParties d.parties (db.trees 1) →
+pub tables_found : (edition : Edition) (db : Database) (d : Desk) (upgrade : Option ℕ) (counts : List ℕ) → IsOffice edition db.schema →
+    d.edition ≡ edition → HasDesk d (db.trees 0) → HasUpgrade edition d.files upgrade db → HasParties d.parties (db.trees 1) →
     HasParcels d.parcels (db.trees 3) → HasInterests (db.trees 5)
     → HasFiles upgrade counts (db.trees 7) → length counts ≡ d.files → HasPapers counts (db.trees 8) → IsApart (db.trees 8) → HasTyped edition db d upgrade
-tables_found edition db d upgrade counts schema now desk upgraded parties parcels interests files long papers apart =
+tables_found edition db d upgrade counts office now desk upgraded parties parcels interests files long papers apart =
     let t : Tables = record { desk = d; upgrade = upgrade; parties = parties.all; parcels = parcels.all; interests = interests.all; files = files.all; papers = papers.all } in
     let many : length files.all ≡ d.files = sym (long_map (λ (f : FileRow). f.state.papers) files.all) ∙ ap length files.counted ∙ long in
     let typed : AreTyped t = record {
@@ -97,7 +97,7 @@ tables_found edition db d upgrade counts schema now desk upgraded parties parcel
       papers = rise_in 0 0 papers.all papers.rising;
       counted = λ file. all_passing (λ (p : Paper). eqb p.file file) (counted_at file) papers.all (both papers.all papers.good papers.counted);
     } in
-    let rows : AreInTrees t db.trees = record {
+    let rows : AreInTrees t (upgrade_tree db.schema) db.trees = record {
       desk = desk.here;
       upgrade = upgraded.here;
       parties = parties.here;
@@ -107,7 +107,7 @@ tables_found edition db d upgrade counts schema now desk upgraded parties parcel
       papers = papers.here;
       apart = apart;
     } in
-    (t, typed, record { schema = schema; now = now; keyed = keyed; rows = rows }, refl, refl)
+    (t, typed, record { schema = office; now = now; keyed = keyed; rows = rows }, refl, refl)
   where
     long_map : {A B : Type 0} (f : A → B) (xs : List A) → length (map f xs) ≡ length xs
     long_map f [] = refl

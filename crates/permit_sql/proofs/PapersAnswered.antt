@@ -20,11 +20,9 @@ use Rattle.sqlite_trees.specs.Tree.{IsAscending, has_rowid}
 use Rattle.sqlite_trees.proofs.ListLemmas.{all-permutation}
 use Rattle.sqlite_keyed.proofs.ListLemmas.{map-map, map_same, all_kept, filter-map, filter_same}
 use Rattle.sqlite.specs.State.{State, Shown}
-use Rattle.sqlite.proofs.Callers.{reads_as}
 use Rattle.permit_base.specs.declared.words.Edition.{Edition}
 use Rattle.permit_model.specs.Parcels.{Interest}
 use Rattle.permit_model.specs.Tables.{Tables, Paper}
-use Rattle.permit_sql_rows.specs.Schema.{schema_of}
 use Rattle.permit_sql_rows.specs.Rows.{int, shown_interest, shown_paper}
 use Rattle.permit_sql_rows.specs.Kept.{KeepsUnder, papers_counted}
 use Rattle.permit_sql_rows.specs.Typed.{firsts, IsInterest, IsPaper}
@@ -37,8 +35,7 @@ use Rattle.permit_sql.proofs.Opened.{counts_of}
 use Rattle.permit_sql_statements.proofs.Wholes.{whole_shown, interests_among}
 use Rattle.permit_sql.proofs.Answered.{each_one}
 use Rattle.permit_sql.proofs.Neighbours.{First, Adjacent, one_passes, climbs, all_of_form, long_map}
-use Rattle.permit_sql.proofs.WholeMeanings.{each_interest_query, each_interest_is, each_interest_plain, each_interest_unlisted, each_paper_query, each_paper_is}
-use Rattle.permit_sql.proofs.WholeMeanings.{each_paper_plain, each_paper_unlisted, each_rowid_query, each_rowid_is, each_rowid_plain, each_rowid_unlisted}
+use Rattle.permit_sql.proofs.WholeMeanings.{read_in, each_interest_query, each_interest_text, each_paper_query, each_paper_text, each_rowid_query, each_rowid_text}
 
 -- ---- the order of papers
 
@@ -213,7 +210,7 @@ module _ (edition : Edition) (old new : State) (t : Tables) (typed : AreTyped t)
   pub interests_shown : Shown EACH_INTEREST.now [] old new rows → (xs : List Interest) × (rows ≡ map shown_interest xs) × AllByRecursion IsInterest xs
       × IsPermutation t.interests xs
   interests_shown h =
-      let read = reads_as EACH_INTEREST.now [] old new (schema_of edition) k.schema _ (each_interest_is edition) (each_interest_plain edition) (each_interest_unlisted edition) rows h in
+      let read = read_in edition EACH_INTEREST.now each_interest_query (each_interest_text edition) old new k.schema rows h in
       let seen : IsPermutation (map (λ r. firsts 2 1 r) (old.now.trees 5)) rows =
       whole_shown 5 each_interest_query.project each_interest_query.order (overlay old.now.trees []) rows (read.answer Null) in
       let it = interests_among t.interests (old.now.trees 5) rows k.rows.interests seen in
@@ -226,7 +223,7 @@ module _ (edition : Edition) (old new : State) (t : Tables) (typed : AreTyped t)
       let q = each_paper_query in
       let db = overlay old.now.trees [] in
       let counts = map (λ (f : Rattle.permit_model.specs.Tables.FileRow). f.state.papers) t.files in
-      let read = reads_as EACH_PAPER.now [] old new (schema_of edition) k.schema _ (each_paper_is edition) (each_paper_plain edition) (each_paper_unlisted edition) rows h in
+      let read = read_in edition EACH_PAPER.now each_paper_query (each_paper_text edition) old new k.schema rows h in
       let got = answers q.from q.filter q.project q.order db [] rows (read.answer Null) in
       let over : map (output q) (flat_map (λ r. ([] ∷ r ∷ []) ∷ []) (old.now.trees 8))
       ≡ map (λ c. output q ([] ∷ (Null ∷ c) ∷ [])) (map (drop 1) (old.now.trees 8)) =
@@ -269,7 +266,7 @@ module _ (edition : Edition) (old new : State) (t : Tables) (typed : AreTyped t)
   pub rowids_shown : Shown EACH_ROWID.now [] old new rows → (vs : List Value) × (rows ≡ map (λ v. v ∷ []) vs) × Adjacent AreUp vs
   rowids_shown h =
       let q = each_rowid_query in
-      let read = reads_as EACH_ROWID.now [] old new (schema_of edition) k.schema _ (each_rowid_is edition) (each_rowid_plain edition) (each_rowid_unlisted edition) rows h in
+      let read = read_in edition EACH_ROWID.now each_rowid_query (each_rowid_text edition) old new k.schema rows h in
       let got = answers q.from q.filter q.project q.order (overlay old.now.trees []) [] rows (read.answer Null) in
       let same : IsPermutation (map (λ r. value_out (column r 0)) (old.now.trees 8)) got.0 =
       subst (λ l. IsPermutation l got.0) (each_one q (old.now.trees 8)) got.1 in

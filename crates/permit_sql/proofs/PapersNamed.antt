@@ -31,7 +31,7 @@ use Rattle.permit_sql.specs.declared.fault.PaperRule.TheVariants as paper
 use Rattle.permit_sql.specs.declared.tally.Tally.{Tally}
 use Rattle.permit_sql.specs.declared.unsound_papers.Read.{Read}
 use Rattle.permit_sql.specs.declared.texts.TheConstants.{EACH_PAPER}
-use Rattle.permit_sql.proofs.WholeMeanings.{each_paper_is}
+use Rattle.permit_sql.proofs.WholeMeanings.{each_paper_text}
 use Rattle.permit_sql.proofs.PapersAnswered.{papers_shown}
 use Rattle.permit_sql.proofs.Refused.{all_or_stopped}
 use Rattle.permit_sql.proofs.Soundness.{among, file_there}
@@ -395,7 +395,7 @@ module _ (edition : Edition) {S : Type 0} (g : Ghosts S) (old new : Held S) (t :
   pub papers_told : (a b : Read) (all : Bool) → a.parties ≡ t.desk.parties → a.last ≡ t.desk.last → a.tallies.items ≡ tallies →
       TookRows read_took g EACH_PAPER.now [] old new a b all → b.lacks_memory ≡ false → ((all ≡ true) × IsEnd b.tallies.items) ⊎ ((all ≡ false) × IsTold b.fault)
   papers_told a b all parties last has h enough =
-      after (all_or_stopped edition g old new t k EACH_PAPER.now _ (each_paper_is edition) shown_paper read_took Fits (λ d. IsTold d.fault ⊎ IsTrue d.lacks_memory)
+      after (all_or_stopped edition g old new t k EACH_PAPER.now _ (each_paper_text edition) shown_paper read_took Fits (λ d. IsTold d.fault ⊎ IsTrue d.lacks_memory)
       next stop a b all (first_fits a parties last has) h)
     where
       after : ((all ≡ true) × Fits b []) ⊎ ((all ≡ false) × (IsTold b.fault ⊎ IsTrue b.lacks_memory)) →

@@ -32,7 +32,7 @@ use Rattle.permit_sql.specs.declared.sound.Declarers.{Declarers}
 use Rattle.permit_sql.specs.declared.sound_files.Filed.{Filed}
 use Rattle.permit_sql.specs.declared.sound_files.Entered.{Entered}
 use Rattle.permit_sql.specs.declared.texts.TheConstants.{EACH_PARTY, EACH_PARCEL, EACH_INTEREST, EACH_FILE, EACH_PAPER}
-use Rattle.permit_sql.proofs.WholeMeanings.{each_party_is, each_parcel_is, each_interest_is, each_file_is, each_paper_is}
+use Rattle.permit_sql.proofs.WholeMeanings.{each_party_text, each_parcel_text, each_interest_text, each_file_text, each_paper_text}
 use Rattle.permit_sql.proofs.Answered.{parties_shown, parcels_shown, files_shown}
 use Rattle.permit_sql.proofs.PapersAnswered.{interests_shown, papers_shown}
 use Rattle.permit_sql.proofs.Refused.{all_or_stopped}
@@ -87,7 +87,7 @@ module _ (edition : Edition) {S : Type 0} (g : Ghosts S) (old new : Held S) (t :
   pub roles_taken : (a b : Roles) (all : Bool) → a.roles.items ≡ [] → TookRows role_took g EACH_PARTY.now [] old new a b all →
       ((all ≡ true) × (b.roles.items ≡ roles_of t.parties)) ⊎ IsTrue b.lacks_memory
   roles_taken a b all none h =
-      after (all_or_stopped edition g old new t k EACH_PARTY.now _ (each_party_is edition) shown_party role_took Fits (λ d. IsTrue d.lacks_memory) next
+      after (all_or_stopped edition g old new t k EACH_PARTY.now _ (each_party_text edition) shown_party role_took Fits (λ d. IsTrue d.lacks_memory) next
       (λ d e p ps fits stops. stops p fits.0.0 refl) a b all answer h)
     where
       Fits : Roles → List Party → Type 0
@@ -110,7 +110,7 @@ module _ (edition : Edition) {S : Type 0} (g : Ghosts S) (old new : Held S) (t :
 
   pub owners_taken : (a b : Owners) (all : Bool) → TookRows owner_took g EACH_PARCEL.now [] old new a b all → all ≡ list_all (fits_parcel a.parties) t.parcels
   owners_taken a b all h =
-      after (all_or_stopped edition g old new t k EACH_PARCEL.now _ (each_parcel_is edition) shown_parcel owner_took Fits
+      after (all_or_stopped edition g old new t k EACH_PARCEL.now _ (each_parcel_text edition) shown_parcel owner_took Fits
       (λ d. total ≡ false) next stop a b all answer h)
     where
       total : Bool
@@ -140,7 +140,7 @@ module _ (edition : Edition) {S : Type 0} (g : Ghosts S) (old new : Held S) (t :
   pub declarers_taken : (a b : Declarers) (all : Bool) → TookRows declarer_took g EACH_INTEREST.now [] old new a b all →
       all ≡ list_all (fits_interest a.parcels a.parties) t.interests
   declarers_taken a b all h =
-      after (all_or_stopped edition g old new t k EACH_INTEREST.now _ (each_interest_is edition) shown_interest declarer_took Fits
+      after (all_or_stopped edition g old new t k EACH_INTEREST.now _ (each_interest_text edition) shown_interest declarer_took Fits
       (λ d. total ≡ false) next stop a b all
       answer h)
     where
@@ -179,7 +179,7 @@ module _ (edition : Edition) {S : Type 0} (g : Ghosts S) (old new : Held S) (t :
       ((all ≡ list_all (λ f. fits_file a.roles.items a.parcels a.last f.state) t.files) ×
       (all ≡ true → b.tallies.items ≡ first_of t.files)) ⊎ IsTrue b.lacks_memory
   filed_taken a b all none same h =
-      after (all_or_stopped edition g old new t k EACH_FILE.now _ (each_file_is edition) shown_file filed_took Fits
+      after (all_or_stopped edition g old new t k EACH_FILE.now _ (each_file_text edition) shown_file filed_took Fits
       (λ d. (total ≡ false) ⊎ IsTrue d.lacks_memory) next
       stop a b all answer h)
     where
@@ -266,7 +266,7 @@ module _ (edition : Edition) {S : Type 0} (g : Ghosts S) (old new : Held S) (t :
       list_all (λ f. nat_le f.state.papers most_papers) t.files ≡ true → TookRows entered_took g EACH_PAPER.now [] old new a b all →
       ((all && list_all is_ended b.tallies.items) ≡ fits_papers t) ⊎ IsTrue b.lacks_memory
   entered_taken a b all parties last has few h =
-      after (all_or_stopped edition g old new t k EACH_PAPER.now _ (each_paper_is edition) shown_paper entered_took Fits
+      after (all_or_stopped edition g old new t k EACH_PAPER.now _ (each_paper_text edition) shown_paper entered_took Fits
       (λ d. (fits_papers t ≡ false) ⊎ IsTrue d.lacks_memory) next stop a b all answer h)
     where
       IsLeft : Entered → List Paper → Type 0

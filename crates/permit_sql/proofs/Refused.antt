@@ -9,9 +9,7 @@ use Rattle.sqlite.specs.declared.types.Value.TheVariants.{Int}
 use Rattle.sqlite_value.specs.Order.{Row, column}
 use Rattle.sqlite_sql.specs.Query.{Query}
 use Rattle.sqlite_trees.specs.declared.store.Store.{Ghosts}
-use Rattle.sqlite_schema.specs.declared.command.Command.TheVariants.{Select}
 use Rattle.sqlite.specs.Effect.{Database}
-use Rattle.sqlite.specs.Listing.{understood}
 use Rattle.sqlite.specs.Clock.{timed}
 use Rattle.sqlite.specs.State.{State, IsUnchanged, Shown, Begins}
 use Rattle.sqlite.specs.Held.{Held, state}
@@ -20,7 +18,6 @@ use Rattle.permit_base.specs.declared.words.Edition.{Edition}
 use Rattle.permit_model.specs.Caller.{Party}
 use Rattle.permit_model.specs.Parcels.{Parcel, Interest}
 use Rattle.permit_model.specs.Tables.{Tables, FileRow, Paper}
-use Rattle.permit_sql_rows.specs.Schema.{schema_of}
 use Rattle.permit_sql_rows.specs.Rows.{int, shown_party, shown_parcel, shown_file, shown_interest, shown_paper}
 use Rattle.permit_sql_rows.specs.Kept.{KeepsUnder, IsNamed}
 use Rattle.permit_sql_rows.specs.Typed.{IsParty, IsParcel, IsInterest, IsFile, IsPaper}
@@ -32,8 +29,7 @@ use Rattle.permit_sql.specs.declared.check_files.Files.{Files}
 use Rattle.permit_sql.specs.declared.check_files.Papers.{Papers}
 use Rattle.permit_sql.specs.declared.check_files.Rowids.{Rowids}
 use Rattle.permit_sql.specs.declared.texts.TheConstants.{EACH_PARTY, EACH_PARCEL, EACH_INTEREST, EACH_FILE, EACH_PAPER, EACH_ROWID}
-use Rattle.permit_sql_statements.proofs.QueryTexts.{alone, names_of}
-use Rattle.permit_sql.proofs.WholeMeanings.{each_party_is, each_parcel_is, each_interest_is, each_file_is, each_paper_is, each_rowid_is}
+use Rattle.permit_sql.proofs.WholeMeanings.{IsText, IsTextIn, each_party_text, each_parcel_text, each_interest_text, each_file_text, each_paper_text, each_rowid_text}
 use Rattle.permit_sql.proofs.Checks.{numbered_took, party_took, parcel_took}
 use Rattle.permit_sql.proofs.FileChecks.{interest_took, file_took, paper_took, rowid_took}
 use Rattle.permit_sql.proofs.Neighbours.{First, Adjacent}
@@ -66,20 +62,18 @@ module _ {X T : Type 0} (shown : X → Row) (took : T → Row → T → Bool →
 stays : (s : State) → IsTrue s.is_open → IsUnchanged s s
 stays s up = (record { was_open = up; is_open = up; now_is = refl; committed_is = refl; mode = refl }, record { changes = refl; last_rowid = refl }, refl)
 
-whole_answer : (edition : Edition) (sql : List ℕ) (s : State) (q : Query) → s.now.schema ≡ (schema_of edition) →
-    command_of (understood (schema_of edition) sql) ≡ Select (alone q) (names_of (command_of (understood (schema_of edition) sql))) → IsTrue s.is_open → (rows : List Row) →
-    Begins sql [] s rows
+whole_answer : (sql : List ℕ) (s : State) (q : Query) → IsText sql q s.now.schema → IsTrue s.is_open → (rows : List Row) → Begins sql [] s rows
     → (rest : List Row) × Shown sql [] s s (rows ++ rest)
-whole_answer edition sql s q schema means up rows h =
+whole_answer sql s q text up rows h =
     begins_shown sql [] s s rows h (stays s up) (λ c db it source. subst (λ k. EndsIn k db (timed [] c.formats it.now))
-    (sym (ap command_of (sym it.is ∙ ap (λ x. understood x sql) schema) ∙ means)) tt)
+    (sym (ap command_of (sym it.is) ∙ text.is)) tt)
 
 append_more : (given : List Row) (last : Row) (rest : List Row) → (given ++ last ∷ []) ++ rest ≡ given ++ last ∷ rest
 append_more given last rest = append_assoc given (last ∷ []) rest
 
 -- where the whole answer is that of some values, a taker took them all or is excused
 module _ (edition : Edition) {S X T : Type 0} (g : Ghosts S) (old new : Held S) (t : Tables) (k : KeepsUnder edition t (state g old).now) (sql : List ℕ) (q : Query)
-    (means : command_of (understood (schema_of edition) sql) ≡ Select (alone q) (names_of (command_of (understood (schema_of edition) sql))))
+    (text : IsTextIn edition sql q)
     (shown : X → Row) (took : T → Row → T → Bool → Type 0) (Fits : T → List X → Type 0) (IsExcused : T → Type 0)
     (next : (a b : T) (x : X) (xs : List X) → Fits a (x ∷ xs) → took a (shown x) b true → Fits b xs)
     (stop : (a b : T) (x : X) (xs : List X) → Fits a (x ∷ xs) → took a (shown x) b false → IsExcused b) where
@@ -93,7 +87,7 @@ module _ (edition : Edition) {S X T : Type 0} (g : Ghosts S) (old new : Held S) 
       inl (refl, took_on shown took Fits IsExcused next it.0 a b it.2 (subst (λ rows. TookAll took rows a b) it.1 h.4))
   all_or_stopped a b false answer h =
       let kept = subst (λ (db : Database). KeepsUnder edition t db) (sym h.3.0.now_is) k in
-      let whole = whole_answer edition sql (state g h.2) q kept.schema means h.3.0.is_open (h.0 ++ h.1 ∷ []) h.4 in
+      let whole = whole_answer sql (state g h.2) q (text _ kept.schema) h.3.0.is_open (h.0 ++ h.1 ∷ []) h.4 in
       let it = answer (state g h.2) (state g h.2) kept ((h.0 ++ h.1 ∷ []) ++ whole.0) whole.1 in
       inr (refl, stopped_in shown took Fits IsExcused next stop it.0 h.0 h.1 whole.0 a h.5.0 b (sym it.1 ∙ append_more h.0 h.1 whole.0) it.2 h.5.1 h.5.2)
 
@@ -117,13 +111,13 @@ took_with (inr lacks) none = absurd (true≢false (sym lacks ∙ none))
 module _ (edition : Edition) {S : Type 0} (g : Ghosts S) (old new : Held S) (t : Tables) (typed : AreTyped t) (k : KeepsUnder edition t (state g old).now) where
   -- a table of objects that are numbered
   module _ {X : Type 0} (shown : X → Row) (IsGood : X → Type 0) (number : X → ℕ) (sql : List ℕ) (q : Query)
-      (means : command_of (understood (schema_of edition) sql) ≡ Select (alone q) (names_of (command_of (understood (schema_of edition) sql))))
+      (text : IsTextIn edition sql q)
       (xs : List X) (count : ℕ) (good : AllByRecursion IsGood xs) (numbered : IsNumbered number 1 xs) (long : length xs ≡ count)
       (answers : (was late : State) → KeepsUnder edition t was.now → (rows : List Row) → Shown sql [] was late rows → rows ≡ map shown xs) where
     objects_taken : (a b : Numbered X) (all : Bool) → a.count ≡ 0 → TookRows (numbered_took shown IsGood number) g sql [] old new a b all →
         (IsTrue all × (b.count ≡ count)) ⊎ IsTrue b.lacks_memory
     objects_taken a b all none h =
-        after (all_or_excused edition g old new t k sql q means shown (numbered_took shown IsGood number) Fits (λ d. IsTrue d.lacks_memory) next
+        after (all_or_excused edition g old new t k sql q text shown (numbered_took shown IsGood number) Fits (λ d. IsTrue d.lacks_memory) next
         (λ a b x xs fits refuses. refuses x fits.0.0 refl fits.1.0) a b all answer h)
       where
         Fits : Numbered X → List X → Type 0
@@ -147,18 +141,18 @@ module _ (edition : Edition) {S : Type 0} (g : Ghosts S) (old new : Held S) (t :
   pub parties_taken : (a b : Numbered Party) (all : Bool) → a.count ≡ 0 → TookRows party_took g EACH_PARTY.now [] old new a b all →
       (IsTrue all × (b.count ≡ t.desk.parties)) ⊎ IsTrue b.lacks_memory
   parties_taken =
-      objects_taken shown_party IsParty (λ p. p.id) EACH_PARTY.now _ (each_party_is edition) t.parties t.desk.parties typed.parties typed.party_numbers
+      objects_taken shown_party IsParty (λ p. p.id) EACH_PARTY.now _ (each_party_text edition) t.parties t.desk.parties typed.parties typed.party_numbers
       typed.party_count (λ was late kept rows h. parties_shown edition was late t typed kept rows h)
 
   pub parcels_taken : (a b : Numbered Parcel) (all : Bool) → a.count ≡ 0 → TookRows parcel_took g EACH_PARCEL.now [] old new a b all →
       (IsTrue all × (b.count ≡ t.desk.parcels)) ⊎ IsTrue b.lacks_memory
   parcels_taken =
-      objects_taken shown_parcel IsParcel (λ p. p.id) EACH_PARCEL.now _ (each_parcel_is edition) t.parcels t.desk.parcels typed.parcels typed.parcel_numbers
+      objects_taken shown_parcel IsParcel (λ p. p.id) EACH_PARCEL.now _ (each_parcel_text edition) t.parcels t.desk.parcels typed.parcels typed.parcel_numbers
       typed.parcel_count (λ was late kept rows h. parcels_shown edition was late t typed kept rows h)
 
   pub interests_taken : (a b : Interests) (all : Bool) → TookRows interest_took g EACH_INTEREST.now [] old new a b all → IsTrue all
   interests_taken a b all h =
-      after (all_or_excused edition g old new t k EACH_INTEREST.now _ (each_interest_is edition) shown_interest interest_took (λ d is. AllByRecursion IsInterest is) (λ d. ⊥)
+      after (all_or_excused edition g old new t k EACH_INTEREST.now _ (each_interest_text edition) shown_interest interest_took (λ d is. AllByRecursion IsInterest is) (λ d. ⊥)
       (λ a b i is fits h. fits.1) (λ a b i is fits refuses. refuses i fits.0 refl) a b all
       answer h)
     where
@@ -176,7 +170,7 @@ module _ (edition : Edition) {S : Type 0} (g : Ghosts S) (old new : Held S) (t :
   pub files_taken : (a b : Files) (all : Bool) → a.counts.items ≡ [] → a.upgrade ≡ t.upgrade → TookRows file_took g EACH_FILE.now [] old new a b all →
       (IsTrue all × (b.counts.items ≡ papers_of t.files)) ⊎ IsTrue b.lacks_memory
   files_taken a b all none same h =
-      after (all_or_excused edition g old new t k EACH_FILE.now _ (each_file_is edition) shown_file file_took Fits (λ d. IsTrue d.lacks_memory) next
+      after (all_or_excused edition g old new t k EACH_FILE.now _ (each_file_text edition) shown_file file_took Fits (λ d. IsTrue d.lacks_memory) next
       (λ a b f fs fits refuses. refuses f (subst (λ u. IsGoodFile u f) (sym fits.3) fits.0.0) refl fits.1.0) a b all answer h)
     where
       Fits : Files → List FileRow → Type 0
@@ -224,7 +218,7 @@ module _ (edition : Edition) {S : Type 0} (g : Ghosts S) (old new : Held S) (t :
   pub papers_taken : (a b : Papers) (all : Bool) → a.file ≡ 0 → a.number ≡ 0 → a.counts.items ≡ papers_of t.files →
       TookRows paper_took g EACH_PAPER.now [] old new a b all → IsTrue all ⊎ IsTrue b.lacks_memory
   papers_taken a b all no_file no_number has h =
-      after (all_or_excused edition g old new t k EACH_PAPER.now _ (each_paper_is edition) shown_paper paper_took Fits (λ d. IsTrue d.lacks_memory) next stop a b all answer h)
+      after (all_or_excused edition g old new t k EACH_PAPER.now _ (each_paper_text edition) shown_paper paper_took Fits (λ d. IsTrue d.lacks_memory) next stop a b all answer h)
     where
       Fits : Papers → List Paper → Type 0
       Fits d ps = AllByRecursion IsPaper ps × IsRising d.file d.number ps × AllByRecursion (λ p. p.number ≤ counted_in (papers_of t.files) p.file) ps
@@ -254,7 +248,7 @@ module _ (edition : Edition) {S : Type 0} (g : Ghosts S) (old new : Held S) (t :
 
   pub rowids_taken : (a b : Rowids) (all : Bool) → a.last ≡ None → TookRows rowid_took g EACH_ROWID.now [] old new a b all → IsTrue all ⊎ IsTrue b.is_strange
   rowids_taken a b all none h =
-      after (all_or_excused edition g old new t k EACH_ROWID.now _ (each_rowid_is edition) (λ v. v ∷ []) rowid_took Fits (λ d. IsTrue d.is_strange) next stop a b all answer h)
+      after (all_or_excused edition g old new t k EACH_ROWID.now _ (each_rowid_text edition) (λ v. v ∷ []) rowid_took Fits (λ d. IsTrue d.is_strange) next stop a b all answer h)
     where
       Fits : Rowids → List Value → Type 0
       Fits d vs = First (λ v. (l : ℤ) → d.last ≡ Some l → AreUp (Int l) v) vs × Adjacent AreUp vs

@@ -6,7 +6,9 @@ use Rattle.sqlite_trees.specs.Objects.{catalog_tree}
 use Rattle.sqlite_catalog.proofs.ReadLemmas.{lists_once}
 use Rattle.sqlite.specs.Effect.{Database, IsDatabase}
 use Rattle.sqlite.specs.State.{State}
+use Rattle.permit_base.specs.declared.words.Edition.TheVariants.{Second}
 use Rattle.permit_model.specs.Tables.{Tables}
+use Rattle.permit_sql_rows.specs.Schema.{IsOffice, upgrade_tree}
 use Rattle.permit_sql_rows.specs.Kept.{AreInTrees, Keeps}
 use Rattle.permit_sql.specs.Reopening.{FindsAgain, HasSettled}
 
@@ -14,12 +16,12 @@ use Rattle.permit_sql.specs.Reopening.{FindsAgain, HasSettled}
 keeps_by_trees : (a b : Database) (t : Tables) → Keeps t a → IsDatabase a → IsDatabase b → b.trees ≡ a.trees → Keeps t b
 keeps_by_trees a b t k was is same =
     let one = subst (λ (trees : Trees). Lists (trees catalog_tree) b.schema) same is.lists in
+    let schema = lists_once (a.trees catalog_tree) a.schema b.schema was.lists one in
     record {
-      schema = lists_once (a.trees catalog_tree) b.schema a.schema one was.lists
-          ∙ k.schema;
+      schema = subst (IsOffice Second) schema k.schema;
       now = k.now;
       keyed = k.keyed;
-      rows = subst (AreInTrees t) (sym same) k.rows;
+      rows = subst (λ s. AreInTrees t (upgrade_tree s) b.trees) schema (subst (AreInTrees t (upgrade_tree a.schema)) (sym same) k.rows);
     }
 
 -- what a store has committed is found again

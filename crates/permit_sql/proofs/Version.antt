@@ -18,14 +18,14 @@ use Rattle.std.specs.List.{AllByRecursion}
 use Rattle.std.proofs.Common.{codes}
 use Rattle.sqlite_schema.specs.declared.schema.Column.{Column}
 use Rattle.sqlite_schema.specs.declared.schema.Constraint.TheVariants.{Datatype, NotNull}
-use Rattle.sqlite_schema.specs.Rules.{Keeps as KeepsRule}
 use Rattle.permit_base.specs.declared.words.Edition.{Edition}
 use Rattle.permit_model.specs.Tables.{Desk, Tables}
-use Rattle.permit_sql_rows.specs.Schema.{desk_table, schema_of, key_column, int_column}
+use Rattle.permit_sql_rows.specs.Schema.{desk_table, IsOffice, key_column, int_column}
 use Rattle.permit_sql_rows.specs.Rows.{shown_desk, desk_row}
 use Rattle.permit_sql_rows.specs.Typed.{firsts, IsDesk}
 use Rattle.permit_sql_rows.specs.Kept.{KeepsUnder}
 use Rattle.permit_sql.specs.Found.{HasDesk}
+use Rattle.permit_sql.proofs.Offices.{laid, rule_of}
 use Rattle.permit_sql.proofs.Shaped.{keyed_rows, IsKeyedRow}
 use Rattle.permit_sql.proofs.Checks.{with_null}
 use Rattle.permit_sql_statements.specs.declared.texts.TheConstants.{READ_DESK}
@@ -104,26 +104,26 @@ abbrev desk_columns : List Column
 desk_columns = int_column (codes "version") ∷ int_column (codes "last") ∷ int_column (codes "parties") ∷ int_column (codes "parcels")
     ∷ int_column (codes "files") ∷ []
 
-pub desk_found : (edition : Edition) (db : Database) (rows : List Row) (q e : Row) (d : Desk) → db.schema ≡ (schema_of edition) → IsDatabase db →
+pub desk_found : (edition : Edition) (db : Database) (rows : List Row) (q e : Row) (d : Desk) → IsOffice edition db.schema → IsDatabase db →
     IsPermutation (map seen_desk (db.trees 0)) rows → 1 ≤ length rows → length rows < 2 → q ≡ get_or rows 0 e
     → firsts 6 0 q ≡ shown_desk d → IsDesk d → HasDesk d (db.trees 0)
-desk_found edition db rows q e d schema sound same low high is shown good =
+desk_found edition db rows q e d office sound same low high is shown good =
     let alone = first_alone rows q e low high is in
     let it = only_one seen_desk (db.trees 0) q (one_permutation q _ (IsPermutation-sym _ _ (subst (IsPermutation (map seen_desk (db.trees 0))) alone same))) in
-    let typed : KeepsRule Datatype (schema_of edition) db.trees = subst (λ s. KeepsRule Datatype s db.trees) schema (sound.obeys.rules Datatype) in
-    let there : KeepsRule NotNull (schema_of edition) db.trees = subst (λ s. KeepsRule NotNull s db.trees) schema (sound.obeys.rules NotNull) in
-    let whole = keyed_rows (schema_of edition) db.trees desk_table key_column desk_columns refl refl (refl, (refl, (refl, (refl, (refl, tt))))) (omega arith)
+    let typed = rule_of edition db office sound Datatype in
+    let there = rule_of edition db office sound NotNull in
+    let whole = keyed_rows (laid edition db.schema office) db.trees desk_table key_column desk_columns refl refl (refl, (refl, (refl, (refl, (refl, tt))))) (omega arith)
     (db.trees 0) typed.0 there.0 in
     let row = (subst (AllByRecursion (IsKeyedRow 5)) it.1 whole).0 in
     let says : seen_desk it.0 ≡ shown_desk d = subst (λ r. firsts 6 0 r ≡ shown_desk d) (sym it.2) shown in
     let is_row : it.0 ≡ desk_row d = sym row ∙ ap with_null says in
     record { good = good; here = it.1 ∙ ap (λ r. r ∷ []) is_row }
 
-pub only_found : (edition : Edition) (db : Database) (rows : List Row) (q : Row) (d : Desk) → db.schema ≡ (schema_of edition) → IsDatabase db →
+pub only_found : (edition : Edition) (db : Database) (rows : List Row) (q : Row) (d : Desk) → IsOffice edition db.schema → IsDatabase db →
     IsPermutation (map seen_desk (db.trees 0)) rows → rows ≡ q ∷ [] → firsts 6 0 q ≡ shown_desk d → IsDesk d → HasDesk d (db.trees 0)
-only_found edition db rows q d schema sound same alone shown good =
+only_found edition db rows q d office sound same alone shown good =
     let one : length rows ≡ 1 = ap length alone in
-    desk_found edition db rows q q d schema sound same (omega (arith, one)) (omega (arith, one)) (ap (λ l. get_or l 0 q) (sym alone)) shown good
+    desk_found edition db rows q q d office sound same (omega (arith, one)) (omega (arith, one)) (ap (λ l. get_or l 0 q) (sym alone)) shown good
 
 -- the desk of tables that the database keeps is the answer
 pub kept_desk : (edition : Edition) (t : Tables) (db : Database) (rows : List Row) → KeepsUnder edition t db → IsPermutation (map seen_desk (db.trees 0)) rows → rows ≡ shown_desk t.desk ∷ []

@@ -15,6 +15,7 @@ use Rattle.permit_base.specs.declared.words.Edition.TheVariants.{Second}
 use Rattle.permit_model.specs.Tables.{Tables, Desk, FileRow, Paper, edition_by}
 use Rattle.permit_model.specs.Sound.{IsSoundTables}
 use Rattle.permit_sql_rows.specs.Rows.{desk_row, upgrade_row, party_row, parcel_row, file_row, shown_file, shown_interest, shown_paper}
+use Rattle.permit_sql_rows.specs.Schema.{upgrade_tree}
 use Rattle.permit_sql_rows.specs.Kept.{IsNamed, KeepsUnder}
 use Rattle.permit_sql.specs.Taken.{TookAll}
 use Rattle.permit_sql_rows.specs.Typed.{firsts, IsDesk, IsParty, IsParcel, IsInterest, IsFile, IsPaper}
@@ -135,10 +136,10 @@ pub record HasDesk (d : Desk) (tree : List Row) : Type 0 where
   pub here : tree ≡ desk_row d ∷ []
 
 -- no row under the first edition; one under the second, with the count of files then, which is at most that of today
-pub record HasUpgrade (edition : Edition) (files : ℕ) (upgrade : Option ℕ) (trees : Trees) : Type 0 where
+pub record HasUpgrade (edition : Edition) (files : ℕ) (upgrade : Option ℕ) (db : Database) : Type 0 where
   pub told : edition ≡ edition_by upgrade
   pub within : IfSome upgrade (λ then_files. then_files ≤ files)
-  pub here : IfSome upgrade (λ then_files. trees 18 ≡ upgrade_row then_files ∷ [])
+  pub here : IfSome upgrade (λ then_files. db.trees (upgrade_tree db.schema) ≡ upgrade_row then_files ∷ [])
 
 -- the parties, parcels and interests, as the desk counts them
 pub record HasObjects (d : Desk) (trees : Trees) : Type 0 where

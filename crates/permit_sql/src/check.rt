@@ -2,17 +2,15 @@
 
 ghost use Rattle.std.specs.Prelude.{◌≡◌, ℕ, false, [], IsTrue, MatchBool, IfOk, IfErr};
 ghost use Rattle.sqlite_value.specs.Order.{Row as SqlRow};
-ghost use Rattle.sqlite.specs.Given.{IsPlain};
-ghost use Rattle.sqlite.specs.Listing.{understood};
 ghost use Rattle.sqlite.specs.State.{HasCleanDisk};
 ghost use Rattle.sqlite.specs.Held.{state};
-ghost use Rattle.permit_sql_rows.specs.Schema.{schema_of};
+ghost use Rattle.permit_sql_rows.specs.Schema.{IsOffice};
 ghost use Rattle.permit_sql_rows.specs.Rows.{shown_party, shown_parcel};
 ghost use Rattle.permit_sql_rows.specs.Typed.{firsts, IsParty, IsParcel};
 ghost use Rattle.permit_sql.specs.Taken.{TookRows};
 ghost use Rattle.permit_sql.specs.Found.{TookTable, TakesNumbered, TakesInterest, RefusesNumbered, RefusesInterest, HasParties, HasParcels, HasInterests};
 ghost use Rattle.permit_sql.specs.Frames.{OverTyped, LeavesRows, LeavesOverCrash};
-ghost use Rattle.permit_sql_statements.specs.Frames.{IsOpenAfter};
+ghost use Rattle.permit_sql_statements.specs.Frames.{IsOpenAfter, IsPlainIn};
 
 use crate::each::{Taker, each_row};
 use crate::texts::{EACH_INTEREST, EACH_PARCEL, EACH_PARTY};
@@ -25,8 +23,8 @@ use permit_store::store::{Got, StoreError};
 use sqlite::{Alter, Connection, Row};
 use std::marker::PhantomData;
 
-/// Whether the taker takes all rows of an answer, in a database of the edition's schema; with another it fails. The
-/// database stays as it is.
+/// Whether the taker takes all rows of an answer, in a database of an office's schema under the edition; with another it
+/// fails. The database stays as it is.
 pub(crate) fn takes_all<S: Alter, T: Taker>(
     conn: &mut Connection<S>,
     edition: Edition,
@@ -34,9 +32,9 @@ pub(crate) fn takes_all<S: Alter, T: Taker>(
     taker: &mut T,
 ) -> Got<bool>
     requires not_in_transaction { conn.old.in_transaction ≡ false }
-    requires plain { IsPlain (understood (schema_of edition) sql.now) }
+    requires plain { IsPlainIn edition sql.now }
     ensures all { HasCleanDisk (state S.Store conn.new)
-        → IfOk result (λ all. IsTrue all → ((state S.Store conn.old).now.schema ≡ schema_of edition)
+        → IfOk result (λ all. IsTrue all → IsOffice edition (state S.Store conn.old).now.schema
         × TookTable T.Taker.took S.Store sql.now conn.old conn.new taker.old taker.new) }
     ensures handed { HasCleanDisk (state S.Store conn.new)
         → IfOk result (λ all. TookRows T.Taker.took S.Store sql.now [] conn.old conn.new taker.old taker.new all) }

@@ -5,7 +5,7 @@ ghost use Rattle.sqlite_value.specs.Order.{column};
 ghost use Rattle.sqlite.specs.Held.{state};
 ghost use Rattle.sqlite.specs.State.{HasCleanDisk};
 ghost use Rattle.permit_store.specs.declared.store.OpenError.TheVariants as open_error;
-ghost use Rattle.permit_sql_rows.specs.Schema.{desk_table, schema_of};
+ghost use Rattle.permit_sql_rows.specs.Schema.{desk_table, IsOffice, upgrade_tree};
 ghost use Rattle.permit_base.specs.declared.words.Edition.TheVariants.{Second};
 ghost use Rattle.permit_model.specs.Tables.{Desk as TheDesk};
 ghost use Rattle.permit_sql_rows.specs.Rows.{shown_desk, shown_upgrade};
@@ -112,7 +112,7 @@ fn only_desk(edition: Edition, rows: &[Row]) -> Option<Desk>
 pub(crate) fn find_desk<S: Alter>(conn: &mut Connection<S>, edition: Edition) -> Got<Option<Desk>>
     requires not_in_transaction { conn.old.in_transaction ≡ false }
     requires desk { slice_get (state S.Store conn.old).now.schema.tables 0 ≡ Some desk_table }
-    ensures good { IsFine (state S.Store conn.new) → (state S.Store conn.old).now.schema ≡ schema_of edition
+    ensures good { IsFine (state S.Store conn.new) → IsOffice edition (state S.Store conn.old).now.schema
         → IfOk result (λ o. IfSome o (λ d. HasDesk d ((state S.Store conn.old).now.trees 0))) }
     ensures now { IfOk result (λ o. IfSome o (λ d. d.edition ≡ edition)) }
     ensures kept { IsFine (state S.Store conn.new)
@@ -131,9 +131,10 @@ pub(crate) fn find_desk<S: Alter>(conn: &mut Connection<S>, edition: Edition) ->
 /// The rows of the upgrade's table.
 pub(crate) fn upgrade_seen<S: Alter>(conn: &mut Connection<S>) -> Got<Vec<Row>>
     requires not_in_transaction { conn.old.in_transaction ≡ false }
-    requires office { (state S.Store conn.old).now.schema ≡ schema_of Second }
+    requires office { IsOffice Second (state S.Store conn.old).now.schema }
     ensures rows { HasCleanDisk (state S.Store conn.new)
-        → IfOk result (λ rows. IsPermutation (map seen_upgrade ((state S.Store conn.old).now.trees 18)) rows.items) }
+        → IfOk result (λ rows. IsPermutation (map seen_upgrade ((state S.Store conn.old).now.trees (upgrade_tree (state S.Store conn.old).now.schema)))
+        rows.items) }
     ensures open { IsOpenAfter S.Store conn.new result }
     ensures left { LeavesRows S.Store conn.old conn.new }
     ensures crash { LeavesOverCrash S.Store conn.old conn.new }
@@ -176,7 +177,7 @@ pub(crate) fn find_upgrade<S: Alter>(
 ) -> Got<Option<Option<u32>>>
     requires not_in_transaction { conn.old.in_transaction ≡ false }
     ensures good { IsFine (state S.Store conn.new)
-        → IfOk result (λ o. IfSome o (λ upgrade. HasUpgrade edition files upgrade (state S.Store conn.old).now.trees)) }
+        → IfOk result (λ o. IfSome o (λ upgrade. HasUpgrade edition files upgrade (state S.Store conn.old).now)) }
     ensures kept { IsFine (state S.Store conn.new)
         → OverTyped S.Store edition conn.old (λ t. files ≡ t.desk.files → IfOk result (λ o. o ≡ Some t.upgrade)) }
     ensures open { StaysOpen S.Store conn.old conn.new result }
@@ -264,7 +265,7 @@ pub(crate) fn find_sound<S: Alter>(
 ) -> Got<Option<Sound>>
     requires not_in_transaction { conn.old.in_transaction ≡ false }
     requires desk { slice_get (state S.Store conn.old).now.schema.tables 0 ≡ Some desk_table }
-    ensures good { IsFine (state S.Store conn.new) → (state S.Store conn.old).now.schema ≡ schema_of edition
+    ensures good { IsFine (state S.Store conn.new) → IsOffice edition (state S.Store conn.old).now.schema
         → IfOk result (λ o. IfSome o (λ s. HasSound edition (state S.Store conn.old).now s.desk s.upgrade)) }
     ensures kept { IsFine (state S.Store conn.new) → KeepsSoundUnder edition (state S.Store conn.old).now → IfOk result (λ o. IsSome o) }
     ensures open { IsOpenAfter S.Store conn.new result }
@@ -290,8 +291,8 @@ pub(crate) fn find_sound<S: Alter>(
     Ok(Some(Sound { desk, upgrade }))
 }
 
-/// What the tables tell, where the schema is the edition's and the rows are sound tables; with another schema the
-/// refusal is `Store`.
+/// What the tables tell, where the schema is an office's under the edition and the rows are sound tables; with another
+/// schema the refusal is `Store`.
 fn check_tables<S: Alter>(
     conn: &mut Connection<S>,
     alloc: Global,
@@ -301,7 +302,7 @@ fn check_tables<S: Alter>(
     ensures sound { IsFine (state S.Store conn.new) → IfOk result (λ s. HasSound edition (state S.Store conn.new).now s.desk s.upgrade) }
     ensures damaged { HasCleanDisk (state S.Store conn.new)
         → IfErr result (λ e. e ≡ open_error.Damaged → ¬ KeepsSoundUnder edition (state S.Store conn.old).now) }
-    ensures schema { IfErr result (λ e. e ≡ open_error.Damaged → (state S.Store conn.old).now.schema ≡ schema_of edition) }
+    ensures schema { IfErr result (λ e. e ≡ open_error.Damaged → IsOffice edition (state S.Store conn.old).now.schema) }
     ensures open { IsOpenAfter S.Store conn.new result }
     ensures judged { HasCleanDisk (state S.Store conn.new)
         → IfErr result (λ e. e ≢ open_error.Store → IsTrue (state S.Store conn.new).is_open) }
@@ -332,7 +333,7 @@ fn check_versioned<S: Alter>(
     ensures damaged { HasCleanDisk (state S.Store conn.new)
         → IfErr result (λ e. e ≡ open_error.Damaged → ¬ KeepsSoundUnder edition (state S.Store conn.old).now) }
     ensures schema { HasCleanDisk (state S.Store conn.new)
-        → IfErr result (λ e. e ≡ open_error.Damaged → (state S.Store conn.old).now.schema ≡ schema_of edition) }
+        → IfErr result (λ e. e ≡ open_error.Damaged → IsOffice edition (state S.Store conn.old).now.schema) }
     ensures version { HasCleanDisk (state S.Store conn.new)
         → IfErr result (λ e. e ≡ open_error.Version → HasOtherVersion edition (state S.Store conn.old).now) }
     ensures told { HasCleanDisk (state S.Store conn.new) → HasOtherVersion edition (state S.Store conn.old).now
@@ -362,7 +363,7 @@ pub(crate) fn check<S: Alter>(
     ensures damaged { HasCleanDisk (state S.Store conn.new)
         → IfErr result (λ e. e ≡ open_error.Damaged → ¬ KeepsSoundUnder edition (state S.Store conn.old).now) }
     ensures schema { HasCleanDisk (state S.Store conn.new)
-        → IfErr result (λ e. e ≡ open_error.Damaged → (state S.Store conn.old).now.schema ≡ schema_of edition) }
+        → IfErr result (λ e. e ≡ open_error.Damaged → IsOffice edition (state S.Store conn.old).now.schema) }
     ensures version { HasCleanDisk (state S.Store conn.new)
         → IfErr result (λ e. e ≡ open_error.Version → HasOtherVersion edition (state S.Store conn.old).now) }
     ensures told { HasCleanDisk (state S.Store conn.new) → HasOtherVersion edition (state S.Store conn.old).now

@@ -2,8 +2,6 @@
 
 ghost use Rattle.std.specs.Prelude.{◌≡◌, ◌≢◌, ◌==◌, ◌⊎◌, ℕ, List, false, not, length, find, is_some, bytes_eq, None, Some, Err, IsTrue, IfOk, IfErr, OnOk, OnErr};
 ghost use Rattle.sqlite_value.specs.Order.{Row as SqlRow};
-ghost use Rattle.sqlite.specs.Given.{IsPlain};
-ghost use Rattle.sqlite.specs.Listing.{understood};
 ghost use Rattle.sqlite.specs.State.{HasCleanDisk, Shown, Survives};
 ghost use Rattle.sqlite.specs.Values.{bound};
 ghost use Rattle.sqlite.specs.Held.{state};
@@ -17,9 +15,9 @@ ghost use Rattle.permit_model.specs.Machine.{IsHistory};
 ghost use Rattle.permit_model.specs.Renewal.{renewed, with_renewed, against_renewal};
 ghost use Rattle.permit_model.specs.Tables.{Tables, tables};
 ghost use Rattle.permit_store.specs.declared.store.OpenError.TheVariants as open_error;
-ghost use Rattle.permit_sql_rows.specs.Schema.{office_schema};
+ghost use Rattle.permit_sql_rows.specs.Schema.{IsOffice};
 ghost use Rattle.permit_sql_rows.specs.Kept.{IsFine, Keeps};
-ghost use Rattle.permit_sql_statements.specs.Frames.{IsOpenAfter};
+ghost use Rattle.permit_sql_statements.specs.Frames.{IsOpenAfter, IsPlainIn};
 ghost use Rattle.permit_sql.specs.Found.{KeepsSound};
 ghost use Rattle.permit_sql.specs.Frames.{LeavesOverCrash, LeavesRows};
 ghost use Rattle.permit_sql.specs.Opening.{HasOtherVersion};
@@ -50,11 +48,11 @@ pub enum RenewError {
     Open(OpenError),
 }
 
-/// Whether the answer to a query has a row, in a database of the office's schema; with another it fails. The database
+/// Whether the answer to a query has a row, in a database of an office's schema; with another it fails. The database
 /// stays as it is.
 fn has_row<S: Alter>(conn: &mut Connection<S>, sql: &str, params: &[ValueRef<'_>]) -> Got<bool>
     requires not_in_transaction { conn.old.in_transaction ≡ false }
-    requires plain { IsPlain (understood office_schema sql.now) }
+    requires plain { IsPlainIn Second sql.now }
     ensures shown { HasCleanDisk (state S.Store conn.new) → IfOk result (λ has. (rows : List SqlRow)
         × Shown sql.now (bound params.now) (state S.Store conn.old) (state S.Store conn.new) rows × (has ≡ not (length rows == 0))) }
     ensures open { IsOpenAfter S.Store conn.new result }
@@ -154,9 +152,9 @@ impl<S: Alter> SqlStore<S> {
     /// Gives a party another token: the tables are then those of the same history in which the party had that token, and
     /// the old one is nobody's. It tests the tables first, as `open` does, and makes the change in one transaction. It
     /// refuses a number that no party has as `Record`, and a token that a party has, be it this one, as `NotAdmitted`
-    /// for `Taken`. It fails as `open` does: as `Version`, as `Damaged`, and as `Store`, also where a transaction is
-    /// open. With a refusal or a failure the database is as before. A crash inside leaves what was there, or the tables
-    /// with the new token whole.
+    /// for `Taken`. It fails as `open` does, whatever the order of the schema: as `Version`, as `Damaged`, and as `Store`,
+    /// also where a transaction is open. With a refusal or a failure the database is as before. A crash inside leaves what
+    /// was there, or the tables with the new token whole.
     pub fn renew_token(
         alloc: Global,
         conn: &mut Connection<S>,
@@ -181,7 +179,7 @@ impl<S: Alter> SqlStore<S> {
         ensures damaged { HasCleanDisk (state S.Store conn.new)
             → IfErr result (λ e. e ≡ renew_error.Open open_error.Damaged → ¬ KeepsSound (state S.Store conn.old).now) }
         ensures schema { HasCleanDisk (state S.Store conn.new)
-            → IfErr result (λ e. e ≡ renew_error.Open open_error.Damaged → (state S.Store conn.old).now.schema ≡ office_schema) }
+            → IfErr result (λ e. e ≡ renew_error.Open open_error.Damaged → IsOffice Second (state S.Store conn.old).now.schema) }
         ensures judged { HasCleanDisk (state S.Store conn.new)
             → IfErr result (λ e. e ≢ renew_error.Open open_error.Store → IsTrue (state S.Store conn.new).is_open) }
         ensures busy { IsTrue conn.old.in_transaction → result ≡ Err (renew_error.Open open_error.Store) }

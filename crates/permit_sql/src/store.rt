@@ -14,7 +14,7 @@ ghost use Rattle.permit_store.specs.Founding.{founding};
 ghost use Rattle.permit_store.specs.Counts.{failed_after, handed_after};
 ghost use Rattle.permit_store.specs.Handing.{selected_after};
 ghost use Rattle.permit_store.specs.declared.store.OpenError.TheVariants as open_error;
-ghost use Rattle.permit_sql_rows.specs.Schema.{empty_schema, office_schema, schema_of};
+ghost use Rattle.permit_sql_rows.specs.Schema.{empty_schema, IsOffice};
 ghost use Rattle.permit_sql_rows.specs.Kept.{KeepsUnder, Keeps, Shows, IsFine};
 ghost use Rattle.permit_sql.specs.Seen.{Lasts, suspect_after};
 ghost use Rattle.permit_sql.specs.Opening.{HasOtherVersion};
@@ -219,8 +219,9 @@ impl<S: Alter> SqlStore<S> {
     /// It refuses as `Version` where the desk's row says another version than 2, which is tested first; as `Damaged`
     /// only where the rows are no sound tables; and as `Store` where a call
     /// failed or gave a rowid that is no number, memory was refused, a transaction is open, or the database has another
-    /// schema than `create` makes. What it tells other than `Store` it tells of a connection that is open afterwards. With a
-    /// refusal the connection comes back, its database as before.
+    /// schema than `create` makes. The order in which SQLite writes the schema is no part of it, so a database is opened
+    /// after `VACUUM` and from a dump too. What it tells other than `Store` it tells of a connection that is open
+    /// afterwards. With a refusal the connection comes back, its database as before.
     pub fn open(
         alloc: Global,
         conn: Connection<S>,
@@ -241,7 +242,7 @@ impl<S: Alter> SqlStore<S> {
         ensures first { IfOk result (λ s. HasCleanDisk (state S.Store s.conn) → ¬ HasOtherVersion Second (state S.Store conn).now) }
         ensures damaged { IfErr result (λ e. e.1 ≡ open_error.Damaged → HasCleanDisk (state S.Store e.0) → ¬ KeepsSound (state S.Store conn).now) }
         ensures schema { IfErr result (λ e. e.1 ≡ open_error.Damaged → HasCleanDisk (state S.Store e.0)
-            → (state S.Store conn).now.schema ≡ office_schema) }
+            → IsOffice Second (state S.Store conn).now.schema) }
         ensures judged { IfErr result (λ e. e.1 ≢ open_error.Store → HasCleanDisk (state S.Store e.0) → IsTrue (state S.Store e.0).is_open) }
         ensures busy { IsTrue conn.in_transaction → IsErrAnd result (λ e. e.1 ≡ open_error.Store) }
         ensures refusal { IfErr result (λ e. (e.1 ≡ open_error.Damaged) ⊎ ((e.1 ≡ open_error.Version) ⊎ (e.1 ≡ open_error.Store))) }
@@ -266,9 +267,10 @@ impl<S: Alter> SqlStore<S> {
     /// entry of the upgrade, which are sound. It gives the count of files, which keep to the first edition of the
     /// inspections for good. It refuses as `Version` where the desk's row says another version than 1, which is tested
     /// first; as `Damaged` only where the rows are no sound tables; and as `Store` where a call failed, memory was
-    /// refused, a transaction is open, or the database has another schema than that version's. What it tells other than
-    /// `Store` it tells of a connection that is open afterwards. With a refusal the database is as before. A crash inside
-    /// leaves what was there, or, where those were sound tables, the tables after the upgrade whole.
+    /// refused, a transaction is open, or the database has another schema than that version's, whose order neither
+    /// `VACUUM` nor a dump changes. What it tells other than `Store` it tells of a connection that is open afterwards. With
+    /// a refusal the database is as before. A crash inside leaves what was there, or, where those were sound tables, the
+    /// tables after the upgrade whole.
     pub fn upgrade(alloc: Global, conn: &mut Connection<S>) -> Result<u32, OpenError>
         ensures made { HasCleanDisk (state S.Store conn.new) → (t : Tables) → AreCounted t → KeepsUnder First t (state S.Store conn.old).now
             → IfOk result (λ n. (n ≡ t.desk.files) × Keeps (with_upgrade t) (state S.Store conn.new).now) }
@@ -288,7 +290,7 @@ impl<S: Alter> SqlStore<S> {
         ensures damaged { HasCleanDisk (state S.Store conn.new)
             → IfErr result (λ e. e ≡ open_error.Damaged → ¬ KeepsSoundUnder First (state S.Store conn.old).now) }
         ensures schema { HasCleanDisk (state S.Store conn.new)
-            → IfErr result (λ e. e ≡ open_error.Damaged → (state S.Store conn.old).now.schema ≡ schema_of First) }
+            → IfErr result (λ e. e ≡ open_error.Damaged → IsOffice First (state S.Store conn.old).now.schema) }
         ensures judged { HasCleanDisk (state S.Store conn.new)
             → IfErr result (λ e. e ≢ open_error.Store → IsTrue (state S.Store conn.new).is_open) }
         ensures busy { IsTrue conn.old.in_transaction → result ≡ Err open_error.Store }

@@ -10,7 +10,7 @@ use Rattle.sqlite.specs.Held.{Held, state}
 use Rattle.permit_base.specs.declared.words.Edition.{Edition}
 use Rattle.permit_base.specs.declared.words.Edition.TheVariants.{Second}
 use Rattle.permit_model.specs.Tables.{Tables, State as FileState, FileRow, edition_by, edition_numbered}
-use Rattle.permit_sql_rows.specs.Schema.{schema_of}
+use Rattle.permit_sql_rows.specs.Schema.{IsOffice, upgrade_tree}
 use Rattle.permit_sql_rows.specs.Rows.{desk_row, upgrade_row, party_row, parcel_row, file_row, shown_interest, shown_paper}
 
 -- the count of papers in the file's row, or 0 where there is no such file
@@ -38,10 +38,10 @@ pub record AreKeyed (t : Tables) : Type 0 where
   pub papers : (file : ℕ) → IsAscending (λ a b. a.number < b.number) (filter (λ p. p.file == file) t.papers)
   pub counted : (file : ℕ) → AllByRecursion (λ p. p.number ≤ papers_counted file t.files) (filter (λ p. p.file == file) t.papers)
 
--- The trees of the tables have a row for each row of these, in any order. The rowid of an interest and of a paper is of no account, but none comes twice.
-pub record AreInTrees (t : Tables) (db : Trees) : Type 0 where
+-- The trees of the tables have a row for each row of these, in any order; the upgrade's table stands in this tree. The rowid of an interest and of a paper is of no account, but none comes twice.
+pub record AreInTrees (t : Tables) (tree : ℕ) (db : Trees) : Type 0 where
   pub desk : db 0 ≡ desk_row t.desk ∷ []
-  pub upgrade : IfSome t.upgrade (λ files. db 18 ≡ upgrade_row files ∷ [])
+  pub upgrade : IfSome t.upgrade (λ files. db tree ≡ upgrade_row files ∷ [])
   pub parties : IsPermutation (map party_row t.parties) (db 1)
   pub parcels : IsPermutation (map parcel_row t.parcels) (db 3)
   pub interests : IsPermutation (map shown_interest t.interests) (map (drop 1) (db 5))
@@ -49,14 +49,14 @@ pub record AreInTrees (t : Tables) (db : Trees) : Type 0 where
   pub papers : IsPermutation (map shown_paper t.papers) (map (drop 1) (db 8))
   pub apart : (id : ℤ) → length (filter (has_rowid id) (db 8)) ≤ 1
 
--- the database has the schema of the edition, which is in force, and these tables
+-- the database has a schema of the edition, which is in force, and these tables
 pub record KeepsUnder (edition : Edition) (t : Tables) (db : Database) : Type 0 where
-  pub schema : db.schema ≡ schema_of edition
+  pub schema : IsOffice edition db.schema
   pub now : t.desk.edition ≡ edition
   pub keyed : AreKeyed t
-  pub rows : AreInTrees t db.trees
+  pub rows : AreInTrees t (upgrade_tree db.schema) db.trees
 
--- the database has the office's schema and these tables
+-- the database has a schema of the office and these tables
 abbrev pub Keeps : Tables → Database → Type 0
 Keeps t db = KeepsUnder Second t db
 

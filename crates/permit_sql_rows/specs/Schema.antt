@@ -1,5 +1,6 @@
 -- The tables of the office as the kit understands their texts.
-use Rattle.std.specs.Prelude.{true, false, [], ◌∷◌, ◌++◌, Some, None, codes, List, ℕ}
+use Rattle.std.specs.Prelude.{true, false, [], ◌∷◌, ◌++◌, Some, None, codes, List, ℕ, ◌≡◌, ◌<◌, ◌⊎◌, length, slice_get, option_map, unwrap_or}
+use Rattle.std.specs.List.{AllByRecursion}
 use Rattle.permit_base.specs.declared.words.Edition.{Edition}
 use Rattle.permit_base.specs.declared.words.Edition.TheVariants.{First, Second}
 use Rattle.sqlite.specs.declared.types.Value.TheVariants.{Null}
@@ -121,9 +122,9 @@ owner_index = plain_index (codes "parcel_owner") 16 3 (4 ∷ [])
 abbrev pub interested_index : Index
 interested_index = plain_index (codes "interest_party") 17 5 (2 ∷ [])
 
--- how many files there were at the upgrade, in one row
-abbrev pub upgrade_table : Table
-upgrade_table = keyed 18 (codes "upgrade") (int_column (codes "files") ∷ []) [] []
+-- how many files there were at the upgrade, in one row, in this tree
+abbrev pub upgrade_table : ℕ → Table
+upgrade_table tree = keyed tree (codes "upgrade") (int_column (codes "files") ∷ []) [] []
 
 -- the tables of version 1
 abbrev pub first_tables : List Table
@@ -138,22 +139,53 @@ key_indexes = automatic (codes "sqlite_autoindex_party_1") 2 1 (4 ∷ []) ∷ au
 abbrev pub search_indexes : List Index
 search_indexes = cell_index ∷ applicant_index ∷ contractor_index ∷ reviewer_index ∷ inspector_index ∷ parcel_index ∷ owner_index ∷ interested_index ∷ []
 
--- the tables that an edition of the inspections adds, which were made behind all indexes
-abbrev pub more_tables : Edition → List Table
-more_tables First = []
-more_tables Second = upgrade_table ∷ []
-
--- the schema of the tables under an edition: version 1 under the first, version 2 under the second
-abbrev pub schema_of : Edition → Schema
-schema_of edition = record { tables = first_tables ++ more_tables edition; indexes = key_indexes ++ search_indexes; views = [] }
-
 -- the schema of version 1
 abbrev pub first_schema : Schema
-first_schema = schema_of First
+first_schema = record { tables = first_tables; indexes = key_indexes ++ search_indexes; views = [] }
 
--- the schema of the office
+-- Where in a database of version 2 that stands which VACUUM and a dump move: the tree of the upgrade's table, and the indexes that are no keys.
+pub record Order : Type 0 where
+  pub tree : ℕ
+  pub searches : List Index
+
+-- the schema of version 2 in an order
+abbrev pub schema_in : Order → Schema
+schema_in o = record { tables = first_tables ++ upgrade_table o.tree ∷ []; indexes = key_indexes ++ o.searches; views = [] }
+
+-- the order of an office that was founded or upgraded: the table was made after all indexes
+abbrev pub made_order : Order
+made_order = record { tree = 18; searches = search_indexes }
+
 abbrev pub office_schema : Schema
-office_schema = schema_of Second
+office_schema = schema_in made_order
+
+-- the index is one of these, in whatever tree
+abbrev pub IsAmong : Index → List Index → Type 0
+IsAmong index [] = ⊥
+IsAmong index (other ∷ more) = (other ≡ record index { tree = other.tree }) ⊎ IsAmong index more
+
+-- The eight search indexes, in any order and in any trees.
+pub record AreSearches (indexes : List Index) : Type 0 where
+  pub eight : length indexes ≡ 8
+  pub each : AllByRecursion (λ index. IsAmong index indexes) search_indexes
+
+-- The schema of version 2 in any order in which SQLite writes it. The six tables of version 1 and the indexes of their keys stand in trees
+-- 0 to 9, and the library has none above 65535.
+pub record IsSecond (s : Schema) : Type 0 where
+  pub order : Order
+  pub is : s ≡ schema_in order
+  pub apart : 9 < order.tree
+  pub low : order.tree < 65536
+  pub are : AreSearches order.searches
+
+-- the schema of the tables under an edition: version 1 under the first, version 2 under the second
+abbrev pub IsOffice : Edition → Schema → Type 0
+IsOffice First s = s ≡ first_schema
+IsOffice Second s = IsSecond s
+
+-- the tree of the upgrade's table, which is the seventh
+abbrev pub upgrade_tree : Schema → ℕ
+upgrade_tree s = unwrap_or (option_map (λ t. t.tree) (slice_get s.tables 6)) 0
 
 -- the schema of an empty database
 abbrev pub empty_schema : Schema

@@ -1,6 +1,8 @@
 //! Whether a schema is the office's.
 
-ghost use Rattle.std.specs.Prelude.{◌≡◌, ◌↔◌, ◌∷◌, ◌++◌, IsTrue, Some, map, slice_get, []};
+ghost use Rattle.std.specs.Prelude.{◌≡◌, ◌↔◌, ◌<◌, ◌∷◌, ◌++◌, IsTrue, Some, List, ℕ, map, slice_get, []};
+ghost use Rattle.std.specs.List.{AllByRecursion};
+ghost use Rattle.sqlite_schema.specs.declared.schema.Index as spec_index;
 ghost use Rattle.sqlite_value.specs.declared.value.Value.TheVariants.{Null};
 ghost use Rattle.sqlite_value.specs.Keys.{plain};
 ghost use Rattle.permit_sql_rows.specs.Schema.{
@@ -18,8 +20,11 @@ ghost use Rattle.permit_sql_rows.specs.Schema.{
   key_indexes,
   search_indexes,
   upgrade_table,
-  more_tables,
-  schema_of,
+  first_schema,
+  IsAmong,
+  AreSearches,
+  IsSecond,
+  IsOffice,
 };
 ghost use Rattle.permit_model.specs.Tables.{version_of as version_under};
 ghost use Rattle.permit_sql_rows.specs.Schema as spec;
@@ -415,22 +420,24 @@ fn is_paper(table: &Table) -> bool
     )
 }
 
-/// Whether the table is the upgrade's.
+/// Whether the table is the upgrade's, in a tree of its own.
 fn is_upgrade(table: &Table) -> bool
-    ensures { IsTrue result ↔ (table.now ≡ upgrade_table) }
+    ensures { IsTrue result ↔ (table.now ≡ upgrade_table table.now.tree) × (9 < table.now.tree) × (table.now.tree < 65536) }
 {
-    is_table(
-        table,
-        Shape {
-            tree: 18,
-            name: "upgrade",
-            fields: &[id(), number("files")],
-            key: Some(0),
-            primary: &[0],
-            unique: &[],
-            links: &[],
-        },
-    )
+    9 < table.tree
+        && table.tree < 65536
+        && is_table(
+            table,
+            Shape {
+                tree: table.tree,
+                name: "upgrade",
+                fields: &[id(), number("files")],
+                key: Some(0),
+                primary: &[0],
+                unique: &[],
+                links: &[],
+            },
+        )
 }
 
 /// Whether these are the six tables of version 1, made in their order.
@@ -467,9 +474,25 @@ fn have_form(mut indexes: &[Index], mut searches: &[Search<'_>]) -> bool
     searches.is_empty()
 }
 
-/// Whether these are the indexes of the keys and the eight beside them, made in their order.
-fn are_indexes(indexes: &[Index]) -> bool
-    ensures { IsTrue result ↔ (indexes.now ≡ key_indexes ++ search_indexes) }
+/// The eight indexes that are no keys, as they are founded.
+fn searches<'a>() -> [Search<'a>; 8]
+    ensures { map index_of result ≡ search_indexes }
+{
+    [
+        plain_index("file_cell", 10, 7, &[11, 17, 12]),
+        plain_index("file_applicant", 11, 7, &[3]),
+        plain_index("file_contractor", 12, 7, &[4]),
+        plain_index("file_reviewer", 13, 7, &[5]),
+        plain_index("file_inspector", 14, 7, &[6]),
+        plain_index("file_parcel", 15, 7, &[2]),
+        plain_index("parcel_owner", 16, 3, &[4]),
+        plain_index("interest_party", 17, 5, &[2]),
+    ]
+}
+
+/// Whether these are the indexes of the four keys, made in their order.
+fn are_key_indexes(indexes: &[Index]) -> bool
+    ensures { IsTrue result ↔ (indexes.now ≡ key_indexes) }
 {
     have_form(
         indexes,
@@ -478,16 +501,62 @@ fn are_indexes(indexes: &[Index]) -> bool
             key_index("sqlite_autoindex_parcel_1", 4, 3, &[2]),
             key_index("sqlite_autoindex_interest_1", 6, 5, &[1, 2]),
             key_index("sqlite_autoindex_paper_1", 9, 8, &[1, 2]),
-            plain_index("file_cell", 10, 7, &[11, 17, 12]),
-            plain_index("file_applicant", 11, 7, &[3]),
-            plain_index("file_contractor", 12, 7, &[4]),
-            plain_index("file_reviewer", 13, 7, &[5]),
-            plain_index("file_inspector", 14, 7, &[6]),
-            plain_index("file_parcel", 15, 7, &[2]),
-            plain_index("parcel_owner", 16, 3, &[4]),
-            plain_index("interest_party", 17, 5, &[2]),
         ],
     )
+}
+
+/// Whether the search's index is one of these, in whatever tree.
+fn is_among(mut indexes: &[Index], search: Search<'_>) -> bool
+    ensures { IsTrue result ↔ IsAmong (index_of search.entry) indexes.entry.now }
+{
+    'indexes: while let [index, more @ ..] = indexes {
+        let tree = index.tree;
+        if is_index(index, Search { tree, ..search }) {
+            return true;
+        }
+        indexes = more;
+    }
+    false
+}
+
+/// Whether the index of each search is one of these, in whatever tree.
+fn are_among(indexes: &[Index], mut searches: &[Search<'_>]) -> bool
+    ensures { IsTrue result ↔ AllByRecursion (λ i. IsAmong i indexes.now) (map index_of searches.entry.now) }
+{
+    'searches: while let [search, rest @ ..] = searches {
+        if !is_among(indexes, *search) {
+            return false;
+        }
+        searches = rest;
+    }
+    true
+}
+
+/// Whether these are the eight indexes that are no keys, in any order and in any trees.
+fn are_searches(indexes: &[Index]) -> bool
+    ensures { IsTrue result ↔ AreSearches indexes.now }
+{
+    indexes.len() == 8 && are_among(indexes, &searches())
+}
+
+/// Whether the indexes are those of version 1, made in their order.
+fn are_first_indexes(indexes: &[Index]) -> bool
+    ensures { IsTrue result ↔ (indexes.now ≡ key_indexes ++ search_indexes) }
+{
+    match indexes.split_at_checked(4) {
+        Some((keys, others)) => are_key_indexes(keys) && have_form(others, &searches()),
+        None => false,
+    }
+}
+
+/// Whether the indexes are those of version 2.
+fn are_second_indexes(indexes: &[Index]) -> bool
+    ensures { IsTrue result ↔ (searches : List spec_index.Index) × (indexes.now ≡ key_indexes ++ searches) × AreSearches searches }
+{
+    match indexes.split_at_checked(4) {
+        Some((keys, others)) => are_key_indexes(keys) && are_searches(others),
+        None => false,
+    }
 }
 
 /// Whether the first table that was made is the desk's.
@@ -500,9 +569,9 @@ pub fn has_desk(schema: &Schema) -> bool
     }
 }
 
-/// Whether these are the tables of version 1 and behind them the upgrade's.
-fn are_all_tables(tables: &[Table]) -> bool
-    ensures { IsTrue result ↔ (tables.now ≡ first_tables ++ upgrade_table ∷ []) }
+/// Whether these are the tables of version 1 and after them the upgrade's.
+fn are_second_tables(tables: &[Table]) -> bool
+    ensures { IsTrue result ↔ (tree : ℕ) × (tables.now ≡ first_tables ++ upgrade_table tree ∷ []) × (9 < tree) × (tree < 65536) }
 {
     match tables {
         [first @ .., last] => are_tables(first) && is_upgrade(last),
@@ -510,21 +579,31 @@ fn are_all_tables(tables: &[Table]) -> bool
     }
 }
 
-/// Whether the tables are those of an edition, made in their order.
-fn have_edition(edition: Edition, tables: &[Table]) -> bool
-    ensures { IsTrue result ↔ (tables.now ≡ first_tables ++ more_tables edition) }
+/// Whether the schema is that of version 1, made in its order.
+fn is_first(schema: &Schema) -> bool
+    ensures { IsTrue result ↔ (schema.now ≡ first_schema) }
 {
-    match edition {
-        Edition::First => are_tables(tables),
-        Edition::Second => are_all_tables(tables),
-    }
+    are_tables(schema.tables.as_slice())
+        && are_first_indexes(schema.indexes.as_slice())
+        && schema.views.is_empty()
 }
 
-/// Whether the schema is the office's under an edition: its tables and indexes, made in their order, and nothing more.
-pub fn is_office(edition: Edition, schema: &Schema) -> bool
-    ensures told { IsTrue result ↔ (schema.now ≡ schema_of edition) }
+/// Whether the schema is that of version 2, in an order in which SQLite writes it.
+fn is_second(schema: &Schema) -> bool
+    ensures { IsTrue result ↔ IsSecond schema.now }
 {
-    have_edition(edition, schema.tables.as_slice())
-        && are_indexes(schema.indexes.as_slice())
+    are_second_tables(schema.tables.as_slice())
+        && are_second_indexes(schema.indexes.as_slice())
         && schema.views.is_empty()
+}
+
+/// Whether the schema is the office's under an edition: its tables and indexes, and nothing more. Of version 2 the table
+/// of the upgrade and the indexes that are no keys may stand in any order, as `VACUUM` and a dump leave them.
+pub fn is_office(edition: Edition, schema: &Schema) -> bool
+    ensures told { IsTrue result ↔ IsOffice edition schema.now }
+{
+    match edition {
+        Edition::First => is_first(schema),
+        Edition::Second => is_second(schema),
+    }
 }

@@ -7,6 +7,7 @@ use Rattle.sqlite_sql.specs.Term.{col}
 use Rattle.sqlite_sql.specs.Query.{Query, inner, left, end}
 use Rattle.permit_base.specs.declared.words.Relation.{Relation}
 use Rattle.permit_base.specs.declared.words.Relation.TheVariants.{Applicant, Contractor, Owner, AssignedReviewer, AssignedInspector, Conflict}
+use Rattle.permit_sql_rows.specs.Schema.{Order}
 use Rattle.permit_sql_statements.specs.Selected.{text_alone, text_without}
 use Rattle.permit_sql_statements.specs.declared.question.TheConstants.{AS_APPLICANT_WITHOUT, AS_CONTRACTOR_WITHOUT, AS_OWNER_WITHOUT, AS_REVIEWER_WITHOUT}
 use Rattle.permit_sql_statements.specs.declared.question.TheConstants.{AS_INSPECTOR_WITHOUT}
@@ -31,14 +32,14 @@ query_alone AssignedReviewer = column_alone 5
 query_alone AssignedInspector = column_alone 6
 query_alone Conflict = conflict_alone
 
-pub means_alone : (r : Relation) → Means (text_alone r) (query_alone r)
+pub means_alone : (o : Order) (r : Relation) → Means o (text_alone r) (query_alone r)
 unfolding understood everything
-means_alone Applicant = (refl, (refl, refl), refl)
-means_alone Contractor = (refl, (refl, refl), refl)
-means_alone Owner = (refl, (refl, refl), refl)
-means_alone AssignedReviewer = (refl, (refl, refl), refl)
-means_alone AssignedInspector = (refl, (refl, refl), refl)
-means_alone Conflict = (refl, (refl, refl), refl)
+means_alone o Applicant = (refl, (refl, refl), refl)
+means_alone o Contractor = (refl, (refl, refl), refl)
+means_alone o Owner = (refl, (refl, refl), refl)
+means_alone o AssignedReviewer = (refl, (refl, refl), refl)
+means_alone o AssignedInspector = (refl, (refl, refl), refl)
+means_alone o Conflict = (refl, (refl, refl), refl)
 
 -- ---- for a caller who has declared no interest
 
@@ -57,33 +58,33 @@ query_without AssignedReviewer = column_without 5
 query_without AssignedInspector = column_without 6
 query_without Conflict = conflict_alone
 
-means_applicant_without : Means AS_APPLICANT_WITHOUT.now (column_without 3)
+means_applicant_without : (o : Order) → Means o AS_APPLICANT_WITHOUT.now (column_without 3)
 unfolding understood everything
-means_applicant_without = (refl, (refl, refl), refl)
+means_applicant_without o = (refl, (refl, refl), refl)
 
-means_contractor_without : Means AS_CONTRACTOR_WITHOUT.now (column_without 4)
+means_contractor_without : (o : Order) → Means o AS_CONTRACTOR_WITHOUT.now (column_without 4)
 unfolding understood everything
-means_contractor_without = (refl, (refl, refl), refl)
+means_contractor_without o = (refl, (refl, refl), refl)
 
-means_owner_without : Means AS_OWNER_WITHOUT.now owner_without
+means_owner_without : (o : Order) → Means o AS_OWNER_WITHOUT.now owner_without
 unfolding understood everything
-means_owner_without = (refl, (refl, refl), refl)
+means_owner_without o = (refl, (refl, refl), refl)
 
-means_reviewer_without : Means AS_REVIEWER_WITHOUT.now (column_without 5)
+means_reviewer_without : (o : Order) → Means o AS_REVIEWER_WITHOUT.now (column_without 5)
 unfolding understood everything
-means_reviewer_without = (refl, (refl, refl), refl)
+means_reviewer_without o = (refl, (refl, refl), refl)
 
-means_inspector_without : Means AS_INSPECTOR_WITHOUT.now (column_without 6)
+means_inspector_without : (o : Order) → Means o AS_INSPECTOR_WITHOUT.now (column_without 6)
 unfolding understood everything
-means_inspector_without = (refl, (refl, refl), refl)
+means_inspector_without o = (refl, (refl, refl), refl)
 
 some_same : (a b : List ℕ) → Some a ≡ Some b → a ≡ b
 some_same a b is = ap (λ o. unwrap_or o b) is
 
-pub means_without : (r : Relation) (text : List ℕ) → text_without r ≡ Some text → Means text (query_without r)
-means_without Applicant text is = subst (λ x. Means x (column_without 3)) (some_same AS_APPLICANT_WITHOUT.now text is) means_applicant_without
-means_without Contractor text is = subst (λ x. Means x (column_without 4)) (some_same AS_CONTRACTOR_WITHOUT.now text is) means_contractor_without
-means_without Owner text is = subst (λ x. Means x owner_without) (some_same AS_OWNER_WITHOUT.now text is) means_owner_without
-means_without AssignedReviewer text is = subst (λ x. Means x (column_without 5)) (some_same AS_REVIEWER_WITHOUT.now text is) means_reviewer_without
-means_without AssignedInspector text is = subst (λ x. Means x (column_without 6)) (some_same AS_INSPECTOR_WITHOUT.now text is) means_inspector_without
-means_without Conflict text is = cc
+pub means_without : (o : Order) (r : Relation) (text : List ℕ) → text_without r ≡ Some text → Means o text (query_without r)
+means_without o Applicant text is = subst (λ x. Means o x (column_without 3)) (some_same AS_APPLICANT_WITHOUT.now text is) (means_applicant_without o)
+means_without o Contractor text is = subst (λ x. Means o x (column_without 4)) (some_same AS_CONTRACTOR_WITHOUT.now text is) (means_contractor_without o)
+means_without o Owner text is = subst (λ x. Means o x owner_without) (some_same AS_OWNER_WITHOUT.now text is) (means_owner_without o)
+means_without o AssignedReviewer text is = subst (λ x. Means o x (column_without 5)) (some_same AS_REVIEWER_WITHOUT.now text is) (means_reviewer_without o)
+means_without o AssignedInspector text is = subst (λ x. Means o x (column_without 6)) (some_same AS_INSPECTOR_WITHOUT.now text is) (means_inspector_without o)
+means_without o Conflict text is = cc

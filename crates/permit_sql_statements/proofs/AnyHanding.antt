@@ -21,7 +21,7 @@ use Rattle.permit_model.specs.Facts.{holds}
 use Rattle.permit_model.specs.Tables.{Tables}
 use Rattle.permit_model.specs.Routes.{Found, found_by, found_row, is_found, relations_found}
 use Rattle.permit_store.specs.Handing.{AreAmong, found_by_any, is_found_by_any}
-use Rattle.permit_sql_rows.specs.Schema.{office_schema}
+use Rattle.permit_sql_rows.specs.Schema.{schema_in}
 use Rattle.permit_sql_rows.specs.Kept.{Keeps, Shows}
 use Rattle.permit_sql_rows.specs.Rows.{int}
 use Rattle.permit_sql_statements.specs.Gave.{Gave}
@@ -91,8 +91,9 @@ module _ (t : Tables) (caller : ℕ) (there : 0 < caller) (day : ℕ) (routes : 
   has_shown : (r : Relation) (old new : State) → Keeps t old.now → (rows : List Row) → Shown (text_alone r) (int caller ∷ []) old new rows →
       ShowWhere t.upgrade rows (λ given. IsPermutation given (having r))
   has_shown r old new k rows h =
-      let m = means_alone r in
-      let read = reads_as (text_alone r) (int caller ∷ []) old new office_schema k.schema _ m.0 m.1 m.2 rows h in
+      let o = k.schema.order in
+      let m = means_alone o r in
+      let read = reads_as (text_alone r) (int caller ∷ []) old new (schema_in o) k.schema.is _ m.0 m.1 m.2 rows h in
       alone_shown caller there t (overlay old.now.trees []) k.keyed k.rows.parcels k.rows.interests k.rows.files r rows (read.answer Null)
 
   every_shown : (old new : State) → Keeps t old.now → (rows : List Row) → Shown EVERY.now (int caller ∷ []) old new rows →
@@ -110,13 +111,13 @@ module _ (t : Tables) (caller : ℕ) (there : 0 < caller) (day : ℕ) (routes : 
       → (shown : List Found) × AreAmong result given shown × (filter (is_found_by_any routes caller day) shown ≡ found_by_any routes caller day t)
   handed_among text (inl is) result old new given shows gave = (
     found_by Every caller day t,
-    handed_where t EVERY.now (int caller ∷ []) every_query (means_for Every) (λ given. IsPermutation given (found_by Every caller day t))
+    handed_where t EVERY.now (int caller ∷ []) every_query (λ o. means_for o Every) (λ given. IsPermutation given (found_by Every caller day t))
         (found_by Every caller day t) (IsPermutation-refl _) every_shown result old new given shows (rw is at gave),
     filter_within (is_found_by_any routes caller day) (is_found Every caller day) (λ found h. refl) _,
   )
   handed_among text (inr (r, all, is)) result old new given shows gave = (
     having r,
-    handed_where t (text_alone r) (int caller ∷ []) (query_alone r) (means_alone r) (λ given. IsPermutation given (having r)) (having r) (IsPermutation-refl _)
+    handed_where t (text_alone r) (int caller ∷ []) (query_alone r) (λ o. means_alone o r) (λ given. IsPermutation given (having r)) (having r) (IsPermutation-refl _)
         (has_shown r) result old new given shows (rw is at gave),
     filter_within (is_found_by_any routes caller day) (λ found. holds (relations_found caller found) r)
         (λ found h. asked_by_any caller day r found routes all h) _,
@@ -127,8 +128,9 @@ module _ (t : Tables) (caller : ℕ) (there : 0 < caller) (day : ℕ) (routes : 
     has_shown_without : (r : Relation) (text : List ℕ) → text_without r ≡ Some text → (old new : State) → Keeps t old.now → (rows : List Row) →
         Shown text (int caller ∷ int 0 ∷ []) old new rows → ShowWhere t.upgrade rows (λ given. IsPermutation given (having r))
     has_shown_without r text is old new k rows h =
-        let m = means_without r text is in
-        let read = reads_as text (int caller ∷ int 0 ∷ []) old new office_schema k.schema _ m.0 m.1 m.2 rows h in
+        let o = k.schema.order in
+        let m = means_without o r text is in
+        let read = reads_as text (int caller ∷ int 0 ∷ []) old new (schema_in o) k.schema.is _ m.0 m.1 m.2 rows h in
         alone_without caller there t (overlay old.now.trees []) k.keyed k.rows.parcels k.rows.interests k.rows.files none r text is rows (read.answer Null)
 
     all_shown_without : (old new : State) → Keeps t old.now → (rows : List Row) → Shown EVERY_WITHOUT.now (int caller ∷ int 0 ∷ []) old new rows →
@@ -151,7 +153,7 @@ module _ (t : Tables) (caller : ℕ) (there : 0 < caller) (day : ℕ) (routes : 
     )
     handed_among_without text (inr (r, all, is)) result old new given shows gave = (
       having r,
-      handed_where t text (int caller ∷ int 0 ∷ []) (query_without r) (means_without r text is) (λ given. IsPermutation given (having r)) (having r)
+      handed_where t text (int caller ∷ int 0 ∷ []) (query_without r) (λ o. means_without o r text is) (λ given. IsPermutation given (having r)) (having r)
           (IsPermutation-refl _) (has_shown_without r text is) result old new given shows gave,
       filter_within (is_found_by_any routes caller day) (λ found. holds (relations_found caller found) r)
           (λ found h. asked_by_any caller day r found routes all h) _,
@@ -159,13 +161,13 @@ module _ (t : Tables) (caller : ℕ) (there : 0 < caller) (day : ℕ) (routes : 
 
 -- the text is plain in a database that keeps the tables
 pub any_plain : (t : Tables) (db : Database) (routes : List Route) (text : List ℕ) → ShowsEach routes text → Keeps t db → IsPlain (understood db.schema text)
-any_plain t db routes text (inl is) k = subst (λ s. IsPlain (understood s text)) (sym k.schema)
-    (subst (λ x. IsPlain (understood office_schema x)) (sym is) (means_for Every).1)
-any_plain t db routes text (inr (r, all, is)) k = subst (λ s. IsPlain (understood s text)) (sym k.schema)
-    (subst (λ x. IsPlain (understood office_schema x)) (sym is) (means_alone r).1)
+any_plain t db routes text (inl is) k = subst (λ s. IsPlain (understood s text)) (sym k.schema.is)
+    (subst (λ x. IsPlain (understood (schema_in k.schema.order) x)) (sym is) (means_for k.schema.order Every).1)
+any_plain t db routes text (inr (r, all, is)) k = subst (λ s. IsPlain (understood s text)) (sym k.schema.is)
+    (subst (λ x. IsPlain (understood (schema_in k.schema.order) x)) (sym is) (means_alone k.schema.order r).1)
 
 pub any_plain_without : (t : Tables) (db : Database) (routes : List Route) (text : List ℕ) → ShowsEachWithout routes text → Keeps t db →
     IsPlain (understood db.schema text)
-any_plain_without t db routes text (inl is) k = subst (λ s. IsPlain (understood s text)) (sym k.schema)
-    (subst (λ x. IsPlain (understood office_schema x)) (sym is) means_every_without.1)
-any_plain_without t db routes text (inr (r, all, is)) k = subst (λ s. IsPlain (understood s text)) (sym k.schema) (means_without r text is).1
+any_plain_without t db routes text (inl is) k = subst (λ s. IsPlain (understood s text)) (sym k.schema.is)
+    (subst (λ x. IsPlain (understood (schema_in k.schema.order) x)) (sym is) (means_every_without k.schema.order).1)
+any_plain_without t db routes text (inr (r, all, is)) k = subst (λ s. IsPlain (understood s text)) (sym k.schema.is) (means_without k.schema.order r text is).1

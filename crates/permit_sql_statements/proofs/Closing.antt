@@ -29,7 +29,7 @@ use Rattle.sqlite_keyed.proofs.ListLemmas.{filter-map, filter_same, map-map, map
 use Rattle.sqlite.specs.State.{State, Executes}
 use Rattle.permit_model.specs.Tables.{Paper, Tables}
 use Rattle.permit_store.specs.Changes.{closed_by}
-use Rattle.permit_sql_rows.specs.Schema.{office_schema, paper_table}
+use Rattle.permit_sql_rows.specs.Schema.{schema_in, paper_table}
 use Rattle.permit_sql_rows.specs.Rows.{int, shown_paper}
 use Rattle.permit_sql_rows.specs.Kept.{Keeps}
 use Rattle.permit_sql_statements.specs.declared.texts.TheConstants.{CLOSE_NOTICE}
@@ -37,7 +37,7 @@ use Rattle.permit_sql_statements.proofs.Permuted.{IsFreshIn, put_fresh, no_more,
 use Rattle.permit_sql_statements.proofs.Lookups.{one_test, eq_is, finds_one}
 use Rattle.permit_sql_statements.proofs.WriteTexts.{close_notice_query, close_notice_is, close_notice_plain}
 use Rattle.permit_sql_statements.proofs.Effects.{cast_int, cast_null, cast_flag, Leaves, Sets, sets}
-use Rattle.permit_sql_statements.proofs.Keeping.{Apart, keeps_papers, keyed_closed}
+use Rattle.permit_sql_statements.proofs.Keeping.{Apart, second_after, keeps_papers, keyed_closed}
 
 -- ---- lists
 
@@ -181,6 +181,10 @@ int_not_null (Real x) h = refl
 int_not_null (Text t) h = refl
 int_not_null (Blob b) h = refl
 
+none_left : (a b : Bool) → (not a && b) ≡ true → a ≡ false
+none_left true b e = absurd (true≢false (sym e))
+none_left false b e = refl
+
 and_first : (a : Bool) → (a && true) ≡ true → a ≡ true
 and_first true e = refl
 and_first false e = absurd (true≢false (sym e))
@@ -304,11 +308,12 @@ module _ (file number : ℕ) where
 module _ (old new : State) (count : ℕ) (t : Tables) (k : Keeps t old.now) (file number : ℕ) where
   abbrev Closed : Type 0
   Closed =
-      Leaves old.now new.now paper_table
+      Leaves k.schema.order old.now new.now paper_table
       × (IsPermutation (map shown_paper (map (closed_by file number) t.papers)) (map (drop 1) (new.now.trees 8)) × Apart (new.now.trees 8))
 
   abbrev Set : Type 0
-  Set = Sets CLOSE_NOTICE.now 5 paper_table close_notice_query close_notice_is close_notice_plain (key file number) old new count k.schema refl
+  Set = Sets k.schema.order CLOSE_NOTICE.now 5 paper_table close_notice_query (close_notice_is k.schema.order)
+      (close_notice_plain k.schema.order) (key file number) old new count k.schema.is refl
 
   none_closed : (it : Set) → filter (hits file number) (old.now.trees 8) ≡ [] → it.found ≡ [] → Closed
   none_closed it is found =
@@ -336,12 +341,12 @@ module _ (old new : State) (count : ℕ) (t : Tables) (k : Keeps t old.now) (fil
       let put = it.put (shows file number r) made found (cast_paper_at v q) in
       let stored : is_int w ≡ true = and_first _ put.keyed in
       let as_int : w ≡ Int (id_in w) = int_is w stored in
-      let unique = all_put (λ row. passes Unique office_schema new.now.trees paper_table row ≡ true) made left
-      (subst (AllByRecursion (λ row. passes Unique office_schema new.now.trees paper_table row ≡ true)) put.row
+      let unique = all_put (λ row. passes Unique (schema_in k.schema.order) new.now.trees paper_table row ≡ true) made left
+      (subst (AllByRecursion (λ row. passes Unique (schema_in k.schema.order) new.now.trees paper_table row ≡ true)) put.row
       (put.fits.rules Unique (λ e. absurd cc)).1.1.1.1.1.0) in
       let clash : Row → Bool = λ other. agree plain (1 ∷ 2 ∷ []) other (1 ∷ 2 ∷ []) made && differ (rowid other) w in
       let alone : list_any clash (put_row made left) ≡ false = subst (λ rows. list_any clash rows ≡ false) put.row
-      (Rattle.permit_sql_statements.proofs.Permuted.not_taken _ unique) in
+      (none_left _ _ unique) in
       let gone : has_rowid id r ≡ true = found_by_rowid (has_rowid id r) (λ stays.
       let clear = any_left clash (λ x. not (has_rowid id x)) (hits file number) r tree is (ap not stays) (any_put clash made left put.fresh alone) in
       let apart = any_left (λ x. is_eq (value_cmp (rowid x) w)) (λ x. not (has_rowid id x)) (hits file number) r tree is (ap not stays)
@@ -386,7 +391,8 @@ module _ (old new : State) (count : ℕ) (t : Tables) (k : Keeps t old.now) (fil
       Keeps (record t { papers = map (closed_by file number) t.papers }) new.now
   notice_set h =
       let tree = old.now.trees 8 in
-      let it : Set = sets CLOSE_NOTICE.now 5 paper_table close_notice_query close_notice_is close_notice_plain (key file number) old new count k.schema refl
+      let it : Set = sets k.schema.order CLOSE_NOTICE.now 5 paper_table close_notice_query (close_notice_is k.schema.order)
+      (close_notice_plain k.schema.order) (key file number) old new count k.schema.is refl
       (λ tally x. x) h in
       let short : length (filter (is_it file number) t.papers) ≤ 1 = subst (λ l. length l ≤ 1) (sym (both_tests file number t.papers))
       (once file number (filter (λ (p : Paper). eqb p.file file) t.papers) (k.keyed.papers file)) in
@@ -398,10 +404,10 @@ module _ (old new : State) (count : ℕ) (t : Tables) (k : Keeps t old.now) (fil
       (IsPermutation-same _ _ (map_id tree)) few it.found (it.answer.answer Null) in
       let made = go it (filter (hits file number) tree) (filter (is_it file number) t.papers) refl found columns short in
       record {
-        schema = made.0.schema;
+        schema = second_after old.now new.now k.schema made.0.schema;
         now = k.now;
         keyed = keyed_closed t k.keyed file number;
-        rows = keeps_papers old.now new.now t k.rows (map (closed_by file number) t.papers) made.0 made.1;
+        rows = keeps_papers old.now new.now t k.schema k.rows (map (closed_by file number) t.papers) made.0 made.1;
       }
     where
       one : (it : Set) (r : Row) (p : Paper) → filter (hits file number) (old.now.trees 8) ≡ r ∷ [] → it.found ≡ shows file number r ∷ [] →

@@ -18,7 +18,7 @@ use Rattle.permit_model.specs.Caller.{Party}
 use Rattle.permit_model.specs.Parcels.{Parcel, Interest}
 use Rattle.permit_model.specs.Tables.{Desk, State as FileState, FileRow, Paper, Tables}
 use Rattle.permit_store.specs.Changes.{given_to, with_state, closed_by}
-use Rattle.permit_sql_rows.specs.Schema.{office_schema}
+use Rattle.permit_sql_rows.specs.Schema.{IsSecond, upgrade_tree}
 use Rattle.permit_sql_rows.specs.Rows.{int, party_row, parcel_row, file_row, shown_party, shown_parcel, shown_file, shown_interest, shown_paper, row_params}
 use Rattle.permit_sql_rows.specs.Kept.{papers_counted, IsNamed, AreKeyed, AreInTrees, Keeps}
 use Rattle.permit_sql_statements.specs.declared.texts.TheConstants.{WRITE_DESK, ADD_PARTY, ADD_PARCEL, ADD_INTEREST, ADD_FILE, ADD_PAPER, SET_OWNER, WRITE_FILE}
@@ -27,18 +27,23 @@ use Rattle.permit_sql_statements.specs.Statements.{RanAll, desk_statement}
 use Rattle.permit_sql_statements.proofs.Permuted.{put_fresh, put_more, put_changed, key_free, not_found, only_found, append_any}
 use Rattle.permit_sql_statements.proofs.Writes.{sets_desk, adds_party, adds_parcel, adds_interest, adds_file, adds_paper, sets_owner, sets_file}
 use Rattle.permit_sql_statements.proofs.Closing.{apart_put, notice_set}
-use Rattle.permit_sql_statements.proofs.Keeping.{Apart, lower, counted_here, keeps_papers, keyed_paper, keeps_desk, keeps_parties, keeps_parcels}
+use Rattle.permit_sql_statements.proofs.Keeping.{Apart, second_after, lower, counted_here, keeps_papers, keyed_paper, keeps_desk, keeps_parties, keeps_parcels}
 use Rattle.permit_sql_statements.proofs.Keeping.{keeps_interests, keeps_files, keyed_desk, keyed_interests, keyed_party, keyed_parcel, keyed_owner, keyed_file}
 use Rattle.permit_sql_statements.proofs.Keeping.{keyed_row}
 
 -- the desk is set last
 ended : (mid last : State) (count : ℕ) (t : Tables) (d : Desk) → t.desk.files ≤ d.files → d.edition ≡ t.desk.edition → t.desk.edition ≡ Second →
-    mid.now.schema ≡ office_schema → AreInTrees t mid.now.trees → AreKeyed t →
+    IsSecond mid.now.schema → AreInTrees t (upgrade_tree mid.now.schema) mid.now.trees → AreKeyed t →
     Executes WRITE_DESK.now (int d.last ∷ int d.parties ∷ int d.parcels ∷ int d.files ∷ []) mid last (Ok count)
     → Keeps (record t { desk = d }) last.now
 ended mid last count t d more same now schema rows keyed h =
-    let it = sets_desk mid last count schema t.desk d same rows.desk h in
-    record { schema = it.0.schema; now = same ∙ now; keyed = keyed_desk t keyed d more same; rows = keeps_desk mid.now last.now t rows d it.0 it.1 }
+    let it = sets_desk schema.order mid last count schema.is t.desk d same rows.desk h in
+    record {
+      schema = second_after mid.now last.now schema it.0.schema;
+      now = same ∙ now;
+      keyed = keyed_desk t keyed d more same;
+      rows = keeps_desk mid.now last.now t schema rows d it.0 it.1;
+    }
 
 pub found_number : {X : Type 0} (key : X → ℕ) (id : ℕ) (xs : List X) (x : X) → find (λ y. eqb (key y) id) xs ≡ Some x → key x ≡ id
 found_number key id [] x e = absurd cc
@@ -60,13 +65,18 @@ pub row_set : (old new : State) (count : ℕ) (t : Tables) (k : Keeps t old.now)
 row_set old new count t k id s f found parcel applicant kept named h =
     let only = only_found (λ (q : FileRow). eqb q.id id) t.files f found (k.keyed.files id) in
     let number = found_number (λ (q : FileRow). q.id) id t.files f found in
-    let first = sets_file old new count k.schema t k id s f only number parcel applicant h in
+    let first = sets_file k.schema.order old new count k.schema.is t k id s f only number parcel applicant h in
     let xs = map (with_state id s) t.files in
     let here : with_state id s f ≡ record f { state = s } = set number in
     let there = put_changed (λ (q : FileRow). q.id) file_row (λ q. refl) id (with_state id s) f t.files (old.now.trees 7)
     (λ y apart. ap (λ c. cond c (record y { state = s }) y) apart) (ap (λ (q : FileRow). q.id) here ∙ number) only k.rows.files in
     let row = subst (IsPermutation (map file_row xs)) (ap (λ q. put_row (file_row q) (without_rowid (pos id) (old.now.trees 7))) here ∙ sym first.1) there in
-    record { schema = first.0.schema; now = k.now; keyed = keyed_row t k.keyed id s f only kept named; rows = keeps_files old.now new.now t k.rows xs first.0 row }
+    record {
+      schema = second_after old.now new.now k.schema first.0.schema;
+      now = k.now;
+      keyed = keyed_row t k.keyed id s f only kept named;
+      rows = keeps_files old.now new.now t k.schema k.rows xs first.0 row;
+    }
   where
     set : f.id ≡ id → with_state id s f ≡ record f { state = s }
     set e = let is : eqb f.id id ≡ true = grind (arith, nat_tests) in ap (λ c. cond c (record f { state = s }) f) is
@@ -76,18 +86,18 @@ pub paper_added : (old new : State) (count : ℕ) (t : Tables) (k : Keeps t old.
     AllByRecursion (λ (x : Paper). x.number < p.number) (filter (λ (x : Paper). eqb x.file p.file) t.papers) → p.number ≤ papers_counted p.file t.files
     → Executes ADD_PAPER.now (shown_paper p) old new (Ok count) → Keeps (record t { papers = t.papers ++ p ∷ [] }) new.now
 paper_added old new count t k p above low h =
-    let first = adds_paper old new count k.schema p h in
+    let first = adds_paper k.schema.order old new count k.schema.is p h in
     let xs = t.papers ++ p ∷ [] in
     let id = next_rowid (old.now.trees 8) in
     let made : Row = Int id ∷ shown_paper p in
     let put = IsPermutation-map (drop 1) _ _ (put_fresh made (old.now.trees 8) first.fresh) in
     let more = append_any (map shown_paper t.papers) (shown_paper p) (map (drop 1) (old.now.trees 8)) k.rows.papers in
     let there = subst (λ l. IsPermutation l (map (drop 1) (put_row made (old.now.trees 8)))) (sym (map_last t.papers)) (IsPermutation-trans _ _ _ more put) in
-    let rows = keeps_papers old.now new.now t k.rows xs first.leaves (
+    let rows = keeps_papers old.now new.now t k.schema k.rows xs first.leaves (
       subst (λ r. IsPermutation (map shown_paper xs) (map (drop 1) r)) (sym first.row) there,
       subst Apart (sym first.row) (apart_put id (shown_paper p) (old.now.trees 8) first.fresh k.rows.apart),
     ) in
-    record { schema = first.leaves.schema; now = k.now; keyed = keyed_paper t k.keyed p above low; rows = rows }
+    record { schema = second_after old.now new.now k.schema first.leaves.schema; now = k.now; keyed = keyed_paper t k.keyed p above low; rows = rows }
   where
     map_last : (xs : List Paper) → map shown_paper (xs ++ p ∷ []) ≡ map shown_paper xs ++ shown_paper p ∷ []
     map_last [] = refl
@@ -103,14 +113,14 @@ module _ {S : Type 0} (g : Ghosts S) (old : Held S) (db : Database) (t : Tables)
       let begun = state g (record old { in_transaction = true }) in
       let a = state g one.0 in
       let b = state g two.0 in
-      let first = adds_party begun a one.1 k.schema p one.2 in
+      let first = adds_party k.schema.order begun a one.1 k.schema.is p one.2 in
       let xs = t.parties ++ p ∷ [] in
       let there = subst (IsPermutation (map party_row xs)) (sym first.row)
       (put_more (λ (q : Party). q.id) party_row (λ q. refl) p t.parties (begun.now.trees 1) first.fresh k.rows.parties) in
-      let rows = keeps_parties begun.now a.now t k.rows xs first.leaves there in
+      let rows = keeps_parties begun.now a.now t k.schema k.rows xs first.leaves there in
       let keyed = keyed_party t k.keyed p (key_free (λ (q : Party). q.id) party_row (λ q. refl) p t.parties (begun.now.trees 1) first.fresh k.rows.parties)
       (not_found _ t.parties new) in
-      let done = ended a b two.1 (record t { parties = xs }) d more same_edition k.now first.leaves.schema rows keyed two.2 in
+      let done = ended a b two.1 (record t { parties = xs }) d more same_edition k.now (second_after begun.now a.now k.schema first.leaves.schema) rows keyed two.2 in
       let same : db ≡ b.now = ran.is ∙ ap (λ (h : Held _). (state g h).now) two.3 in
       subst (Keeps (record t { desk = d; parties = xs })) (sym same) done
 
@@ -122,14 +132,14 @@ module _ {S : Type 0} (g : Ghosts S) (old : Held S) (db : Database) (t : Tables)
       let begun = state g (record old { in_transaction = true }) in
       let a = state g one.0 in
       let b = state g two.0 in
-      let first = adds_parcel begun a one.1 k.schema p one.2 in
+      let first = adds_parcel k.schema.order begun a one.1 k.schema.is p one.2 in
       let xs = t.parcels ++ p ∷ [] in
       let there = subst (IsPermutation (map parcel_row xs)) (sym first.row)
       (put_more (λ (q : Parcel). q.id) parcel_row (λ q. refl) p t.parcels (begun.now.trees 3) first.fresh k.rows.parcels) in
-      let rows = keeps_parcels begun.now a.now t k.rows xs first.leaves there in
+      let rows = keeps_parcels begun.now a.now t k.schema k.rows xs first.leaves there in
       let keyed = keyed_parcel t k.keyed p (key_free (λ (q : Parcel). q.id) parcel_row (λ q. refl) p t.parcels (begun.now.trees 3) first.fresh k.rows.parcels)
       (not_found _ t.parcels new) in
-      let done = ended a b two.1 (record t { parcels = xs }) d more same_edition k.now first.leaves.schema rows keyed two.2 in
+      let done = ended a b two.1 (record t { parcels = xs }) d more same_edition k.now (second_after begun.now a.now k.schema first.leaves.schema) rows keyed two.2 in
       let same : db ≡ b.now = ran.is ∙ ap (λ (h : Held _). (state g h).now) two.3 in
       subst (Keeps (record t { desk = d; parcels = xs })) (sym same) done
 
@@ -144,15 +154,15 @@ module _ {S : Type 0} (g : Ghosts S) (old : Held S) (db : Database) (t : Tables)
       let b = state g two.0 in
       let only = only_found (λ (q : Parcel). eqb q.id id) t.parcels p found (k.keyed.parcels id) in
       let number = found_number (λ (q : Parcel). q.id) id t.parcels p found in
-      let first = sets_owner begun a one.1 k.schema t k id owner p only number one.2 in
+      let first = sets_owner k.schema.order begun a one.1 k.schema.is t k id owner p only number one.2 in
       let xs = map (given_to id owner) t.parcels in
       let here : given_to id owner p ≡ record p { owner = owner } = given number in
       let there = put_changed (λ (q : Parcel). q.id) parcel_row (λ q. refl) id (given_to id owner) p t.parcels (begun.now.trees 3)
       (λ y apart. ap (λ c. cond c (record y { owner = owner }) y) apart) (ap (λ (q : Parcel). q.id) here ∙ number) only k.rows.parcels in
       let row = subst (IsPermutation (map parcel_row xs)) (ap (λ q. put_row (parcel_row q) (without_rowid (pos id) (begun.now.trees 3))) here
       ∙ sym first.1) there in
-      let rows = keeps_parcels begun.now a.now t k.rows xs first.0 row in
-      let done = ended a b two.1 (record t { parcels = xs }) d more same_edition k.now first.0.schema rows (keyed_owner t k.keyed id owner) two.2 in
+      let rows = keeps_parcels begun.now a.now t k.schema k.rows xs first.0 row in
+      let done = ended a b two.1 (record t { parcels = xs }) d more same_edition k.now (second_after begun.now a.now k.schema first.0.schema) rows (keyed_owner t k.keyed id owner) two.2 in
       let same : db ≡ b.now = ran.is ∙ ap (λ (h : Held _). (state g h).now) two.3 in
       subst (Keeps (record t { desk = d; parcels = xs })) (sym same) done
     where
@@ -167,16 +177,16 @@ module _ {S : Type 0} (g : Ghosts S) (old : Held S) (db : Database) (t : Tables)
       let begun = state g (record old { in_transaction = true }) in
       let a = state g one.0 in
       let b = state g two.0 in
-      let first = adds_interest begun a one.1 k.schema i one.2 in
+      let first = adds_interest k.schema.order begun a one.1 k.schema.is i one.2 in
       let xs = t.interests ++ i ∷ [] in
       let made : Row = Int (next_rowid (begun.now.trees 5)) ∷ shown_interest i in
       let put = IsPermutation-map (drop 1) _ _ (put_fresh made (begun.now.trees 5) first.fresh) in
       let shown = append_any (map shown_interest t.interests) (shown_interest i) (map (drop 1) (begun.now.trees 5)) k.rows.interests in
       let there = subst (λ l. IsPermutation l (map (drop 1) (put_row made (begun.now.trees 5)))) (sym (map_last t.interests))
       (IsPermutation-trans _ _ _ shown put) in
-      let rows = keeps_interests begun.now a.now t k.rows xs first.leaves
+      let rows = keeps_interests begun.now a.now t k.schema k.rows xs first.leaves
       (subst (λ r. IsPermutation (map shown_interest xs) (map (drop 1) r)) (sym first.row) there) in
-      let done = ended a b two.1 (record t { interests = xs }) d more same_edition k.now first.leaves.schema rows (keyed_interests t k.keyed xs) two.2 in
+      let done = ended a b two.1 (record t { interests = xs }) d more same_edition k.now (second_after begun.now a.now k.schema first.leaves.schema) rows (keyed_interests t k.keyed xs) two.2 in
       let same : db ≡ b.now = ran.is ∙ ap (λ (h : Held _). (state g h).now) two.3 in
       subst (Keeps (record t { desk = d; interests = xs })) (sym same) done
     where
@@ -192,13 +202,13 @@ module _ {S : Type 0} (g : Ghosts S) (old : Held S) (db : Database) (t : Tables)
       let begun = state g (record old { in_transaction = true }) in
       let a = state g one.0 in
       let b = state g two.0 in
-      let first = adds_file begun a one.1 k.schema f one.2 in
+      let first = adds_file k.schema.order begun a one.1 k.schema.is f one.2 in
       let xs = t.files ++ f ∷ [] in
       let there = subst (IsPermutation (map file_row xs)) (sym first.row)
       (put_more (λ (q : FileRow). q.id) file_row (λ q. refl) f t.files (begun.now.trees 7) first.fresh k.rows.files) in
-      let rows = keeps_files begun.now a.now t k.rows xs first.leaves there in
+      let rows = keeps_files begun.now a.now t k.schema k.rows xs first.leaves there in
       let keyed = keyed_file t k.keyed f (key_free (λ (q : FileRow). q.id) file_row (λ q. refl) f t.files (begun.now.trees 7) first.fresh k.rows.files) named in
-      let done = ended a b two.1 (record t { files = xs }) d more same_edition k.now first.leaves.schema rows keyed two.2 in
+      let done = ended a b two.1 (record t { files = xs }) d more same_edition k.now (second_after begun.now a.now k.schema first.leaves.schema) rows keyed two.2 in
       let same : db ≡ b.now = ran.is ∙ ap (λ (h : Held _). (state g h).now) two.3 in
       subst (Keeps (record t { desk = d; files = xs })) (sym same) done
 

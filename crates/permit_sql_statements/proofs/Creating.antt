@@ -1,6 +1,6 @@
 -- What the statements of a creation make of an empty database.
 use Rattle.std.proofs.Common.{◌≡◌, ℕ, ◌≤◌, Option, arith, IsPermutation, true, false, List, [], ◌∷◌, ◌++◌, map, drop, take, slice_get, Some, None, Ok, Result, refl, sym, ap}
-use Rattle.std.proofs.Common.{subst, ◌∙◌}
+use Rattle.std.proofs.Common.{subst, ◌∙◌, inl, inr}
 use Rattle.sqlite_tied.specs.Compute.{everything}
 use Rattle.sqlite.specs.Listing.{understood}
 use Rattle.sqlite_resolve.specs.Compile.{table_defined_by, index_defined_by}
@@ -25,7 +25,7 @@ use Rattle.permit_model.specs.Tables.{Desk, FileRow, Tables, edition_by, with_up
 use Rattle.permit_model.proofs.Editions.{first_upto}
 use Rattle.permit_sql_rows.specs.Schema.{desk_table, party_table, parcel_table, interest_table, file_table, paper_table, upgrade_table, first_tables, key_indexes}
 use Rattle.permit_sql_rows.specs.Schema.{search_indexes, cell_index, applicant_index, contractor_index, reviewer_index, inspector_index, parcel_index}
-use Rattle.permit_sql_rows.specs.Schema.{owner_index, interested_index, first_schema, office_schema, empty_schema, table_schema}
+use Rattle.permit_sql_rows.specs.Schema.{owner_index, interested_index, first_schema, made_order, office_schema, upgrade_tree, IsAmong, IsSecond, empty_schema, table_schema}
 use Rattle.permit_sql_rows.specs.Rows.{int, desk_row, upgrade_row, party_row, parcel_row, file_row, shown_party, shown_interest, shown_paper}
 use Rattle.permit_sql_rows.specs.Kept.{IsNamed, AreKeyed, AreInTrees, KeepsUnder, Keeps}
 use Rattle.permit_sql_statements.specs.Statements.{RanAll}
@@ -208,15 +208,32 @@ indexes_interested = record { there = refl; command = refl; statement = refl; pl
 
 -- ---- the table of the upgrade
 
-makes_upgrade : Makes first_schema CREATE_UPGRADE.now (record upgrade_table { tree = 0 })
+makes_upgrade : Makes first_schema CREATE_UPGRADE.now (upgrade_table 0)
 unfolding understood everything
 makes_upgrade = record { command = refl; statement = refl; plain = (refl, refl); defines = refl; whole = refl }
 
-all_is : created first_schema (record upgrade_table { tree = 0 }) ≡ office_schema
+all_is : created first_schema (upgrade_table 0) ≡ office_schema
 unfolding understood everything
 all_is = refl
 
 -- ---- the founding
+
+-- each search index is one of them
+searches_there : AllByRecursion (λ (i : Index). IsAmong i search_indexes) search_indexes
+searches_there =
+    let first : IsAmong cell_index search_indexes = inl refl in
+    let second : IsAmong applicant_index search_indexes = inr (inl refl) in
+    let third : IsAmong contractor_index search_indexes = inr (inr (inl refl)) in
+    let fourth : IsAmong reviewer_index search_indexes = inr (inr (inr (inl refl))) in
+    let fifth : IsAmong inspector_index search_indexes = inr (inr (inr (inr (inl refl)))) in
+    let sixth : IsAmong parcel_index search_indexes = inr (inr (inr (inr (inr (inl refl))))) in
+    let seventh : IsAmong owner_index search_indexes = inr (inr (inr (inr (inr (inr (inl refl)))))) in
+    let eighth : IsAmong interested_index search_indexes = inr (inr (inr (inr (inr (inr (inr (inl refl))))))) in
+    (first, (second, (third, (fourth, (fifth, (sixth, (seventh, (eighth, tt))))))))
+
+-- the order in which the tables and indexes are made
+abbrev made_second : (s : Schema) → s ≡ office_schema → IsSecond s
+made_second s same = record { order = made_order; is = same; apart = omega arith; low = omega arith; are = record { eight = refl; each = searches_there } }
 
 abbrev pub no_rows : Desk → Tables
 no_rows d = record { desk = d; upgrade = Some 0; parties = []; parcels = []; interests = []; files = []; papers = [] }
@@ -240,9 +257,10 @@ founding_desk last = record { edition = Second; last = last; parties = 1; parcel
 
 desk_founded : (old new : State) (last count : ℕ) → IsBlank office_schema old.now →
     Executes Rattle.permit_sql_statements.specs.declared.texts.TheConstants.FOUND_DESK.now (int last ∷ []) old new (Ok count)
-    → (new.now.schema ≡ office_schema) × AreInTrees (record (no_rows (founding_desk last)) { upgrade = None }) new.now.trees × (new.now.trees 18 ≡ [])
+    → (new.now.schema ≡ office_schema)
+    × AreInTrees (record (no_rows (founding_desk last)) { upgrade = None }) (upgrade_tree new.now.schema) new.now.trees × (new.now.trees 18 ≡ [])
 desk_founded old new last count was h =
-    let it = founds_desk old new count was.schema last h in
+    let it = founds_desk made_order old new count was.schema last h in
     let o = it.leaves.others in
     let b = was.blank in
     let e1 : new.now.trees 1 ≡ [] = o.1.0 (λ e. absurd (omega (arith, e))) ∙ b.1.0 in
@@ -315,28 +333,28 @@ founding_made g old db last p none ran =
     (more first_schema CREATE_UPGRADE.now _ makes_upgrade (state g r14.0) (state g r15.0) r15.1 c8 r15.2) in
     let desk = desk_founded (state g r15.0) (state g r16.0) last r16.1 c9 r16.2 in
     let t0 = no_rows (founding_desk last) in
-    let upgrade = adds_upgrade (state g r16.0) (state g r17.0) r17.1 desk.0 0 r17.2 in
-    let upgraded = keeps_upgrade (state g r16.0).now (state g r17.0).now _ desk.1 0 upgrade.leaves
+    let upgrade = adds_upgrade made_order (state g r16.0) (state g r17.0) r17.1 desk.0 0 r17.2 in
+    let upgraded = keeps_upgrade (state g r16.0).now (state g r17.0).now _ (made_second _ desk.0) desk.1 0 upgrade.leaves
     (upgrade.row ∙ ap (put_row (upgrade_row 0)) desk.2) in
-    let party = adds_party (state g r17.0) (state g r18.0) r18.1 upgrade.leaves.schema p r18.2 in
+    let party = adds_party made_order (state g r17.0) (state g r18.0) r18.1 upgrade.leaves.schema p r18.2 in
     let there = subst (IsPermutation (map party_row (p ∷ []))) (sym party.row)
     (put_more (λ (q : Party). q.id) party_row (λ q. refl) p [] ((state g r17.0).now.trees 1) party.fresh upgraded.parties) in
-    let k = keeps_parties (state g r17.0).now (state g r18.0).now t0 upgraded (p ∷ []) party.leaves there in
+    let k = keeps_parties (state g r17.0).now (state g r18.0).now t0 (made_second _ upgrade.leaves.schema) upgraded (p ∷ []) party.leaves there in
     let same : db ≡ (state g r18.0).now = ran.is ∙ ap (λ (h : Held _). (state g h).now) r18.3 in
     record {
-      schema = ap (λ (x : Database). x.schema) same ∙ party.leaves.schema;
+      schema = made_second db.schema (ap (λ (x : Database). x.schema) same ∙ party.leaves.schema);
       now = refl;
       keyed = keyed_party t0 (none_keyed _ refl) p refl refl;
-      rows = subst (λ (x : Database). AreInTrees (record t0 { parties = p ∷ [] }) x.trees) (sym same) k;
+      rows = subst (λ (x : Database). AreInTrees (record t0 { parties = p ∷ [] }) (upgrade_tree x.schema) x.trees) (sym same) k;
     }
 
 -- ---- the upgrade
 
 -- an edit that makes a table leaves the rows of the tables there
-in_trees_still : (t : Tables) (old new : Trees) → t.upgrade ≡ None → KeepsRows first_tables old new → AreInTrees t old → AreInTrees t new
-in_trees_still t old new none kept k = record {
+in_trees_still : (t : Tables) (m n : ℕ) (old new : Trees) → t.upgrade ≡ None → KeepsRows first_tables old new → AreInTrees t m old → AreInTrees t n new
+in_trees_still t m n old new none kept k = record {
   desk = kept.0 ∙ k.desk;
-  upgrade = subst (λ o. IfSome o (λ files. new 18 ≡ upgrade_row files ∷ [])) (sym none) tt;
+  upgrade = subst (λ o. IfSome o (λ files. new n ≡ upgrade_row files ∷ [])) (sym none) tt;
   parties = subst (IsPermutation (map party_row t.parties)) (sym kept.1.0) k.parties;
   parcels = subst (IsPermutation (map parcel_row t.parcels)) (sym kept.1.1.0) k.parcels;
   interests = subst (λ r. IsPermutation (map shown_interest t.interests) (map (drop 1) r)) (sym kept.1.1.1.0) k.interests;
@@ -375,15 +393,15 @@ upgrade_made g old db t k low ran =
     let none : t.upgrade ≡ None = no_upgrade t.upgrade (sym k.now ∙ k.keyed.edition) in
     let made = makes first_schema CREATE_UPGRADE.now _ makes_upgrade s0 (state g r1.0) r1.1 k.schema r1.2 in
     let here : (state g r1.0).now.schema ≡ office_schema = made.schema ∙ all_is in
-    let rows = in_trees_still t s0.now.trees (state g r1.0).now.trees none made.others k.rows in
-    let upgrade = adds_upgrade (state g r1.0) (state g r2.0) r2.1 here t.desk.files r2.2 in
-    let upgraded = keeps_upgrade (state g r1.0).now (state g r2.0).now t rows t.desk.files upgrade.leaves
+    let rows = in_trees_still t (upgrade_tree s0.now.schema) (upgrade_tree (state g r1.0).now.schema) s0.now.trees (state g r1.0).now.trees none made.others k.rows in
+    let upgrade = adds_upgrade made_order (state g r1.0) (state g r2.0) r2.1 here t.desk.files r2.2 in
+    let upgraded = keeps_upgrade (state g r1.0).now (state g r2.0).now t (made_second _ here) rows t.desk.files upgrade.leaves
     (upgrade.row ∙ ap (put_row (upgrade_row t.desk.files)) made.empty) in
-    let version = sets_version (state g r2.0) (state g r3.0) r3.1 upgrade.leaves.schema t.desk upgraded.desk r3.2 in
-    let now = keeps_desk (state g r2.0).now (state g r3.0).now _ upgraded (record t.desk { edition = Second }) version.0 version.1 in
+    let version = sets_version made_order (state g r2.0) (state g r3.0) r3.1 upgrade.leaves.schema t.desk upgraded.desk r3.2 in
+    let now = keeps_desk (state g r2.0).now (state g r3.0).now _ (made_second _ upgrade.leaves.schema) upgraded (record t.desk { edition = Second }) version.0 version.1 in
     let same : db ≡ (state g r3.0).now = ran.is ∙ ap (λ (h : Held _). (state g h).now) r3.3 in
     record {
-      schema = ap (λ (x : Database). x.schema) same ∙ version.0.schema;
+      schema = made_second db.schema (ap (λ (x : Database). x.schema) same ∙ version.0.schema);
       now = refl;
       keyed = record {
         upgraded = omega arith;
@@ -397,5 +415,5 @@ upgrade_made g old db t k low ran =
         papers = k.keyed.papers;
         counted = k.keyed.counted;
       };
-      rows = subst (λ (x : Database). AreInTrees (with_upgrade t) x.trees) (sym same) now;
+      rows = subst (λ (x : Database). AreInTrees (with_upgrade t) (upgrade_tree x.schema) x.trees) (sym same) now;
     }

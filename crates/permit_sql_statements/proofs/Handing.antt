@@ -17,6 +17,7 @@ use Rattle.permit_base.specs.declared.route.Route.TheVariants.{Every}
 use Rattle.permit_model.specs.Tables.{Tables}
 use Rattle.permit_model.specs.Routes.{Found, found_by}
 use Rattle.permit_store.specs.Handing.{AreAmong, AreFound, AreHanded, IsLeft, Took}
+use Rattle.permit_sql_rows.specs.Schema.{Order}
 use Rattle.permit_sql_rows.specs.Kept.{Keeps, Shows}
 use Rattle.permit_sql_rows.specs.Rows.{int, shown_found}
 use Rattle.permit_sql_statements.specs.declared.question.TheConstants.{EVERY_WITHOUT}
@@ -50,19 +51,19 @@ none_read upgrade (r ∷ rows) given is are = absurd cc
 
 -- the text of a selection is plain in a database that keeps the tables
 pub plain_in : (t : Tables) (db : Database) (route : Route) (text : List ℕ) → text ≡ text_for route → Keeps t db → IsPlain (understood db.schema text)
-plain_in t db route text is k = subst (λ s. IsPlain (understood s text)) (sym k.schema) (plain_for route text is)
+plain_in t db route text is k = subst (λ s. IsPlain (understood s text)) (sym k.schema.is) (plain_for k.schema.order route text is)
 
 -- ---- what was handed out
 
 -- of the answer to a text that shows rows of which this holds, as it does of these
-module _ (t : Tables) (text : List ℕ) (params : Row) (q : Query) (means : Means text q) (Are : List Found → Type 0) (whole : List Found) (are : Are whole)
+module _ (t : Tables) (text : List ℕ) (params : Row) (q : Query) (means : (o : Order) → Means o text q) (Are : List Found → Type 0) (whole : List Found) (are : Are whole)
     (shown : (old new : State) → Keeps t old.now → (rows : List Row) → Shown text params old new rows → ShowWhere t.upgrade rows Are) where
   -- such a text does not recur
   ends : (old : State) (k : Keeps t old.now) (c : Compiled) (db : Database) (it : IsStatement old text params c) →
       IsSourceOf (reads_listing old.now.schema text) old.now db → EndsIn c.command db (timed params c.formats it.now)
   ends old k c db it source =
-      let known = ap (λ s. understood s text) (sym k.schema) ∙ it.is in
-      let is = sym (ap command_of known) ∙ means.0 in
+      let known = ap (λ s. understood s text) (sym k.schema.is) ∙ it.is in
+      let is = sym (ap command_of known) ∙ (means k.schema.order).0 in
       subst (λ command. EndsIn command db (timed params c.formats it.now)) (sym is) tt
 
   -- where the rows begin an answer, what was handed out begins rows of which it holds
@@ -104,7 +105,7 @@ pub handed_shown : (t : Tables) (caller : ℕ) → 0 < caller → (route : Route
     (given : List Found) → Shows t old
     → Gave t.upgrade result (text_for route) (params_for route caller day) old new given → AreHanded t result given (found_by route caller day t)
 handed_shown t caller there route day =
-    handed_where t (text_for route) (params_for route caller day) (query_for route) (means_for route) (λ given. AreFound t given (found_by route caller day t))
+    handed_where t (text_for route) (params_for route caller day) (query_for route) (λ o. means_for o route) (λ given. AreFound t given (found_by route caller day t))
     (found_by route caller day t)
     (record { same = IsPermutation-refl _; order = λ _. refl }) (route_shown t caller there route day)
 
@@ -118,7 +119,7 @@ handed_without t caller there none day =
     (record { same = IsPermutation-refl _; order = λ _. refl }) (every_without_shown t caller there none day)
 
 pub plain_without : (t : Tables) (db : Database) → Keeps t db → IsPlain (understood db.schema EVERY_WITHOUT.now)
-plain_without t db k = subst (λ s. IsPlain (understood s EVERY_WITHOUT.now)) (sym k.schema) means_every_without.1
+plain_without t db k = subst (λ s. IsPlain (understood s EVERY_WITHOUT.now)) (sym k.schema.is) (means_every_without k.schema.order).1
 
 -- ---- a call that failed before the first row
 

@@ -14,7 +14,7 @@ use Rattle.permit_model.specs.Parcels.{Parcel, Interest}
 use Rattle.permit_model.specs.Tables.{Desk, State, FileRow, Paper, Tables}
 use Rattle.permit_store.specs.Changes.{given_to, with_state, closed_by}
 use Rattle.sqlite_schema.specs.declared.schema.Table.{Table}
-use Rattle.permit_sql_rows.specs.Schema.{desk_table, upgrade_table, party_table, parcel_table, interest_table, file_table, paper_table}
+use Rattle.permit_sql_rows.specs.Schema.{Order, IsSecond, schema_in, upgrade_tree, desk_table, upgrade_table, party_table, parcel_table, interest_table, file_table, paper_table}
 use Rattle.permit_sql_rows.specs.Rows.{desk_row, upgrade_row, party_row, parcel_row, file_row, shown_interest, shown_paper}
 use Rattle.permit_sql_rows.specs.Kept.{papers_counted, IsNamed, AreKeyed, AreInTrees}
 use Rattle.permit_sql_statements.proofs.Permuted.{once_more}
@@ -35,17 +35,34 @@ some_still : (o : Option ℕ) {a b : List Row} → b ≡ a → IfSome o (λ file
 some_still None same was = tt
 some_still (Some files) same was = same ∙ was
 
-module _ (old new : Database) (t : Tables) (k : AreInTrees t old.trees) where
+-- an edit leaves the order of the schema
+pub second_after : (old new : Database) (s : IsSecond old.schema) → new.schema ≡ schema_in s.order → IsSecond new.schema
+second_after old new s same = record { order = s.order; is = same; apart = s.apart; low = s.low; are = s.are }
+
+module _ (old new : Database) (t : Tables) (office : IsSecond old.schema) (k : AreInTrees t (upgrade_tree old.schema) old.trees) where
+  abbrev o : Order
+  o = office.order
+
+  upgrade_here : IfSome t.upgrade (λ files. old.trees o.tree ≡ upgrade_row files ∷ [])
+  upgrade_here = subst (λ n. IfSome t.upgrade (λ files. old.trees n ≡ upgrade_row files ∷ [])) (ap upgrade_tree office.is) k.upgrade
+
+  -- the upgrade's tree is none of the others
+  far : (n : ℕ) → n ≤ 9 → eqb n o.tree ≡ false
+  far n low = let apart_from = office.apart in grind (arith, nat_tests)
+
+  in_its_tree : (u : Tables) → new.schema ≡ schema_in o → AreInTrees u o.tree new.trees → AreInTrees u (upgrade_tree new.schema) new.trees
+  in_its_tree u same kept = subst (λ n. AreInTrees u n new.trees) (sym (ap upgrade_tree same)) kept
+
   -- what an edit of one table leaves of each other's tree
-  module _ (table : Table) (leaves : Leaves old new table) where
+  module _ (table : Table) (leaves : Leaves o old new table) where
     abbrev Other : ℕ → Type 0
     Other tree = eqb tree table.tree ≡ false
 
     desk_stays : Other 0 → new.trees 0 ≡ desk_row t.desk ∷ []
     desk_stays other = leaves.others.0 (apart 0 table.tree other) ∙ k.desk
 
-    upgrade_stays : Other 18 → IfSome t.upgrade (λ files. new.trees 18 ≡ upgrade_row files ∷ [])
-    upgrade_stays other = some_still t.upgrade (leaves.others.1.1.1.1.1.1.0 (apart 18 table.tree other)) k.upgrade
+    upgrade_stays : table.tree ≤ 9 → IfSome t.upgrade (λ files. new.trees o.tree ≡ upgrade_row files ∷ [])
+    upgrade_stays low = some_still t.upgrade (leaves.others.1.1.1.1.1.1.0 (λ same. omega (arith, low, office.apart, same))) upgrade_here
 
     parties_stay : Other 1 → IsPermutation (map party_row t.parties) (new.trees 1)
     parties_stay other = subst (IsPermutation (map party_row t.parties)) (sym (leaves.others.1.0 (apart 1 table.tree other))) k.parties
@@ -65,95 +82,96 @@ module _ (old new : Database) (t : Tables) (k : AreInTrees t old.trees) where
         let same = sym (leaves.others.1.1.1.1.1.0 (apart 8 table.tree other)) in
         (subst (λ r. IsPermutation (map shown_paper t.papers) (map (drop 1) r)) same k.papers, subst Apart same k.apart)
 
-  pub keeps_desk : (d : Desk) → Leaves old new desk_table → new.trees 0 ≡ desk_row d ∷ [] → AreInTrees (record t { desk = d }) new.trees
-  keeps_desk d leaves now = record {
+  pub keeps_desk : (d : Desk) → Leaves o old new desk_table → new.trees 0 ≡ desk_row d ∷ [] →
+      AreInTrees (record t { desk = d }) (upgrade_tree new.schema) new.trees
+  keeps_desk d leaves now = in_its_tree (record t { desk = d }) leaves.schema (record {
     desk = now;
-    upgrade = upgrade_stays desk_table leaves refl;
+    upgrade = upgrade_stays desk_table leaves (omega arith);
     parties = parties_stay desk_table leaves refl;
     parcels = parcels_stay desk_table leaves refl;
     interests = interests_stay desk_table leaves refl;
     files = files_stay desk_table leaves refl;
     papers = (papers_stay desk_table leaves refl).0;
     apart = (papers_stay desk_table leaves refl).1;
-  }
+  })
 
-  pub keeps_upgrade : (files : ℕ) → Leaves old new upgrade_table → new.trees 18 ≡ upgrade_row files ∷ [] →
-      AreInTrees (record t { upgrade = Some files }) new.trees
-  keeps_upgrade files leaves now = record {
-    desk = desk_stays upgrade_table leaves refl;
+  pub keeps_upgrade : (files : ℕ) → Leaves o old new (upgrade_table o.tree) → new.trees o.tree ≡ upgrade_row files ∷ [] →
+      AreInTrees (record t { upgrade = Some files }) (upgrade_tree new.schema) new.trees
+  keeps_upgrade files leaves now = in_its_tree (record t { upgrade = Some files }) leaves.schema (record {
+    desk = desk_stays (upgrade_table o.tree) leaves (far 0 (omega arith));
     upgrade = now;
-    parties = parties_stay upgrade_table leaves refl;
-    parcels = parcels_stay upgrade_table leaves refl;
-    interests = interests_stay upgrade_table leaves refl;
-    files = files_stay upgrade_table leaves refl;
-    papers = (papers_stay upgrade_table leaves refl).0;
-    apart = (papers_stay upgrade_table leaves refl).1;
-  }
+    parties = parties_stay (upgrade_table o.tree) leaves (far 1 (omega arith));
+    parcels = parcels_stay (upgrade_table o.tree) leaves (far 3 (omega arith));
+    interests = interests_stay (upgrade_table o.tree) leaves (far 5 (omega arith));
+    files = files_stay (upgrade_table o.tree) leaves (far 7 (omega arith));
+    papers = (papers_stay (upgrade_table o.tree) leaves (far 8 (omega arith))).0;
+    apart = (papers_stay (upgrade_table o.tree) leaves (far 8 (omega arith))).1;
+  })
 
-  pub keeps_parties : (xs : List Party) → Leaves old new party_table → IsPermutation (map party_row xs) (new.trees 1) →
-      AreInTrees (record t { parties = xs }) new.trees
-  keeps_parties xs leaves now = record {
+  pub keeps_parties : (xs : List Party) → Leaves o old new party_table → IsPermutation (map party_row xs) (new.trees 1) →
+      AreInTrees (record t { parties = xs }) (upgrade_tree new.schema) new.trees
+  keeps_parties xs leaves now = in_its_tree (record t { parties = xs }) leaves.schema (record {
     desk = desk_stays party_table leaves refl;
-    upgrade = upgrade_stays party_table leaves refl;
+    upgrade = upgrade_stays party_table leaves (omega arith);
     parties = now;
     parcels = parcels_stay party_table leaves refl;
     interests = interests_stay party_table leaves refl;
     files = files_stay party_table leaves refl;
     papers = (papers_stay party_table leaves refl).0;
     apart = (papers_stay party_table leaves refl).1;
-  }
+  })
 
-  pub keeps_parcels : (xs : List Parcel) → Leaves old new parcel_table → IsPermutation (map parcel_row xs) (new.trees 3) →
-      AreInTrees (record t { parcels = xs }) new.trees
-  keeps_parcels xs leaves now = record {
+  pub keeps_parcels : (xs : List Parcel) → Leaves o old new parcel_table → IsPermutation (map parcel_row xs) (new.trees 3) →
+      AreInTrees (record t { parcels = xs }) (upgrade_tree new.schema) new.trees
+  keeps_parcels xs leaves now = in_its_tree (record t { parcels = xs }) leaves.schema (record {
     desk = desk_stays parcel_table leaves refl;
-    upgrade = upgrade_stays parcel_table leaves refl;
+    upgrade = upgrade_stays parcel_table leaves (omega arith);
     parties = parties_stay parcel_table leaves refl;
     parcels = now;
     interests = interests_stay parcel_table leaves refl;
     files = files_stay parcel_table leaves refl;
     papers = (papers_stay parcel_table leaves refl).0;
     apart = (papers_stay parcel_table leaves refl).1;
-  }
+  })
 
-  pub keeps_interests : (xs : List Interest) → Leaves old new interest_table → IsPermutation (map shown_interest xs) (map (drop 1) (new.trees 5)) →
-      AreInTrees (record t { interests = xs }) new.trees
-  keeps_interests xs leaves now = record {
+  pub keeps_interests : (xs : List Interest) → Leaves o old new interest_table → IsPermutation (map shown_interest xs) (map (drop 1) (new.trees 5)) →
+      AreInTrees (record t { interests = xs }) (upgrade_tree new.schema) new.trees
+  keeps_interests xs leaves now = in_its_tree (record t { interests = xs }) leaves.schema (record {
     desk = desk_stays interest_table leaves refl;
-    upgrade = upgrade_stays interest_table leaves refl;
+    upgrade = upgrade_stays interest_table leaves (omega arith);
     parties = parties_stay interest_table leaves refl;
     parcels = parcels_stay interest_table leaves refl;
     interests = now;
     files = files_stay interest_table leaves refl;
     papers = (papers_stay interest_table leaves refl).0;
     apart = (papers_stay interest_table leaves refl).1;
-  }
+  })
 
-  pub keeps_files : (xs : List FileRow) → Leaves old new file_table → IsPermutation (map file_row xs) (new.trees 7) →
-      AreInTrees (record t { files = xs }) new.trees
-  keeps_files xs leaves now = record {
+  pub keeps_files : (xs : List FileRow) → Leaves o old new file_table → IsPermutation (map file_row xs) (new.trees 7) →
+      AreInTrees (record t { files = xs }) (upgrade_tree new.schema) new.trees
+  keeps_files xs leaves now = in_its_tree (record t { files = xs }) leaves.schema (record {
     desk = desk_stays file_table leaves refl;
-    upgrade = upgrade_stays file_table leaves refl;
+    upgrade = upgrade_stays file_table leaves (omega arith);
     parties = parties_stay file_table leaves refl;
     parcels = parcels_stay file_table leaves refl;
     interests = interests_stay file_table leaves refl;
     files = now;
     papers = (papers_stay file_table leaves refl).0;
     apart = (papers_stay file_table leaves refl).1;
-  }
+  })
 
-  pub keeps_papers : (xs : List Paper) → Leaves old new paper_table → IsPermutation (map shown_paper xs) (map (drop 1) (new.trees 8)) × Apart (new.trees 8) →
-      AreInTrees (record t { papers = xs }) new.trees
-  keeps_papers xs leaves now = record {
+  pub keeps_papers : (xs : List Paper) → Leaves o old new paper_table → IsPermutation (map shown_paper xs) (map (drop 1) (new.trees 8)) × Apart (new.trees 8) →
+      AreInTrees (record t { papers = xs }) (upgrade_tree new.schema) new.trees
+  keeps_papers xs leaves now = in_its_tree (record t { papers = xs }) leaves.schema (record {
     desk = desk_stays paper_table leaves refl;
-    upgrade = upgrade_stays paper_table leaves refl;
+    upgrade = upgrade_stays paper_table leaves (omega arith);
     parties = parties_stay paper_table leaves refl;
     parcels = parcels_stay paper_table leaves refl;
     interests = interests_stay paper_table leaves refl;
     files = files_stay paper_table leaves refl;
     papers = now.0;
     apart = now.1;
-  }
+  })
 
 -- ---- the keys
 

@@ -1,5 +1,5 @@
 -- What the texts that read mean.
-use Rattle.std.proofs.Common.{◌≡◌, refl, List, [], ◌∷◌, ℕ, zero, suc, pos, false}
+use Rattle.std.proofs.Common.{◌≡◌, refl, sym, subst, List, [], ◌∷◌, ℕ, zero, suc, pos, false}
 use Rattle.sqlite_tied.specs.Compute.{everything}
 use Rattle.sqlite.specs.Listing.{understood, reads_listing}
 use Rattle.sqlite.specs.declared.types.Value.TheVariants.{Int}
@@ -11,13 +11,19 @@ use Rattle.sqlite_schema.specs.declared.program.Program.{Program}
 use Rattle.sqlite_schema.specs.declared.command.Command.{Command}
 use Rattle.sqlite_schema.specs.declared.command.Command.TheVariants.{Select}
 use Rattle.sqlite.proofs.Callers.{command_of, IsPlain}
-use Rattle.permit_sql_rows.specs.Schema.{office_schema}
+use Rattle.permit_sql_rows.specs.Schema.{Order, schema_in}
 use Rattle.permit_sql_statements.specs.declared.texts.TheConstants.{READ_DESK, READ_PARTY, FIND_PARTY, READ_PARCEL, FIND_PARCEL, FIND_INTEREST, FIND_INTERESTED}
 use Rattle.permit_sql_statements.specs.declared.texts.TheConstants.{READ_FILE, READ_INTERESTS, READ_PAPERS, FIND_NOTICE}
+use Rattle.permit_base.specs.declared.words.Edition.TheVariants.{Second}
+use Rattle.permit_sql_statements.specs.Frames.{IsPlainIn}
 use Rattle.permit_sql_statements.proofs.Lookups.{plain_query, equals}
 
 abbrev pub alone : Query → Program
 alone q = record { lets = []; body = q }
+
+-- a text is plain where it is so in each order
+pub plain_second : (sql : List ℕ) → ((o : Order) → IsPlain (understood (schema_in o) sql)) → IsPlainIn Second sql
+plain_second sql plain s office = subst (λ x. IsPlain (understood x sql)) (sym office.is) (plain office.order)
 
 abbrev pub columns_of : ℕ → ℕ → List Term
 columns_of zero at = []
@@ -30,176 +36,176 @@ names_of _ = []
 abbrev pub read_desk_query : Query
 read_desk_query = plain_query (inner 0 end) ([]) (col 1 0 ∷ columns_of 5 2) ([])
 
-pub read_desk_is : command_of (understood office_schema READ_DESK.now)
-    ≡ Select (alone read_desk_query) (names_of (command_of (understood office_schema READ_DESK.now)))
+pub read_desk_is : (o : Order) → command_of (understood (schema_in o) READ_DESK.now)
+    ≡ Select (alone read_desk_query) (names_of (command_of (understood (schema_in o) READ_DESK.now)))
 unfolding understood everything
-read_desk_is = refl
+read_desk_is o = refl
 
-pub read_desk_plain : IsPlain (understood office_schema READ_DESK.now)
+pub read_desk_plain : (o : Order) → IsPlain (understood (schema_in o) READ_DESK.now)
 unfolding understood everything
-read_desk_plain = (refl, refl)
+read_desk_plain o = (refl, refl)
 
-pub read_desk_unlisted : reads_listing office_schema READ_DESK.now ≡ false
+pub read_desk_unlisted : (o : Order) → reads_listing (schema_in o) READ_DESK.now ≡ false
 unfolding understood everything
-read_desk_unlisted = refl
+read_desk_unlisted o = refl
 
 abbrev pub read_party_query : Query
 read_party_query = plain_query (inner 1 end) (equals (col 1 0) (col 0 0) ∷ []) (col 1 0 ∷ columns_of 3 2) ([])
 
-pub read_party_is : command_of (understood office_schema READ_PARTY.now)
-    ≡ Select (alone read_party_query) (names_of (command_of (understood office_schema READ_PARTY.now)))
+pub read_party_is : (o : Order) → command_of (understood (schema_in o) READ_PARTY.now)
+    ≡ Select (alone read_party_query) (names_of (command_of (understood (schema_in o) READ_PARTY.now)))
 unfolding understood everything
-read_party_is = refl
+read_party_is o = refl
 
-pub read_party_plain : IsPlain (understood office_schema READ_PARTY.now)
+pub read_party_plain : (o : Order) → IsPlain (understood (schema_in o) READ_PARTY.now)
 unfolding understood everything
-read_party_plain = (refl, refl)
+read_party_plain o = (refl, refl)
 
-pub read_party_unlisted : reads_listing office_schema READ_PARTY.now ≡ false
+pub read_party_unlisted : (o : Order) → reads_listing (schema_in o) READ_PARTY.now ≡ false
 unfolding understood everything
-read_party_unlisted = refl
+read_party_unlisted o = refl
 
 abbrev pub find_party_query : Query
 find_party_query = plain_query (inner 1 end) (equals (col 1 4) (col 0 0) ∷ []) (col 1 0 ∷ columns_of 3 2) ([])
 
-pub find_party_is : command_of (understood office_schema FIND_PARTY.now)
-    ≡ Select (alone find_party_query) (names_of (command_of (understood office_schema FIND_PARTY.now)))
+pub find_party_is : (o : Order) → command_of (understood (schema_in o) FIND_PARTY.now)
+    ≡ Select (alone find_party_query) (names_of (command_of (understood (schema_in o) FIND_PARTY.now)))
 unfolding understood everything
-find_party_is = refl
+find_party_is o = refl
 
-pub find_party_plain : IsPlain (understood office_schema FIND_PARTY.now)
+pub find_party_plain : (o : Order) → IsPlain (understood (schema_in o) FIND_PARTY.now)
 unfolding understood everything
-find_party_plain = (refl, refl)
+find_party_plain o = (refl, refl)
 
-pub find_party_unlisted : reads_listing office_schema FIND_PARTY.now ≡ false
+pub find_party_unlisted : (o : Order) → reads_listing (schema_in o) FIND_PARTY.now ≡ false
 unfolding understood everything
-find_party_unlisted = refl
+find_party_unlisted o = refl
 
 abbrev pub read_parcel_query : Query
 read_parcel_query = plain_query (inner 3 end) (equals (col 1 0) (col 0 0) ∷ []) (col 1 0 ∷ columns_of 3 2) ([])
 
-pub read_parcel_is : command_of (understood office_schema READ_PARCEL.now)
-    ≡ Select (alone read_parcel_query) (names_of (command_of (understood office_schema READ_PARCEL.now)))
+pub read_parcel_is : (o : Order) → command_of (understood (schema_in o) READ_PARCEL.now)
+    ≡ Select (alone read_parcel_query) (names_of (command_of (understood (schema_in o) READ_PARCEL.now)))
 unfolding understood everything
-read_parcel_is = refl
+read_parcel_is o = refl
 
-pub read_parcel_plain : IsPlain (understood office_schema READ_PARCEL.now)
+pub read_parcel_plain : (o : Order) → IsPlain (understood (schema_in o) READ_PARCEL.now)
 unfolding understood everything
-read_parcel_plain = (refl, refl)
+read_parcel_plain o = (refl, refl)
 
-pub read_parcel_unlisted : reads_listing office_schema READ_PARCEL.now ≡ false
+pub read_parcel_unlisted : (o : Order) → reads_listing (schema_in o) READ_PARCEL.now ≡ false
 unfolding understood everything
-read_parcel_unlisted = refl
+read_parcel_unlisted o = refl
 
 abbrev pub find_parcel_query : Query
 find_parcel_query = plain_query (inner 3 end) (equals (col 1 2) (col 0 0) ∷ []) (col 1 0 ∷ columns_of 3 2) ([])
 
-pub find_parcel_is : command_of (understood office_schema FIND_PARCEL.now)
-    ≡ Select (alone find_parcel_query) (names_of (command_of (understood office_schema FIND_PARCEL.now)))
+pub find_parcel_is : (o : Order) → command_of (understood (schema_in o) FIND_PARCEL.now)
+    ≡ Select (alone find_parcel_query) (names_of (command_of (understood (schema_in o) FIND_PARCEL.now)))
 unfolding understood everything
-find_parcel_is = refl
+find_parcel_is o = refl
 
-pub find_parcel_plain : IsPlain (understood office_schema FIND_PARCEL.now)
+pub find_parcel_plain : (o : Order) → IsPlain (understood (schema_in o) FIND_PARCEL.now)
 unfolding understood everything
-find_parcel_plain = (refl, refl)
+find_parcel_plain o = (refl, refl)
 
-pub find_parcel_unlisted : reads_listing office_schema FIND_PARCEL.now ≡ false
+pub find_parcel_unlisted : (o : Order) → reads_listing (schema_in o) FIND_PARCEL.now ≡ false
 unfolding understood everything
-find_parcel_unlisted = refl
+find_parcel_unlisted o = refl
 
 abbrev pub find_interest_query : Query
 find_interest_query = plain_query (inner 5 end) (equals (col 1 1) (col 0 0) ∷ equals (col 1 2) (col 0 1) ∷ []) (lit (Int (pos 1)) ∷ []) ([])
 
-pub find_interest_is : command_of (understood office_schema FIND_INTEREST.now)
-    ≡ Select (alone find_interest_query) (names_of (command_of (understood office_schema FIND_INTEREST.now)))
+pub find_interest_is : (o : Order) → command_of (understood (schema_in o) FIND_INTEREST.now)
+    ≡ Select (alone find_interest_query) (names_of (command_of (understood (schema_in o) FIND_INTEREST.now)))
 unfolding understood everything
-find_interest_is = refl
+find_interest_is o = refl
 
-pub find_interest_plain : IsPlain (understood office_schema FIND_INTEREST.now)
+pub find_interest_plain : (o : Order) → IsPlain (understood (schema_in o) FIND_INTEREST.now)
 unfolding understood everything
-find_interest_plain = (refl, refl)
+find_interest_plain o = (refl, refl)
 
-pub find_interest_unlisted : reads_listing office_schema FIND_INTEREST.now ≡ false
+pub find_interest_unlisted : (o : Order) → reads_listing (schema_in o) FIND_INTEREST.now ≡ false
 unfolding understood everything
-find_interest_unlisted = refl
+find_interest_unlisted o = refl
 
 abbrev pub find_interested_query : Query
 find_interested_query = plain_query (counted 1 (inner 5 end) (equals (col 1 2) (col 0 0) ∷ []) end) [] (col 1 0 ∷ []) []
 
-pub find_interested_is : command_of (understood office_schema FIND_INTERESTED.now)
-    ≡ Select (alone find_interested_query) (names_of (command_of (understood office_schema FIND_INTERESTED.now)))
+pub find_interested_is : (o : Order) → command_of (understood (schema_in o) FIND_INTERESTED.now)
+    ≡ Select (alone find_interested_query) (names_of (command_of (understood (schema_in o) FIND_INTERESTED.now)))
 unfolding understood everything
-find_interested_is = refl
+find_interested_is o = refl
 
-pub find_interested_plain : IsPlain (understood office_schema FIND_INTERESTED.now)
+pub find_interested_plain : (o : Order) → IsPlain (understood (schema_in o) FIND_INTERESTED.now)
 unfolding understood everything
-find_interested_plain = (refl, refl)
+find_interested_plain o = (refl, refl)
 
-pub find_interested_unlisted : reads_listing office_schema FIND_INTERESTED.now ≡ false
+pub find_interested_unlisted : (o : Order) → reads_listing (schema_in o) FIND_INTERESTED.now ≡ false
 unfolding understood everything
-find_interested_unlisted = refl
+find_interested_unlisted o = refl
 
 abbrev pub read_interests_query : Query
 read_interests_query = plain_query (inner 5 end) [] (columns_of 2 1) ([])
 
-pub read_interests_is : command_of (understood office_schema READ_INTERESTS.now)
-    ≡ Select (alone read_interests_query) (names_of (command_of (understood office_schema READ_INTERESTS.now)))
+pub read_interests_is : (o : Order) → command_of (understood (schema_in o) READ_INTERESTS.now)
+    ≡ Select (alone read_interests_query) (names_of (command_of (understood (schema_in o) READ_INTERESTS.now)))
 unfolding understood everything
-read_interests_is = refl
+read_interests_is o = refl
 
-pub read_interests_plain : IsPlain (understood office_schema READ_INTERESTS.now)
+pub read_interests_plain : (o : Order) → IsPlain (understood (schema_in o) READ_INTERESTS.now)
 unfolding understood everything
-read_interests_plain = (refl, refl)
+read_interests_plain o = (refl, refl)
 
-pub read_interests_unlisted : reads_listing office_schema READ_INTERESTS.now ≡ false
+pub read_interests_unlisted : (o : Order) → reads_listing (schema_in o) READ_INTERESTS.now ≡ false
 unfolding understood everything
-read_interests_unlisted = refl
+read_interests_unlisted o = refl
 
 abbrev pub read_file_query : Query
 read_file_query = plain_query (inner 7 end) (equals (col 1 0) (col 0 0) ∷ []) (col 1 0 ∷ columns_of 19 2) ([])
 
-pub read_file_is : command_of (understood office_schema READ_FILE.now)
-    ≡ Select (alone read_file_query) (names_of (command_of (understood office_schema READ_FILE.now)))
+pub read_file_is : (o : Order) → command_of (understood (schema_in o) READ_FILE.now)
+    ≡ Select (alone read_file_query) (names_of (command_of (understood (schema_in o) READ_FILE.now)))
 unfolding understood everything
-read_file_is = refl
+read_file_is o = refl
 
-pub read_file_plain : IsPlain (understood office_schema READ_FILE.now)
+pub read_file_plain : (o : Order) → IsPlain (understood (schema_in o) READ_FILE.now)
 unfolding understood everything
-read_file_plain = (refl, refl)
+read_file_plain o = (refl, refl)
 
-pub read_file_unlisted : reads_listing office_schema READ_FILE.now ≡ false
+pub read_file_unlisted : (o : Order) → reads_listing (schema_in o) READ_FILE.now ≡ false
 unfolding understood everything
-read_file_unlisted = refl
+read_file_unlisted o = refl
 
 abbrev pub read_papers_query : Query
 read_papers_query = plain_query (inner 8 end) (equals (col 1 1) (col 0 0) ∷ []) (columns_of 9 1) ((col 1 2, ascending Binary) ∷ [])
 
-pub read_papers_is : command_of (understood office_schema READ_PAPERS.now)
-    ≡ Select (alone read_papers_query) (names_of (command_of (understood office_schema READ_PAPERS.now)))
+pub read_papers_is : (o : Order) → command_of (understood (schema_in o) READ_PAPERS.now)
+    ≡ Select (alone read_papers_query) (names_of (command_of (understood (schema_in o) READ_PAPERS.now)))
 unfolding understood everything
-read_papers_is = refl
+read_papers_is o = refl
 
-pub read_papers_plain : IsPlain (understood office_schema READ_PAPERS.now)
+pub read_papers_plain : (o : Order) → IsPlain (understood (schema_in o) READ_PAPERS.now)
 unfolding understood everything
-read_papers_plain = (refl, refl)
+read_papers_plain o = (refl, refl)
 
-pub read_papers_unlisted : reads_listing office_schema READ_PAPERS.now ≡ false
+pub read_papers_unlisted : (o : Order) → reads_listing (schema_in o) READ_PAPERS.now ≡ false
 unfolding understood everything
-read_papers_unlisted = refl
+read_papers_unlisted o = refl
 
 abbrev pub find_notice_query : Query
 find_notice_query = plain_query (inner 8 end) (equals (col 1 1) (col 0 0) ∷ equals (col 1 9) (lit (Int (pos 1))) ∷ equals (col 1 2) (col 0 1) ∷ [])
     (lit (Int (pos 1)) ∷ []) ([])
 
-pub find_notice_is : command_of (understood office_schema FIND_NOTICE.now)
-    ≡ Select (alone find_notice_query) (names_of (command_of (understood office_schema FIND_NOTICE.now)))
+pub find_notice_is : (o : Order) → command_of (understood (schema_in o) FIND_NOTICE.now)
+    ≡ Select (alone find_notice_query) (names_of (command_of (understood (schema_in o) FIND_NOTICE.now)))
 unfolding understood everything
-find_notice_is = refl
+find_notice_is o = refl
 
-pub find_notice_plain : IsPlain (understood office_schema FIND_NOTICE.now)
+pub find_notice_plain : (o : Order) → IsPlain (understood (schema_in o) FIND_NOTICE.now)
 unfolding understood everything
-find_notice_plain = (refl, refl)
+find_notice_plain o = (refl, refl)
 
-pub find_notice_unlisted : reads_listing office_schema FIND_NOTICE.now ≡ false
+pub find_notice_unlisted : (o : Order) → reads_listing (schema_in o) FIND_NOTICE.now ≡ false
 unfolding understood everything
-find_notice_unlisted = refl
+find_notice_unlisted o = refl

@@ -24,7 +24,7 @@ use Rattle.sqlite.specs.State.{State, Shown}
 use Rattle.sqlite.proofs.Callers.{reads_as}
 use Rattle.permit_model.specs.Parcels.{Interest}
 use Rattle.permit_model.specs.Tables.{Tables, Paper}
-use Rattle.permit_sql_rows.specs.Schema.{office_schema}
+use Rattle.permit_sql_rows.specs.Schema.{schema_in}
 use Rattle.permit_sql_rows.specs.Rows.{int, flag, desk_row, party_row, parcel_row, file_row, shown_desk, shown_party, shown_parcel, shown_file, shown_interest}
 use Rattle.permit_sql_rows.specs.Rows.{shown_paper}
 use Rattle.permit_sql_rows.specs.Typed.{firsts}
@@ -48,14 +48,16 @@ use Rattle.permit_sql_statements.proofs.QueryTexts.{find_notice_query, find_noti
 module _ (old new : State) (t : Tables) (rows : List Row) (k : Keeps t old.now) where
   pub desk_shown : Shown READ_DESK.now [] old new rows → rows ≡ shown_desk t.desk ∷ []
   desk_shown h =
-      let read = reads_as READ_DESK.now [] old new office_schema k.schema _ read_desk_is read_desk_plain read_desk_unlisted rows h in
+      let o = k.schema.order in
+      let read = reads_as READ_DESK.now [] old new (schema_in o) k.schema.is _ (read_desk_is o) (read_desk_plain o) (read_desk_unlisted o) rows h in
       finds_one desk_row shown_desk 0 read_desk_query.filter read_desk_query.project (overlay old.now.trees []) [] (t.desk ∷ []) (λ d. true) (λ d. refl)
       (λ d. refl)
       (IsPermutation-same _ _ (sym k.rows.desk)) (omega arith) rows (read.answer Null)
 
   pub party_shown : (id : ℕ) → Shown READ_PARTY.now (int id ∷ []) old new rows → rows ≡ map shown_party (filter (λ p. eqb p.id id) t.parties)
   party_shown id h =
-      let read = reads_as READ_PARTY.now (int id ∷ []) old new office_schema k.schema _ read_party_is read_party_plain read_party_unlisted rows h in
+      let o = k.schema.order in
+      let read = reads_as READ_PARTY.now (int id ∷ []) old new (schema_in o) k.schema.is _ (read_party_is o) (read_party_plain o) (read_party_unlisted o) rows h in
       finds_one party_row shown_party 1 read_party_query.filter read_party_query.project (overlay old.now.trees []) (int id ∷ []) t.parties (λ p. eqb p.id id)
       (λ p. one_test _ ∙ eq_is p.id id) (λ p. refl)
       k.rows.parties (k.keyed.parties id) rows (read.answer Null)
@@ -63,28 +65,32 @@ module _ (old new : State) (t : Tables) (rows : List Row) (k : Keeps t old.now) 
   pub digest_shown : (digest : List ℕ) → Shown FIND_PARTY.now (Text digest ∷ []) old new rows →
       rows ≡ map shown_party (filter (λ p. bytes_eq p.digest digest) t.parties)
   digest_shown digest h =
-      let read = reads_as FIND_PARTY.now (Text digest ∷ []) old new office_schema k.schema _ find_party_is find_party_plain find_party_unlisted rows h in
+      let o = k.schema.order in
+      let read = reads_as FIND_PARTY.now (Text digest ∷ []) old new (schema_in o) k.schema.is _ (find_party_is o) (find_party_plain o) (find_party_unlisted o) rows h in
       finds_one party_row shown_party 1 find_party_query.filter find_party_query.project (overlay old.now.trees []) (Text digest ∷ []) t.parties
       (λ p. bytes_eq p.digest digest) (λ p. one_test _ ∙ text_is p.digest digest) (λ p. refl)
       k.rows.parties (k.keyed.digests digest) rows (read.answer Null)
 
   pub parcel_shown : (id : ℕ) → Shown READ_PARCEL.now (int id ∷ []) old new rows → rows ≡ map shown_parcel (filter (λ p. eqb p.id id) t.parcels)
   parcel_shown id h =
-      let read = reads_as READ_PARCEL.now (int id ∷ []) old new office_schema k.schema _ read_parcel_is read_parcel_plain read_parcel_unlisted rows h in
+      let o = k.schema.order in
+      let read = reads_as READ_PARCEL.now (int id ∷ []) old new (schema_in o) k.schema.is _ (read_parcel_is o) (read_parcel_plain o) (read_parcel_unlisted o) rows h in
       finds_one parcel_row shown_parcel 3 read_parcel_query.filter read_parcel_query.project (overlay old.now.trees []) (int id ∷ []) t.parcels
       (λ p. eqb p.id id) (λ p. one_test _ ∙ eq_is p.id id) (λ p. refl)
       k.rows.parcels (k.keyed.parcels id) rows (read.answer Null)
 
   pub lot_shown : (lot : List ℕ) → Shown FIND_PARCEL.now (Text lot ∷ []) old new rows → rows ≡ map shown_parcel (filter (λ p. bytes_eq p.lot lot) t.parcels)
   lot_shown lot h =
-      let read = reads_as FIND_PARCEL.now (Text lot ∷ []) old new office_schema k.schema _ find_parcel_is find_parcel_plain find_parcel_unlisted rows h in
+      let o = k.schema.order in
+      let read = reads_as FIND_PARCEL.now (Text lot ∷ []) old new (schema_in o) k.schema.is _ (find_parcel_is o) (find_parcel_plain o) (find_parcel_unlisted o) rows h in
       finds_one parcel_row shown_parcel 3 find_parcel_query.filter find_parcel_query.project (overlay old.now.trees []) (Text lot ∷ []) t.parcels
       (λ p. bytes_eq p.lot lot) (λ p. one_test _ ∙ text_is p.lot lot) (λ p. refl)
       k.rows.parcels (k.keyed.lots lot) rows (read.answer Null)
 
   pub file_shown : (id : ℕ) → Shown READ_FILE.now (int id ∷ []) old new rows → rows ≡ map shown_file (filter (λ f. eqb f.id id) t.files)
   file_shown id h =
-      let read = reads_as READ_FILE.now (int id ∷ []) old new office_schema k.schema _ read_file_is read_file_plain read_file_unlisted rows h in
+      let o = k.schema.order in
+      let read = reads_as READ_FILE.now (int id ∷ []) old new (schema_in o) k.schema.is _ (read_file_is o) (read_file_plain o) (read_file_unlisted o) rows h in
       finds_one file_row shown_file 7 read_file_query.filter read_file_query.project (overlay old.now.trees []) (int id ∷ []) t.files (λ f. eqb f.id id)
       (λ f. one_test _ ∙ eq_is f.id id) (λ f. refl)
       k.rows.files (k.keyed.files id) rows (read.answer Null)
@@ -94,7 +100,8 @@ module _ (old new : State) (t : Tables) (rows : List Row) (k : Keeps t old.now) 
   interested_shown party h =
       let params = int party ∷ [] in
       let db = overlay old.now.trees [] in
-      let read = reads_as FIND_INTERESTED.now params old new office_schema k.schema _ find_interested_is find_interested_plain find_interested_unlisted rows h in
+      let o = k.schema.order in
+      let read = reads_as FIND_INTERESTED.now params old new (schema_in o) k.schema.is _ (find_interested_is o) (find_interested_plain o) (find_interested_unlisted o) rows h in
       let got = answers find_interested_query.from [] (col 1 0 ∷ []) [] db params rows (read.answer Null) in
       got.3 ∙ ap (map (λ (o : Output). o.1)) (one_order _ got.0 (omega arith) got.1)
       ∙ ap (λ v. (v ∷ []) ∷ []) (counted_by passes (λ i. eqb i.party party) cut (λ i. one_test _ ∙ eq_is i.party party) (λ r. params ∷ r ∷ []) t.interests
@@ -145,7 +152,8 @@ module _ (old new : State) (t : Tables) (rows : List Row) (k : Keeps t old.now) 
       not (eqb (length rows) 0) ≡ list_any (λ i. eqb i.parcel parcel && eqb i.party party) t.interests
   interest_shown parcel party h =
       let params = int parcel ∷ int party ∷ [] in
-      let read = reads_as FIND_INTEREST.now params old new office_schema k.schema _ find_interest_is find_interest_plain find_interest_unlisted rows h in
+      let o = k.schema.order in
+      let read = reads_as FIND_INTEREST.now params old new (schema_in o) k.schema.is _ (find_interest_is o) (find_interest_plain o) (find_interest_unlisted o) rows h in
       row_shown 5 shown_interest (λ i. eqb i.parcel parcel && eqb i.party party) find_interest_query.filter find_interest_query.project params t.interests
       (cut parcel party)
       (λ i. ap₂ ◌&&◌ (eq_is i.parcel parcel) (one_test _ ∙ eq_is i.party party)) k.rows.interests (read.answer Null)
@@ -157,7 +165,8 @@ module _ (old new : State) (t : Tables) (rows : List Row) (k : Keeps t old.now) 
 
   pub interests_shown : Shown READ_INTERESTS.now [] old new rows → (given : List Interest) × (rows ≡ map shown_interest given) × IsPermutation given t.interests
   interests_shown h =
-      let read = reads_as READ_INTERESTS.now [] old new office_schema k.schema _ read_interests_is read_interests_plain read_interests_unlisted rows h in
+      let o = k.schema.order in
+      let read = reads_as READ_INTERESTS.now [] old new (schema_in o) k.schema.is _ (read_interests_is o) (read_interests_plain o) (read_interests_unlisted o) rows h in
       let seen : IsPermutation (map (λ r. firsts 2 1 r) (old.now.trees 5)) rows =
       whole_shown 5 read_interests_query.project read_interests_query.order (overlay old.now.trees []) rows (read.answer Null) in
       let it = interests_among t.interests (old.now.trees 5) rows k.rows.interests seen in
@@ -167,7 +176,8 @@ module _ (old new : State) (t : Tables) (rows : List Row) (k : Keeps t old.now) 
       not (eqb (length rows) 0) ≡ list_any (λ p. eqb p.file file && (p.is_open && eqb p.number number)) t.papers
   notice_shown file number h =
       let params = int file ∷ int number ∷ [] in
-      let read = reads_as FIND_NOTICE.now params old new office_schema k.schema _ find_notice_is find_notice_plain find_notice_unlisted rows h in
+      let o = k.schema.order in
+      let read = reads_as FIND_NOTICE.now params old new (schema_in o) k.schema.is _ (find_notice_is o) (find_notice_plain o) (find_notice_unlisted o) rows h in
       row_shown 8 shown_paper (λ p. eqb p.file file && (p.is_open && eqb p.number number)) find_notice_query.filter find_notice_query.project params t.papers
       (cut file number)
       (λ p. ap₂ ◌&&◌ (eq_is p.file file) (ap₂ ◌&&◌ (flag_equals p.is_open) (one_test _ ∙ eq_is p.number number))) k.rows.papers (read.answer Null)
@@ -184,7 +194,8 @@ module _ (old new : State) (t : Tables) (rows : List Row) (k : Keeps t old.now) 
   pub papers_shown : (file : ℕ) → Shown READ_PAPERS.now (int file ∷ []) old new rows → rows ≡ map shown_paper (filter (λ p. eqb p.file file) t.papers)
   papers_shown file h =
       let params = int file ∷ [] in
-      let read = reads_as READ_PAPERS.now params old new office_schema k.schema _ read_papers_is read_papers_plain read_papers_unlisted rows h in
+      let o = k.schema.order in
+      let read = reads_as READ_PAPERS.now params old new (schema_in o) k.schema.is _ (read_papers_is o) (read_papers_plain o) (read_papers_unlisted o) rows h in
       let db = overlay old.now.trees [] in
       let got = answers read_papers_query.from read_papers_query.filter read_papers_query.project read_papers_query.order db params rows (read.answer Null) in
       let test : Paper → Bool = λ p. eqb p.file file in

@@ -24,17 +24,17 @@ use Rattle.permit_model.specs.Search.{when}
 use Rattle.permit_model.specs.Caller.{Party}
 use Rattle.permit_model.specs.Tables.{Tables}
 use Rattle.permit_model.specs.Renewal.{with_digest, with_renewed, against_renewal}
-use Rattle.permit_sql_rows.specs.Schema.{office_schema, party_table}
+use Rattle.permit_sql_rows.specs.Schema.{Order, schema_in, party_table}
 use Rattle.permit_sql_rows.specs.Rows.{int, party_row}
-use Rattle.permit_sql_rows.specs.Kept.{AreKeyed, AreInTrees, Keeps}
-use Rattle.permit_sql_statements.specs.declared.renew.TheConstants.{SET_DIGEST}
+use Rattle.permit_sql_rows.specs.Kept.{AreKeyed, Keeps}
+use Rattle.permit_sql_statements.specs.declared.texts.TheConstants.{SET_DIGEST}
 use Rattle.permit_sql_statements.specs.Renewing.{renewal_statements}
 use Rattle.permit_sql_statements.specs.Statements.{RanAll}
 use Rattle.permit_sql_statements.proofs.Lookups.{plain_query, equals, one_test, eq_is, finds_one}
 use Rattle.permit_sql_statements.proofs.QueryTexts.{alone}
 use Rattle.permit_sql_statements.proofs.Effects.{cast_int, cast_null, Leaves, sets}
 use Rattle.permit_sql_statements.proofs.Permuted.{put_changed, not_found, only_found}
-use Rattle.permit_sql_statements.proofs.Keeping.{keeps_parties, as_many}
+use Rattle.permit_sql_statements.proofs.Keeping.{second_after, keeps_parties, as_many}
 use Rattle.permit_sql_statements.proofs.Commits.{found_number}
 
 -- ---- the text
@@ -42,25 +42,26 @@ use Rattle.permit_sql_statements.proofs.Commits.{found_number}
 abbrev pub set_digest_query : Query
 set_digest_query = plain_query (inner 1 end) (equals (col 1 0) (col 0 0) ∷ []) (col 1 0 ∷ col 1 0 ∷ lit Null ∷ col 1 2 ∷ col 1 3 ∷ col 0 1 ∷ []) []
 
-pub set_digest_is : command_of (understood office_schema SET_DIGEST.now) ≡ Update 1 (alone set_digest_query)
+pub set_digest_is : (o : Order) → command_of (understood (schema_in o) SET_DIGEST.now) ≡ Update 1 (alone set_digest_query)
 unfolding understood everything
-set_digest_is = refl
+set_digest_is o = refl
 
-pub set_digest_plain : IsPlain (understood office_schema SET_DIGEST.now)
+pub set_digest_plain : (o : Order) → IsPlain (understood (schema_in o) SET_DIGEST.now)
 unfolding understood everything
-set_digest_plain = (refl, refl)
+set_digest_plain o = (refl, refl)
 
 -- a party's row is stored as it is
 cast_party : (p : Party) → cast_row party_table (party_row p) ≡ party_row p
 cast_party p = simp (cast_int, cast_null)
 
 -- the row of the party with the number is put in place of the one that it had
-sets_digest : (old new : State) (count : ℕ) (t : Tables) → Keeps t old.now → (id : ℕ) (digest : List ℕ) (p : Party) →
+sets_digest : (old new : State) (count : ℕ) (t : Tables) (k : Keeps t old.now) → (id : ℕ) (digest : List ℕ) (p : Party) →
     filter (λ (x : Party). eqb x.id id) t.parties ≡ p ∷ [] → p.id ≡ id → Executes SET_DIGEST.now (int id ∷ Text digest ∷ []) old new (Ok count)
-    → Leaves old.now new.now party_table × (new.now.trees 1 ≡ put_row (party_row (record p { digest = digest })) (without_rowid (pos id) (old.now.trees 1)))
+    → Leaves k.schema.order old.now new.now party_table × (new.now.trees 1 ≡ put_row (party_row (record p { digest = digest })) (without_rowid (pos id) (old.now.trees 1)))
 sets_digest old new count t k id digest p there same h =
     let params = int id ∷ Text digest ∷ [] in
-    let it = sets SET_DIGEST.now 1 party_table set_digest_query set_digest_is set_digest_plain params old new count k.schema refl (λ tally x. x) h in
+    let it = sets k.schema.order SET_DIGEST.now 1 party_table set_digest_query (set_digest_is k.schema.order) (set_digest_plain k.schema.order) params old new count
+    k.schema.is refl (λ tally x. x) h in
     let set : Party → Row = λ x. int x.id ∷ party_row (record x { digest = digest }) in
     let found = finds_one party_row set 1 set_digest_query.filter set_digest_query.project (overlay old.now.trees []) params t.parties (λ x. eqb x.id id)
     (λ x. one_test _ ∙ eq_is x.id id) (λ x. refl)
@@ -168,11 +169,11 @@ renewal_made g old db t k id digest none ran =
     let there = put_changed (λ (q : Party). q.id) party_row (λ q. refl) id (with_digest id digest) p t.parties (begun.now.trees 1)
     (λ y apart. ap (λ c. cond c (record y { digest = digest }) y) apart) (ap (λ (q : Party). q.id) here ∙ number) only k.rows.parties in
     let row = subst (IsPermutation (map party_row xs)) (ap (λ q. put_row (party_row q) (without_rowid (pos id) (begun.now.trees 1))) here ∙ sym set.1) there in
-    let rows = keeps_parties begun.now a.now t k.rows xs set.0 row in
+    let rows = keeps_parties begun.now a.now t k.schema k.rows xs set.0 row in
     let same : db ≡ a.now = ran.is ∙ ap (λ (h : Held _). (state g h).now) one.3 in
-    record {
-      schema = ap (λ (x : Database). x.schema) same ∙ set.0.schema;
+    subst (Keeps (with_renewed id digest t)) (sym same) (record {
+      schema = second_after begun.now a.now k.schema set.0.schema;
       now = k.now;
       keyed = keyed_renewal id digest t k.keyed free.1;
-      rows = subst (λ (x : Database). AreInTrees (with_renewed id digest t) x.trees) (sym same) rows;
-    }
+      rows = rows;
+    })

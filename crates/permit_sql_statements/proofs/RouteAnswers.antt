@@ -16,7 +16,7 @@ use Rattle.permit_base.specs.declared.route.Route.TheVariants.{Every, Cell}
 use Rattle.permit_model.specs.Codes.{relation_code}
 use Rattle.permit_model.specs.Tables.{Tables}
 use Rattle.permit_model.specs.Routes.{Found, found_by}
-use Rattle.permit_sql_rows.specs.Schema.{office_schema}
+use Rattle.permit_sql_rows.specs.Schema.{schema_in}
 use Rattle.permit_sql_rows.specs.Kept.{Keeps, IsNamed}
 use Rattle.permit_sql_rows.specs.Rows.{shown_found, int}
 use Rattle.permit_sql_statements.specs.declared.question.TheConstants.{EVERY_WITHOUT}
@@ -62,8 +62,9 @@ module _ (t : Tables) (caller : ℕ) (there : 0 < caller) (route : Route) (day :
   pub route_shown : (old new : State) (k : Keeps t old.now) (rows : List Row) → Shown (text_for route) (params_for route caller day) old new rows →
       ShowFound t rows (found_by route caller day t)
   route_shown old new k rows h =
-      let m = means_for route in
-      let read = reads_as (text_for route) (params_for route caller day) old new office_schema k.schema _ m.0 m.1 m.2 rows h in
+      let o = k.schema.order in
+      let m = means_for o route in
+      let read = reads_as (text_for route) (params_for route caller day) old new (schema_in o) k.schema.is _ m.0 m.1 m.2 rows h in
       answer_shown caller there t (overlay old.now.trees []) k.keyed k.rows.parcels k.rows.interests k.rows.files route day rows (read.answer Null)
 
 -- every file, to a caller who has declared no interest
@@ -71,8 +72,9 @@ pub every_without_shown : (t : Tables) (caller : ℕ) → 0 < caller → list_an
     (day : ℕ) (old new : State) (k : Keeps t old.now) (rows : List Row)
     → Shown EVERY_WITHOUT.now (int caller ∷ int 0 ∷ []) old new rows → ShowFound t rows (found_by Every caller day t)
 every_without_shown t caller there none day old new k rows h =
-    let m = means_every_without in
-    let read = reads_as EVERY_WITHOUT.now (int caller ∷ int 0 ∷ []) old new office_schema k.schema _ m.0 m.1 m.2 rows h in
+    let o = k.schema.order in
+    let m = means_every_without o in
+    let read = reads_as EVERY_WITHOUT.now (int caller ∷ int 0 ∷ []) old new (schema_in o) k.schema.is _ m.0 m.1 m.2 rows h in
     every_answer_without caller there t (overlay old.now.trees []) k.keyed k.rows.parcels k.rows.interests k.rows.files none day rows (read.answer Null)
 
 -- ---- the rows that were read so far

@@ -18,7 +18,7 @@ use Rattle.permit_base.specs.declared.words.Relation.TheVariants.{Applicant, Con
 use Rattle.permit_base.specs.declared.route.By.TheVariants.{Whole, One, Two}
 use Rattle.permit_base.specs.declared.route.Route.{Route}
 use Rattle.permit_base.specs.declared.route.Route.TheVariants.{Every, Cell}
-use Rattle.permit_sql_rows.specs.Schema.{office_schema}
+use Rattle.permit_sql_rows.specs.Schema.{Order, schema_in}
 use Rattle.permit_sql_statements.specs.declared.question.TheConstants.{EVERY, EVERY_WITHOUT, WHOLE}
 use Rattle.permit_sql_statements.specs.Selected.{text_by, text_for, leader}
 use Rattle.permit_sql_statements.proofs.Lookups.{plain_query, equals}
@@ -132,36 +132,36 @@ query_for (Cell (Two a c) s b t) = query_by (leader a c)
 
 -- ---- the text of each selection
 
-abbrev pub Means : List ℕ → Query → Type 0
-Means text q = (command_of (understood office_schema text) ≡ Select (alone q) (names_of (command_of (understood office_schema text))))
-    × IsPlain (understood office_schema text) × (reads_listing office_schema text ≡ false)
+abbrev pub Means : Order → List ℕ → Query → Type 0
+Means o text q = (command_of (understood (schema_in o) text) ≡ Select (alone q) (names_of (command_of (understood (schema_in o) text))))
+    × IsPlain (understood (schema_in o) text) × (reads_listing (schema_in o) text ≡ false)
 
-means_by : (r : Relation) → Means (text_by r) (query_by r)
+means_by : (o : Order) (r : Relation) → Means o (text_by r) (query_by r)
 unfolding understood everything
-means_by Applicant = (refl, (refl, refl), refl)
-means_by Contractor = (refl, (refl, refl), refl)
-means_by Owner = (refl, (refl, refl), refl)
-means_by AssignedReviewer = (refl, (refl, refl), refl)
-means_by AssignedInspector = (refl, (refl, refl), refl)
-means_by Conflict = (refl, (refl, refl), refl)
+means_by o Applicant = (refl, (refl, refl), refl)
+means_by o Contractor = (refl, (refl, refl), refl)
+means_by o Owner = (refl, (refl, refl), refl)
+means_by o AssignedReviewer = (refl, (refl, refl), refl)
+means_by o AssignedInspector = (refl, (refl, refl), refl)
+means_by o Conflict = (refl, (refl, refl), refl)
 
-means_every : Means EVERY.now every_query
+means_every : (o : Order) → Means o EVERY.now every_query
 unfolding understood everything
-means_every = (refl, (refl, refl), refl)
+means_every o = (refl, (refl, refl), refl)
 
-pub means_every_without : Means EVERY_WITHOUT.now every_without
+pub means_every_without : (o : Order) → Means o EVERY_WITHOUT.now every_without
 unfolding understood everything
-means_every_without = (refl, (refl, refl), refl)
+means_every_without o = (refl, (refl, refl), refl)
 
-means_whole : Means WHOLE.now whole_query
+means_whole : (o : Order) → Means o WHOLE.now whole_query
 unfolding understood everything
-means_whole = (refl, (refl, refl), refl)
+means_whole o = (refl, (refl, refl), refl)
 
-pub means_for : (route : Route) → Means (text_for route) (query_for route)
-means_for Every = means_every
-means_for (Cell Whole s b t) = means_whole
-means_for (Cell (One r) s b t) = means_by r
-means_for (Cell (Two a c) s b t) = means_by (leader a c)
+pub means_for : (o : Order) (route : Route) → Means o (text_for route) (query_for route)
+means_for o Every = means_every o
+means_for o (Cell Whole s b t) = means_whole o
+means_for o (Cell (One r) s b t) = means_by o r
+means_for o (Cell (Two a c) s b t) = means_by o (leader a c)
 
-pub plain_for : (route : Route) (text : List ℕ) → text ≡ text_for route → IsPlain (understood office_schema text)
-plain_for route text is = subst (λ x. IsPlain (understood office_schema x)) (sym is) (means_for route).1
+pub plain_for : (o : Order) (route : Route) (text : List ℕ) → text ≡ text_for route → IsPlain (understood (schema_in o) text)
+plain_for o route text is = subst (λ x. IsPlain (understood (schema_in o) x)) (sym is) (means_for o route).1

@@ -19,7 +19,7 @@ use Rattle.sqlite.specs.Rows.{Task, Written, Outcome, Edited, CountsIn, sequence
 use Rattle.sqlite.specs.Does.{Tally, OnRows}
 use Rattle.sqlite.specs.declared.run.Mode.{Mode}
 use Rattle.sqlite.proofs.Callers.{one_step}
-use Rattle.permit_sql_rows.specs.Schema.{office_schema}
+use Rattle.permit_sql_rows.specs.Schema.{Order, schema_in}
 
 -- a part that gave a value did not stop on the way
 pub went : {B E R : Type 0} {b : B} {Stops : E → Type 0} → ((stop : E) × Stops stop × (Ok b ≡ Err stop)) ⊎ R → R
@@ -33,25 +33,25 @@ abbrev Same : Trees → Trees → Type 0
 Same a b = ◌≡◌ {A = Outcome Trees} (Ok a) (Ok b)
 
 -- the task of a statement on a table of the office
-abbrev pub task_on : Option ℕ → Table → Row → Task
-task_on limit table params = record { limit = limit; keys = Enforced; schema = office_schema; table = table; params = params }
+abbrev pub task_on : Order → Option ℕ → Table → Row → Task
+task_on o limit table params = record { limit = limit; keys = Enforced; schema = schema_in o; table = table; params = params }
 
-abbrev pub on_office : Trees → Database
-on_office db = record { schema = office_schema; trees = db }
+abbrev pub on_office : Order → Trees → Database
+on_office o db = record { schema = schema_in o; trees = db }
 
 -- NO ACTION sets off nothing
-no_actions : (tree : ℕ) (olds : List Row) (new : Row) → works office_schema Enforced 0 tree olds (new ∷ []) ≡ []
-no_actions tree olds new = refl
+no_actions : (o : Order) (tree : ℕ) (olds : List Row) (new : Row) → works (schema_in o) Enforced 0 tree olds (new ∷ []) ≡ []
+no_actions o tree olds new = refl
 
 -- nor does an edit that has no row
-none_set : (tree : ℕ) → works office_schema Enforced 0 tree [] [] ≡ []
-none_set tree = refl
+none_set : (o : Order) (tree : ℕ) → works (schema_in o) Enforced 0 tree [] [] ≡ []
+none_set o tree = refl
 
-module _ (limit : Option ℕ) (mode : Mode) (table : Table) (uncounted : table.is_counted ≡ false) (params : Row) (db : Trees) (tally : Tally)
+module _ (o : Order) (limit : Option ℕ) (mode : Mode) (table : Table) (uncounted : table.is_counted ≡ false) (params : Row) (db : Trees) (tally : Tally)
     (after : Database) where
-  pub inserted : (at : ℕ) (from : Source) → OnRows (task_on limit table params) mode None (Insert at from) db (Ok (tally, after))
-      → (rows : List Row) × IsSource (on_office db) (stamped table params) from rows
-      × Applies office_schema Enforced db (edit_of db table [] Chosen 0 rows) after.trees × (after.schema ≡ office_schema)
+  pub inserted : (at : ℕ) (from : Source) → OnRows (task_on o limit table params) mode None (Insert at from) db (Ok (tally, after))
+      → (rows : List Row) × IsSource (on_office o db) (stamped table params) from rows
+      × Applies (schema_in o) Enforced db (edit_of db table [] Chosen 0 rows) after.trees × (after.schema ≡ schema_in o)
   inserted at from h =
       let done = went h in
       let now = ap (λ (p : Tally × Database). p.1) (same_value (went (went done.2).2).2) in
@@ -59,22 +59,22 @@ module _ (limit : Option ℕ) (mode : Mode) (table : Table) (uncounted : table.i
       let numbers = went given.2 in
       let written = went numbers.2 in
       let counted = went written.2 in
-      let task = task_on limit table params in
+      let task = task_on o limit table params in
       let chosen : rowids_for table (count_of numbers.0) ≡ Chosen = ap (λ b. cond b (Above (count_of numbers.0)) Chosen) uncounted in
-      let wrote = subst (λ r. Edited office_schema Enforced db (edit_of db table [] r 0 given.0) (Ok written.0)) chosen written.1 in
+      let wrote = subst (λ r. Edited (schema_in o) Enforced db (edit_of db table [] r 0 given.0) (Ok written.0)) chosen written.1 in
       let top = Rattle.std.specs.Prelude.fold higher (count_of numbers.0) (edit_of db table [] (rowids_for table (count_of numbers.0)) 0 given.0).news in
       let still : Same counted.0 written.0 = subst (λ b. MatchBool (cond b (is_lt (int_cmp (count_of numbers.0) top)) false)
-      (CountsIn task written.0 numbers.0 top (sequence office_schema) (Ok counted.0)) (Same counted.0 written.0)) uncounted counted.1 in
+      (CountsIn task written.0 numbers.0 top (sequence (schema_in o)) (Ok counted.0)) (Same counted.0 written.0)) uncounted counted.1 in
       let trees : after.trees ≡ written.0 = ap (λ (d : Database). d.trees) now ∙ ap (λ (it : Written). it.trees) (same_value counted.2) ∙ same_value still in
-      let step = one_step office_schema Enforced db written.0 (edit_of db table [] Chosen 0 given.0)
-      (no_works office_schema Enforced 0 table.tree (edit_of db table [] Chosen 0 given.0).news) wrote in
-      (given.0, given.1, subst (Applies office_schema Enforced db (edit_of db table [] Chosen 0 given.0)) (sym trees) step, ap (λ (d : Database). d.schema) now)
+      let step = one_step (schema_in o) Enforced db written.0 (edit_of db table [] Chosen 0 given.0)
+      (no_works (schema_in o) Enforced 0 table.tree (edit_of db table [] Chosen 0 given.0).news) wrote in
+      (given.0, given.1, subst (Applies (schema_in o) Enforced db (edit_of db table [] Chosen 0 given.0)) (sym trees) step, ap (λ (d : Database). d.schema) now)
 
-  pub updated : (at : ℕ) (q : Program) → OnRows (task_on limit table params) mode None (Update at q) db (Ok (tally, after))
-      → (rows : List Row) × Answers (on_office db) q params rows × (after.schema ≡ office_schema)
-      × ((rows ≡ [] → Applies office_schema Enforced db (edit_of db table [] Given 1 []) after.trees)
+  pub updated : (at : ℕ) (q : Program) → OnRows (task_on o limit table params) mode None (Update at q) db (Ok (tally, after))
+      → (rows : List Row) × Answers (on_office o db) q params rows × (after.schema ≡ schema_in o)
+      × ((rows ≡ [] → Applies (schema_in o) Enforced db (edit_of db table [] Given 1 []) after.trees)
       × ((new : Row) → (edit_of db table (ids_of rows) Given 1 rows).news ≡ new ∷ [] →
-      Applies office_schema Enforced db (edit_of db table (ids_of rows) Given 1 rows) after.trees))
+      Applies (schema_in o) Enforced db (edit_of db table (ids_of rows) Given 1 rows) after.trees))
   updated at q h =
       let done = went h in
       let now = ap (λ (p : Tally × Database). p.1) (same_value (went (went done.2).2).2) in
@@ -86,11 +86,11 @@ module _ (limit : Option ℕ) (mode : Mode) (table : Table) (uncounted : table.i
         given.1,
         ap (λ (d : Database). d.schema) now,
         (
-          λ none. subst (Applies office_schema Enforced db (edit_of db table [] Given 1 [])) (sym trees)
-              (one_step office_schema Enforced db written.0 (edit_of db table [] Given 1 []) (none_set table.tree)
-              (subst (λ rows. Edited office_schema Enforced db (edit_of db table (ids_of rows) Given 1 rows) (Ok written.0)) none written.1)),
-          λ new is. subst (Applies office_schema Enforced db edit) (sym trees)
-              (one_step office_schema Enforced db written.0 edit (subst (λ ns. works office_schema Enforced 0 table.tree (taken_by db edit) ns ≡ []) (sym is)
-              (no_actions table.tree (taken_by db edit) new)) written.1),
+          λ none. subst (Applies (schema_in o) Enforced db (edit_of db table [] Given 1 [])) (sym trees)
+              (one_step (schema_in o) Enforced db written.0 (edit_of db table [] Given 1 []) (none_set o table.tree)
+              (subst (λ rows. Edited (schema_in o) Enforced db (edit_of db table (ids_of rows) Given 1 rows) (Ok written.0)) none written.1)),
+          λ new is. subst (Applies (schema_in o) Enforced db edit) (sym trees)
+              (one_step (schema_in o) Enforced db written.0 edit (subst (λ ns. works (schema_in o) Enforced 0 table.tree (taken_by db edit) ns ≡ []) (sym is)
+              (no_actions o table.tree (taken_by db edit) new)) written.1),
         ),
       )

@@ -2,14 +2,23 @@
 use Rattle.std.specs.Prelude.{◌≡◌, ◌≤◌, ℕ, List, Result, OnOk, OnErr, IsTrue}
 use Rattle.sqlite_trees.specs.declared.store.Store.{Ghosts}
 use Rattle.sqlite_trees.specs.View.{doubt}
+use Rattle.sqlite_schema.specs.declared.schema.Schema.{Schema}
+use Rattle.sqlite.specs.Given.{IsPlain}
+use Rattle.sqlite.specs.Listing.{understood}
 use Rattle.sqlite.specs.Effect.{Database}
 use Rattle.sqlite.specs.State.{HasCleanDisk, Survives}
 use Rattle.sqlite.specs.Held.{Held, state}
 use Rattle.permit_model.specs.Tables.{Desk, Tables}
 use Rattle.permit_store.specs.declared.change.Change.{Change}
 use Rattle.permit_store.specs.Changes.{changed, Fits}
+use Rattle.permit_base.specs.declared.words.Edition.{Edition}
+use Rattle.permit_sql_rows.specs.Schema.{IsOffice}
 use Rattle.permit_sql_rows.specs.Kept.{Keeps, Shows}
 use Rattle.permit_sql_statements.specs.Statements.{Statement, RanAll}
+
+-- The text neither writes nor ends a transaction, in each schema of the office under the edition.
+abbrev pub IsPlainIn : Edition → List ℕ → Type 0
+IsPlainIn edition sql = (schema : Schema) → IsOffice edition schema → IsPlain (understood schema sql)
 
 module _ {S : Type 0} (g : Ghosts S) where
   -- Said of all tables that the connection showed before, where its disk is clean afterwards.

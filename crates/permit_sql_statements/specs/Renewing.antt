@@ -6,7 +6,7 @@ use Rattle.permit_model.specs.Renewal.{against_renewal}
 use Rattle.permit_model.specs.Tables.{Tables}
 use Rattle.permit_sql_rows.specs.Kept.{Keeps}
 use Rattle.permit_sql_statements.specs.Statements.{Statement}
-use Rattle.permit_sql_statements.specs.declared.renew.TheConstants.{SET_DIGEST}
+use Rattle.permit_sql_statements.specs.declared.texts.TheConstants.{SET_DIGEST}
 
 -- a party's digest is set, and nothing else
 abbrev pub renewal_statements : Row → List Statement

@@ -6,9 +6,9 @@ ghost use Rattle.sqlite.specs.Listing.{understood};
 ghost use Rattle.sqlite.specs.State.{HasCleanDisk, Survives, Shown};
 ghost use Rattle.sqlite.specs.Values.{bound};
 ghost use Rattle.sqlite.specs.Held.{state};
-ghost use Rattle.permit_sql_rows.specs.Schema.{office_schema};
+ghost use Rattle.permit_base.specs.declared.words.Edition.TheVariants.{Second};
 ghost use Rattle.permit_sql_rows.specs.Kept.{IsFine};
-ghost use Rattle.permit_sql_statements.specs.Frames.{LeavesTables, IsOpenAfter, KeepsDoubt, ReadSurvives};
+ghost use Rattle.permit_sql_statements.specs.Frames.{IsPlainIn, LeavesTables, IsOpenAfter, KeepsDoubt, ReadSurvives};
 
 use permit_store::store::{Got, StoreError};
 use sqlite::{Alter, Connection, Error, Row};
@@ -44,10 +44,10 @@ pub(crate) fn rows_of<S: Alter>(
     requires not_in_transaction { conn.old.in_transaction ≡ false }
     ensures shown { HasCleanDisk (state S.Store conn.new)
         → IfOk result (λ rows. Shown sql.now (bound params.now) (state S.Store conn.old) (state S.Store conn.new) rows.items) }
-    ensures kept { IsPlain (understood office_schema sql.now) → LeavesTables S.Store conn.old conn.new }
+    ensures kept { IsPlainIn Second sql.now → LeavesTables S.Store conn.old conn.new }
     ensures doubt { KeepsDoubt S.Store conn.old conn.new }
     ensures open { IsOpenAfter S.Store conn.new result }
-    ensures crash { IsPlain (understood office_schema sql.now) → ReadSurvives S.Store conn.old conn.new }
+    ensures crash { IsPlainIn Second sql.now → ReadSurvives S.Store conn.old conn.new }
     ensures not_in_transaction { conn.new.in_transaction ≡ false }
 {
     match read_all(conn, sql, params) {

@@ -11,12 +11,10 @@ ghost use Rattle.permit_sql_statements.specs.Renewing.{renewal_statements, OverR
 ghost use Rattle.permit_sql_statements.specs.Statements.{RanAll};
 
 use crate::statements::{Statement, run_all};
+use crate::texts::SET_DIGEST;
 use permit_base::values::Digest;
 use sqlite::{Alter, Connection, Error, params};
 use sqlite_value::value::ValueRef;
-
-/// Sets a party's digest.
-pub const SET_DIGEST: &str = "UPDATE party SET digest = ?2 WHERE id = ?1";
 
 /// Sets a party's digest, in one transaction.
 fn set_digest<'a, S: Alter>(

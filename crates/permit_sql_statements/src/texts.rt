@@ -127,6 +127,9 @@ pub const ADD_FILE: &str =
 pub const ADD_PAPER: &str =
     "INSERT INTO paper (file, number, day, author, sort, days, text, terms, open) VALUES (?1, ?2, ?3, ?4, ?5, ?6, ?7, ?8, ?9)";
 
+/// Sets a party's digest.
+pub const SET_DIGEST: &str = "UPDATE party SET digest = ?2 WHERE id = ?1";
+
 /// Sets a parcel's owner.
 pub const SET_OWNER: &str = "UPDATE parcel SET owner = ?2 WHERE id = ?1";
 

@@ -1,18 +1,16 @@
-use Rattle.std.proofs.Common.{Bool, true, false, IsTrue, [], sym, subst, ◌∙◌, true≢false}
-use Rattle.sqlite.specs.Listing.{understood}
-use Rattle.sqlite.proofs.Callers.{IsPlain}
+use Rattle.std.proofs.Common.{Bool, true, false, IsTrue, [], sym, subst, true≢false}
+use Rattle.permit_sql_rows.specs.Schema.{IsOffice}
 use Rattle.permit_sql.specs.Taken.{TookRows}
 use Rattle.permit_sql.specs.Found.{TookTable}
 use Rattle.permit_sql.proofs.check.takes_all.Goals as goal
 
 pub each_row-requires-clause-plain : goal.each_row-requires-clause-plain
 each_row-requires-clause-plain g c =
-    let office = sym c.schema.ensures.value ∙ c.is_office.ensures.told.0 c.if-not-is_office.false in
-    subst (λ s. IsPlain (understood s c.args.sql.now)) (sym office) c.requires.plain
+    c.requires.plain _ (subst (IsOffice c.args.edition) c.schema.ensures.value (c.is_office.ensures.told.0 c.if-not-is_office.false))
 
 pub returns-in-Ok-clause-all : goal.returns-in-Ok-clause-all
 returns-in-Ok-clause-all g c clean said = (
-  sym c.schema.ensures.value ∙ c.is_office.ensures.told.0 c.if-not-is_office.false,
+  subst (IsOffice c.args.edition) c.schema.ensures.value (c.is_office.ensures.told.0 c.if-not-is_office.false),
   go c.in-Ok.all (c.in-Ok.ensures.ok clean) said,
 )
   where

@@ -3,7 +3,7 @@ use Rattle.std.specs.Prelude.{◌≢◌, IfErr}
 use Rattle.sqlite.specs.Effect.{Database}
 use Rattle.permit_store.specs.declared.store.OpenError.{OpenError}
 use Rattle.permit_store.specs.declared.store.OpenError.TheVariants as open_error
-use Rattle.permit_sql_rows.specs.Schema.{schema_of}
+use Rattle.permit_sql_rows.specs.Schema.{IsOffice}
 use Rattle.permit_sql.specs.Found.{KeepsSoundUnder}
 use Rattle.permit_sql.proofs.open.check_versioned.Goals as goal
 
@@ -23,4 +23,4 @@ pub returns-in-Ok-false-clause-schema : goal.returns-in-Ok-false-clause-schema
 returns-in-Ok-false-clause-schema g c clean =
     damaged_too c.check_tables.result (c.check_tables.ensures.judged clean) c.check_tables.ensures.schema (λ is_open office.
     let was = c.check_tables.ensures.left (clean, is_open) in
-    subst (λ (db : Database). db.schema ≡ schema_of c.args.edition) (c.has_other_version.ensures.same was.0) office)
+    subst (λ (db : Database). IsOffice c.args.edition db.schema) (c.has_other_version.ensures.same was.0) office)

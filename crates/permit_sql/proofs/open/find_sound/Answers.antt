@@ -21,8 +21,8 @@ returns-clause-good g c fine office =
     let same : c.desk.inside.files ≡ d.files = search rules in
     let desk : HasDesk d (old.trees 0) = rw c.in-Some.is at (c.in_ok-desk.ensures.good second.0 office) in
     let now = rw c.in-Some.is at c.in_ok-desk.ensures.now in
-    let upgrade : HasUpgrade e d.files u old.trees = subst (λ (db : Database). HasUpgrade e d.files u db.trees) first.1
-    (subst (λ n. HasUpgrade e n u (state g.S.Store c.find_desk.new.conn).now.trees) same
+    let upgrade : HasUpgrade e d.files u old = subst (HasUpgrade e d.files u) first.1
+    (subst (λ n. HasUpgrade e n u (state g.S.Store c.find_desk.new.conn).now) same
     (rw c.in-Some-2.is at (c.in_ok-upgrade.ensures.good third.0))) in
     let objects : HasObjects d old.trees = subst (λ (db : Database). HasObjects d db.trees) (second.1 ∙ first.1)
     (c.in_ok-has_sound_objects.ensures.good fourth.0 c.if-not-branch.false) in

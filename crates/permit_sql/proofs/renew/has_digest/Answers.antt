@@ -1,11 +1,12 @@
 use Rattle.std.proofs.lemmas.Result.{IfOk-weaker}
 use Rattle.sqlite.specs.Held.{state}
-use Rattle.permit_sql_statements.proofs.QueryTexts.{find_party_plain}
+use Rattle.permit_sql_statements.specs.declared.texts.TheConstants.{FIND_PARTY}
+use Rattle.permit_sql_statements.proofs.QueryTexts.{plain_second, find_party_plain}
 use Rattle.permit_sql.proofs.Renewing.{digest_told}
 use Rattle.permit_sql.proofs.renew.has_digest.Goals as goal
 
 pub has_row-requires-clause-plain : goal.has_row-requires-clause-plain
-has_row-requires-clause-plain g c = find_party_plain
+has_row-requires-clause-plain g c = plain_second FIND_PARTY.now find_party_plain
 
 pub returns-clause-found : goal.returns-clause-found
 returns-clause-found g c clean t k =

@@ -1,11 +1,12 @@
 use Rattle.std.proofs.lemmas.Result.{IfOk-weaker}
 use Rattle.sqlite.specs.Held.{state}
-use Rattle.permit_sql_statements.proofs.QueryTexts.{read_party_plain}
+use Rattle.permit_sql_statements.specs.declared.texts.TheConstants.{READ_PARTY}
+use Rattle.permit_sql_statements.proofs.QueryTexts.{plain_second, read_party_plain}
 use Rattle.permit_sql.proofs.Renewing.{party_told}
 use Rattle.permit_sql.proofs.renew.has_party.Goals as goal
 
 pub has_row-requires-clause-plain : goal.has_row-requires-clause-plain
-has_row-requires-clause-plain g c = read_party_plain
+has_row-requires-clause-plain g c = plain_second READ_PARTY.now read_party_plain
 
 pub returns-clause-found : goal.returns-clause-found
 returns-clause-found g c clean t k =

@@ -1,7 +1,8 @@
 use Rattle.std.proofs.lemmas.Result.{IfOk-weaker}
 use Rattle.sqlite.specs.Held.{state}
 use Rattle.permit_sql_statements.proofs.KeptLemmas.{shown_open}
-use Rattle.permit_sql_statements.proofs.QueryTexts.{read_interests_plain}
+use Rattle.permit_sql_statements.specs.declared.texts.TheConstants.{READ_INTERESTS}
+use Rattle.permit_sql_statements.proofs.QueryTexts.{plain_second, read_interests_plain}
 use Rattle.permit_sql_statements.proofs.ReadLemmas.{interests_shown}
 use Rattle.permit_sql_statements.proofs.read.declared_rows.Goals as goal
 
@@ -14,7 +15,7 @@ returns-clause-found g c t clean there =
     interests_shown old new t rows.items keeps h) (c.rows_of.ensures.shown clean)
 
 pub returns-clause-kept : goal.returns-clause-kept
-returns-clause-kept g c t clean there = c.rows_of.ensures.kept read_interests_plain t clean there
+returns-clause-kept g c t clean there = c.rows_of.ensures.kept (plain_second READ_INTERESTS.now read_interests_plain) t clean there
 
 pub returns-clause-crash : goal.returns-clause-crash
-returns-clause-crash g c t there = c.rows_of.ensures.crash read_interests_plain t there
+returns-clause-crash g c t there = c.rows_of.ensures.crash (plain_second READ_INTERESTS.now read_interests_plain) t there

@@ -4,7 +4,8 @@ use Rattle.std.proofs.lemmas.Result.{IfOk-weaker}
 use Rattle.sqlite.specs.Held.{state}
 use Rattle.permit_sql_rows.specs.Rows.{shown_party}
 use Rattle.permit_sql_statements.proofs.KeptLemmas.{shown_open}
-use Rattle.permit_sql_statements.proofs.QueryTexts.{find_party_plain}
+use Rattle.permit_sql_statements.specs.declared.texts.TheConstants.{FIND_PARTY}
+use Rattle.permit_sql_statements.proofs.QueryTexts.{plain_second, find_party_plain}
 use Rattle.permit_sql_statements.proofs.ReadLemmas.{digest_shown, first_of}
 use Rattle.permit_sql_statements.proofs.read.digest_rows.Goals as goal
 
@@ -18,7 +19,7 @@ returns-clause-found g c t clean there =
     ap (λ l. slice_get l 0) shown ∙ first_of shown_party (λ p. bytes_eq p.digest c.args.digest.now) t.parties) (c.rows_of.ensures.shown clean)
 
 pub returns-clause-kept : goal.returns-clause-kept
-returns-clause-kept g c t clean there = c.rows_of.ensures.kept find_party_plain t clean there
+returns-clause-kept g c t clean there = c.rows_of.ensures.kept (plain_second FIND_PARTY.now find_party_plain) t clean there
 
 pub returns-clause-crash : goal.returns-clause-crash
-returns-clause-crash g c t there = c.rows_of.ensures.crash find_party_plain t there
+returns-clause-crash g c t there = c.rows_of.ensures.crash (plain_second FIND_PARTY.now find_party_plain) t there

@@ -4,7 +4,8 @@ use Rattle.sqlite.specs.Held.{state}
 use Rattle.permit_sql_rows.specs.Rows.{shown_file}
 use Rattle.permit_sql_rows.specs.Kept.{IsNamed}
 use Rattle.permit_sql_statements.proofs.KeptLemmas.{shown_open}
-use Rattle.permit_sql_statements.proofs.QueryTexts.{read_file_plain}
+use Rattle.permit_sql_statements.specs.declared.texts.TheConstants.{READ_FILE}
+use Rattle.permit_sql_statements.proofs.QueryTexts.{plain_second, read_file_plain}
 use Rattle.permit_sql_statements.proofs.ReadLemmas.{file_shown, first_of, all_found}
 use Rattle.permit_sql_statements.proofs.read.file_rows.Goals as goal
 
@@ -18,10 +19,10 @@ returns-clause-found g c t clean there =
     ap (λ l. slice_get l 0) shown ∙ first_of shown_file (λ f. eqb f.id c.args.file) t.files) (c.rows_of.ensures.shown clean)
 
 pub returns-clause-kept : goal.returns-clause-kept
-returns-clause-kept g c t clean there = c.rows_of.ensures.kept read_file_plain t clean there
+returns-clause-kept g c t clean there = c.rows_of.ensures.kept (plain_second READ_FILE.now read_file_plain) t clean there
 
 pub returns-clause-crash : goal.returns-clause-crash
-returns-clause-crash g c t there = c.rows_of.ensures.crash read_file_plain t there
+returns-clause-crash g c t there = c.rows_of.ensures.crash (plain_second READ_FILE.now read_file_plain) t there
 
 pub returns-clause-named : goal.returns-clause-named
 returns-clause-named g c t clean there =

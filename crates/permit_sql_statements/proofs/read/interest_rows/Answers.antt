@@ -1,7 +1,8 @@
 use Rattle.std.proofs.lemmas.Result.{IfOk-weaker}
 use Rattle.sqlite.specs.Held.{state}
 use Rattle.permit_sql_statements.proofs.KeptLemmas.{shown_open}
-use Rattle.permit_sql_statements.proofs.QueryTexts.{find_interest_plain}
+use Rattle.permit_sql_statements.specs.declared.texts.TheConstants.{FIND_INTEREST}
+use Rattle.permit_sql_statements.proofs.QueryTexts.{plain_second, find_interest_plain}
 use Rattle.permit_sql_statements.proofs.ReadLemmas.{interest_shown}
 use Rattle.permit_sql_statements.proofs.read.interest_rows.Goals as goal
 
@@ -15,7 +16,7 @@ returns-clause-found g c t clean there =
     (rw (c.params-to_sql.ensures, c.params-to_sql-2.ensures, c.get.ensures.same, c.get-2.ensures.same) at h)) (c.rows_of.ensures.shown clean)
 
 pub returns-clause-kept : goal.returns-clause-kept
-returns-clause-kept g c t clean there = c.rows_of.ensures.kept find_interest_plain t clean there
+returns-clause-kept g c t clean there = c.rows_of.ensures.kept (plain_second FIND_INTEREST.now find_interest_plain) t clean there
 
 pub returns-clause-crash : goal.returns-clause-crash
-returns-clause-crash g c t there = c.rows_of.ensures.crash find_interest_plain t there
+returns-clause-crash g c t there = c.rows_of.ensures.crash (plain_second FIND_INTEREST.now find_interest_plain) t there

@@ -1,7 +1,8 @@
 use Rattle.std.proofs.lemmas.Result.{IfOk-weaker}
 use Rattle.sqlite.specs.Held.{state}
 use Rattle.permit_sql_statements.proofs.KeptLemmas.{shown_open}
-use Rattle.permit_sql_statements.proofs.QueryTexts.{find_interested_plain}
+use Rattle.permit_sql_statements.specs.declared.texts.TheConstants.{FIND_INTERESTED}
+use Rattle.permit_sql_statements.proofs.QueryTexts.{plain_second, find_interested_plain}
 use Rattle.permit_sql_statements.proofs.ReadLemmas.{interested_shown}
 use Rattle.permit_sql_statements.proofs.read.interested_rows.Goals as goal
 
@@ -14,7 +15,7 @@ returns-clause-found g c t clean there =
     interested_shown old new t rows.items keeps c.args.party (rw (c.params-to_sql.ensures, c.get.ensures.same) at h)) (c.rows_of.ensures.shown clean)
 
 pub returns-clause-kept : goal.returns-clause-kept
-returns-clause-kept g c t clean there = c.rows_of.ensures.kept find_interested_plain t clean there
+returns-clause-kept g c t clean there = c.rows_of.ensures.kept (plain_second FIND_INTERESTED.now find_interested_plain) t clean there
 
 pub returns-clause-crash : goal.returns-clause-crash
-returns-clause-crash g c t there = c.rows_of.ensures.crash find_interested_plain t there
+returns-clause-crash g c t there = c.rows_of.ensures.crash (plain_second FIND_INTERESTED.now find_interested_plain) t there

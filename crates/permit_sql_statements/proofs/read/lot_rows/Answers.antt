@@ -4,7 +4,8 @@ use Rattle.std.proofs.lemmas.Result.{IfOk-weaker}
 use Rattle.sqlite.specs.Held.{state}
 use Rattle.permit_sql_rows.specs.Rows.{shown_parcel}
 use Rattle.permit_sql_statements.proofs.KeptLemmas.{shown_open}
-use Rattle.permit_sql_statements.proofs.QueryTexts.{find_parcel_plain}
+use Rattle.permit_sql_statements.specs.declared.texts.TheConstants.{FIND_PARCEL}
+use Rattle.permit_sql_statements.proofs.QueryTexts.{plain_second, find_parcel_plain}
 use Rattle.permit_sql_statements.proofs.ReadLemmas.{lot_shown, first_of}
 use Rattle.permit_sql_statements.proofs.read.lot_rows.Goals as goal
 
@@ -18,7 +19,7 @@ returns-clause-found g c t clean there =
     ap (λ l. slice_get l 0) shown ∙ first_of shown_parcel (λ p. bytes_eq p.lot c.args.lot.now) t.parcels) (c.rows_of.ensures.shown clean)
 
 pub returns-clause-kept : goal.returns-clause-kept
-returns-clause-kept g c t clean there = c.rows_of.ensures.kept find_parcel_plain t clean there
+returns-clause-kept g c t clean there = c.rows_of.ensures.kept (plain_second FIND_PARCEL.now find_parcel_plain) t clean there
 
 pub returns-clause-crash : goal.returns-clause-crash
-returns-clause-crash g c t there = c.rows_of.ensures.crash find_parcel_plain t there
+returns-clause-crash g c t there = c.rows_of.ensures.crash (plain_second FIND_PARCEL.now find_parcel_plain) t there

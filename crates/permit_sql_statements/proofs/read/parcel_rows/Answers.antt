@@ -3,7 +3,8 @@ use Rattle.std.proofs.lemmas.Result.{IfOk-weaker}
 use Rattle.sqlite.specs.Held.{state}
 use Rattle.permit_sql_rows.specs.Rows.{shown_parcel}
 use Rattle.permit_sql_statements.proofs.KeptLemmas.{shown_open}
-use Rattle.permit_sql_statements.proofs.QueryTexts.{read_parcel_plain}
+use Rattle.permit_sql_statements.specs.declared.texts.TheConstants.{READ_PARCEL}
+use Rattle.permit_sql_statements.proofs.QueryTexts.{plain_second, read_parcel_plain}
 use Rattle.permit_sql_statements.proofs.ReadLemmas.{parcel_shown, first_of}
 use Rattle.permit_sql_statements.proofs.read.parcel_rows.Goals as goal
 
@@ -17,7 +18,7 @@ returns-clause-found g c t clean there =
     ap (λ l. slice_get l 0) shown ∙ first_of shown_parcel (λ p. eqb p.id c.args.parcel) t.parcels) (c.rows_of.ensures.shown clean)
 
 pub returns-clause-kept : goal.returns-clause-kept
-returns-clause-kept g c t clean there = c.rows_of.ensures.kept read_parcel_plain t clean there
+returns-clause-kept g c t clean there = c.rows_of.ensures.kept (plain_second READ_PARCEL.now read_parcel_plain) t clean there
 
 pub returns-clause-crash : goal.returns-clause-crash
-returns-clause-crash g c t there = c.rows_of.ensures.crash read_parcel_plain t there
+returns-clause-crash g c t there = c.rows_of.ensures.crash (plain_second READ_PARCEL.now read_parcel_plain) t there

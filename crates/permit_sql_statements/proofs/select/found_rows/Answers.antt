@@ -1,6 +1,7 @@
 use Rattle.std.proofs.lemmas.Result.{IfOk-weaker}
 use Rattle.sqlite.specs.Held.{state}
 use Rattle.permit_sql_statements.proofs.KeptLemmas.{shown_open}
+use Rattle.permit_sql_statements.proofs.QueryTexts.{plain_second}
 use Rattle.permit_sql_statements.proofs.RouteTexts.{plain_for}
 use Rattle.permit_sql_statements.proofs.RouteAnswers.{asked, route_shown}
 use Rattle.permit_sql_statements.proofs.select.found_rows.Goals as goal
@@ -15,7 +16,9 @@ returns-clause-found g c t clean there =
     (rw (c.text_of.ensures, params) at h)) (c.rows_of.ensures.shown clean)
 
 pub returns-clause-kept : goal.returns-clause-kept
-returns-clause-kept g c t clean there = c.rows_of.ensures.kept (plain_for c.args.route.now c.text_of.result.now c.text_of.ensures) t clean there
+returns-clause-kept g c t clean there = c.rows_of.ensures.kept
+    (plain_second c.text_of.result.now (λ o. plain_for o c.args.route.now c.text_of.result.now c.text_of.ensures)) t clean there
 
 pub returns-clause-crash : goal.returns-clause-crash
-returns-clause-crash g c t there = c.rows_of.ensures.crash (plain_for c.args.route.now c.text_of.result.now c.text_of.ensures) t there
+returns-clause-crash g c t there = c.rows_of.ensures.crash
+    (plain_second c.text_of.result.now (λ o. plain_for o c.args.route.now c.text_of.result.now c.text_of.ensures)) t there
