@@ -17,6 +17,7 @@ use crate::shut::flag;
 use permit_args::plan::ServeWords;
 use permit_base::values::Day;
 use permit_hall::doors::Door;
+use permit_mirror::indexed::Indexed;
 use permit_mirror::mirrored::Mirrored;
 use permit_office::office::Office;
 use permit_policy::Policy;
@@ -40,14 +41,14 @@ fn beside_memory<S: Store + Drop>(
     alloc: Global,
     store: S,
     policy: Policy,
-) -> Result<Office<Mirrored<S, PlainStore>>, S>
+) -> Result<Office<Mirrored<S, Indexed<PlainStore>>>, S>
     ensures held { IfOk result (λ office. (t : Tables) → (S.view store).holds t → IsSoundTables t
-        → (⟦<Mirrored<S, PlainStore> as Store>⟧.view office.store).holds t) }
-    ensures one { IfOk result (λ office. (⟦<Mirrored<S, PlainStore> as Store>⟧.view office.store).doubt ≡ 0
-        → HasOneDesk (⟦<Mirrored<S, PlainStore> as Store>⟧.view office.store)) }
-    ensures doubt { IfOk result (λ office. (S.view store).doubt ≤ (⟦<Mirrored<S, PlainStore> as Store>⟧.view office.store).doubt) }
-    ensures failed { IfOk result (λ office. (⟦<Mirrored<S, PlainStore> as Store>⟧.view office.store).failed ≡ 0) }
-    ensures commits { IfOk result (λ office. (⟦<Mirrored<S, PlainStore> as Store>⟧.view office.store).commits ≡ 0) }
+        → (⟦<Mirrored<S, Indexed<PlainStore>> as Store>⟧.view office.store).holds t) }
+    ensures one { IfOk result (λ office. (⟦<Mirrored<S, Indexed<PlainStore>> as Store>⟧.view office.store).doubt ≡ 0
+        → HasOneDesk (⟦<Mirrored<S, Indexed<PlainStore>> as Store>⟧.view office.store)) }
+    ensures doubt { IfOk result (λ office. (S.view store).doubt ≤ (⟦<Mirrored<S, Indexed<PlainStore>> as Store>⟧.view office.store).doubt) }
+    ensures failed { IfOk result (λ office. (⟦<Mirrored<S, Indexed<PlainStore>> as Store>⟧.view office.store).failed ≡ 0) }
+    ensures commits { IfOk result (λ office. (⟦<Mirrored<S, Indexed<PlainStore>> as Store>⟧.view office.store).commits ≡ 0) }
     ensures policy { IfOk result (λ office. office.policy ≡ policy) }
     ensures back { IfErr result (λ back. (t : Tables) → (S.view store).holds t → IsSoundTables t → (S.view back).holds t) }
     ensures told { IfErr result (λ back. (S.view store).doubt ≤ (S.view back).doubt) }
@@ -113,7 +114,7 @@ where
     R: Threads + Wait + Copy + Drop + Send + 'static,
     O: Write,
     requires { T.IsAlwaysCallable today.old }
-    ensures served { IsServed S.Store (⟦<Mirrored<SqlStore<S>, PlainStore> as Store>⟧.view) (λ s. s.kept.conn) T.step today.old today.new
+    ensures served { IsServed S.Store (⟦<Mirrored<SqlStore<S>, Indexed<PlainStore>> as Store>⟧.view) (λ s. s.kept.conn) T.step today.old today.new
         (HasEndedAs (⟦<RequestReader<HostRuntime> as Read>⟧.remaining) (⟦<AnswerWriter<HostRuntime> as Write>⟧.contents)
         (⟦<Connections<HostRuntime, R> as Door>⟧.gave) (⟦<Connections<HostRuntime, R> as Door>⟧.spent) words.now.workers words.now.connections
         (O.contents out.old) (O.contents out.new)) policy words.now.workers conn result.0 (O.contents out.old) (O.contents out.new) result.1
@@ -149,7 +150,7 @@ where
     S: Alter + Drop,
     R: Threads + Wait + Copy + Drop + Send + 'static,
     O: Write,
-    ensures served { IsServedOnDays S.Store (⟦<Mirrored<SqlStore<S>, PlainStore> as Store>⟧.view) (λ s. s.kept.conn) days.now
+    ensures served { IsServedOnDays S.Store (⟦<Mirrored<SqlStore<S>, Indexed<PlainStore>> as Store>⟧.view) (λ s. s.kept.conn) days.now
         (HasEndedAs (⟦<RequestReader<HostRuntime> as Read>⟧.remaining) (⟦<AnswerWriter<HostRuntime> as Write>⟧.contents)
         (⟦<Connections<HostRuntime, R> as Door>⟧.gave) (⟦<Connections<HostRuntime, R> as Door>⟧.spent) words.now.workers words.now.connections
         (O.contents out.old) (O.contents out.new)) policy words.now.workers conn result.0 (O.contents out.old) (O.contents out.new) result.1

@@ -1,1 +1,9 @@
 mod None
+mod Ordered
+mod Given
+mod Handed
+mod Finding
+mod Exact
+mod Own
+mod Changed
+mod Loaded

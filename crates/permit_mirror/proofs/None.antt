@@ -5,7 +5,7 @@ use Rattle.std.proofs.lemmas.List.Sorted.{IsPermutation-refl}
 use Rattle.permit_model.specs.Routes.{Found}
 use Rattle.permit_model.specs.Tables.{Tables}
 use Rattle.permit_store.specs.Frames.{StoreView, Reads}
-use Rattle.permit_store.specs.Handing.{AreHanded, Hands, more_handed}
+use Rattle.permit_store.specs.Handing.{AreAmong, AreHanded, Hands, more_handed}
 
 same_count : (n : ℕ) → n < 2 ^ 64 → n ≡ more_handed 0 n
 same_count n few = omega arith
@@ -21,3 +21,7 @@ none_handed took old new a why (Err e) wrong few r = record {
 pub none_in_order : {F : Type 0} (t : Tables) (found : List Found) (result : Result Bool F) → IsErr result → AreHanded t result [] found
 none_in_order t found (Ok all) wrong = cc wrong
 none_in_order t found (Err e) wrong = (found, tt, record { same = IsPermutation-refl found; order = λ _. refl })
+
+pub none_among : {F : Type 0} (found : List Found) (result : Result Bool F) → IsErr result → AreAmong result [] found
+none_among found (Ok all) wrong = cc
+none_among found (Err e) wrong = (found, tt, IsPermutation-refl found)

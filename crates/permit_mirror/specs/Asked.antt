@@ -1,5 +1,6 @@
 -- Which of the two stores a read asks.
-use Rattle.std.specs.Prelude.{◌≡◌, Bool, IsFalse, Result, OnOk}
+use Rattle.std.specs.Prelude.{◌≡◌, Bool, true, false, IsFalse, Result, OnOk}
+use Rattle.permit_base.specs.declared.route.By.TheVariants as by
 use Rattle.permit_base.specs.declared.route.Route.{Route}
 use Rattle.permit_base.specs.declared.route.Route.TheVariants.{Every, Cell}
 
@@ -15,7 +16,14 @@ pub record IsFromKept {M A E : Type 0} (is_wary : Bool) (old_memory new_memory :
   pub unasked : new_memory ≡ old_memory
   pub trusted : OnOk result (IsFalse is_wary)
 
--- every file is read from memory, and the files of a cell from the store that keeps the tables
-abbrev pub IsFromOne : Route → (memory kept : Type 0) → Type 0
-IsFromOne Every memory kept = memory
-IsFromOne (Cell by stage stopped timing) memory kept = kept
+-- whether the selection asks for the files of a whole cell
+abbrev pub is_whole : Route → Bool
+is_whole Every = false
+is_whole (Cell by.Whole stage stopped timing) = true
+is_whole (Cell (by.One relation) stage stopped timing) = false
+is_whole (Cell (by.Two first second) stage stopped timing) = false
+
+-- the files of a whole cell come from the store that keeps the tables, and all others from memory
+abbrev pub IsFromOne : Bool → (memory kept : Type 0) → Type 0
+IsFromOne true memory kept = kept
+IsFromOne false memory kept = memory

@@ -8,9 +8,10 @@ ghost use Rattle.permit_store.specs.Counts.{failed_after};
 ghost use Rattle.permit_store.specs.Frames.{HasOneDesk, OverTables, Reads, IsRead, IsLookUp};
 ghost use Rattle.permit_store.specs.Handing.{AreAmong, AreFound, AreHanded, Hands, found_by_any, selected_after};
 ghost use Rattle.permit_store.specs.Interests.{DeclareSame};
-ghost use Rattle.permit_mirror.specs.Asked.{IsFromMemory, IsFromKept, IsFromOne};
+ghost use Rattle.permit_mirror.specs.Asked.{IsFromMemory, IsFromKept, IsFromOne, is_whole};
 ghost use Rattle.permit_mirror.specs.Both.{CanBeRead, WasAsked, LeftBy, both};
 
+use crate::search::{any_asks_for_cell, asks_for_cell};
 use permit_base::route::Route;
 use permit_base::values::{Day, Digest, FileId, Lot, PaperNumber, ParcelId, PartyId};
 use permit_base::words::Role;
@@ -24,8 +25,8 @@ use permit_store::store::{Got, Store};
 ///
 /// | Call | Answered by |
 /// |---|---|
-/// | a read of one row or one file's papers, `select`, `each` of every file | memory |
-/// | `each` of a selection by a cell, `each_of_any` | the store that keeps the tables: its indexes find the rows, where memory would go over all files |
+/// | a read of one row or one file's papers, `select`, `each` and `each_of_any` of selections of every file or by relations | memory |
+/// | `each` of the files of a whole cell, `each_of_any` with such a selection | the store that keeps the tables: its indexes find the rows, where memory would go over all files |
 /// | `commit` | both: memory asks for what the change needs, the store that keeps the tables makes it, then memory makes it |
 ///
 /// Behind a call of the store that keeps the tables that failed, nothing is answered from memory before that store has
@@ -298,11 +299,11 @@ impl<S: Store, M: Memory + Drop> Store for Mirrored<S, M> {
         ensures handed { (given : List TheFound) × Hands T.took given (seen self.old) (seen self.new) taker.old taker.new result
             × OverTables (seen self.old) (seen self.new) (λ t. AreHanded t result given (found_by route.now caller day t)) }
         ensures crash { (t : Tables) → LeftBy S.crash self.old.kept self.new.kept t (λ _. ⊥) }
-        ensures asked { IsFromOne route.now
+        ensures asked { IsFromOne (is_whole route.now)
             (IsFromMemory self.old.is_wary self.new.is_wary self.old.kept self.new.kept result)
             (IsFromKept self.new.is_wary self.old.memory self.new.memory result) }
     {
-        if let Route::Cell { .. } = route {
+        if asks_for_cell(*route) {
             let answer = self.kept.each(route, caller, day, taker);
             self.is_wary = answer.is_err();
             return self.counted(answer);
@@ -322,10 +323,17 @@ impl<S: Store, M: Memory + Drop> Store for Mirrored<S, M> {
         ensures handed { (given : List TheFound) × Hands T.took given (seen self.old) (seen self.new) taker.old taker.new result
             × OverTables (seen self.old) (seen self.new) (λ t. AreAmong result given (found_by_any routes.now caller day t)) }
         ensures crash { (t : Tables) → LeftBy S.crash self.old.kept self.new.kept t (λ _. ⊥) }
-        ensures asked { IsFromKept self.new.is_wary self.old.memory self.new.memory result }
+        ensures asked { IsFromOne (list_any is_whole routes.now)
+            (IsFromMemory self.old.is_wary self.new.is_wary self.old.kept self.new.kept result)
+            (IsFromKept self.new.is_wary self.old.memory self.new.memory result) }
     {
-        let answer = self.kept.each_of_any(routes, caller, day, taker);
-        self.is_wary = answer.is_err();
+        if any_asks_for_cell(routes) {
+            let answer = self.kept.each_of_any(routes, caller, day, taker);
+            self.is_wary = answer.is_err();
+            return self.counted(answer);
+        }
+        self.settle()?;
+        let answer = self.memory.each_of_any(routes, caller, day, taker);
         self.counted(answer)
     }
 
