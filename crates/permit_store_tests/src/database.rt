@@ -1,5 +1,6 @@
 //! The store over memory, with ample memory.
 
+use permit_mirror::indexed::Indexed;
 use permit_mirror::mirrored::Mirrored;
 use permit_office::office::Office;
 use permit_samples::offices::{founder, office_over};
@@ -35,7 +36,7 @@ pub(crate) fn over_database(alloc: Global) -> Result<Office<SqlStore<MemStore>>,
 /// The same with its tables in memory beside it.
 pub(crate) fn over_memory_too(
     alloc: Global,
-) -> Result<Office<Mirrored<SqlStore<MemStore>, PlainStore>>, Fail> {
+) -> Result<Office<Mirrored<SqlStore<MemStore>, Indexed<PlainStore>>>, Fail> {
     match Mirrored::load(alloc, founded(alloc)?) {
         Ok(store) => office_over(alloc, store, POLICY),
         Err((_, why)) => Err(why)?,
