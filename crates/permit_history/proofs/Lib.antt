@@ -1,0 +1,12 @@
+pub mod Tests
+pub mod RoundTrip
+pub mod FieldsRead
+pub mod PlainLines
+pub mod Sending
+pub mod NoFloats
+pub mod Clean
+pub mod FineLines
+pub mod OneText
+pub mod ToldHistories
+pub mod LineByLine
+pub mod Renewals

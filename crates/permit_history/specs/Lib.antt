@@ -1,0 +1,10 @@
+pub mod LineData
+pub mod Sent
+pub mod Fields
+pub mod Outcome
+pub mod LineRead
+pub mod Within
+pub mod Told
+pub mod Text
+pub mod Examples
+pub mod Meaning

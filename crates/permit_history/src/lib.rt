@@ -1,0 +1,20 @@
+//! The text of a history: one line an entry, oldest first, as docs/HISTORY.md describes it.
+//!
+//! A line is compact JSON with its keys in byte order, and each entry has one line. What is read is, byte for byte, what
+//! writing gives. A token never stands in it: its digest does.
+#![tactic(auto)]
+
+pub mod entry;
+pub mod examples;
+pub mod fault;
+mod fields;
+pub mod laws;
+mod member;
+mod read;
+pub mod text;
+mod within;
+mod write;
+
+pub use read::{LONGEST_LINE, read_line};
+pub use text::next_entry;
+pub use write::write_line;
