@@ -17,13 +17,13 @@ use Rattle.permit_base.specs.declared.request.Command.TheVariants.{StartReview, 
 use Rattle.permit_base.specs.declared.request.Command.TheVariants.{RefuseExtension, BeginWork, RequestInspection, ApproveStep, Notice, ClearNotice, Stop, Lift}
 use Rattle.permit_base.specs.declared.request.Command.TheVariants.{Revoke, Temporary, Certify}
 use Rattle.permit_core.specs.declared.people.People.{People}
-use Rattle.permit_model.specs.Codes.{is_stage, is_stage_among}
+use Rattle.permit_model.specs.Codes.{is_stage}
 use Rattle.permit_model.specs.Days.{is_past}
 use Rattle.permit_model.specs.Effects.{effects}
 use Rattle.permit_model.specs.Steps.{required_steps}
 use Rattle.permit_model.specs.Facts.{past_stage}
 use Rattle.permit_model.specs.Work.{makes_paper}
-use Rattle.permit_model.specs.Admission.{stoppable_stages}
+use Rattle.permit_base.specs.Stages.{stage_facts}
 use Rattle.permit_base.specs.Limits.{latest_deadline, most_papers}
 use Rattle.permit_model.specs.Tables.{State, next_in_row}
 use Rattle.permit_model.specs.SoundState.{is_stored, is_timed, is_completed, is_certified, deadline_stands, is_for, is_finished, request_dated, IsSoundState}
@@ -81,18 +81,18 @@ sound_whole s f = rw (f.stored, f.few, f.stands, f.request, f.dated, f.over, f.f
 
 -- ---- the stage in which a command was admitted
 
-pub row_was_in : (day : ℕ) (s : State) (wanted : Stage) → is_stored wanted ≡ true → not (is_stage_among (wanted ∷ []) (row_stage day s)) ≡ false →
+pub row_was_in : (day : ℕ) (s : State) (wanted : Stage) → is_stored wanted ≡ true → not (is_stage (row_stage day s) wanted) ≡ false →
     s.stage ≡ wanted
 row_was_in day s wanted stored h = unpassed s.stage wanted (is_past day s.deadline) stored
     (only_one (row_stage day s) wanted (is_stage (row_stage day s) wanted) refl h)
 
 -- a certified file is neither stopped nor released
-certified_not_stoppable : (s : Stage) (past : Bool) → is_certified s ≡ true → not (is_stage_among stoppable_stages (if past then past_stage s else s)) ≡ true
+certified_not_stoppable : (s : Stage) (past : Bool) → is_certified s ≡ true → not (stage_facts (if past then past_stage s else s)).stoppable ≡ true
 certified_not_stoppable stage.Certified true e = refl
 certified_not_stoppable stage.Certified false e = refl
 certified_not_stoppable _ past e = cc
 
-not_certified_by : (day : ℕ) (s : State) (b : Bool) → is_certified s.stage ≡ b → not (is_stage_among stoppable_stages (row_stage day s)) ≡ false →
+not_certified_by : (day : ℕ) (s : State) (b : Bool) → is_certified s.stage ≡ b → not (stage_facts (row_stage day s)).stoppable ≡ false →
     (not b || false) ≡ true
 not_certified_by day s false e h = refl
 not_certified_by day s true e h = sym h ∙ certified_not_stoppable s.stage (is_past day s.deadline) e

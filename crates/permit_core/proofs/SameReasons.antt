@@ -17,7 +17,7 @@ use Rattle.permit_model.specs.Parcels.{owner, has_interest}
 use Rattle.permit_model.specs.Files.{CaseFile, case_numbered}
 use Rattle.permit_model.specs.People.{contractor}
 use Rattle.permit_model.specs.Work.{next_of, open_notices}
-use Rattle.permit_model.specs.Admission.{first_failing, file_tests, tests_on, reason_against, reviewing_stages, inspecting_stages, not_in}
+use Rattle.permit_model.specs.Admission.{first_failing, file_tests, tests_on, reason_against, facts_on, unless_stage}
 use Rattle.permit_model.specs.Tables.{State, state_of, next_in_row}
 use Rattle.permit_model.specs.Machine.{IsHistory}
 use Rattle.permit_model.proofs.Projection.{done_to}
@@ -61,11 +61,11 @@ among_some (m ∷ ns) n = and_true (has_number (m ∷ ns) n) ∙ ap (λ b. has_n
 pub same_reason : (h : History) (day : ℕ) (file : CaseFile) (command : Command) → next_of file ≡ next_in_row (state_of file) →
     first_failing (file_tests h day file command) ≡ first_failing (row_tests day (state_of file) (people_of h file command) command)
 same_reason h day file (AssignReviewer party) next =
-    assigned_same Reviewer (party_numbered h party) (not_in day file reviewing_stages).0
+    assigned_same Reviewer (party_numbered h party) (unless_stage (facts_on day file).reviewing).0
     ((file.filing.applicant == party) || is_the_party (contractor file.acts) party || is_the_party (owner h file.filing.parcel) party)
     (has_interest h file.filing.parcel party)
 same_reason h day file (AssignInspector party) next =
-    assigned_same Inspector (party_numbered h party) (not_in day file inspecting_stages).0
+    assigned_same Inspector (party_numbered h party) (unless_stage (facts_on day file).inspecting).0
     ((file.filing.applicant == party) || is_the_party (contractor file.acts) party || is_the_party (owner h file.filing.parcel) party)
     (has_interest h file.filing.parcel party)
 same_reason h day file (NameContractor party) next = rw (some_known (has_interest h file.filing.parcel party) (party_numbered h party)) refl

@@ -6,6 +6,8 @@ use Rattle.permit_base.specs.declared.words.Role.TheVariants.{Reviewer, Inspecto
 use Rattle.permit_base.specs.declared.words.Step.{Step}
 use Rattle.permit_base.specs.declared.words.Stage.{Stage}
 use Rattle.permit_base.specs.declared.words.Stage.TheVariants as stage
+use Rattle.permit_base.specs.declared.stages.StageFacts.{StageFacts}
+use Rattle.permit_base.specs.Stages.{stage_facts, is_running}
 use Rattle.permit_base.specs.declared.refusal.Reason.{Reason}
 use Rattle.permit_base.specs.declared.refusal.Reason.TheVariants as reason
 use Rattle.permit_base.specs.declared.request.Command.{Command}
@@ -15,19 +17,26 @@ use Rattle.permit_base.specs.declared.request.Command.TheVariants.{ApproveStep, 
 use Rattle.permit_core.specs.declared.people.NamedParty.{NamedParty}
 use Rattle.permit_core.specs.declared.people.People.{People}
 use Rattle.permit_model.specs.Search.{is_the_party}
-use Rattle.permit_model.specs.Codes.{is_role, is_stage_among}
+use Rattle.permit_model.specs.Codes.{is_role, is_stage}
 use Rattle.permit_model.specs.Steps.{has_certificates}
-use Rattle.permit_model.specs.Admission.{Test, first_failing, reviewing_stages, inspecting_stages, stoppable_stages, revocable_stages, ask_limit, is_the_step}
+use Rattle.permit_model.specs.Admission.{Test, first_failing, unless_stage, ask_limit, is_the_step}
 use Rattle.permit_model.specs.Admission.{days_above}
 use Rattle.permit_base.specs.Limits.{latest_deadline, most_papers}
 use Rattle.permit_model.specs.Days.{longest_temporary}
-use Rattle.permit_model.specs.BaseStage.{timed_stages}
 use Rattle.permit_model.specs.Tables.{State, next_in_row}
 use Rattle.permit_core.specs.Views.{row_stage}
 
--- the stage on the day is none of these
-abbrev pub not_in : ℕ → State → List Stage → Test
-not_in day s stages = (not (is_stage_among stages (row_stage day s)), reason.Stage)
+-- what is so of the file in its stage on the day
+abbrev pub facts_on : ℕ → State → StageFacts
+facts_on day s = stage_facts (row_stage day s)
+
+-- the stage on the day is another
+abbrev pub not_at : ℕ → State → Stage → Test
+not_at day s wanted = unless_stage (is_stage (row_stage day s) wanted)
+
+-- no deadline stands in the stage on the day
+abbrev pub not_timed : ℕ → State → Test
+not_timed day s = unless_stage (is_running (facts_on day s).expiry)
 
 -- a stop work order stands
 abbrev pub stopped : State → Test
@@ -108,29 +117,29 @@ too_far s = (nat_lt latest_deadline (unwrap_or s.deadline 0 + unwrap_or s.ask 0)
 
 -- the tests of each command, in the order of the reasons
 abbrev pub row_tests : ℕ → State → People → Command → List Test
-row_tests day s people (AssignReviewer party) = not_in day s reviewing_stages ∷ no_party_of_role Reviewer people ∷ interested s party people ∷ []
-row_tests day s people (AssignInspector party) = not_in day s inspecting_stages ∷ no_party_of_role Inspector people ∷ interested s party people ∷ []
-row_tests day s people (NameContractor party) = not_in day s timed_stages ∷ no_party people ∷ []
-row_tests day s people StartReview = not_in day s (stage.Filed ∷ []) ∷ []
-row_tests day s people (Return text) = not_in day s (stage.Review ∷ []) ∷ papers_full s ∷ []
-row_tests day s people (Resubmit text) = not_in day s (stage.Returned ∷ []) ∷ papers_full s ∷ []
-row_tests day s people ApprovePlans = not_in day s (stage.Review ∷ []) ∷ []
-row_tests day s people (Reject text) = not_in day s (stage.Review ∷ []) ∷ papers_full s ∷ []
-row_tests day s people Issue = not_in day s (stage.Approved ∷ []) ∷ papers_full s ∷ []
-row_tests day s people (AskExtension days text) = not_in day s timed_stages ∷ days_above (ask_limit (row_stage day s)) days ∷ ask_pending s ∷ papers_full s ∷ []
-row_tests day s people GrantExtension = not_in day s timed_stages ∷ no_ask_pending s ∷ papers_full s ∷ too_far s ∷ []
-row_tests day s people (RefuseExtension text) = not_in day s timed_stages ∷ no_ask_pending s ∷ papers_full s ∷ []
-row_tests day s people BeginWork = not_in day s (stage.Issued ∷ []) ∷ stopped s ∷ []
-row_tests day s people (RequestInspection step) = not_in day s (stage.Working ∷ []) ∷ stopped s ∷ request_pending s ∷ not_the_next s step ∷ []
-row_tests day s people (ApproveStep step) = not_in day s (stage.Working ∷ []) ∷ stopped s ∷ no_request_pending s ∷ not_the_requested s step ∷ notice_open s ∷ []
-row_tests day s people (Notice text) = not_in day s (stage.Working ∷ []) ∷ no_request_pending s ∷ papers_full s ∷ []
-row_tests day s people (ClearNotice paper) = not_in day s (stage.Working ∷ []) ∷ no_such_notice s people ∷ []
-row_tests day s people (Stop text conditions) = not_in day s stoppable_stages ∷ stopped s ∷ papers_full s ∷ []
-row_tests day s people Lift = not_in day s stoppable_stages ∷ not_stopped s ∷ papers_full s ∷ []
-row_tests day s people (Revoke text) = not_in day s revocable_stages ∷ papers_full s ∷ []
-row_tests day s people (Temporary days text) = not_in day s (stage.Working ∷ []) ∷ stopped s ∷ days_above longest_temporary days ∷ notice_open s
+row_tests day s people (AssignReviewer party) = unless_stage (facts_on day s).reviewing ∷ no_party_of_role Reviewer people ∷ interested s party people ∷ []
+row_tests day s people (AssignInspector party) = unless_stage (facts_on day s).inspecting ∷ no_party_of_role Inspector people ∷ interested s party people ∷ []
+row_tests day s people (NameContractor party) = not_timed day s ∷ no_party people ∷ []
+row_tests day s people StartReview = not_at day s stage.Filed ∷ []
+row_tests day s people (Return text) = not_at day s stage.Review ∷ papers_full s ∷ []
+row_tests day s people (Resubmit text) = not_at day s stage.Returned ∷ papers_full s ∷ []
+row_tests day s people ApprovePlans = not_at day s stage.Review ∷ []
+row_tests day s people (Reject text) = not_at day s stage.Review ∷ papers_full s ∷ []
+row_tests day s people Issue = not_at day s stage.Approved ∷ papers_full s ∷ []
+row_tests day s people (AskExtension days text) = not_timed day s ∷ days_above (ask_limit (row_stage day s)) days ∷ ask_pending s ∷ papers_full s ∷ []
+row_tests day s people GrantExtension = not_timed day s ∷ no_ask_pending s ∷ papers_full s ∷ too_far s ∷ []
+row_tests day s people (RefuseExtension text) = not_timed day s ∷ no_ask_pending s ∷ papers_full s ∷ []
+row_tests day s people BeginWork = not_at day s stage.Issued ∷ stopped s ∷ []
+row_tests day s people (RequestInspection step) = not_at day s stage.Working ∷ stopped s ∷ request_pending s ∷ not_the_next s step ∷ []
+row_tests day s people (ApproveStep step) = not_at day s stage.Working ∷ stopped s ∷ no_request_pending s ∷ not_the_requested s step ∷ notice_open s ∷ []
+row_tests day s people (Notice text) = not_at day s stage.Working ∷ no_request_pending s ∷ papers_full s ∷ []
+row_tests day s people (ClearNotice paper) = not_at day s stage.Working ∷ no_such_notice s people ∷ []
+row_tests day s people (Stop text conditions) = unless_stage (facts_on day s).stoppable ∷ stopped s ∷ papers_full s ∷ []
+row_tests day s people Lift = unless_stage (facts_on day s).stoppable ∷ not_stopped s ∷ papers_full s ∷ []
+row_tests day s people (Revoke text) = unless_stage (facts_on day s).revocable ∷ papers_full s ∷ []
+row_tests day s people (Temporary days text) = not_at day s stage.Working ∷ stopped s ∷ days_above longest_temporary days ∷ notice_open s
     ∷ no_certificates s ∷ papers_full s ∷ []
-row_tests day s people Certify = not_in day s (stage.Finaled ∷ []) ∷ stopped s ∷ no_certificates s ∷ papers_full s ∷ []
+row_tests day s people Certify = not_at day s stage.Finaled ∷ stopped s ∷ no_certificates s ∷ papers_full s ∷ []
 
 -- the answer to a command: done where nothing stands against it, else the reason
 abbrev pub Admits : Result Unit Reason → Option Reason → Type 0

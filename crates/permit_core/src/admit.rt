@@ -1,7 +1,6 @@
 //! What is admitted on a file: the department's table of commands, with the reasons in their numbered order.
 
 ghost use Rattle.std.specs.Prelude.{◌≡◌, ℕ, Some, List, [], ◌∷◌};
-ghost use Rattle.permit_model.specs.Codes;
 ghost use Rattle.permit_model.specs.Steps;
 ghost use Rattle.permit_model.specs.Admission;
 ghost use Rattle.permit_base.specs.declared.request.Command.TheVariants.{NameContractor, AskExtension, GrantExtension, RefuseExtension, RequestInspection, ApproveStep, Notice, ClearNotice, Stop, Lift, Temporary, Certify};
@@ -17,42 +16,16 @@ ghost use Rattle.permit_core.specs.declared.people.People.{People};
 
 use crate::people::{NamedParty, People};
 use crate::state::FileState;
+use crate::steps::has_certificates;
 use permit_base::limits::{
     LATEST_DEADLINE, LONGEST_PERMIT_EXTENSION, LONGEST_REVIEW_EXTENSION, LONGEST_TEMPORARY,
     MOST_PAPERS,
 };
 use permit_base::refusal::Reason;
 use permit_base::request::Command;
+use permit_base::stages::{Expiry, StageFacts};
 use permit_base::values::{Day, Days, PartyId};
 use permit_base::words::{Kind, Role, Stage, Step};
-
-/// The stages in which a reviewer is assigned.
-const REVIEWING: [Stage; 3] = [Stage::Filed, Stage::Review, Stage::Returned];
-
-/// The stages in which an inspector is assigned.
-const INSPECTING: [Stage; 3] = [Stage::Approved, Stage::Issued, Stage::Working];
-
-/// The stages with a deadline, before it is past.
-const OPEN: [Stage; 6] = [
-    Stage::Filed,
-    Stage::Review,
-    Stage::Returned,
-    Stage::Approved,
-    Stage::Issued,
-    Stage::Working,
-];
-
-/// The stages in which work is stopped, and a stop lifted.
-const STOPPABLE: [Stage; 5] = [
-    Stage::Issued,
-    Stage::Working,
-    Stage::Lapsed,
-    Stage::Revoked,
-    Stage::Finaled,
-];
-
-/// The stages in which a permit is revoked.
-const REVOCABLE: [Stage; 3] = [Stage::Issued, Stage::Working, Stage::Lapsed];
 
 /// A test of a command: whether it fails the command, and the reason that is then answered.
 type Test = (bool, Reason);
@@ -69,11 +42,11 @@ fn first_failing(tests: &[Test]) -> Option<Reason>
     None
 }
 
-/// Whether the stage is among these.
-fn is_among(stages: &[Stage], stage: Stage) -> bool
-    ensures { result ≡ Codes.is_stage_among stages.now stage }
+/// The stage doesn't admit the command.
+fn unless_stage(admitted: bool) -> Test
+    ensures { result ≡ Admission.unless_stage admitted }
 {
-    stages.iter().any(|one| stage == *one)
+    (!admitted, Reason::Stage)
 }
 
 /// Whether the step is there and is this one.
@@ -93,16 +66,6 @@ fn is_of_role(role: Role, named: Option<NamedParty>) -> bool
     }
 }
 
-/// Whether certificates, final and temporary, are given for the kind.
-fn has_certificates(kind: Kind) -> bool
-    ensures { result ≡ Steps.has_certificates kind }
-{
-    match kind {
-        Kind::Construct | Kind::Enlarge | Kind::Alter | Kind::Move | Kind::Occupancy => true,
-        Kind::Repair | Kind::Demolish => false,
-    }
-}
-
 /// The named party isn't there, or isn't of the role.
 fn no_party_of_role(role: Role, people: &People) -> Test
     ensures { result ≡ RowTests.no_party_of_role role people.now }
@@ -114,20 +77,9 @@ fn no_party_of_role(role: Role, people: &People) -> Test
 fn ask_limit(stage: Stage) -> u32
     ensures { result ≡ Admission.ask_limit stage }
 {
-    match stage {
-        Stage::Issued | Stage::Working => LONGEST_PERMIT_EXTENSION,
-        Stage::Filed
-        | Stage::Review
-        | Stage::Returned
-        | Stage::Approved
-        | Stage::Rejected
-        | Stage::Revoked
-        | Stage::Finaled
-        | Stage::Certified
-        | Stage::Abandoned
-        | Stage::Lapsed
-        | Stage::New
-        | Stage::Office => LONGEST_REVIEW_EXTENSION,
+    match stage.facts().expiry {
+        Expiry::Permit => LONGEST_PERMIT_EXTENSION,
+        Expiry::Application | Expiry::Never => LONGEST_REVIEW_EXTENSION,
     }
 }
 
@@ -142,11 +94,25 @@ fn is_with_interest(named: Option<NamedParty>) -> bool
 }
 
 impl FileState {
-    /// The stage on the day is none of these.
-    fn not_in(&self, day: Day, stages: &[Stage]) -> Test
-        ensures { result ≡ RowTests.not_in day self.now stages.now }
+    /// What is so of the file in its stage on the day.
+    fn facts(&self, day: Day) -> StageFacts
+        ensures { result ≡ RowTests.facts_on day self.now }
     {
-        (!is_among(stages, self.stage(day)), Reason::Stage)
+        self.stage(day).facts()
+    }
+
+    /// The stage on the day is another.
+    fn not_at(&self, day: Day, wanted: Stage) -> Test
+        ensures { result ≡ RowTests.not_at day self.now wanted }
+    {
+        unless_stage(self.stage(day) == wanted)
+    }
+
+    /// No deadline stands in the stage on the day.
+    fn not_timed(&self, day: Day) -> Test
+        ensures { result ≡ RowTests.not_timed day self.now }
+    {
+        unless_stage(self.facts(day).expiry.is_timed())
     }
 
     /// A stop work order stands.
@@ -206,17 +172,16 @@ impl FileState {
     /// What stands against a reviewer or an inspector being assigned.
     fn against_assignment(
         &self,
-        day: Day,
-        stages: &[Stage],
+        admitted: bool,
         role: Role,
         party: PartyId,
         people: &People,
     ) -> Option<Reason>
-        ensures { result ≡ Admission.first_failing (RowTests.not_in day self.now stages.now
+        ensures { result ≡ Admission.first_failing (Admission.unless_stage admitted
             ∷ RowTests.no_party_of_role role people.now ∷ RowTests.interested self.now party people.now ∷ []) }
     {
         first_failing(&[
-            self.not_in(day, stages),
+            unless_stage(admitted),
             no_party_of_role(role, people),
             self.interested(party, people),
         ])
@@ -227,16 +192,16 @@ impl FileState {
         ensures { (party : ℕ) → result ≡ Admission.first_failing (row_tests day self.now people.now (NameContractor party)) }
     {
         first_failing(&[
-            self.not_in(day, &OPEN),
+            self.not_timed(day),
             (people.named.is_none(), Reason::Person),
         ])
     }
 
-    /// What stands against a command that makes a paper and asks nothing but its stages.
-    fn against_decision(&self, day: Day, stages: &[Stage]) -> Option<Reason>
-        ensures { result ≡ Admission.first_failing (RowTests.not_in day self.now stages.now ∷ RowTests.papers_full self.now ∷ []) }
+    /// What stands against a command that makes a paper and asks nothing but its stage.
+    fn against_decision(&self, admitted: bool) -> Option<Reason>
+        ensures { result ≡ Admission.first_failing (Admission.unless_stage admitted ∷ RowTests.papers_full self.now ∷ []) }
     {
-        first_failing(&[self.not_in(day, stages), self.papers_full()])
+        first_failing(&[unless_stage(admitted), self.papers_full()])
     }
 
     /// What stands against an extension being asked for.
@@ -244,7 +209,7 @@ impl FileState {
         ensures { (people : People) (text : List ℕ) → result ≡ Admission.first_failing (row_tests day self.now people (AskExtension days text)) }
     {
         first_failing(&[
-            self.not_in(day, &OPEN),
+            self.not_timed(day),
             (days.get() > ask_limit(self.stage(day)), Reason::Days),
             (self.ask().is_some(), Reason::Pending),
             self.papers_full(),
@@ -256,7 +221,7 @@ impl FileState {
         ensures { (people : People) → result ≡ Admission.first_failing (row_tests day self.now people GrantExtension) }
     {
         first_failing(&[
-            self.not_in(day, &OPEN),
+            self.not_timed(day),
             (self.ask().is_none(), Reason::NothingPending),
             self.papers_full(),
             self.too_far(),
@@ -268,7 +233,7 @@ impl FileState {
         ensures { (people : People) (text : List ℕ) → result ≡ Admission.first_failing (row_tests day self.now people (RefuseExtension text)) }
     {
         first_failing(&[
-            self.not_in(day, &OPEN),
+            self.not_timed(day),
             (self.ask().is_none(), Reason::NothingPending),
             self.papers_full(),
         ])
@@ -279,7 +244,7 @@ impl FileState {
         ensures { (people : People) → result ≡ Admission.first_failing (row_tests day self.now people (RequestInspection step)) }
     {
         first_failing(&[
-            self.not_in(day, &[Stage::Working]),
+            self.not_at(day, Stage::Working),
             self.order_stands(),
             (self.request().is_some(), Reason::Pending),
             (!is_the_step(self.next_step(), step), Reason::Step),
@@ -291,7 +256,7 @@ impl FileState {
         ensures { (people : People) → result ≡ Admission.first_failing (row_tests day self.now people (ApproveStep step)) }
     {
         first_failing(&[
-            self.not_in(day, &[Stage::Working]),
+            self.not_at(day, Stage::Working),
             self.order_stands(),
             (self.request().is_none(), Reason::NothingPending),
             (!is_the_step(self.request(), step), Reason::Step),
@@ -304,7 +269,7 @@ impl FileState {
         ensures { (people : People) (text : List ℕ) → result ≡ Admission.first_failing (row_tests day self.now people (Notice text)) }
     {
         first_failing(&[
-            self.not_in(day, &[Stage::Working]),
+            self.not_at(day, Stage::Working),
             (self.request().is_none(), Reason::NothingPending),
             self.papers_full(),
         ])
@@ -315,7 +280,7 @@ impl FileState {
         ensures { (paper : ℕ) → result ≡ Admission.first_failing (row_tests day self.now people.now (ClearNotice paper)) }
     {
         first_failing(&[
-            self.not_in(day, &[Stage::Working]),
+            self.not_at(day, Stage::Working),
             (
                 !(people.is_open_notice && self.notices() > 0),
                 Reason::NoSuchNotice,
@@ -328,7 +293,7 @@ impl FileState {
         ensures { (people : People) (text conditions : List ℕ) → result ≡ Admission.first_failing (row_tests day self.now people (Stop text conditions)) }
     {
         first_failing(&[
-            self.not_in(day, &STOPPABLE),
+            unless_stage(self.facts(day).stoppable),
             self.order_stands(),
             self.papers_full(),
         ])
@@ -339,7 +304,7 @@ impl FileState {
         ensures { (people : People) → result ≡ Admission.first_failing (row_tests day self.now people Lift) }
     {
         first_failing(&[
-            self.not_in(day, &STOPPABLE),
+            unless_stage(self.facts(day).stoppable),
             (!self.is_stopped(), Reason::NothingPending),
             self.papers_full(),
         ])
@@ -350,7 +315,7 @@ impl FileState {
         ensures { (people : People) (text : List ℕ) → result ≡ Admission.first_failing (row_tests day self.now people (Temporary days text)) }
     {
         first_failing(&[
-            self.not_in(day, &[Stage::Working]),
+            self.not_at(day, Stage::Working),
             self.order_stands(),
             (days.get() > LONGEST_TEMPORARY, Reason::Days),
             self.notice_open(),
@@ -364,7 +329,7 @@ impl FileState {
         ensures { (people : People) → result ≡ Admission.first_failing (row_tests day self.now people Certify) }
     {
         first_failing(&[
-            self.not_in(day, &[Stage::Finaled]),
+            self.not_at(day, Stage::Finaled),
             self.order_stands(),
             self.no_certificates(),
             self.papers_full(),
@@ -377,31 +342,29 @@ impl FileState {
     {
         match command {
             Command::AssignReviewer { party } => self.against_assignment(
-                day,
-                &REVIEWING,
+                self.facts(day).reviewing,
                 Role::Reviewer,
                 *party,
                 people,
             ),
             Command::AssignInspector { party } => self.against_assignment(
-                day,
-                &INSPECTING,
+                self.facts(day).inspecting,
                 Role::Inspector,
                 *party,
                 people,
             ),
             Command::NameContractor { .. } => self.against_naming(day, people),
-            Command::StartReview => first_failing(&[self.not_in(day, &[Stage::Filed])]),
-            Command::Return { .. } => self.against_decision(day, &[Stage::Review]),
-            Command::Resubmit { .. } => self.against_decision(day, &[Stage::Returned]),
-            Command::ApprovePlans => first_failing(&[self.not_in(day, &[Stage::Review])]),
-            Command::Reject { .. } => self.against_decision(day, &[Stage::Review]),
-            Command::Issue => self.against_decision(day, &[Stage::Approved]),
+            Command::StartReview => first_failing(&[self.not_at(day, Stage::Filed)]),
+            Command::Return { .. } => self.against_decision(self.stage(day) == Stage::Review),
+            Command::Resubmit { .. } => self.against_decision(self.stage(day) == Stage::Returned),
+            Command::ApprovePlans => first_failing(&[self.not_at(day, Stage::Review)]),
+            Command::Reject { .. } => self.against_decision(self.stage(day) == Stage::Review),
+            Command::Issue => self.against_decision(self.stage(day) == Stage::Approved),
             Command::AskExtension { days, .. } => self.against_ask(day, *days),
             Command::GrantExtension => self.against_grant(day),
             Command::RefuseExtension { .. } => self.against_refusal(day),
             Command::BeginWork => first_failing(&[
-                self.not_in(day, &[Stage::Issued]),
+                self.not_at(day, Stage::Issued),
                 self.order_stands(),
             ]),
             Command::RequestInspection { step } => self.against_request(day, *step),
@@ -410,7 +373,7 @@ impl FileState {
             Command::ClearNotice { .. } => self.against_clearing(day, people),
             Command::Stop { .. } => self.against_stop(day),
             Command::Lift => self.against_lift(day),
-            Command::Revoke { .. } => self.against_decision(day, &REVOCABLE),
+            Command::Revoke { .. } => self.against_decision(self.facts(day).revocable),
             Command::Temporary { days, .. } => self.against_temporary(day, *days),
             Command::Certify => self.against_certificate(day),
         }

@@ -62,68 +62,6 @@ impl Model for StateFields {
     ghost inverse = { λ s. record { parcel = s.parcel; applicant = s.applicant; contractor = s.contractor; reviewer = s.reviewer; inspector = s.inspector; kind = s.kind; edition = s.edition; filed = s.filed; stage = s.stage; deadline = s.deadline; done = s.done; request = s.request; requested = s.requested; ask = s.ask; stopped = s.stopped; notices = s.notices; papers = s.papers; temporary = s.temporary } };
 }
 
-/// Whether the stage may stand in a row: it is none of abandoned, lapsed, new and office.
-fn is_stored(stage: Stage) -> bool
-    ensures { result ≡ SoundState.is_stored stage }
-{
-    match stage {
-        Stage::Filed
-        | Stage::Review
-        | Stage::Returned
-        | Stage::Approved
-        | Stage::Rejected
-        | Stage::Issued
-        | Stage::Working
-        | Stage::Revoked
-        | Stage::Finaled
-        | Stage::Certified => true,
-        Stage::Abandoned | Stage::Lapsed | Stage::New | Stage::Office => false,
-    }
-}
-
-/// Whether a deadline stands in the stage.
-fn is_timed(stage: Stage) -> bool
-    ensures { result ≡ SoundState.is_timed stage }
-{
-    match stage {
-        Stage::Filed
-        | Stage::Review
-        | Stage::Returned
-        | Stage::Approved
-        | Stage::Issued
-        | Stage::Working => true,
-        Stage::Rejected
-        | Stage::Revoked
-        | Stage::Finaled
-        | Stage::Certified
-        | Stage::Abandoned
-        | Stage::Lapsed
-        | Stage::New
-        | Stage::Office => false,
-    }
-}
-
-/// Whether the work is over, with every step approved.
-fn is_completed(stage: Stage) -> bool
-    ensures { result ≡ SoundState.is_completed stage }
-{
-    match stage {
-        Stage::Finaled | Stage::Certified => true,
-        Stage::Filed
-        | Stage::Review
-        | Stage::Returned
-        | Stage::Approved
-        | Stage::Rejected
-        | Stage::Issued
-        | Stage::Working
-        | Stage::Revoked
-        | Stage::Abandoned
-        | Stage::Lapsed
-        | Stage::New
-        | Stage::Office => false,
-    }
-}
-
 /// Whether there is no request, or one for the next step.
 fn is_for(request: Option<Step>, next: Option<Step>) -> bool
     ensures { result ≡ SoundState.is_for request next }
@@ -140,7 +78,7 @@ impl StateFields {
     fn deadline_stands(&self) -> bool
         ensures { result ≡ SoundState.deadline_stands self.now }
     {
-        self.deadline.is_some() == is_timed(self.stage)
+        self.deadline.is_some() == self.stage.facts().expiry.is_timed()
     }
 
     /// Whether every required step is approved and no notice open.
@@ -154,13 +92,14 @@ impl StateFields {
     fn is_sound(&self) -> bool
         ensures { result ≡ SoundState.is_sound_state self.now }
     {
-        is_stored(self.stage)
+        let facts = self.stage.facts();
+        facts.stored
             && self.done as usize <= required_steps(self.edition, self.kind).len()
             && self.deadline_stands()
             && is_for(self.request, step_at(self.edition, self.kind, self.done))
             && self.request.is_some() == self.requested.is_some()
-            && (!is_completed(self.stage) || self.is_finished())
-            && (self.stage != Stage::Certified || !self.stopped)
+            && (!facts.complete || self.is_finished())
+            && (!facts.certified || !self.stopped)
     }
 }
 

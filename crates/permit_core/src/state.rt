@@ -45,24 +45,6 @@ impl Model for FileState {
     ghost inverse = { λ fields. record { 0 = fields } };
 }
 
-/// The stage once the deadline is past.
-fn past_stage(stage: Stage) -> Stage
-    ensures { result ≡ Rattle.permit_model.specs.Facts.past_stage stage }
-{
-    match stage {
-        Stage::Filed | Stage::Review | Stage::Returned | Stage::Approved => Stage::Abandoned,
-        Stage::Issued | Stage::Working => Stage::Lapsed,
-        Stage::Rejected
-        | Stage::Revoked
-        | Stage::Finaled
-        | Stage::Certified
-        | Stage::Abandoned
-        | Stage::Lapsed
-        | Stage::New
-        | Stage::Office => stage,
-    }
-}
-
 impl FileState {
     /// The state of an application filed on a day: its deadline is 180 days later (IBC 2018, section 105.3.2). It is
     /// that of the new file in the history with the filing added, where the edition is the one in force.
@@ -105,7 +87,7 @@ impl FileState {
         ensures model { (file : CaseFile) → self.now ≡ state_of file → result ≡ stage_on day file }
     {
         match self.0.deadline {
-            Some(deadline) if deadline < day.get() => past_stage(self.0.stage),
+            Some(deadline) if deadline < day.get() => self.0.stage.expired(),
             _ => self.0.stage,
         }
     }

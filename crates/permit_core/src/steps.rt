@@ -39,3 +39,13 @@ pub fn step_at(edition: Edition, kind: Kind, place: u8) -> Option<Step>
 {
     required_steps(edition, kind).get(place as usize).copied()
 }
+
+/// Whether certificates of occupancy, final and temporary, are given for the kind (IBC 2018, section 111).
+pub fn has_certificates(kind: Kind) -> bool
+    ensures { result ≡ Steps.has_certificates kind }
+{
+    match kind {
+        Kind::Construct | Kind::Enlarge | Kind::Alter | Kind::Move | Kind::Occupancy => true,
+        Kind::Repair | Kind::Demolish => false,
+    }
+}

@@ -6,6 +6,9 @@ use Rattle.permit_base.specs.Limits.{latest_day, latest_deadline}
 use Rattle.permit_base.specs.declared.words.Step.TheVariants.{Final}
 use Rattle.permit_base.specs.declared.words.Stage.{Stage}
 use Rattle.permit_base.specs.declared.words.Stage.TheVariants as stage
+use Rattle.permit_base.specs.declared.stages.Expiry.{Expiry}
+use Rattle.permit_base.specs.declared.stages.Expiry.TheVariants.{Never, Application, Permit}
+use Rattle.permit_base.specs.Stages.{stage_facts}
 use Rattle.permit_base.specs.declared.request.Command.{Command}
 use Rattle.permit_base.specs.declared.request.Command.TheVariants.{StartReview, Return, Resubmit, ApprovePlans, Reject, Issue, GrantExtension, BeginWork}
 use Rattle.permit_base.specs.declared.request.Command.TheVariants.{RequestInspection, ApproveStep, Notice, Revoke, Certify}
@@ -14,7 +17,7 @@ use Rattle.permit_model.specs.Effects.{effects}
 use Rattle.permit_model.specs.Files.{Filing, Act, CaseFile}
 use Rattle.permit_model.specs.Work.{pending_ask}
 use Rattle.permit_model.specs.BaseStage.{base_stage}
-use Rattle.permit_model.specs.Deadline.{days_granted, extended, filing_reach, anchor_reaches, deadline_in, deadline}
+use Rattle.permit_model.specs.Deadline.{days_granted, extended, filing_reach, anchor_reaches, deadline_by, deadline_in, deadline}
 use Rattle.permit_model.specs.Admission.{file_tests}
 use Rattle.permit_model.proofs.Appending.{extended-zero, greatest-extended}
 use Rattle.permit_model.proofs.Projection.{last_touched, WasAdmitted, WereAdmitted}
@@ -118,23 +121,19 @@ deadline_after _ day ask old = old
 plus_zero : (n : ℕ) → n + 0 ≡ n
 plus_zero n = omega arith
 
--- a command that is no activity and grants nothing leaves the deadline of its stage
-deadline_in_kept : (s : Stage) (filed : ℕ) (act : Act) (before : List Act) → (effects act.command).anchor ≡ false → days_granted act.command before ≡ 0 →
-    deadline_in s filed (act ∷ before) ≡ deadline_in s filed before
-deadline_in_kept stage.Filed filed act before quiet none = rw none (ap Some (plus_zero (filing_reach filed before)))
-deadline_in_kept stage.Review filed act before quiet none = rw none (ap Some (plus_zero (filing_reach filed before)))
-deadline_in_kept stage.Returned filed act before quiet none = rw none (ap Some (plus_zero (filing_reach filed before)))
-deadline_in_kept stage.Approved filed act before quiet none = rw none (ap Some (plus_zero (filing_reach filed before)))
-deadline_in_kept stage.Issued filed act before quiet none = rw (quiet, none, extended-zero (anchor_reaches before)) refl
-deadline_in_kept stage.Working filed act before quiet none = rw (quiet, none, extended-zero (anchor_reaches before)) refl
-deadline_in_kept _ filed act before quiet none = refl
+-- a command that is no activity and grants nothing leaves the deadline of what expires
+deadline_by_kept : (e : Expiry) (filed : ℕ) (act : Act) (before : List Act) → (effects act.command).anchor ≡ false → days_granted act.command before ≡ 0 →
+    deadline_by e filed (act ∷ before) ≡ deadline_by e filed before
+deadline_by_kept Never filed act before quiet none = refl
+deadline_by_kept Application filed act before quiet none = rw none (ap Some (plus_zero (filing_reach filed before)))
+deadline_by_kept Permit filed act before quiet none = rw (quiet, none, extended-zero (anchor_reaches before)) refl
 
--- granted days are added to the deadline of the stage
-deadline_in_granted : (s : Stage) (filed caller day : ℕ) (number : Option ℕ) (before : List Act) →
-    deadline_in s filed (act_by caller day GrantExtension number ∷ before) ≡ option_map (λ d. d + unwrap_or (pending_ask before) 0) (deadline_in s filed before)
-deadline_in_granted stage.Issued filed caller day number before = greatest-extended (unwrap_or (pending_ask before) 0) (anchor_reaches before)
-deadline_in_granted stage.Working filed caller day number before = greatest-extended (unwrap_or (pending_ask before) 0) (anchor_reaches before)
-deadline_in_granted _ filed caller day number before = refl
+-- granted days are added to it
+deadline_by_granted : (e : Expiry) (filed caller day : ℕ) (number : Option ℕ) (before : List Act) →
+    deadline_by e filed (act_by caller day GrantExtension number ∷ before) ≡ option_map (λ d. d + unwrap_or (pending_ask before) 0) (deadline_by e filed before)
+deadline_by_granted Never filed caller day number before = refl
+deadline_by_granted Application filed caller day number before = refl
+deadline_by_granted Permit filed caller day number before = greatest-extended (unwrap_or (pending_ask before) 0) (anchor_reaches before)
 
 -- from one stage before issuance to another the deadline stays
 deadline_early : (filing : Filing) (before : List Act) (s : Stage) → base_stage before ≡ s →
@@ -178,7 +177,7 @@ deadline_more filing caller day Issue number before w early =
     (tests_passed filing (act_by caller day Issue number) before w).0 in
     let none : anchor_reaches before ≡ [] = early (ap is_early was) in
     rw none (ap Some (omega arith))
-deadline_more filing caller day GrantExtension number before w early = deadline_in_granted (base_stage before) filing.filed caller day number before
+deadline_more filing caller day GrantExtension number before w early = deadline_by_granted (stage_facts (base_stage before)).expiry filing.filed caller day number before
 deadline_more filing caller day BeginWork number before w early =
     deadline_active filing day before stage.Issued (was_in day (case_of filing before) stage.Issued refl
     (tests_passed filing (act_by caller day BeginWork number) before w).0) refl
@@ -194,7 +193,7 @@ deadline_more filing caller day (Notice text) number before w early =
     (was_in day (case_of filing before) stage.Working refl (tests_passed filing (act_by caller day (Notice text) number) before w).0) refl
 deadline_more filing caller day (Revoke text) number before w early = refl
 deadline_more filing caller day Certify number before w early = refl
-deadline_more filing caller day command number before w early = deadline_in_kept (base_stage before) filing.filed
+deadline_more filing caller day command number before w early = deadline_by_kept (stage_facts (base_stage before)).expiry filing.filed
     (act_by caller day command number) before refl refl
 
 -- ---- bounds

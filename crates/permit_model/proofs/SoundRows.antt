@@ -7,7 +7,6 @@ use Rattle.permit_base.specs.Limits.{is_between}
 use Rattle.permit_base.specs.declared.words.Step.{Step}
 use Rattle.permit_base.specs.declared.request.Command.{Command}
 use Rattle.permit_base.specs.declared.request.Command.TheVariants.{Notice}
-use Rattle.permit_model.specs.Codes.{is_stage_among}
 use Rattle.permit_model.specs.Search.{add_last, has_number}
 use Rattle.permit_model.specs.Days.{longest_temporary}
 use Rattle.permit_model.specs.Steps.{required_steps, has_certificates}
@@ -20,7 +19,7 @@ use Rattle.permit_model.specs.Tables.{file_row, state_of, Paper, paper_by, paper
 use Rattle.permit_model.specs.Machine.{IsHistory}
 use Rattle.permit_model.specs.Laws.{OfEachFile}
 use Rattle.permit_model.specs.Within.{AreWithinLimits}
-use Rattle.permit_model.specs.Sound.{begun_stages, stopped_stages, occupied_stages, has_sound_request}
+use Rattle.permit_model.specs.Sound.{is_begun, may_be_stopped, is_occupied, has_sound_request}
 use Rattle.permit_model.specs.Sound.{has_sound_certificate, has_sound_notices, has_sound_work, is_sound_work}
 use Rattle.permit_model.proofs.Papers.{papers_from, papers_of-case}
 use Rattle.permit_model.proofs.Projection.{last_touched, done_to}
@@ -149,7 +148,7 @@ request_sound h id file is there =
     (for_next (pending_step file.acts) (slice_get (required_steps file.filing.edition file.filing.kind) (length (approved_steps file.acts)))
     (λ step e. sym next ∙ f.pending step e))
     (dated (pending_inspection file.acts)))
-    (if_some (pending_step file.acts) (is_stage_among begun_stages (base_stage file.acts)) (request_in file.filing file.acts done.admitted)))
+    (if_some (pending_step file.acts) (is_begun (base_stage file.acts)) (request_in file.filing file.acts done.admitted)))
     (any_more (is_between file.filing.filed (last_touched file.filing file.acts)) (is_between file.filing.filed (last_day h)) (requested_day file.acts)
     (λ n. between_later file.filing.filed (last_touched file.filing file.acts) (last_day h) n done.until)
     (request_dated_in file.filing file.acts done.admitted))
@@ -163,7 +162,7 @@ certificate_sound h id file is there within =
     (λ n. between_later (file.filing.filed + 1) (last_touched file.filing file.acts + longest_temporary) (last_day h + longest_temporary) n
     (omega (arith, done.until)))
     (certificate_ends file.filing file.acts done.admitted (case_within h id file within there)))
-    (if_some_number (temporary_until file.acts) (is_stage_among occupied_stages (base_stage file.acts) && has_certificates file.filing.kind)
+    (if_some_number (temporary_until file.acts) (is_occupied (base_stage file.acts) && has_certificates file.filing.kind)
     (certificate_in file.filing file.acts done.admitted))
 
 notices_sound : OfEachFile (λ h file. has_sound_notices (papers_of h file.filing.id) (state_of file) ≡ true)
@@ -173,13 +172,13 @@ notices_sound h id file is there =
     let here = open_counted file.filing.id (open_notices file.acts) file.acts (are_numbered file.filing file.acts admitted) in
     let those = ap length (still_those (λ number. not (is_cleared file.acts number)) (notices_given file.acts)) in
     and_from _ _ (eq-eqb (length (open_notices file.acts)) (length (opened (papers_of h file.filing.id))) (sym (papers ∙ here ∙ those)))
-    (only_where (length (open_notices file.acts)) (is_stage_among begun_stages (base_stage file.acts)) (notices_in file.filing file.acts admitted))
+    (only_where (length (open_notices file.acts)) (is_begun (base_stage file.acts)) (notices_in file.filing file.acts admitted))
 
 row_sound : OfEachFile (λ h file. AreWithinLimits h → has_sound_work (tables h) (file_row file) ≡ true)
 row_sound h id file is there within =
     let admitted = (done_to h id file is there).admitted in
     and_from _ _ (and_from _ _ (and_from _ _ (and_from _ _ (and_from _ _ (done_in file.filing file.acts admitted) (request_sound h id file is there))
-    (where_true (is_stopped file.acts) (is_stage_among stopped_stages (base_stage file.acts)) (stopped_in file.filing file.acts admitted)))
+    (where_true (is_stopped file.acts) (may_be_stopped (base_stage file.acts)) (stopped_in file.filing file.acts admitted)))
     (ask_in file.filing file.acts admitted (case_within h id file within there)))
     (certificate_sound h id file is there within)) (notices_sound h id file is there)
 

@@ -14,7 +14,7 @@ use Rattle.permit_base.specs.declared.words.Stage.TheVariants as stage
 use Rattle.permit_base.specs.declared.request.Command.{Command}
 use Rattle.permit_base.specs.declared.request.Command.TheVariants.{StartReview, Return, Resubmit, ApprovePlans, Reject, Issue, BeginWork, RequestInspection}
 use Rattle.permit_base.specs.declared.request.Command.TheVariants.{ApproveStep, Notice, ClearNotice, Stop, Lift, Revoke, Certify}
-use Rattle.permit_model.specs.Codes.{step_code, is_step, is_stage_among}
+use Rattle.permit_model.specs.Codes.{step_code, is_step}
 use Rattle.permit_model.specs.Steps.{required_steps, next_step}
 use Rattle.permit_model.specs.History.{History}
 use Rattle.permit_model.specs.Effects.{effects}
@@ -22,9 +22,11 @@ use Rattle.permit_model.specs.Files.{Filing, Act, CaseFile, case_numbered}
 use Rattle.permit_model.specs.Work.{approved_steps, Inspection, pending_inspection, pending_step, open_notices, is_stopped}
 use Rattle.permit_model.specs.BaseStage.{base_stage}
 use Rattle.permit_model.specs.Days.{greatest}
-use Rattle.permit_model.specs.Deadline.{extended, anchor_reaches, deadline_in, days_granted}
+use Rattle.permit_model.specs.Deadline.{extended, anchor_reaches, deadline_by, deadline_in, days_granted}
 use Rattle.permit_model.specs.Facts.{stage_on}
-use Rattle.permit_model.specs.Admission.{stoppable_stages}
+use Rattle.permit_base.specs.declared.stages.Expiry.{Expiry}
+use Rattle.permit_base.specs.declared.stages.Expiry.TheVariants.{Never, Application, Permit}
+use Rattle.permit_base.specs.Stages.{stage_facts, is_running}
 use Rattle.permit_model.specs.Tables.{state_of}
 use Rattle.permit_model.specs.SoundState.{is_stored, is_timed, is_completed, is_certified, is_for, IsSoundState}
 use Rattle.permit_model.specs.Machine.{IsHistory}
@@ -57,14 +59,15 @@ base_stored (act ∷ before) = rw (base_stage-more act before) (stored_more act.
 
 -- ---- a deadline that stands
 
-abbrev pub is_late : Stage → Bool
-is_late stage.Issued = true
-is_late stage.Working = true
-is_late _ = false
+-- whether it is the permit that expires
+abbrev pub is_permits : Expiry → Bool
+is_permits Permit = true
+is_permits Application = false
+is_permits Never = false
 
--- once the permit is issued there is an anchor
+-- while a permit runs there is an anchor
 abbrev pub IsAnchored : List Act → Type 0
-IsAnchored acts = is_late (base_stage acts) ≡ true → is_some (greatest (anchor_reaches acts)) ≡ true
+IsAnchored acts = is_permits (stage_facts (base_stage acts)).expiry ≡ true → is_some (greatest (anchor_reaches acts)) ≡ true
 
 mapped_some : (days : ℕ) (o : Option ℕ) → is_some o ≡ true → is_some (option_map (λ r. r + days) o) ≡ true
 mapped_some days None e = cc
@@ -93,12 +96,16 @@ pub anchored : (acts : List Act) → IsAnchored acts
 anchored [] = λ e. cc
 anchored (act ∷ before) = anchored_more act.caller act.day act.command act.number before (anchored before)
 
+stands_by : (e : Expiry) (filed : ℕ) (acts : List Act) → (is_permits e ≡ true → is_some (greatest (anchor_reaches acts)) ≡ true) →
+    (if is_running e then is_some (deadline_by e filed acts) else is_none (deadline_by e filed acts)) ≡ true
+stands_by Never filed acts late = refl
+stands_by Application filed acts late = refl
+stands_by Permit filed acts late = late refl
+
 -- a deadline stands in the six stages, and in no other
-pub stands_in : (s : Stage) (filed : ℕ) (acts : List Act) → (is_late s ≡ true → is_some (greatest (anchor_reaches acts)) ≡ true) →
+pub stands_in : (s : Stage) (filed : ℕ) (acts : List Act) → (is_permits (stage_facts s).expiry ≡ true → is_some (greatest (anchor_reaches acts)) ≡ true) →
     (if is_timed s then is_some (deadline_in s filed acts) else is_none (deadline_in s filed acts)) ≡ true
-stands_in stage.Issued filed acts late = late refl
-stands_in stage.Working filed acts late = late refl
-stands_in _ filed acts late = refl
+stands_in s filed acts late = stands_by (stage_facts s).expiry filed acts late
 
 -- ---- the pending request
 
@@ -236,8 +243,8 @@ certified_is _ e = cc
 
 -- a certified file is neither stopped nor released
 no_order : (filing : Filing) (day : ℕ) (before : List Act) → is_certified (base_stage before) ≡ true →
-    not (is_stage_among stoppable_stages (stage_on day (case_of filing before))) ≡ false → true ≡ false
-no_order filing day before e h = was_among day (case_of filing before) stoppable_stages stage.Certified refl (certified_is (base_stage before) e) h
+    not (stage_facts (stage_on day (case_of filing before))).stoppable ≡ false → true ≡ false
+no_order filing day before e h = was_among day (case_of filing before) (λ s. (stage_facts s).stoppable) stage.Certified refl (certified_is (base_stage before) e) h
 
 unstopped_more : (filing : Filing) (caller day : ℕ) (command : Command) (number : Option ℕ) (before : List Act) →
     WasAdmitted filing (act_by caller day command number) before → UnstoppedWhenCertified before →

@@ -18,21 +18,22 @@ use Rattle.permit_base.specs.declared.request.Command.{Command}
 use Rattle.permit_base.specs.declared.request.Command.TheVariants.{StartReview, Return, Resubmit, ApprovePlans, Reject, Issue, AskExtension, GrantExtension}
 use Rattle.permit_base.specs.declared.request.Command.TheVariants.{RefuseExtension, BeginWork, RequestInspection, ApproveStep, Notice, ClearNotice, Stop, Lift}
 use Rattle.permit_base.specs.declared.request.Command.TheVariants.{Revoke, Temporary, Certify}
-use Rattle.permit_model.specs.Codes.{is_step, is_stage_among}
+use Rattle.permit_model.specs.Codes.{is_step}
 use Rattle.permit_model.specs.Days.{is_past, longest_permit_extension, longest_temporary}
 use Rattle.permit_model.specs.Steps.{required_steps, has_certificates}
 use Rattle.permit_model.specs.Files.{Filing, Act}
 use Rattle.permit_model.specs.Work.{approved_steps, pending_step, requested_day, pending_ask, open_notices, is_stopped, temporary_until}
-use Rattle.permit_model.specs.BaseStage.{timed_stages, base_stage}
+use Rattle.permit_model.specs.BaseStage.{base_stage}
 use Rattle.permit_model.specs.Deadline.{deadline}
 use Rattle.permit_model.specs.Facts.{past_stage, stage_on}
-use Rattle.permit_model.specs.Admission.{stoppable_stages, revocable_stages, ask_limit}
-use Rattle.permit_model.specs.SoundState.{is_stored}
+use Rattle.permit_model.specs.Admission.{ask_limit}
+use Rattle.permit_base.specs.Stages.{stage_facts}
+use Rattle.permit_model.specs.SoundState.{is_stored, is_timed}
 use Rattle.permit_model.specs.Within.{is_command_within}
-use Rattle.permit_model.specs.Sound.{if_any, begun_stages, stopped_stages, occupied_stages, is_done_in, longest_ask}
+use Rattle.permit_model.specs.Sound.{if_any, is_begun, may_be_stopped, is_occupied, is_done_in, longest_ask}
 use Rattle.permit_model.proofs.Projection.{last_touched, WasAdmitted, WereAdmitted}
 use Rattle.permit_model.proofs.Fronts.{Fronts, fronts, is_it}
-use Rattle.permit_model.proofs.Stages.{was_in}
+use Rattle.permit_model.proofs.Stages.{was_in, stoppable_from, timed_from}
 use Rattle.permit_model.proofs.Deadlines.{act_by, case_of, tests_passed, filed_first}
 use Rattle.permit_model.proofs.SoundStates.{base_stored, final_last}
 use Rattle.permit_model.proofs.SoundLists.{between, any_more, passed_not, between_later}
@@ -93,63 +94,44 @@ came_from filing caller day Certify number before w s e = was_in day (case_of fi
     (tests_passed filing (act_by caller day Certify number) before w).0 ∙ the_stage stage.Finaled s e
 came_from filing caller day _ number before w s e = cc
 
--- a stop work order and a lift come in the stages in which one may stand
-stoppable_from : (s : Stage) (past : Bool) → is_stored s ≡ true → not (is_stage_among stoppable_stages (if past then past_stage s else s)) ≡ false →
-    is_stage_among stopped_stages s ≡ true
-stoppable_from stage.Issued past stored h = refl
-stoppable_from stage.Working past stored h = refl
-stoppable_from stage.Revoked past stored h = refl
-stoppable_from stage.Finaled past stored h = refl
-stoppable_from stage.Lapsed past stored h = cc
-stoppable_from _ true stored h = cc
-stoppable_from _ false stored h = cc
+-- a stored stage in which a permit can be revoked
+abbrev is_under_permit : Stage → Bool
+is_under_permit s = (stage_facts s).stored && (stage_facts s).revocable
 
 -- a permit is revoked once it was issued, before the work is over
-revocable_from : (s : Stage) (past : Bool) → is_stored s ≡ true → not (is_stage_among revocable_stages (if past then past_stage s else s)) ≡ false →
-    is_stage_among (stage.Issued ∷ stage.Working ∷ []) s ≡ true
+revocable_from : (s : Stage) (past : Bool) → is_stored s ≡ true → not (stage_facts (if past then past_stage s else s)).revocable ≡ false →
+    is_under_permit s ≡ true
 revocable_from stage.Issued past stored h = refl
 revocable_from stage.Working past stored h = refl
 revocable_from stage.Lapsed past stored h = cc
 revocable_from _ true stored h = cc
 revocable_from _ false stored h = cc
 
--- in a stage with a deadline that isn't past, the stage on the day is the stored one
-timed_from : (s : Stage) (past : Bool) → not (is_stage_among timed_stages (if past then past_stage s else s)) ≡ false → (if past then past_stage s else s) ≡ s
-timed_from s false h = refl
-timed_from stage.Filed true h = cc
-timed_from stage.Review true h = cc
-timed_from stage.Returned true h = cc
-timed_from stage.Approved true h = cc
-timed_from stage.Issued true h = cc
-timed_from stage.Working true h = cc
-timed_from _ true h = refl
-
 -- the stage before is none of these
-nowhere : (stages : List Stage) (acts : List Act) (s : Stage) → base_stage acts ≡ s → is_stage_among stages s ≡ false →
-    is_stage_among stages (base_stage acts) ≡ true → ⊥
-nowhere stages acts s was out e = let bad : true ≡ false = sym e ∙ ap (is_stage_among stages) was ∙ out in cc
+nowhere : (admits : Stage → Bool) (acts : List Act) (s : Stage) → base_stage acts ≡ s → admits s ≡ false →
+    admits (base_stage acts) ≡ true → ⊥
+nowhere admits acts s was out e = let bad : true ≡ false = sym e ∙ ap admits was ∙ out in cc
 
-among : (stages : List Stage) (acts : List Act) (s : Stage) → base_stage acts ≡ s → is_stage_among stages s ≡ true →
-    is_stage_among stages (base_stage acts) ≡ true
-among stages acts s was here = ap (is_stage_among stages) was ∙ here
+among : (admits : Stage → Bool) (acts : List Act) (s : Stage) → base_stage acts ≡ s → admits s ≡ true → admits (base_stage acts) ≡ true
+among admits acts s was here = ap admits was ∙ here
 
 -- ---- stop work orders
 
 abbrev pub StoppedIn : List Act → Type 0
-StoppedIn acts = is_stopped acts ≡ true → is_stage_among stopped_stages (base_stage acts) ≡ true
+StoppedIn acts = is_stopped acts ≡ true → may_be_stopped (base_stage acts) ≡ true
 
 stopped_more : (filing : Filing) (caller day : ℕ) (command : Command) (number : Option ℕ) (before : List Act) →
     WasAdmitted filing (act_by caller day command number) before → StoppedIn before → StoppedIn (act_by caller day command number ∷ before)
 stopped_more filing caller day StartReview number before w ih = λ e.
-    absurd (nowhere stopped_stages before stage.Filed (came_from filing caller day StartReview number before w stage.Filed refl) refl (ih e))
+    absurd (nowhere may_be_stopped before stage.Filed (came_from filing caller day StartReview number before w stage.Filed refl) refl (ih e))
 stopped_more filing caller day (Return text) number before w ih = λ e.
-    absurd (nowhere stopped_stages before stage.Review (came_from filing caller day (Return text) number before w stage.Review refl) refl (ih e))
+    absurd (nowhere may_be_stopped before stage.Review (came_from filing caller day (Return text) number before w stage.Review refl) refl (ih e))
 stopped_more filing caller day (Resubmit text) number before w ih = λ e.
-    absurd (nowhere stopped_stages before stage.Returned (came_from filing caller day (Resubmit text) number before w stage.Returned refl) refl (ih e))
+    absurd (nowhere may_be_stopped before stage.Returned (came_from filing caller day (Resubmit text) number before w stage.Returned refl) refl (ih e))
 stopped_more filing caller day ApprovePlans number before w ih = λ e.
-    absurd (nowhere stopped_stages before stage.Review (came_from filing caller day ApprovePlans number before w stage.Review refl) refl (ih e))
+    absurd (nowhere may_be_stopped before stage.Review (came_from filing caller day ApprovePlans number before w stage.Review refl) refl (ih e))
 stopped_more filing caller day (Reject text) number before w ih = λ e.
-    absurd (nowhere stopped_stages before stage.Review (came_from filing caller day (Reject text) number before w stage.Review refl) refl (ih e))
+    absurd (nowhere may_be_stopped before stage.Review (came_from filing caller day (Reject text) number before w stage.Review refl) refl (ih e))
 stopped_more filing caller day Issue number before w ih = λ e. refl
 stopped_more filing caller day BeginWork number before w ih = λ e. refl
 stopped_more filing caller day (ApproveStep Final) number before w ih = λ e. refl
@@ -172,30 +154,30 @@ stopped_in filing (act ∷ before) w = stopped_more filing act.caller act.day ac
 -- ---- requests
 
 abbrev pub RequestIn : List Act → Type 0
-RequestIn acts = is_some (pending_step acts) ≡ true → is_stage_among begun_stages (base_stage acts) ≡ true
+RequestIn acts = is_some (pending_step acts) ≡ true → is_begun (base_stage acts) ≡ true
 
 request_more : (filing : Filing) (caller day : ℕ) (command : Command) (number : Option ℕ) (before : List Act) →
     WasAdmitted filing (act_by caller day command number) before → RequestIn before → RequestIn (act_by caller day command number ∷ before)
 request_more filing caller day StartReview number before w ih = λ e.
-    absurd (nowhere begun_stages before stage.Filed (came_from filing caller day StartReview number before w stage.Filed refl) refl (ih e))
+    absurd (nowhere is_begun before stage.Filed (came_from filing caller day StartReview number before w stage.Filed refl) refl (ih e))
 request_more filing caller day (Return text) number before w ih = λ e.
-    absurd (nowhere begun_stages before stage.Review (came_from filing caller day (Return text) number before w stage.Review refl) refl (ih e))
+    absurd (nowhere is_begun before stage.Review (came_from filing caller day (Return text) number before w stage.Review refl) refl (ih e))
 request_more filing caller day (Resubmit text) number before w ih = λ e.
-    absurd (nowhere begun_stages before stage.Returned (came_from filing caller day (Resubmit text) number before w stage.Returned refl) refl (ih e))
+    absurd (nowhere is_begun before stage.Returned (came_from filing caller day (Resubmit text) number before w stage.Returned refl) refl (ih e))
 request_more filing caller day ApprovePlans number before w ih = λ e.
-    absurd (nowhere begun_stages before stage.Review (came_from filing caller day ApprovePlans number before w stage.Review refl) refl (ih e))
+    absurd (nowhere is_begun before stage.Review (came_from filing caller day ApprovePlans number before w stage.Review refl) refl (ih e))
 request_more filing caller day (Reject text) number before w ih = λ e.
-    absurd (nowhere begun_stages before stage.Review (came_from filing caller day (Reject text) number before w stage.Review refl) refl (ih e))
+    absurd (nowhere is_begun before stage.Review (came_from filing caller day (Reject text) number before w stage.Review refl) refl (ih e))
 request_more filing caller day Issue number before w ih = λ e.
-    absurd (nowhere begun_stages before stage.Approved (came_from filing caller day Issue number before w stage.Approved refl) refl (ih e))
+    absurd (nowhere is_begun before stage.Approved (came_from filing caller day Issue number before w stage.Approved refl) refl (ih e))
 request_more filing caller day BeginWork number before w ih = λ e. refl
 request_more filing caller day (RequestInspection step) number before w ih = λ e.
-    among begun_stages before stage.Working (came_from filing caller day (RequestInspection step) number before w stage.Working refl) refl
+    among is_begun before stage.Working (came_from filing caller day (RequestInspection step) number before w stage.Working refl) refl
 request_more filing caller day (ApproveStep step) number before w ih = λ e. cc
 request_more filing caller day (Notice text) number before w ih = λ e. cc
 request_more filing caller day (Revoke text) number before w ih = λ e. refl
 request_more filing caller day Certify number before w ih = λ e.
-    absurd (nowhere begun_stages before stage.Finaled (came_from filing caller day Certify number before w stage.Finaled refl) refl (ih e))
+    absurd (nowhere is_begun before stage.Finaled (came_from filing caller day Certify number before w stage.Finaled refl) refl (ih e))
 request_more filing caller day _ number before w ih = ih
 
 pub request_in : (filing : Filing) (acts : List Act) → WereAdmitted filing acts → RequestIn acts
@@ -310,18 +292,18 @@ certificate_ends filing (act ∷ before) w within =
     (certificate_ends filing before w.1 parts.1)
 
 abbrev pub CertificateIn : Filing → List Act → Type 0
-CertificateIn filing acts = is_some (temporary_until acts) ≡ true → (is_stage_among occupied_stages (base_stage acts) && has_certificates filing.kind) ≡ true
+CertificateIn filing acts = is_some (temporary_until acts) ≡ true → (is_occupied (base_stage acts) && has_certificates filing.kind) ≡ true
 
 -- from a stage in which none is kept there is none
-none_kept : (filing : Filing) (before : List Act) (s : Stage) → base_stage before ≡ s → is_stage_among occupied_stages s ≡ false → CertificateIn filing before →
+none_kept : (filing : Filing) (before : List Act) (s : Stage) → base_stage before ≡ s → is_occupied s ≡ false → CertificateIn filing before →
     is_some (temporary_until before) ≡ true → ⊥
 none_kept filing before s was out ih e =
-    nowhere occupied_stages before s was out (and_parts (is_stage_among occupied_stages (base_stage before)) (has_certificates filing.kind) (ih e)).0
+    nowhere is_occupied before s was out (and_parts (is_occupied (base_stage before)) (has_certificates filing.kind) (ih e)).0
 
 -- to a stage in which one is kept it goes on
 still_kept : (filing : Filing) (before : List Act) → CertificateIn filing before → is_some (temporary_until before) ≡ true →
     (true && has_certificates filing.kind) ≡ true
-still_kept filing before ih e = (and_parts (is_stage_among occupied_stages (base_stage before)) (has_certificates filing.kind) (ih e)).1
+still_kept filing before ih e = (and_parts (is_occupied (base_stage before)) (has_certificates filing.kind) (ih e)).1
 
 certificate_more : (filing : Filing) (caller day : ℕ) (command : Command) (number : Option ℕ) (before : List Act) →
     WasAdmitted filing (act_by caller day command number) before → CertificateIn filing before →
@@ -344,7 +326,7 @@ certificate_more filing caller day (ApproveStep step) number before w ih = ih
 certificate_more filing caller day (Revoke text) number before w ih = still_kept filing before ih
 certificate_more filing caller day (Temporary days text) number before w ih = λ e.
     let passed = tests_passed filing (act_by caller day (Temporary days text) number) before w in
-    and_from _ _ (among occupied_stages before stage.Working (came_from filing caller day (Temporary days text) number before w stage.Working refl) refl)
+    and_from _ _ (among is_occupied before stage.Working (came_from filing caller day (Temporary days text) number before w stage.Working refl) refl)
     (passed_not (has_certificates filing.kind) passed.1.1.1.1.0)
 certificate_more filing caller day Certify number before w ih = still_kept filing before ih
 certificate_more filing caller day _ number before w ih = ih
@@ -356,34 +338,34 @@ certificate_in filing (act ∷ before) w = certificate_more filing act.caller ac
 -- ---- notices
 
 abbrev pub NoticesIn : List Act → Type 0
-NoticesIn acts = 0 < length (open_notices acts) → is_stage_among begun_stages (base_stage acts) ≡ true
+NoticesIn acts = 0 < length (open_notices acts) → is_begun (base_stage acts) ≡ true
 
 notices_more : (filing : Filing) (caller day : ℕ) (command : Command) (number : Option ℕ) (before : List Act) →
     WasAdmitted filing (act_by caller day command number) before → NoticesIn before → NoticesIn (act_by caller day command number ∷ before)
 notices_more filing caller day StartReview number before w ih = λ e.
-    absurd (nowhere begun_stages before stage.Filed (came_from filing caller day StartReview number before w stage.Filed refl) refl (ih e))
+    absurd (nowhere is_begun before stage.Filed (came_from filing caller day StartReview number before w stage.Filed refl) refl (ih e))
 notices_more filing caller day (Return text) number before w ih = λ e.
-    absurd (nowhere begun_stages before stage.Review (came_from filing caller day (Return text) number before w stage.Review refl) refl (ih e))
+    absurd (nowhere is_begun before stage.Review (came_from filing caller day (Return text) number before w stage.Review refl) refl (ih e))
 notices_more filing caller day (Resubmit text) number before w ih = λ e.
-    absurd (nowhere begun_stages before stage.Returned (came_from filing caller day (Resubmit text) number before w stage.Returned refl) refl (ih e))
+    absurd (nowhere is_begun before stage.Returned (came_from filing caller day (Resubmit text) number before w stage.Returned refl) refl (ih e))
 notices_more filing caller day ApprovePlans number before w ih = λ e.
-    absurd (nowhere begun_stages before stage.Review (came_from filing caller day ApprovePlans number before w stage.Review refl) refl (ih e))
+    absurd (nowhere is_begun before stage.Review (came_from filing caller day ApprovePlans number before w stage.Review refl) refl (ih e))
 notices_more filing caller day (Reject text) number before w ih = λ e.
-    absurd (nowhere begun_stages before stage.Review (came_from filing caller day (Reject text) number before w stage.Review refl) refl (ih e))
+    absurd (nowhere is_begun before stage.Review (came_from filing caller day (Reject text) number before w stage.Review refl) refl (ih e))
 notices_more filing caller day Issue number before w ih = λ e.
-    absurd (nowhere begun_stages before stage.Approved (came_from filing caller day Issue number before w stage.Approved refl) refl (ih e))
+    absurd (nowhere is_begun before stage.Approved (came_from filing caller day Issue number before w stage.Approved refl) refl (ih e))
 notices_more filing caller day BeginWork number before w ih = λ e. refl
 notices_more filing caller day (ApproveStep Final) number before w ih = λ e.
     let none = ltb-false 0 (length (open_notices before)) (tests_passed filing (act_by caller day (ApproveStep Final) number) before w).1.1.1.1.0 in
     absurd (omega (arith, none, e))
 notices_more filing caller day (ApproveStep step) number before w ih = ih
 notices_more filing caller day (Notice text) number before w ih = λ e.
-    among begun_stages before stage.Working (came_from filing caller day (Notice text) number before w stage.Working refl) refl
+    among is_begun before stage.Working (came_from filing caller day (Notice text) number before w stage.Working refl) refl
 notices_more filing caller day (ClearNotice paper) number before w ih = λ e.
-    among begun_stages before stage.Working (came_from filing caller day (ClearNotice paper) number before w stage.Working refl) refl
+    among is_begun before stage.Working (came_from filing caller day (ClearNotice paper) number before w stage.Working refl) refl
 notices_more filing caller day (Revoke text) number before w ih = λ e. refl
 notices_more filing caller day Certify number before w ih = λ e.
-    absurd (nowhere begun_stages before stage.Finaled (came_from filing caller day Certify number before w stage.Finaled refl) refl (ih e))
+    absurd (nowhere is_begun before stage.Finaled (came_from filing caller day Certify number before w stage.Finaled refl) refl (ih e))
 notices_more filing caller day _ number before w ih = ih
 
 pub notices_in : (filing : Filing) (acts : List Act) → WereAdmitted filing acts → NoticesIn acts
@@ -435,7 +417,7 @@ done_kept filing acts s was ih =
     ap (λ x. is_done_in x (length (required_steps filing.edition filing.kind)) (length (approved_steps acts))) (sym was) ∙ ih
 
 -- while steps are left, fewer are done than required
-not_all : (s : Stage) (required done : ℕ) → is_stage_among (stage.Issued ∷ stage.Working ∷ []) s ≡ true → 0 < required → is_done_in s required done ≡ true →
+not_all : (s : Stage) (required done : ℕ) → is_under_permit s ≡ true → 0 < required → is_done_in s required done ≡ true →
     nat_lt done required ≡ true
 not_all stage.Issued required done left some e = lt-ltb done required (omega (arith, eqb-true done 0 e, some))
 not_all stage.Working required done left some e = e
@@ -485,7 +467,7 @@ done_more filing caller day Issue number before w all ih =
     done_kept filing before stage.Approved (came_from filing caller day Issue number before w stage.Approved refl) ih
 done_more filing caller day BeginWork number before w all ih =
     not_all (base_stage before) (length (required_steps filing.edition filing.kind)) (length (approved_steps before))
-    (among (stage.Issued ∷ stage.Working ∷ []) before stage.Issued (came_from filing caller day BeginWork number before w stage.Issued refl) refl)
+    (among is_under_permit before stage.Issued (came_from filing caller day BeginWork number before w stage.Issued refl) refl)
     (some_steps (required_steps filing.edition filing.kind) (required_end filing.edition filing.kind)) ih
 done_more filing caller day (Revoke text) number before w all ih =
     not_all (base_stage before) (length (required_steps filing.edition filing.kind)) (length (approved_steps before))

@@ -7,6 +7,10 @@ use Rattle.permit_base.specs.declared.words.Role.TheVariants.{Reviewer, Inspecto
 use Rattle.permit_base.specs.declared.words.Step.{Step}
 use Rattle.permit_base.specs.declared.words.Stage.{Stage}
 use Rattle.permit_base.specs.declared.words.Stage.TheVariants as stage
+use Rattle.permit_base.specs.declared.stages.Expiry.{Expiry}
+use Rattle.permit_base.specs.declared.stages.Expiry.TheVariants.{Never, Application, Permit}
+use Rattle.permit_base.specs.declared.stages.StageFacts.{StageFacts}
+use Rattle.permit_base.specs.Stages.{stage_facts, is_running}
 use Rattle.permit_base.specs.declared.refusal.Reason.{Reason}
 use Rattle.permit_base.specs.declared.refusal.Reason.TheVariants as reason
 use Rattle.permit_base.specs.declared.request.Command.{Command}
@@ -20,7 +24,7 @@ use Rattle.permit_base.specs.Limits.{latest_deadline, most_records, most_papers}
 use Rattle.permit_base.specs.Digests.{digest_of}
 use Rattle.permit_model.specs.Days.{longest_review_extension, longest_permit_extension, longest_temporary}
 use Rattle.permit_model.specs.Search.{is_the_party, has_number}
-use Rattle.permit_model.specs.Codes.{is_step, is_stage_among}
+use Rattle.permit_model.specs.Codes.{is_step, is_stage}
 use Rattle.permit_model.specs.Steps.{has_certificates}
 use Rattle.permit_model.specs.History.{History}
 use Rattle.permit_model.specs.Caller.{parties, party_numbered, who, is_party, has_role}
@@ -28,7 +32,6 @@ use Rattle.permit_model.specs.Parcels.{parcels, owner, has_interest}
 use Rattle.permit_model.specs.Files.{CaseFile, filings, case_numbered}
 use Rattle.permit_model.specs.People.{contractor}
 use Rattle.permit_model.specs.Work.{next_of, pending_step, pending_ask, open_notices, is_stopped, paper_count}
-use Rattle.permit_model.specs.BaseStage.{permit_stages, timed_stages}
 use Rattle.permit_model.specs.Deadline.{deadline}
 use Rattle.permit_model.specs.Facts.{stage_on}
 
@@ -41,29 +44,23 @@ abbrev pub first_failing : List Test → Option Reason
 first_failing [] = None
 first_failing (test ∷ tests) = if test.0 then Some test.1 else first_failing tests
 
--- ---- the stages in which commands are admitted
-
--- the stages in which plans are reviewed
-abbrev pub reviewing_stages : List Stage
-reviewing_stages = stage.Filed ∷ stage.Review ∷ stage.Returned ∷ []
-
--- the stages from approval of the plans to the end of the work
-abbrev pub inspecting_stages : List Stage
-inspecting_stages = stage.Approved ∷ stage.Issued ∷ stage.Working ∷ []
-
--- the stages in which work is stopped and released
-abbrev pub stoppable_stages : List Stage
-stoppable_stages = stage.Issued ∷ stage.Working ∷ stage.Lapsed ∷ stage.Revoked ∷ stage.Finaled ∷ []
-
--- the stages in which a permit is revoked
-abbrev pub revocable_stages : List Stage
-revocable_stages = stage.Issued ∷ stage.Working ∷ stage.Lapsed ∷ []
-
 -- ---- the tests
 
--- the stage on the day is none of these
-abbrev pub not_in : ℕ → CaseFile → List Stage → Test
-not_in day file stages = (not (is_stage_among stages (stage_on day file)), reason.Stage)
+-- what is so of the file in its stage on the day
+abbrev pub facts_on : ℕ → CaseFile → StageFacts
+facts_on day file = stage_facts (stage_on day file)
+
+-- the stage on the day doesn't admit it
+abbrev pub unless_stage : Bool → Test
+unless_stage admitted = (not admitted, reason.Stage)
+
+-- the stage on the day is another
+abbrev pub not_at : ℕ → CaseFile → Stage → Test
+not_at day file wanted = unless_stage (is_stage (stage_on day file) wanted)
+
+-- no deadline stands in the stage on the day
+abbrev pub not_timed : ℕ → CaseFile → Test
+not_timed day file = unless_stage (is_running (facts_on day file).expiry)
 
 -- a stop work order stands
 abbrev pub stopped : CaseFile → Test
@@ -91,9 +88,15 @@ interested h file party = (is_interested h file party, reason.Interested)
 abbrev pub days_above : ℕ → ℕ → Test
 days_above limit days = (nat_lt limit days, reason.Days)
 
+-- the most days that may be asked of what expires
+abbrev pub limit_by : Expiry → ℕ
+limit_by Permit = longest_permit_extension
+limit_by Application = longest_review_extension
+limit_by Never = longest_review_extension
+
 -- the most days that may be asked in a stage
 abbrev pub ask_limit : Stage → ℕ
-ask_limit s = if is_stage_among permit_stages s then longest_permit_extension else longest_review_extension
+ask_limit s = limit_by (stage_facts s).expiry
 
 -- an ask is pending
 abbrev pub ask_pending : CaseFile → Test
@@ -152,31 +155,31 @@ too_far file = (nat_lt latest_deadline (unwrap_or (deadline file) 0 + unwrap_or 
 
 -- the tests of a command on a file, in the order of the reasons
 abbrev pub file_tests : History → ℕ → CaseFile → Command → List Test
-file_tests h day file (AssignReviewer party) = not_in day file reviewing_stages ∷ no_party_of_role h Reviewer party ∷ interested h file party ∷ []
-file_tests h day file (AssignInspector party) = not_in day file inspecting_stages ∷ no_party_of_role h Inspector party ∷ interested h file party ∷ []
-file_tests h day file (NameContractor party) = not_in day file timed_stages ∷ no_party h party ∷ []
-file_tests h day file StartReview = not_in day file (stage.Filed ∷ []) ∷ []
-file_tests h day file (Return text) = not_in day file (stage.Review ∷ []) ∷ papers_full file ∷ []
-file_tests h day file (Resubmit text) = not_in day file (stage.Returned ∷ []) ∷ papers_full file ∷ []
-file_tests h day file ApprovePlans = not_in day file (stage.Review ∷ []) ∷ []
-file_tests h day file (Reject text) = not_in day file (stage.Review ∷ []) ∷ papers_full file ∷ []
-file_tests h day file Issue = not_in day file (stage.Approved ∷ []) ∷ papers_full file ∷ []
-file_tests h day file (AskExtension days text) = not_in day file timed_stages ∷ days_above (ask_limit (stage_on day file)) days ∷ ask_pending file
+file_tests h day file (AssignReviewer party) = unless_stage (facts_on day file).reviewing ∷ no_party_of_role h Reviewer party ∷ interested h file party ∷ []
+file_tests h day file (AssignInspector party) = unless_stage (facts_on day file).inspecting ∷ no_party_of_role h Inspector party ∷ interested h file party ∷ []
+file_tests h day file (NameContractor party) = not_timed day file ∷ no_party h party ∷ []
+file_tests h day file StartReview = not_at day file stage.Filed ∷ []
+file_tests h day file (Return text) = not_at day file stage.Review ∷ papers_full file ∷ []
+file_tests h day file (Resubmit text) = not_at day file stage.Returned ∷ papers_full file ∷ []
+file_tests h day file ApprovePlans = not_at day file stage.Review ∷ []
+file_tests h day file (Reject text) = not_at day file stage.Review ∷ papers_full file ∷ []
+file_tests h day file Issue = not_at day file stage.Approved ∷ papers_full file ∷ []
+file_tests h day file (AskExtension days text) = not_timed day file ∷ days_above (ask_limit (stage_on day file)) days ∷ ask_pending file
     ∷ papers_full file ∷ []
-file_tests h day file GrantExtension = not_in day file timed_stages ∷ no_ask_pending file ∷ papers_full file ∷ too_far file ∷ []
-file_tests h day file (RefuseExtension text) = not_in day file timed_stages ∷ no_ask_pending file ∷ papers_full file ∷ []
-file_tests h day file BeginWork = not_in day file (stage.Issued ∷ []) ∷ stopped file ∷ []
-file_tests h day file (RequestInspection step) = not_in day file (stage.Working ∷ []) ∷ stopped file ∷ inspection_pending file ∷ not_the_next file step ∷ []
-file_tests h day file (ApproveStep step) = not_in day file (stage.Working ∷ []) ∷ stopped file ∷ no_inspection_pending file ∷ not_the_requested file step
+file_tests h day file GrantExtension = not_timed day file ∷ no_ask_pending file ∷ papers_full file ∷ too_far file ∷ []
+file_tests h day file (RefuseExtension text) = not_timed day file ∷ no_ask_pending file ∷ papers_full file ∷ []
+file_tests h day file BeginWork = not_at day file stage.Issued ∷ stopped file ∷ []
+file_tests h day file (RequestInspection step) = not_at day file stage.Working ∷ stopped file ∷ inspection_pending file ∷ not_the_next file step ∷ []
+file_tests h day file (ApproveStep step) = not_at day file stage.Working ∷ stopped file ∷ no_inspection_pending file ∷ not_the_requested file step
     ∷ notice_open file ∷ []
-file_tests h day file (Notice text) = not_in day file (stage.Working ∷ []) ∷ no_inspection_pending file ∷ papers_full file ∷ []
-file_tests h day file (ClearNotice paper) = not_in day file (stage.Working ∷ []) ∷ no_such_notice file paper ∷ []
-file_tests h day file (Stop text conditions) = not_in day file stoppable_stages ∷ stopped file ∷ papers_full file ∷ []
-file_tests h day file Lift = not_in day file stoppable_stages ∷ not_stopped file ∷ papers_full file ∷ []
-file_tests h day file (Revoke text) = not_in day file revocable_stages ∷ papers_full file ∷ []
-file_tests h day file (Temporary days text) = not_in day file (stage.Working ∷ []) ∷ stopped file ∷ days_above longest_temporary days ∷ notice_open file
+file_tests h day file (Notice text) = not_at day file stage.Working ∷ no_inspection_pending file ∷ papers_full file ∷ []
+file_tests h day file (ClearNotice paper) = not_at day file stage.Working ∷ no_such_notice file paper ∷ []
+file_tests h day file (Stop text conditions) = unless_stage (facts_on day file).stoppable ∷ stopped file ∷ papers_full file ∷ []
+file_tests h day file Lift = unless_stage (facts_on day file).stoppable ∷ not_stopped file ∷ papers_full file ∷ []
+file_tests h day file (Revoke text) = unless_stage (facts_on day file).revocable ∷ papers_full file ∷ []
+file_tests h day file (Temporary days text) = not_at day file stage.Working ∷ stopped file ∷ days_above longest_temporary days ∷ notice_open file
     ∷ no_certificates file ∷ papers_full file ∷ []
-file_tests h day file Certify = not_in day file (stage.Finaled ∷ []) ∷ stopped file ∷ no_certificates file ∷ papers_full file ∷ []
+file_tests h day file Certify = not_at day file stage.Finaled ∷ stopped file ∷ no_certificates file ∷ papers_full file ∷ []
 
 -- a file that isn't there has no tests: it is refused before
 abbrev pub tests_on : History → ℕ → Option CaseFile → Command → List Test

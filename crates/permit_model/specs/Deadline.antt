@@ -1,13 +1,15 @@
 -- The deadline of a file: the greatest day to which an anchor reaches.
 use Rattle.std.specs.Prelude.{ℕ, ◌+◌, if◌then◌else◌, List, [], ◌∷◌, Option, None, Some, unwrap_or, map}
 use Rattle.permit_base.specs.declared.words.Stage.{Stage}
+use Rattle.permit_base.specs.declared.stages.Expiry.{Expiry}
+use Rattle.permit_base.specs.declared.stages.Expiry.TheVariants.{Never, Application, Permit}
+use Rattle.permit_base.specs.Stages.{stage_facts}
 use Rattle.permit_base.specs.declared.request.Command.{Command}
-use Rattle.permit_model.specs.Codes.{is_stage_among}
 use Rattle.permit_model.specs.Days.{term, greatest}
 use Rattle.permit_model.specs.Effects.{effects}
 use Rattle.permit_model.specs.Files.{Act, CaseFile}
 use Rattle.permit_model.specs.Work.{pending_ask}
-use Rattle.permit_model.specs.BaseStage.{application_stages, permit_stages, base_stage}
+use Rattle.permit_model.specs.BaseStage.{base_stage}
 
 -- the days that a command grants: those of the ask that is pending before it
 abbrev pub days_granted : Command → List Act → ℕ
@@ -30,12 +32,15 @@ anchor_reaches (act ∷ before) =
     then (act.day + term) ∷ extended (days_granted act.command before) (anchor_reaches before)
     else extended (days_granted act.command before) (anchor_reaches before)
 
--- the deadline in a stage: the filing's reach in those of an application, the greatest reach in those of a permit, else none
+-- the deadline of what expires: the filing's reach for an application, the greatest reach for a permit
+abbrev pub deadline_by : Expiry → ℕ → List Act → Option ℕ
+deadline_by Never filed acts = None
+deadline_by Application filed acts = Some (filing_reach filed acts)
+deadline_by Permit filed acts = greatest (anchor_reaches acts)
+
+-- the deadline in a stage
 abbrev pub deadline_in : Stage → ℕ → List Act → Option ℕ
-deadline_in s filed acts =
-    if is_stage_among application_stages s
-    then Some (filing_reach filed acts)
-    else (if is_stage_among permit_stages s then greatest (anchor_reaches acts) else None)
+deadline_in s filed acts = deadline_by (stage_facts s).expiry filed acts
 
 -- the deadline of a file, where one stands
 abbrev pub deadline : CaseFile → Option ℕ

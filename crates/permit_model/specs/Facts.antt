@@ -8,8 +8,8 @@ use Rattle.permit_base.specs.declared.words.Timing.TheVariants.{Untimed}
 use Rattle.permit_base.specs.declared.words.Relations.{Relations}
 use Rattle.permit_base.specs.declared.words.Action.{Action}
 pub use Rattle.permit_base.specs.Relations.{holds}
+pub use Rattle.permit_base.specs.Stages.{past_stage}
 use Rattle.permit_model.specs.Search.{is_the_party}
-use Rattle.permit_model.specs.Codes.{is_stage_among}
 use Rattle.permit_model.specs.Days.{timing_on, is_past}
 use Rattle.permit_model.specs.History.{History}
 use Rattle.permit_model.specs.Caller.{Party}
@@ -17,12 +17,8 @@ use Rattle.permit_model.specs.Parcels.{owner, has_interest}
 use Rattle.permit_model.specs.Files.{CaseFile}
 use Rattle.permit_model.specs.People.{contractor, reviewer, inspector}
 use Rattle.permit_model.specs.Work.{is_stopped}
-use Rattle.permit_model.specs.BaseStage.{application_stages, permit_stages, base_stage}
+use Rattle.permit_model.specs.BaseStage.{base_stage}
 use Rattle.permit_model.specs.Deadline.{deadline}
-
--- the stage once the deadline is past: an application is abandoned, and a permit lapsed
-abbrev pub past_stage : Stage → Stage
-past_stage s = if is_stage_among application_stages s then stage.Abandoned else (if is_stage_among permit_stages s then stage.Lapsed else s)
 
 -- the stage of a file on a day
 abbrev pub stage_on : ℕ → CaseFile → Stage

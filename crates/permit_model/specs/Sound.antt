@@ -6,16 +6,15 @@ use Rattle.std.specs.List.{list_all}
 use Rattle.permit_base.specs.declared.words.Role.{Role}
 use Rattle.permit_base.specs.declared.words.Role.TheVariants.{Reviewer, Inspector, Official}
 use Rattle.permit_base.specs.declared.words.Stage.{Stage}
-use Rattle.permit_base.specs.declared.words.Stage.TheVariants as stage
+use Rattle.permit_base.specs.Stages.{stage_facts}
 use Rattle.permit_base.specs.declared.words.PaperSort.TheVariants as sort
 use Rattle.permit_base.specs.Limits.{is_between, most_records, most_papers, is_cents, latest_day, latest_deadline}
 use Rattle.permit_base.specs.Texts.{is_printable, is_lot, is_digest}
-use Rattle.permit_model.specs.Codes.{is_edition, is_stage_among, is_sort_among}
+use Rattle.permit_model.specs.Codes.{is_edition, is_sort_among}
 use Rattle.permit_model.specs.Days.{term, longest_review_extension, longest_permit_extension, longest_temporary}
 use Rattle.permit_model.specs.Steps.{required_steps, has_certificates}
 use Rattle.permit_model.specs.Caller.{Party, has_role}
 use Rattle.permit_model.specs.Parcels.{Parcel, Interest}
-use Rattle.permit_model.specs.BaseStage.{application_stages}
 use Rattle.permit_model.specs.Numbering.{is_numbered}
 use Rattle.permit_model.specs.Tables.{Desk, State, FileRow, Paper, Tables, next_in_row, edition_by, edition_numbered, is_notice}
 use Rattle.permit_model.specs.SoundState.{is_stored, is_completed, deadline_stands, is_for, request_dated}
@@ -134,51 +133,51 @@ are_sound_stages t = list_all (λ f. has_sound_stage f.state) t.files
 
 -- ---- the work on the files
 
--- the stages of work that began, or whose permit was revoked
-abbrev pub begun_stages : List Stage
-begun_stages = stage.Working ∷ stage.Revoked ∷ []
+-- work began in the stage, or its permit was revoked
+abbrev pub is_begun : Stage → Bool
+is_begun s = (stage_facts s).begun
 
--- the stages in which a stop work order stands
-abbrev pub stopped_stages : List Stage
-stopped_stages = stage.Issued ∷ stage.Working ∷ stage.Revoked ∷ stage.Finaled ∷ []
+-- a stop work order may stand in the stage
+abbrev pub may_be_stopped : Stage → Bool
+may_be_stopped s = (stage_facts s).stopped
 
--- the stages in which a temporary certificate is kept
-abbrev pub occupied_stages : List Stage
-occupied_stages = stage.Working ∷ stage.Revoked ∷ stage.Finaled ∷ stage.Certified ∷ []
+-- a temporary certificate is kept in the stage
+abbrev pub is_occupied : Stage → Bool
+is_occupied s = (stage_facts s).occupied
 
 -- whether so many steps may be done of those required: not all of them in begun work, all of them once the work is over,
 -- and none before it begins
 abbrev pub is_done_in : Stage → ℕ → ℕ → Bool
 is_done_in s required done =
-    if is_stage_among begun_stages s then nat_lt done required else (if is_completed s then done == required else done == 0)
+    if is_begun s then nat_lt done required else (if is_completed s then done == required else done == 0)
 
 -- a request is for the next step of begun work, and was made between the filing and the last day
 abbrev pub has_sound_request : ℕ → State → Bool
 has_sound_request last s =
-    is_for s.request (next_in_row s) && request_dated s && (is_none s.request || is_stage_among begun_stages s.stage)
+    is_for s.request (next_in_row s) && request_dated s && (is_none s.request || is_begun s.stage)
     && if_any (is_between s.filed last) s.requested
 
 -- the most days of an ask that is kept in a stage: more once the permit was issued
 abbrev pub longest_ask : Stage → ℕ
-longest_ask s = if is_stage_among (stage.Rejected ∷ application_stages) s then longest_review_extension else longest_permit_extension
+longest_ask s = if (stage_facts s).unissued then longest_review_extension else longest_permit_extension
 
 -- a temporary certificate is for a kind that has certificates, and ends after the filing, so many days after the last day
 -- at most
 abbrev pub has_sound_certificate : ℕ → State → Bool
 has_sound_certificate last s =
     if_any (is_between (s.filed + 1) (last + longest_temporary)) s.temporary
-    && (is_none s.temporary || (is_stage_among occupied_stages s.stage && has_certificates s.kind))
+    && (is_none s.temporary || (is_occupied s.stage && has_certificates s.kind))
 
 -- the open notices are counted, and there is one in begun work alone
 abbrev pub has_sound_notices : List Paper → State → Bool
 has_sound_notices papers s =
-    (s.notices == length (filter (λ p. p.is_open) papers)) && ((s.notices == 0) || is_stage_among begun_stages s.stage)
+    (s.notices == length (filter (λ p. p.is_open) papers)) && ((s.notices == 0) || is_begun s.stage)
 
 -- the work on a file is sound
 abbrev pub has_sound_work : Tables → FileRow → Bool
 has_sound_work t f =
     is_done_in f.state.stage (length (required_steps f.state.edition f.state.kind)) f.state.done && has_sound_request t.desk.last f.state
-    && (not f.state.stopped || is_stage_among stopped_stages f.state.stage) && if_any (is_between 1 (longest_ask f.state.stage)) f.state.ask
+    && (not f.state.stopped || may_be_stopped f.state.stage) && if_any (is_between 1 (longest_ask f.state.stage)) f.state.ask
     && has_sound_certificate t.desk.last f.state && has_sound_notices (papers_in t f.id) f.state
 
 -- the work on each file is sound

@@ -2,66 +2,26 @@
 use Rattle.std.specs.Prelude.{Bool, true, false, not, ◌&&◌, ◌||◌, ◌==◌, nat_le, if◌then◌else◌, IsTrue, length, Option, None, Some, is_some, is_none}
 use Rattle.permit_base.specs.declared.words.Step.{Step}
 use Rattle.permit_base.specs.declared.words.Stage.{Stage}
-use Rattle.permit_base.specs.declared.words.Stage.TheVariants as stage
-use Rattle.permit_model.specs.Codes.{is_step, is_stage_among}
+use Rattle.permit_base.specs.Stages.{stage_facts, is_running}
+use Rattle.permit_model.specs.Codes.{is_step}
 use Rattle.permit_model.specs.Steps.{required_steps}
-use Rattle.permit_model.specs.BaseStage.{timed_stages}
 use Rattle.permit_model.specs.Tables.{State, next_in_row}
 
 -- abandoned, lapsed, new and office are never stored
 abbrev pub is_stored : Stage → Bool
-is_stored stage.Abandoned = false
-is_stored stage.Lapsed = false
-is_stored stage.New = false
-is_stored stage.Office = false
-is_stored stage.Filed = true
-is_stored stage.Review = true
-is_stored stage.Returned = true
-is_stored stage.Approved = true
-is_stored stage.Rejected = true
-is_stored stage.Issued = true
-is_stored stage.Working = true
-is_stored stage.Revoked = true
-is_stored stage.Finaled = true
-is_stored stage.Certified = true
+is_stored s = (stage_facts s).stored
 
 -- the six stages in which a deadline stands
 abbrev pub is_timed : Stage → Bool
-is_timed s = is_stage_among timed_stages s
+is_timed s = is_running (stage_facts s).expiry
 
 -- the work is over, with every step approved
 abbrev pub is_completed : Stage → Bool
-is_completed stage.Finaled = true
-is_completed stage.Certified = true
-is_completed stage.Filed = false
-is_completed stage.Review = false
-is_completed stage.Returned = false
-is_completed stage.Approved = false
-is_completed stage.Rejected = false
-is_completed stage.Issued = false
-is_completed stage.Working = false
-is_completed stage.Revoked = false
-is_completed stage.Abandoned = false
-is_completed stage.Lapsed = false
-is_completed stage.New = false
-is_completed stage.Office = false
+is_completed s = (stage_facts s).complete
 
 -- whether the stage is certified
 abbrev pub is_certified : Stage → Bool
-is_certified stage.Certified = true
-is_certified stage.Filed = false
-is_certified stage.Review = false
-is_certified stage.Returned = false
-is_certified stage.Approved = false
-is_certified stage.Rejected = false
-is_certified stage.Issued = false
-is_certified stage.Working = false
-is_certified stage.Revoked = false
-is_certified stage.Finaled = false
-is_certified stage.Abandoned = false
-is_certified stage.Lapsed = false
-is_certified stage.New = false
-is_certified stage.Office = false
+is_certified s = (stage_facts s).certified
 
 -- a deadline stands in the six stages, and in no other
 abbrev pub deadline_stands : State → Bool

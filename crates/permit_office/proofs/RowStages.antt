@@ -13,47 +13,23 @@ use Rattle.permit_core.specs.declared.people.People.{People}
 use Rattle.permit_core.specs.Views.{row_stage}
 use Rattle.permit_core.specs.RowTests.{row_tests}
 use Rattle.permit_core.specs.RowAfter.{row_after}
-use Rattle.permit_model.specs.Codes.{is_stage, is_stage_among}
+use Rattle.permit_base.specs.Stages.{stage_facts}
+use Rattle.permit_model.specs.Codes.{is_stage}
 use Rattle.permit_model.specs.Days.{term, is_past}
 use Rattle.permit_model.specs.Effects.{effects}
 use Rattle.permit_model.specs.Facts.{past_stage}
-use Rattle.permit_model.specs.Admission.{stoppable_stages, revocable_stages}
-use Rattle.permit_model.specs.BaseStage.{timed_stages}
 use Rattle.permit_model.specs.Tables.{State}
 use Rattle.permit_model.specs.SoundState.{is_stored}
-use Rattle.permit_model.specs.Sound.{if_any, stopped_stages}
+use Rattle.permit_model.specs.Sound.{if_any}
 use Rattle.permit_model.proofs.Fronts.{AllPass}
 use Rattle.permit_model.proofs.Stages.{only_one, unpassed}
 use Rattle.permit_model.proofs.SoundLists.{between}
 
 -- ---- the stage in which a command was admitted
 
-pub was_in : (day : ℕ) (s : State) (wanted : Stage) → is_stored wanted ≡ true → not (is_stage_among (wanted ∷ []) (row_stage day s)) ≡ false → s.stage ≡ wanted
+pub was_in : (day : ℕ) (s : State) (wanted : Stage) → is_stored wanted ≡ true → not (is_stage (row_stage day s) wanted) ≡ false → s.stage ≡ wanted
 was_in day s wanted stored h = unpassed s.stage wanted (is_past day s.deadline) stored
     (only_one (row_stage day s) wanted (is_stage (row_stage day s) wanted) refl h)
-
--- a stop work order and a lift come in the stages in which one may stand
-pub stoppable_from : (s : Stage) (past : Bool) → is_stored s ≡ true → not (is_stage_among stoppable_stages (if past then past_stage s else s)) ≡ false →
-    is_stage_among stopped_stages s ≡ true
-stoppable_from stage.Issued past stored h = refl
-stoppable_from stage.Working past stored h = refl
-stoppable_from stage.Revoked past stored h = refl
-stoppable_from stage.Finaled past stored h = refl
-stoppable_from stage.Lapsed past stored h = cc
-stoppable_from _ true stored h = cc
-stoppable_from _ false stored h = cc
-
--- in a stage with a deadline that isn't past, the stage on the day is the stored one
-pub timed_from : (s : Stage) (past : Bool) → not (is_stage_among timed_stages (if past then past_stage s else s)) ≡ false →
-    (if past then past_stage s else s) ≡ s
-timed_from s false h = refl
-timed_from stage.Filed true h = cc
-timed_from stage.Review true h = cc
-timed_from stage.Returned true h = cc
-timed_from stage.Approved true h = cc
-timed_from stage.Issued true h = cc
-timed_from stage.Working true h = cc
-timed_from _ true h = refl
 
 -- ---- moves from one stage to another
 
@@ -101,7 +77,7 @@ is_end (ApproveStep Final) = true
 is_end Certify = true
 is_end _ = false
 
-revoked_from : (s : Stage) (past : Bool) → is_stored s ≡ true → not (is_stage_among revocable_stages (if past then past_stage s else s)) ≡ false →
+revoked_from : (s : Stage) (past : Bool) → is_stored s ≡ true → not (stage_facts (if past then past_stage s else s)).revocable ≡ false →
     IsMoved s stage.Revoked
 revoked_from stage.Issued past stored h = inr (IssuedToRevoked, refl, refl)
 revoked_from stage.Working past stored h = inr (WorkingToRevoked, refl, refl)

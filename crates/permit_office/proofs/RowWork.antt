@@ -18,7 +18,7 @@ use Rattle.permit_core.specs.declared.people.People.{People}
 use Rattle.permit_core.specs.Views.{row_stage}
 use Rattle.permit_core.specs.RowTests.{row_tests}
 use Rattle.permit_core.specs.RowAfter.{row_after}
-use Rattle.permit_model.specs.Codes.{is_step, is_stage_among}
+use Rattle.permit_model.specs.Codes.{is_step}
 use Rattle.permit_model.specs.Days.{is_past, longest_permit_extension, longest_temporary}
 use Rattle.permit_model.specs.Effects.{effects}
 use Rattle.permit_model.specs.Steps.{required_steps, has_certificates}
@@ -26,27 +26,28 @@ use Rattle.permit_model.specs.Admission.{ask_limit}
 use Rattle.permit_model.specs.Tables.{State, Paper, next_in_row}
 use Rattle.permit_model.specs.SoundState.{is_stored, is_completed, is_certified, is_for, is_finished, request_dated, IsSoundState}
 use Rattle.permit_model.specs.Within.{is_command_within}
-use Rattle.permit_model.specs.Sound.{if_any, begun_stages, stopped_stages, occupied_stages, is_done_in, longest_ask, has_sound_request, has_sound_certificate}
+use Rattle.permit_model.specs.Sound.{if_any, is_begun, may_be_stopped, is_occupied, is_done_in, longest_ask, has_sound_request, has_sound_certificate}
 use Rattle.permit_model.specs.Sound.{has_sound_notices}
 use Rattle.permit_model.proofs.Fronts.{AllPass, same_step, is_it}
 use Rattle.permit_model.proofs.SoundLists.{between, any_more, passed_not, between_later}
 use Rattle.permit_model.proofs.SoundWork.{ends_final, longest_of_all, limit_kept, least_days}
-use Rattle.permit_office.proofs.RowStages.{was_in, stoppable_from, timed_from, Move, FiledToReview, ApprovedToIssued, IssuedToWorking}
+use Rattle.permit_model.proofs.Stages.{stoppable_from, timed_from}
+use Rattle.permit_office.proofs.RowStages.{was_in, Move, FiledToReview, ApprovedToIssued, IssuedToWorking}
 use Rattle.permit_office.proofs.RowStages.{IssuedToRevoked, WorkingToRevoked, stage_from, stage_to, moved, kept_by}
 
 -- the stage before is none of these
-nowhere : (stages : List Stage) (s was : Stage) → s ≡ was → is_stage_among stages was ≡ false → is_stage_among stages s ≡ true → ⊥
-nowhere stages s was same out e = let bad : true ≡ false = sym e ∙ ap (is_stage_among stages) same ∙ out in cc
+nowhere : (admits : Stage → Bool) (s was : Stage) → s ≡ was → admits was ≡ false → admits s ≡ true → ⊥
+nowhere admits s was same out e = let bad : true ≡ false = sym e ∙ ap admits same ∙ out in cc
 
-among : (stages : List Stage) (s was : Stage) → s ≡ was → is_stage_among stages was ≡ true → is_stage_among stages s ≡ true
-among stages s was same here = ap (is_stage_among stages) same ∙ here
+among : (admits : Stage → Bool) (s was : Stage) → s ≡ was → admits was ≡ true → admits s ≡ true
+among admits s was same here = ap admits same ∙ here
 
 -- ---- stop work orders
 
 abbrev StoppedIn : State → Type 0
-StoppedIn s = s.stopped ≡ true → is_stage_among stopped_stages s.stage ≡ true
+StoppedIn s = s.stopped ≡ true → may_be_stopped s.stage ≡ true
 
-stops_moved : (m : Move) → is_stage_among stopped_stages (stage_from m) ≡ true → is_stage_among stopped_stages (stage_to m) ≡ true
+stops_moved : (m : Move) → may_be_stopped (stage_from m) ≡ true → may_be_stopped (stage_to m) ≡ true
 stops_moved ApprovedToIssued q = refl
 stops_moved IssuedToWorking q = refl
 stops_moved IssuedToRevoked q = refl
@@ -60,15 +61,15 @@ stopped_more day (ApproveStep Final) s people stored p h = λ e. refl
 stopped_more day (Stop text conditions) s people stored p h = λ e. stoppable_from s.stage (is_past day s.deadline) stored p.0
 stopped_more day Lift s people stored p h = λ e. stoppable_from s.stage (is_past day s.deadline) stored p.0
 stopped_more day command s people stored p h = λ e.
-    kept_by (λ x. is_stage_among stopped_stages x ≡ true) stops_moved s.stage (unwrap_or ((effects command).stage) s.stage)
+    kept_by (λ x. may_be_stopped x ≡ true) stops_moved s.stage (unwrap_or ((effects command).stage) s.stage)
     (moved day command s people stored p refl) (h e)
 
 -- ---- requests
 
 abbrev RequestIn : State → Type 0
-RequestIn s = is_some s.request ≡ true → is_stage_among begun_stages s.stage ≡ true
+RequestIn s = is_some s.request ≡ true → is_begun s.stage ≡ true
 
-begun_moved : (m : Move) → is_stage_among begun_stages (stage_from m) ≡ true → is_stage_among begun_stages (stage_to m) ≡ true
+begun_moved : (m : Move) → is_begun (stage_from m) ≡ true → is_begun (stage_to m) ≡ true
 begun_moved IssuedToWorking q = refl
 begun_moved IssuedToRevoked q = refl
 begun_moved WorkingToRevoked q = refl
@@ -76,13 +77,13 @@ begun_moved _ q = cc
 
 request_more : (day : ℕ) (command : Command) (s : State) (people : People) → is_stored s.stage ≡ true → AllPass (row_tests day s people command) →
     RequestIn s → RequestIn (row_after day command s)
-request_more day (RequestInspection step) s people stored p h = λ e. among begun_stages s.stage stage.Working (was_in day s stage.Working refl p.0) refl
+request_more day (RequestInspection step) s people stored p h = λ e. among is_begun s.stage stage.Working (was_in day s stage.Working refl p.0) refl
 request_more day (ApproveStep step) s people stored p h = λ e. cc
 request_more day (Notice text) s people stored p h = λ e. cc
 request_more day Certify s people stored p h = λ e.
-    absurd (nowhere begun_stages s.stage stage.Finaled (was_in day s stage.Finaled refl p.0) refl (h e))
+    absurd (nowhere is_begun s.stage stage.Finaled (was_in day s stage.Finaled refl p.0) refl (h e))
 request_more day command s people stored p h = λ e.
-    kept_by (λ x. is_stage_among begun_stages x ≡ true) begun_moved s.stage (unwrap_or ((effects command).stage) s.stage)
+    kept_by (λ x. is_begun x ≡ true) begun_moved s.stage (unwrap_or ((effects command).stage) s.stage)
     (moved day command s people stored p refl) (h e)
 
 requested_more : (last day : ℕ) (command : Command) (s : State) → s.filed ≤ day → last ≤ day → if_any (is_between s.filed last) s.requested ≡ true →
@@ -137,9 +138,9 @@ ends_more last day _ s people p within late later h =
     (λ n. between_later (s.filed + 1) (last + longest_temporary) (day + longest_temporary) n (omega (arith, later))) h
 
 abbrev CertificateIn : State → Type 0
-CertificateIn s = is_some s.temporary ≡ true → (is_stage_among occupied_stages s.stage && has_certificates s.kind) ≡ true
+CertificateIn s = is_some s.temporary ≡ true → (is_occupied s.stage && has_certificates s.kind) ≡ true
 
-occupied_moved : (m : Move) → is_stage_among occupied_stages (stage_from m) ≡ true → is_stage_among occupied_stages (stage_to m) ≡ true
+occupied_moved : (m : Move) → is_occupied (stage_from m) ≡ true → is_occupied (stage_to m) ≡ true
 occupied_moved IssuedToWorking q = refl
 occupied_moved IssuedToRevoked q = refl
 occupied_moved WorkingToRevoked q = refl
@@ -147,29 +148,29 @@ occupied_moved _ q = cc
 
 certificate_more : (day : ℕ) (command : Command) (s : State) (people : People) → is_stored s.stage ≡ true → AllPass (row_tests day s people command) →
     CertificateIn s → CertificateIn (row_after day command s)
-certificate_more day (ApproveStep Final) s people stored p h = λ e. (and_parts (is_stage_among occupied_stages s.stage) (has_certificates s.kind) (h e)).1
+certificate_more day (ApproveStep Final) s people stored p h = λ e. (and_parts (is_occupied s.stage) (has_certificates s.kind) (h e)).1
 certificate_more day (Temporary days text) s people stored p h = λ e.
-    and_from _ _ (among occupied_stages s.stage stage.Working (was_in day s stage.Working refl p.0) refl) (passed_not (has_certificates s.kind) p.1.1.1.1.0)
-certificate_more day Certify s people stored p h = λ e. (and_parts (is_stage_among occupied_stages s.stage) (has_certificates s.kind) (h e)).1
+    and_from _ _ (among is_occupied s.stage stage.Working (was_in day s stage.Working refl p.0) refl) (passed_not (has_certificates s.kind) p.1.1.1.1.0)
+certificate_more day Certify s people stored p h = λ e. (and_parts (is_occupied s.stage) (has_certificates s.kind) (h e)).1
 certificate_more day command s people stored p h = λ e.
-    let was = and_parts (is_stage_among occupied_stages s.stage) (has_certificates s.kind) (h e) in
-    and_from _ _ (kept_by (λ x. is_stage_among occupied_stages x ≡ true) occupied_moved s.stage (unwrap_or ((effects command).stage) s.stage)
+    let was = and_parts (is_occupied s.stage) (has_certificates s.kind) (h e) in
+    and_from _ _ (kept_by (λ x. is_occupied x ≡ true) occupied_moved s.stage (unwrap_or ((effects command).stage) s.stage)
     (moved day command s people stored p refl) was.0) was.1
 
 -- ---- notices
 
 abbrev NoticesIn : State → Type 0
-NoticesIn s = 0 < s.notices → is_stage_among begun_stages s.stage ≡ true
+NoticesIn s = 0 < s.notices → is_begun s.stage ≡ true
 
 notices_more : (day : ℕ) (command : Command) (s : State) (people : People) → is_stored s.stage ≡ true → AllPass (row_tests day s people command) →
     NoticesIn s → NoticesIn (row_after day command s)
 notices_more day (ApproveStep Final) s people stored p h = λ e. absurd (omega (arith, ltb-false 0 s.notices p.1.1.1.1.0, e))
-notices_more day (Notice text) s people stored p h = λ e. among begun_stages s.stage stage.Working (was_in day s stage.Working refl p.0) refl
-notices_more day (ClearNotice paper) s people stored p h = λ e. among begun_stages s.stage stage.Working (was_in day s stage.Working refl p.0) refl
+notices_more day (Notice text) s people stored p h = λ e. among is_begun s.stage stage.Working (was_in day s stage.Working refl p.0) refl
+notices_more day (ClearNotice paper) s people stored p h = λ e. among is_begun s.stage stage.Working (was_in day s stage.Working refl p.0) refl
 notices_more day Certify s people stored p h = λ e.
-    absurd (nowhere begun_stages s.stage stage.Finaled (was_in day s stage.Finaled refl p.0) refl (h e))
+    absurd (nowhere is_begun s.stage stage.Finaled (was_in day s stage.Finaled refl p.0) refl (h e))
 notices_more day command s people stored p h = λ e.
-    kept_by (λ x. is_stage_among begun_stages x ≡ true) begun_moved s.stage (unwrap_or ((effects command).stage) s.stage)
+    kept_by (λ x. is_begun x ≡ true) begun_moved s.stage (unwrap_or ((effects command).stage) s.stage)
     (moved day command s people stored p refl) (h e)
 
 -- ---- steps done
@@ -273,7 +274,7 @@ of_more (suc n) b h e = let other : (suc n == 0) ≡ false = ne_eqb (suc n) 0 (o
 abbrev pub is_sound_work_on : ℕ → List Paper → State → Bool
 is_sound_work_on last papers s =
     is_done_in s.stage (length (required_steps s.edition s.kind)) s.done && has_sound_request last s
-    && (not s.stopped || is_stage_among stopped_stages s.stage) && if_any (is_between 1 (longest_ask s.stage)) s.ask
+    && (not s.stopped || may_be_stopped s.stage) && if_any (is_between 1 (longest_ask s.stage)) s.ask
     && has_sound_certificate last s && has_sound_notices papers s
 
 -- on a later day it is sound as before
@@ -283,11 +284,11 @@ work_later last day papers s later sound =
     let notices = and_parts _ (has_sound_notices papers s) sound in
     let certificate = and_parts _ (has_sound_certificate last s) notices.0 in
     let ask = and_parts _ (if_any (is_between 1 (longest_ask s.stage)) s.ask) certificate.0 in
-    let stopped = and_parts _ (not s.stopped || is_stage_among stopped_stages s.stage) ask.0 in
+    let stopped = and_parts _ (not s.stopped || may_be_stopped s.stage) ask.0 in
     let request = and_parts (is_done_in s.stage (required s) s.done) (has_sound_request last s) stopped.0 in
     let requested = and_parts _ (if_any (is_between s.filed last) s.requested) request.1 in
     let ends = and_parts (if_any (is_between (s.filed + 1) (last + longest_temporary)) s.temporary)
-    (is_none s.temporary || (is_stage_among occupied_stages s.stage && has_certificates s.kind)) certificate.1 in
+    (is_none s.temporary || (is_occupied s.stage && has_certificates s.kind)) certificate.1 in
     let later_request : has_sound_request day s ≡ true =
     and_from _ _ requested.0
     (any_more (is_between s.filed last) (is_between s.filed day) s.requested (λ n. between_later s.filed last day n later) requested.1) in
@@ -305,30 +306,30 @@ work_more last day papers after command s people stored p g within late later co
     let notices = and_parts _ (has_sound_notices papers s) sound in
     let certificate = and_parts _ (has_sound_certificate last s) notices.0 in
     let ask = and_parts _ (if_any (is_between 1 (longest_ask s.stage)) s.ask) certificate.0 in
-    let stopped = and_parts _ (not s.stopped || is_stage_among stopped_stages s.stage) ask.0 in
+    let stopped = and_parts _ (not s.stopped || may_be_stopped s.stage) ask.0 in
     let request = and_parts (is_done_in s.stage (required s) s.done) (has_sound_request last s) stopped.0 in
     let requested = and_parts _ (if_any (is_between s.filed last) s.requested) request.1 in
-    let begun = and_parts _ (is_none s.request || is_stage_among begun_stages s.stage) requested.0 in
+    let begun = and_parts _ (is_none s.request || is_begun s.stage) requested.0 in
     let dated = and_parts (is_for s.request (next_in_row s)) (request_dated s) begun.0 in
     let ends = and_parts (if_any (is_between (s.filed + 1) (last + longest_temporary)) s.temporary)
-    (is_none s.temporary || (is_stage_among occupied_stages s.stage && has_certificates s.kind)) certificate.1 in
-    let noticed = and_parts _ ((s.notices == 0) || is_stage_among begun_stages s.stage) notices.1 in
+    (is_none s.temporary || (is_occupied s.stage && has_certificates s.kind)) certificate.1 in
+    let noticed = and_parts _ ((s.notices == 0) || is_begun s.stage) notices.1 in
     let state = and_parts _ (not (is_completed u.stage) || is_finished u) (and_parts _ (not (is_certified u.stage) || not u.stopped) g).0 in
     let state_dated = and_parts _ (request_dated u) state.0 in
     let state_request = and_parts _ (is_for u.request (next_in_row u)) state_dated.0 in
     let later_request : has_sound_request day u ≡ true =
     and_from _ _ (and_from _ _ (and_from _ _ state_request.1 state_dated.1)
-    (if_some u.request (is_stage_among begun_stages u.stage)
-    (request_more day command s people stored p (of_some s.request (is_stage_among begun_stages s.stage) begun.1))))
+    (if_some u.request (is_begun u.stage)
+    (request_more day command s people stored p (of_some s.request (is_begun s.stage) begun.1))))
     (requested_more last day command s late later requested.1) in
     let later_certificate : has_sound_certificate day u ≡ true =
     and_from _ _ (ends_more last day command s people p within late later ends.0)
-    (if_some u.temporary (is_stage_among occupied_stages u.stage && has_certificates u.kind)
-    (certificate_more day command s people stored p (of_some s.temporary (is_stage_among occupied_stages s.stage && has_certificates s.kind) ends.1))) in
+    (if_some u.temporary (is_occupied u.stage && has_certificates u.kind)
+    (certificate_more day command s people stored p (of_some s.temporary (is_occupied s.stage && has_certificates s.kind) ends.1))) in
     let later_notices : has_sound_notices after u ≡ true =
-    and_from _ _ counted (only_where u.notices (is_stage_among begun_stages u.stage)
-    (notices_more day command s people stored p (of_more s.notices (is_stage_among begun_stages s.stage) noticed.1))) in
+    and_from _ _ counted (only_where u.notices (is_begun u.stage)
+    (notices_more day command s people stored p (of_more s.notices (is_begun s.stage) noticed.1))) in
     and_from _ _ (and_from _ _ (and_from _ _ (and_from _ _ (and_from _ _ (done_more day command s people stored p g dated.0 request.0) later_request)
-    (where_true u.stopped (is_stage_among stopped_stages u.stage)
-    (stopped_more day command s people stored p (of_true s.stopped (is_stage_among stopped_stages s.stage) stopped.1))))
+    (where_true u.stopped (may_be_stopped u.stage)
+    (stopped_more day command s people stored p (of_true s.stopped (may_be_stopped s.stage) stopped.1))))
     (ask_more day command s people stored p within ask.1)) later_certificate) later_notices

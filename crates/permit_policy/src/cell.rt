@@ -61,18 +61,8 @@ impl Cell {
     pub(crate) fn is_kept(self) -> bool
         ensures { result ≡ is_kept self }
     {
-        match self.stage {
-            Stage::Filed
-            | Stage::Review
-            | Stage::Returned
-            | Stage::Approved
-            | Stage::Issued
-            | Stage::Working => self.timing != Timing::Untimed,
-            Stage::Rejected | Stage::Revoked | Stage::Finaled | Stage::Certified => {
-                self.timing == Timing::Untimed
-            }
-            Stage::Abandoned | Stage::Lapsed | Stage::New | Stage::Office => false,
-        }
+        let facts = self.stage.facts();
+        facts.stored && facts.expiry.is_timed() == (self.timing != Timing::Untimed)
     }
 
     /// The cell on the day of the rows that are kept in this one: past its deadline an application is abandoned, and a
@@ -80,23 +70,9 @@ impl Cell {
     pub(crate) fn on_day(self) -> Cell
         ensures { result ≡ cell_on_day self }
     {
-        let stage = match (self.stage, self.timing) {
-            (Stage::Filed | Stage::Review | Stage::Returned | Stage::Approved, Timing::Past) => {
-                Stage::Abandoned
-            }
-            (Stage::Issued | Stage::Working, Timing::Past) => Stage::Lapsed,
-            (
-                Stage::Rejected
-                | Stage::Revoked
-                | Stage::Finaled
-                | Stage::Certified
-                | Stage::Abandoned
-                | Stage::Lapsed
-                | Stage::New
-                | Stage::Office,
-                Timing::Past,
-            ) => self.stage,
-            (stage, Timing::Untimed | Timing::Near | Timing::Ahead) => stage,
+        let stage = match self.timing {
+            Timing::Past => self.stage.expired(),
+            Timing::Untimed | Timing::Near | Timing::Ahead => self.stage,
         };
         Cell { stage, ..self }
     }

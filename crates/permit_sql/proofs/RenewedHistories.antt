@@ -22,9 +22,8 @@ use Rattle.permit_model.specs.Caller.{Party, party_by, parties, who}
 use Rattle.permit_model.specs.Parcels.{Parcel, Interest, owner, has_interest}
 use Rattle.permit_model.specs.Files.{CaseFile, case_numbered}
 use Rattle.permit_model.specs.People.{contractor}
-use Rattle.permit_model.specs.BaseStage.{timed_stages}
 use Rattle.permit_model.specs.Numbering.{IsNumberedFrom}
-use Rattle.permit_model.specs.Admission.{first_failing, no_party, no_party_of_role, interested, not_in, reviewing_stages, inspecting_stages}
+use Rattle.permit_model.specs.Admission.{first_failing, no_party, no_party_of_role, interested, facts_on, not_timed, unless_stage}
 use Rattle.permit_model.specs.Admission.{file_tests, tests_on, tests, reason_against}
 use Rattle.permit_model.specs.Machine.{Object, TheOffice, OneParcel, OneFile, object_of, is_there, paper_number, number_made, is_command, IsAccepted}
 use Rattle.permit_model.specs.Machine.{MayFollow, IsFounding, IsHistory}
@@ -121,10 +120,10 @@ module _ (party : ℕ) (token : List ℕ) where
   file_tests_alike : (h : History) (day : ℕ) (file : CaseFile) (command : Command) →
       file_tests (renewed party token h) day file command ≡ file_tests h day file command
   file_tests_alike h day file (AssignReviewer id) =
-      ap₂ (λ a b. not_in day file reviewing_stages ∷ a ∷ b ∷ []) (no_role_alike h Reviewer id) (interested_alike h file id)
+      ap₂ (λ a b. unless_stage (facts_on day file).reviewing ∷ a ∷ b ∷ []) (no_role_alike h Reviewer id) (interested_alike h file id)
   file_tests_alike h day file (AssignInspector id) =
-      ap₂ (λ a b. not_in day file inspecting_stages ∷ a ∷ b ∷ []) (no_role_alike h Inspector id) (interested_alike h file id)
-  file_tests_alike h day file (NameContractor id) = ap (λ a. not_in day file timed_stages ∷ a ∷ []) (no_party_alike h id)
+      ap₂ (λ a b. unless_stage (facts_on day file).inspecting ∷ a ∷ b ∷ []) (no_role_alike h Inspector id) (interested_alike h file id)
+  file_tests_alike h day file (NameContractor id) = ap (λ a. not_timed day file ∷ a ∷ []) (no_party_alike h id)
   file_tests_alike h day file command = refl
 
   tests_on_alike : (h : History) (day : ℕ) (file : Option CaseFile) (command : Command) →

@@ -11,7 +11,7 @@ use Rattle.permit_base.specs.declared.words.Edition.{Edition}
 use Rattle.permit_base.specs.declared.words.Edition.TheVariants as edition
 use Rattle.permit_base.specs.Limits.{is_between, most_papers, most_cents, latest_day, latest_deadline, is_cents}
 use Rattle.permit_base.specs.Texts.{is_printable}
-use Rattle.permit_model.specs.Codes.{is_edition, is_stage_among}
+use Rattle.permit_model.specs.Codes.{is_edition}
 use Rattle.permit_model.specs.Caller.{Party, has_role}
 use Rattle.permit_model.specs.Parcels.{Parcel, Interest}
 use Rattle.permit_model.specs.Numbering.{is_numbered_from}
@@ -20,7 +20,7 @@ use Rattle.permit_model.specs.SoundState.{is_stored, is_sound_state, deadline_st
 use Rattle.permit_model.specs.Steps.{required_steps, has_certificates}
 use Rattle.permit_model.specs.Days.{term, longest_temporary}
 use Rattle.permit_model.specs.Sound
-use Rattle.permit_model.specs.Sound.{IsSoundTables, if_any, has_party, has_party_of, has_parcel, has_file, papers_in, has_few_records, is_done_in, begun_stages}
+use Rattle.permit_model.specs.Sound.{IsSoundTables, if_any, has_party, has_party_of, has_parcel, has_file, papers_in, has_few_records, is_done_in, is_begun}
 use Rattle.permit_sql_rows.specs.Kept.{IsNamed, AreKeyed}
 use Rattle.permit_sql_rows.specs.Typed.{IsObject, IsFile, IsParcel, IsInterest}
 use Rattle.permit_sql.specs.Found.{IsNumbered, AreTyped}
@@ -174,10 +174,10 @@ module _ (t : Tables) (typed : AreTyped t) (keyed : AreKeyed t) where
       let c1 = and_parts _ (Sound.has_sound_notices (papers_in t f.id) s) sound.2 in
       let c2 = and_parts _ (Sound.has_sound_certificate t.desk.last s) c1.0 in
       let c3 = and_parts _ (if_any (is_between 1 (Sound.longest_ask s.stage)) s.ask) c2.0 in
-      let c4 = and_parts _ (not s.stopped || is_stage_among Sound.stopped_stages s.stage) c3.0 in
+      let c4 = and_parts _ (not s.stopped || Sound.may_be_stopped s.stage) c3.0 in
       let c5 = and_parts _ (Sound.has_sound_request t.desk.last s) c4.0 in
       let r1 = and_parts _ (if_any (is_between s.filed t.desk.last) s.requested) c5.1 in
-      let r2 = and_parts _ (is_none s.request || is_stage_among begun_stages s.stage) r1.0 in
+      let r2 = and_parts _ (is_none s.request || is_begun s.stage) r1.0 in
       let t1 = and_parts (if_any (is_between (s.filed + 1) (t.desk.last + longest_temporary)) s.temporary) _ c2.1 in
       let n1 = and_parts (s.notices == length (filter (λ p. p.is_open) (papers_in t f.id))) _ c1.1 in
       let d1 = and_parts _ (Sound.never_fall s.filed (map (λ p. p.day) (papers_in t f.id))) sound.3 in
@@ -206,12 +206,12 @@ module _ (t : Tables) (typed : AreTyped t) (keyed : AreKeyed t) where
       let d1 = and_parts _ (if_any (is_between (s.filed + 1) (t.desk.last + longest_temporary)) s.temporary) w3.1 in
       let d2 = and_parts _ (if_any (is_between s.filed t.desk.last) s.requested) d1.0 in
       let d3 = and_parts (is_between 1 t.desk.last s.filed) (if_any (is_between (s.filed + term) latest_deadline) s.deadline) d2.0 in
-      let k1 = and_parts _ ((s.notices == 0) || is_stage_among begun_stages s.stage) w2.1 in
-      let k2 = and_parts _ (is_none s.temporary || (is_stage_among Sound.occupied_stages s.stage && has_certificates s.kind)) k1.0 in
+      let k1 = and_parts _ ((s.notices == 0) || is_begun s.stage) w2.1 in
+      let k2 = and_parts _ (is_none s.temporary || (Sound.is_occupied s.stage && has_certificates s.kind)) k1.0 in
       let k3 = and_parts _ (if_any (is_between 1 (Sound.longest_ask s.stage)) s.ask) k2.0 in
-      let k4 = and_parts _ (not s.stopped || is_stage_among Sound.stopped_stages s.stage) k3.0 in
+      let k4 = and_parts _ (not s.stopped || Sound.may_be_stopped s.stage) k3.0 in
       let k5 = and_parts (is_done_in s.stage (length (required_steps s.edition s.kind)) s.done)
-      (is_none s.request || is_stage_among begun_stages s.stage) k4.0 in
+      (is_none s.request || is_begun s.stage) k4.0 in
       let e1 = and_parts (Sound.are_sound_papers_of (papers_in t f.id) s) _ fit.1 in
       let cents : is_cents f.valuation ≡ true = and_from _ _ (le-leb 0 f.valuation (omega arith)) (le-leb f.valuation most_cents good.valuation) in
       let filing : Sound.is_sound_filing t f ≡ true = and_from _ _ (and_from _ _ (and_from _ _ (and_from _ _

@@ -5,7 +5,6 @@ use Rattle.permit_base.specs.declared.words.Role.{Role}
 use Rattle.permit_base.specs.declared.words.Role.TheVariants.{Reviewer, Inspector, Official}
 use Rattle.permit_base.specs.Limits.{is_between, is_cents, most_papers, latest_day, latest_deadline}
 use Rattle.permit_base.specs.Texts.{is_printable, is_lot, is_digest}
-use Rattle.permit_model.specs.Codes.{is_stage_among}
 use Rattle.permit_model.specs.Days.{term, longest_temporary}
 use Rattle.permit_model.specs.Steps.{required_steps, has_certificates}
 use Rattle.permit_model.specs.Caller.{Party}
@@ -13,7 +12,7 @@ use Rattle.permit_model.specs.Parcels.{Parcel, Interest}
 use Rattle.permit_model.specs.Numbering.{is_numbered}
 use Rattle.permit_model.specs.Tables.{Desk, State, FileRow, Paper, Tables, next_in_row, is_notice}
 use Rattle.permit_model.specs.SoundState.{is_stored, deadline_stands, is_for, request_dated}
-use Rattle.permit_model.specs.Sound.{if_any, has_party, has_party_of, has_parcel, has_file, papers_in, has_few_records, begun_stages, stopped_stages, occupied_stages}
+use Rattle.permit_model.specs.Sound.{if_any, has_party, has_party_of, has_parcel, has_file, papers_in, has_few_records, is_begun, may_be_stopped, is_occupied}
 use Rattle.permit_model.specs.Sound.{is_done_in, longest_ask, has_sound_days, has_sound_text, has_sound_terms}
 use Rattle.permit_sql.specs.Tested.{has_role_at, is_ended}
 use Rattle.permit_sql.specs.declared.tally.Tally.{Tally}
@@ -60,11 +59,11 @@ fits_file_rule roles parcels last file.LateDeadline s = if_any (λ day. nat_le d
 fits_file_rule roles parcels last file.Requested s = if_any (is_between s.filed last) s.requested
 fits_file_rule roles parcels last file.Temporary s = if_any (is_between (s.filed + 1) (last + longest_temporary)) s.temporary
 fits_file_rule roles parcels last file.Done s = is_done_in s.stage (length (required_steps s.edition s.kind)) s.done
-fits_file_rule roles parcels last file.RequestStage s = is_none s.request || is_stage_among begun_stages s.stage
-fits_file_rule roles parcels last file.Stopped s = not s.stopped || is_stage_among stopped_stages s.stage
+fits_file_rule roles parcels last file.RequestStage s = is_none s.request || is_begun s.stage
+fits_file_rule roles parcels last file.Stopped s = not s.stopped || may_be_stopped s.stage
 fits_file_rule roles parcels last file.Ask s = if_any (is_between 1 (longest_ask s.stage)) s.ask
-fits_file_rule roles parcels last file.TemporaryStage s = is_none s.temporary || (is_stage_among occupied_stages s.stage && has_certificates s.kind)
-fits_file_rule roles parcels last file.NoticesStage s = (s.notices == 0) || is_stage_among begun_stages s.stage
+fits_file_rule roles parcels last file.TemporaryStage s = is_none s.temporary || (is_occupied s.stage && has_certificates s.kind)
+fits_file_rule roles parcels last file.NoticesStage s = (s.notices == 0) || is_begun s.stage
 fits_file_rule roles parcels last file.Papers s = nat_le s.papers most_papers
 fits_file_rule roles parcels last _ s = true
 
@@ -132,14 +131,14 @@ holds_of_file t file.EarlyDeadline f = if_any (nat_le (f.state.filed + term)) f.
 holds_of_file t file.LateDeadline f = if_any (λ day. nat_le day latest_deadline) f.state.deadline
 holds_of_file t file.Done f = is_done_in f.state.stage (length (required_steps f.state.edition f.state.kind)) f.state.done
 holds_of_file t file.Request f = is_for f.state.request (next_in_row f.state)
-holds_of_file t file.RequestStage f = is_none f.state.request || is_stage_among begun_stages f.state.stage
+holds_of_file t file.RequestStage f = is_none f.state.request || is_begun f.state.stage
 holds_of_file t file.Requested f = request_dated f.state && if_any (is_between f.state.filed t.desk.last) f.state.requested
 holds_of_file t file.Ask f = if_any (is_between 1 (longest_ask f.state.stage)) f.state.ask
-holds_of_file t file.Stopped f = not f.state.stopped || is_stage_among stopped_stages f.state.stage
+holds_of_file t file.Stopped f = not f.state.stopped || may_be_stopped f.state.stage
 holds_of_file t file.Temporary f = if_any (is_between (f.state.filed + 1) (t.desk.last + longest_temporary)) f.state.temporary
-holds_of_file t file.TemporaryStage f = is_none f.state.temporary || (is_stage_among occupied_stages f.state.stage && has_certificates f.state.kind)
+holds_of_file t file.TemporaryStage f = is_none f.state.temporary || (is_occupied f.state.stage && has_certificates f.state.kind)
 holds_of_file t file.Notices f = f.state.notices == length (filter (λ p. p.is_open) (papers_in t f.id))
-holds_of_file t file.NoticesStage f = (f.state.notices == 0) || is_stage_among begun_stages f.state.stage
+holds_of_file t file.NoticesStage f = (f.state.notices == 0) || is_begun f.state.stage
 holds_of_file t file.Papers f = (f.state.papers == length (papers_in t f.id)) && nat_le f.state.papers most_papers
 
 -- the number of the first paper that hasn't the next number

@@ -5,13 +5,13 @@ use Rattle.std.specs.List.{list_all}
 use Rattle.permit_base.specs.declared.words.Role.{Role}
 use Rattle.permit_base.specs.declared.words.Role.TheVariants.{Reviewer, Inspector}
 use Rattle.permit_base.specs.Limits.{is_between, most_papers, latest_deadline}
-use Rattle.permit_model.specs.Codes.{is_role, is_stage_among}
+use Rattle.permit_model.specs.Codes.{is_role}
 use Rattle.permit_model.specs.Days.{term, longest_temporary}
 use Rattle.permit_model.specs.Steps.{required_steps, has_certificates}
 use Rattle.permit_model.specs.Numbering.{is_numbered_from}
 use Rattle.permit_model.specs.Parcels.{Parcel, Interest}
 use Rattle.permit_model.specs.Tables.{Desk, State, Paper, Tables, is_notice}
-use Rattle.permit_model.specs.Sound.{if_any, has_few_records, begun_stages, stopped_stages, occupied_stages, is_done_in, longest_ask, never_fall}
+use Rattle.permit_model.specs.Sound.{if_any, has_few_records, is_begun, may_be_stopped, is_occupied, is_done_in, longest_ask, never_fall}
 use Rattle.permit_model.specs.Sound.{has_sound_days, has_sound_text, has_sound_terms, papers_in, is_sound_paper, are_sound_papers_of}
 use Rattle.permit_sql.specs.declared.tally.Tally.{Tally}
 
@@ -55,10 +55,10 @@ fits_days last s =
 -- the work on a file
 abbrev pub fits_work : State → Bool
 fits_work s =
-    is_done_in s.stage (length (required_steps s.edition s.kind)) s.done && (is_none s.request || is_stage_among begun_stages s.stage)
-    && (not s.stopped || is_stage_among stopped_stages s.stage) && if_any (is_between 1 (longest_ask s.stage)) s.ask
-    && (is_none s.temporary || (is_stage_among occupied_stages s.stage && has_certificates s.kind))
-    && ((s.notices == 0) || is_stage_among begun_stages s.stage)
+    is_done_in s.stage (length (required_steps s.edition s.kind)) s.done && (is_none s.request || is_begun s.stage)
+    && (not s.stopped || may_be_stopped s.stage) && if_any (is_between 1 (longest_ask s.stage)) s.ask
+    && (is_none s.temporary || (is_occupied s.stage && has_certificates s.kind))
+    && ((s.notices == 0) || is_begun s.stage)
 
 -- a file, by the roles of the parties, the count of parcels and the last day
 abbrev pub fits_file : List Role → (parcels last : ℕ) → State → Bool

@@ -8,9 +8,6 @@ ghost use Rattle.permit_base.specs.declared.words.Role.TheVariants.{Official};
 ghost use Rattle.std.specs.List.{list_all};
 ghost use Rattle.permit_base.specs.Texts.{is_long, is_printable_letter, is_printable as is_printable_text};
 ghost use Rattle.permit_base.specs.Limits.{is_between as is_within};
-ghost use Rattle.permit_model.specs.Codes.{is_stage_among};
-ghost use Rattle.permit_model.specs.SoundState;
-ghost use Rattle.permit_model.specs.Steps;
 ghost use Rattle.permit_model.specs.Tables.{is_notice as is_notice_sort};
 ghost use Rattle.permit_model.specs.Sound;
 ghost use Rattle.permit_sql.specs.Tested;
@@ -21,9 +18,9 @@ use permit_base::limits::{
     MOST_PAPERS, MOST_RECORDS, TERM,
 };
 use permit_base::values::{Day, PartyId};
-use permit_base::words::{Kind, PaperSort, Role, Stage};
+use permit_base::words::{PaperSort, Role, Stage};
 use permit_core::state::FileState;
-use permit_core::steps::required_steps;
+use permit_core::steps::{has_certificates, required_steps};
 use permit_store::rows::{Desk, Paper};
 
 /// The first rule that the desk breaks: the last day is one that the office takes, and there is a party, and no more
@@ -176,113 +173,14 @@ fn days_rule(last: Day, state: &FileState) -> Option<FileRule>
     }
 }
 
-/// Whether work began in the stage, or its permit was revoked.
-pub(crate) fn is_begun(stage: Stage) -> bool
-    ensures { result ≡ is_stage_among Sound.begun_stages stage }
-{
-    match stage {
-        Stage::Working | Stage::Revoked => true,
-        Stage::Filed
-        | Stage::Review
-        | Stage::Returned
-        | Stage::Approved
-        | Stage::Rejected
-        | Stage::Issued
-        | Stage::Finaled
-        | Stage::Certified
-        | Stage::Abandoned
-        | Stage::Lapsed
-        | Stage::New
-        | Stage::Office => false,
-    }
-}
-
-/// Whether the work is over in the stage.
-fn is_completed(stage: Stage) -> bool
-    ensures { result ≡ SoundState.is_completed stage }
-{
-    match stage {
-        Stage::Finaled | Stage::Certified => true,
-        Stage::Filed
-        | Stage::Review
-        | Stage::Returned
-        | Stage::Approved
-        | Stage::Rejected
-        | Stage::Issued
-        | Stage::Working
-        | Stage::Revoked
-        | Stage::Abandoned
-        | Stage::Lapsed
-        | Stage::New
-        | Stage::Office => false,
-    }
-}
-
-/// Whether a stop work order may stand in the stage.
-pub(crate) fn is_stoppable(stage: Stage) -> bool
-    ensures { result ≡ is_stage_among Sound.stopped_stages stage }
-{
-    match stage {
-        Stage::Issued | Stage::Working | Stage::Revoked | Stage::Finaled => true,
-        Stage::Filed
-        | Stage::Review
-        | Stage::Returned
-        | Stage::Approved
-        | Stage::Rejected
-        | Stage::Certified
-        | Stage::Abandoned
-        | Stage::Lapsed
-        | Stage::New
-        | Stage::Office => false,
-    }
-}
-
-/// Whether a temporary certificate is kept in the stage.
-fn is_occupied(stage: Stage) -> bool
-    ensures { result ≡ is_stage_among Sound.occupied_stages stage }
-{
-    match stage {
-        Stage::Working | Stage::Revoked | Stage::Finaled | Stage::Certified => true,
-        Stage::Filed
-        | Stage::Review
-        | Stage::Returned
-        | Stage::Approved
-        | Stage::Rejected
-        | Stage::Issued
-        | Stage::Abandoned
-        | Stage::Lapsed
-        | Stage::New
-        | Stage::Office => false,
-    }
-}
-
 /// The most days of an ask that is kept in the stage.
 fn longest_ask(stage: Stage) -> u32
     ensures { result ≡ Sound.longest_ask stage }
 {
-    match stage {
-        Stage::Rejected | Stage::Filed | Stage::Review | Stage::Returned | Stage::Approved => {
-            LONGEST_REVIEW_EXTENSION
-        }
-        Stage::Issued
-        | Stage::Working
-        | Stage::Revoked
-        | Stage::Finaled
-        | Stage::Certified
-        | Stage::Abandoned
-        | Stage::Lapsed
-        | Stage::New
-        | Stage::Office => LONGEST_PERMIT_EXTENSION,
-    }
-}
-
-/// Whether certificates are given for the kind.
-fn has_certificates(kind: Kind) -> bool
-    ensures { result ≡ Steps.has_certificates kind }
-{
-    match kind {
-        Kind::Construct | Kind::Enlarge | Kind::Alter | Kind::Move | Kind::Occupancy => true,
-        Kind::Repair | Kind::Demolish => false,
+    if stage.facts().unissued {
+        LONGEST_REVIEW_EXTENSION
+    } else {
+        LONGEST_PERMIT_EXTENSION
     }
 }
 
@@ -290,9 +188,10 @@ fn has_certificates(kind: Kind) -> bool
 pub(crate) fn is_done_in(stage: Stage, required: usize, done: usize) -> bool
     ensures { result ≡ Sound.is_done_in stage required done }
 {
-    if is_begun(stage) {
+    let facts = stage.facts();
+    if facts.begun {
         done < required
-    } else if is_completed(stage) {
+    } else if facts.complete {
         done == required
     } else {
         done == 0
@@ -317,20 +216,21 @@ fn work_rule(state: &FileState) -> Option<FileRule>
         → result ≡ first_broken (λ rule. fits_file_rule roles parcels last rule state.now) work_rules }
 {
     let stage = state.stored_stage();
+    let facts = stage.facts();
     let required = required_steps(state.edition(), state.kind()).len();
     if !is_done_in(stage, required, state.done() as usize) {
         Some(FileRule::Done)
-    } else if state.request().is_some() && !is_begun(stage) {
+    } else if state.request().is_some() && !facts.begun {
         Some(FileRule::RequestStage)
-    } else if state.is_stopped() && !is_stoppable(stage) {
+    } else if state.is_stopped() && !facts.stopped {
         Some(FileRule::Stopped)
     } else if !fits_ask(state) {
         Some(FileRule::Ask)
     } else if state.temporary().is_some()
-        && !(is_occupied(stage) && has_certificates(state.kind()))
+        && !(facts.occupied && has_certificates(state.kind()))
     {
         Some(FileRule::TemporaryStage)
-    } else if state.notices() != 0 && !is_begun(stage) {
+    } else if state.notices() != 0 && !facts.begun {
         Some(FileRule::NoticesStage)
     } else {
         None

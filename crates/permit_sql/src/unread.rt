@@ -7,7 +7,7 @@ ghost use Rattle.permit_sql_rows.specs.Rows.{int};
 use crate::fault::{
     DeskRule, FileRule, InterestRule, PaperRule, ParcelRule, PartyRule, UpgradeRule,
 };
-use crate::sound_row::{is_begun, is_done_in, is_stoppable};
+use crate::sound_row::is_done_in;
 use permit_base::limits::{LATEST_DAY, MOST_CENTS, MOST_DAYS, MOST_PAPERS, MOST_RECORDS};
 use permit_base::values::Digest;
 use permit_base::words::{Edition, Kind, PaperSort, Role, Stage, Step, Word};
@@ -146,19 +146,6 @@ fn is_absent(row: &Row, at: usize) -> bool {
     whole_number(row, at) == Some(-1)
 }
 
-/// Whether a deadline stands in the stage.
-fn is_timed(stage: Stage) -> bool {
-    matches!(
-        stage,
-        Stage::Filed
-            | Stage::Review
-            | Stage::Returned
-            | Stage::Approved
-            | Stage::Issued
-            | Stage::Working
-    )
-}
-
 /// How many steps are required of a file of the kind, by the count of files at the upgrade.
 fn required(row: &Row, kind: Kind, upgrade: Option<u32>) -> usize {
     let edition = match (number_in(row, 0), upgrade) {
@@ -170,16 +157,17 @@ fn required(row: &Row, kind: Kind, upgrade: Option<u32>) -> usize {
 
 /// A rule that the numbers of a file's row break together, of a file in the stage.
 fn state_rule(row: &Row, stage: Stage, required: usize) -> FileRule {
+    let facts = stage.facts();
     let done = number_in(row, 12).unwrap_or(0) as usize;
-    if is_absent(row, 11) == is_timed(stage) {
+    if is_absent(row, 11) == facts.expiry.is_timed() {
         FileRule::NoDeadline
     } else if !is_done_in(stage, required, done) {
         FileRule::Done
     } else if is_absent(row, 13) != is_absent(row, 14) {
         FileRule::Requested
-    } else if number_in(row, 16) == Some(1) && !is_stoppable(stage) {
+    } else if number_in(row, 16) == Some(1) && !facts.stopped {
         FileRule::Stopped
-    } else if number_in(row, 17) != Some(0) && !is_begun(stage) {
+    } else if number_in(row, 17) != Some(0) && !facts.begun {
         FileRule::NoticesStage
     } else {
         FileRule::Request
