@@ -120,7 +120,7 @@ fn effect_of<'a>(state: &FileState, author: PartyId, command: &'a Command) -> Ro
 }
 
 /// Admits an allowed command on a file whose parcel has this owner, and makes its change.
-fn perform<S: Store>(
+pub(crate) fn perform<S: Store>(
     store: &mut S,
     caller: PartyId,
     file: FileId,

@@ -1,6 +1,6 @@
 //! Parcels: new ones, their owners, and the interests declared in them.
 
-ghost use Rattle.std.specs.Prelude.{◌≡◌, ◌≤◌, ◌+◌, ◌∷◌, ◌&&◌, [], false, ℕ, Option, Some, None, List, IsTrue, IfOk, OnOk, bytes_eq, find};
+ghost use Rattle.std.specs.Prelude.{◌≡◌, ◌≤◌, ◌+◌, ◌==◌, ◌∷◌, ◌&&◌, [], false, ℕ, Option, Some, None, List, IsTrue, IfOk, OnOk, bytes_eq, find};
 ghost use Rattle.std.specs.Prelude.{is_none, is_some, nat_lt};
 ghost use Rattle.std.specs.List.{list_any};
 ghost use Rattle.permit_base.specs.declared.request.Request.TheVariants as request;
@@ -12,10 +12,10 @@ ghost use Rattle.permit_model.specs.Parcels.{parcels};
 ghost use Rattle.permit_base.specs.declared.refusal.Reason.TheVariants.{Taken};
 ghost use Rattle.permit_model.specs.Admission.{first_failing, reason_against};
 ghost use Rattle.permit_model.specs.Tables.{Tables, tables, desk_of};
-ghost use Rattle.permit_model.specs.Machine.{outcome_by_request};
+ghost use Rattle.permit_model.specs.Machine.{outcome_by_request, outcome_of_command};
 ghost use Rattle.permit_model.specs.Sound.{IsSoundTables, has_party};
 ghost use Rattle.permit_store.specs.Frames.{OverHistory, OverTables};
-ghost use Rattle.permit_office.specs.Answers.{Attempts, IsOwn, reason_in};
+ghost use Rattle.permit_office.specs.Answers.{Attempts, IsDecided, IsOwn, reason_in};
 ghost use Rattle.permit_office.specs.Frames.{OnlyReads, IsAttempt};
 ghost use Rattle.permit_office.specs.Reach.{NoRow};
 ghost use Rattle.permit_office.specs.Sound.{IsSoundChange, MakesBy, MayAct, OnMade};
@@ -64,6 +64,37 @@ fn admit_parcel<S: Store>(store: &mut S, desk: &Desk, lot: &Lot, owner: PartyId)
     Ok(next_number(desk.parcels))
 }
 
+/// Admits a new parcel, and adds it.
+pub(crate) fn make_parcel<S: Store>(
+    store: &mut S,
+    desk: &Desk,
+    lot: &Lot,
+    address: &Text,
+    owner: PartyId,
+    day: Day,
+) -> Got<Reply>
+    ensures model { OverHistory (S.view store.old) (S.view store.new) (λ h. (caller : ℕ) → desk.now ≡ desk_of h → last_day h ≤ day
+        → Attempts (S.view store.new).holds result (outcome_of_command h day caller (request.AddParcel lot.now address.now owner)) h) }
+    ensures sound { OverTables (S.view store.old) (S.view store.new) (λ t. (caller : ℕ) → IsSoundTables t → desk.now ≡ t.desk → MayAct t caller day
+        → OnMade result (IsSoundChange (S.view store.new).holds day t)) }
+    ensures attempt { IsAttempt NoRow (S.view store.old) (S.view store.new) result }
+    ensures own { IfOk result IsOwn }
+    ensures decided { IfOk result IsDecided }
+{
+    let admitted = admit_parcel(store, desk, lot, owner)?;
+    parcel_within(lot, address);
+    carry_out(
+        store,
+        admitted,
+        &Change::NewParcel {
+            lot,
+            address,
+            owner,
+        },
+        day,
+    )
+}
+
 /// Adds a parcel.
 pub(crate) fn add_parcel<S: Store>(
     store: &mut S,
@@ -86,18 +117,7 @@ pub(crate) fn add_parcel<S: Store>(
     if let Some(name) = policy.denial(&Facts::office(caller.role, Action::AddParcel)) {
         return Ok(Reply::Refused(Refusal::Denied(name)));
     }
-    let admitted = admit_parcel(store, desk, lot, owner)?;
-    parcel_within(lot, address);
-    carry_out(
-        store,
-        admitted,
-        &Change::NewParcel {
-            lot,
-            address,
-            owner,
-        },
-        day,
-    )
+    make_parcel(store, desk, lot, address, owner, day)
 }
 
 /// Nobody declares an interest twice, and a declaration makes no record with a number.
@@ -109,6 +129,29 @@ fn admit_declaration(has_interest: bool) -> Admitted
         return Err(Reason::Taken);
     }
     Ok(None)
+}
+
+/// Admits the declaration of a party that has this interest in a parcel that is there, and makes it.
+pub(crate) fn make_interest<S: Store>(
+    store: &mut S,
+    party: PartyId,
+    parcel: ParcelId,
+    has_interest: bool,
+    day: Day,
+) -> Got<Reply>
+    ensures model { (S.view store.new).doubt ≡ 0 → (h : History) → (S.view store.old).holds (tables h)
+        → (land : Parcels.Parcel) → Parcels.parcel_numbered h parcel ≡ Some land
+        → has_interest ≡ Parcels.has_interest h parcel party → last_day h ≤ day → IsTrue (Caller.is_party h party)
+        → Attempts (S.view store.new).holds result (outcome_of_command h day party (request.Declare parcel)) h }
+    ensures sound { OverTables (S.view store.old) (S.view store.new) (λ t. IsTrue (is_some (find (λ p. p.id == parcel) t.parcels))
+        → has_interest ≡ list_any (λ i. (i.parcel == parcel) && (i.party == party)) t.interests
+        → IsSoundTables t → MayAct t party day → OnMade result (IsSoundChange (S.view store.new).holds day t)) }
+    ensures attempt { IsAttempt NoRow (S.view store.old) (S.view store.new) result }
+    ensures own { IfOk result IsOwn }
+    ensures decided { IfOk result IsDecided }
+{
+    let admitted = admit_declaration(has_interest);
+    carry_out(store, admitted, &Change::NewInterest { parcel, party }, day)
 }
 
 /// Declares an interest.
@@ -133,9 +176,7 @@ pub(crate) fn declare<S: Store>(
     if let Some(name) = policy.denial(&facts) {
         return Ok(Reply::Refused(Refusal::Denied(name)));
     }
-    let admitted = admit_declaration(facts.relations.conflict);
-    let party = caller.id;
-    carry_out(store, admitted, &Change::NewInterest { parcel, party }, day)
+    make_interest(store, caller.id, parcel, facts.relations.conflict, day)
 }
 
 /// What stands against a transfer, which makes no record with a number.
@@ -159,6 +200,32 @@ fn admit_transfer<S: Store>(
         return Ok(Err(Reason::Taken));
     }
     Ok(Ok(None))
+}
+
+/// Admits the transfer of a parcel of this owner, and makes it.
+pub(crate) fn make_transfer<S: Store>(
+    store: &mut S,
+    parcel: ParcelId,
+    owner: PartyId,
+    to: PartyId,
+    day: Day,
+) -> Got<Reply>
+    ensures model { (S.view store.new).doubt ≡ 0 → (h : History) (caller : ℕ) → (S.view store.old).holds (tables h)
+        → Parcels.owner h parcel ≡ Some owner → last_day h ≤ day
+        → Attempts (S.view store.new).holds result (outcome_of_command h day caller (request.Transfer parcel to)) h }
+    ensures sound { OverTables (S.view store.old) (S.view store.new) (λ t. (caller : ℕ) → IsTrue (is_some (find (λ p. p.id == parcel) t.parcels))
+        → IsSoundTables t → MayAct t caller day → OnMade result (IsSoundChange (S.view store.new).holds day t)) }
+    ensures attempt { IsAttempt NoRow (S.view store.old) (S.view store.new) result }
+    ensures own { IfOk result IsOwn }
+    ensures decided { IfOk result IsDecided }
+{
+    let admitted = admit_transfer(store, parcel, owner, to)?;
+    carry_out(
+        store,
+        admitted,
+        &Change::NewOwner { parcel, owner: to },
+        day,
+    )
 }
 
 /// Transfers a parcel.
@@ -190,11 +257,5 @@ pub(crate) fn transfer<S: Store>(
     if let Some(name) = policy.denial(&facts) {
         return Ok(Reply::Refused(Refusal::Denied(name)));
     }
-    let admitted = admit_transfer(store, parcel, owner, to)?;
-    carry_out(
-        store,
-        admitted,
-        &Change::NewOwner { parcel, owner: to },
-        day,
-    )
+    make_transfer(store, parcel, owner, to, day)
 }

@@ -9,10 +9,10 @@ ghost use Rattle.permit_model.specs.Caller;
 ghost use Rattle.permit_model.specs.History.{History, last_day};
 ghost use Rattle.permit_model.specs.Admission.{reason_against};
 ghost use Rattle.permit_model.specs.Tables.{Tables, tables, desk_of};
-ghost use Rattle.permit_model.specs.Machine.{outcome_by_request};
+ghost use Rattle.permit_model.specs.Machine.{outcome_by_request, outcome_of_command};
 ghost use Rattle.permit_model.specs.Sound.{IsSoundTables, has_party};
-ghost use Rattle.permit_store.specs.Frames.{OverHistory, OverTables};
-ghost use Rattle.permit_office.specs.Answers.{Attempts, IsOwn, reason_in};
+ghost use Rattle.permit_store.specs.Frames.{HasOneDesk, OverHistory, OverTables};
+ghost use Rattle.permit_office.specs.Answers.{Attempts, IsDecided, IsOwn, reason_in};
 ghost use Rattle.permit_office.specs.Frames.{OnlyReads, IsAttempt};
 ghost use Rattle.permit_office.specs.Reach.{NoRow};
 ghost use Rattle.permit_office.specs.Sound.{IsSoundChange, MayAct, OnMade};
@@ -42,6 +42,7 @@ fn adding(role: Role) -> Action
 pub(crate) fn is_party<S: Store>(store: &mut S, party: PartyId) -> Got<bool>
     ensures there { (S.view store.new).doubt ≡ 0 → (h : History) → (S.view store.old).holds (tables h) → IfOk result (λ b. b ≡ Caller.is_party h party) }
     ensures held { OverTables (S.view store.old) (S.view store.new) (λ t. IfOk result (λ b. b ≡ has_party t party)) }
+    ensures one { (S.view store.new).doubt ≡ 0 → OnOk result (HasOneDesk (S.view store.new)) }
     ensures read { OnlyReads (S.view store.old) (S.view store.new) result }
 {
     let role = store.role(party)?;
@@ -63,6 +64,34 @@ fn admit_party<S: Store>(store: &mut S, desk: &Desk, digest: &Digest) -> Got<Adm
         return Ok(Err(Reason::Taken));
     }
     Ok(next_number(desk.parties))
+}
+
+/// Admits a new party of this digest, and adds it.
+pub(crate) fn make_party<S: Store>(
+    store: &mut S,
+    desk: &Desk,
+    name: &Text,
+    role: Role,
+    digest: &Digest,
+    day: Day,
+) -> Got<Reply>
+    ensures model { OverHistory (S.view store.old) (S.view store.new) (λ h. (caller : ℕ) (token : List ℕ) → digest.now ≡ digest_of token
+        → desk.now ≡ desk_of h → last_day h ≤ day
+        → Attempts (S.view store.new).holds result (outcome_of_command h day caller (request.AddParty name.now role token)) h) }
+    ensures sound { OverTables (S.view store.old) (S.view store.new) (λ t. (caller : ℕ) → IsSoundTables t → desk.now ≡ t.desk → MayAct t caller day
+        → OnMade result (IsSoundChange (S.view store.new).holds day t)) }
+    ensures attempt { IsAttempt NoRow (S.view store.old) (S.view store.new) result }
+    ensures own { IfOk result IsOwn }
+    ensures decided { IfOk result IsDecided }
+{
+    let admitted = admit_party(store, desk, digest)?;
+    party_within(name, digest);
+    carry_out(
+        store,
+        admitted,
+        &Change::NewParty { name, role, digest },
+        day,
+    )
 }
 
 /// Adds a party.
@@ -90,16 +119,5 @@ pub(crate) fn add_party<S: Store>(
     let Ok(digest) = digest(token) else {
         return Err(StoreError);
     };
-    let admitted = admit_party(store, desk, &digest)?;
-    party_within(name, &digest);
-    carry_out(
-        store,
-        admitted,
-        &Change::NewParty {
-            name,
-            role,
-            digest: &digest,
-        },
-        day,
-    )
+    make_party(store, desk, name, role, &digest, day)
 }

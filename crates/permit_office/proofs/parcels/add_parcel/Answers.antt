@@ -1,18 +1,10 @@
-use Rattle.std.proofs.Common.{◌≡◌, ◌+◌, ap, ◌∙◌, sym, refl, inl, arith}
-use Rattle.std.specs.Prelude.{Some, nat_lt}
-use Rattle.std.proofs.lemmas.Bool.{ltb-true, and_parts}
-use Rattle.permit_base.specs.Limits.{most_records}
-use Rattle.permit_model.specs.Sound.{has_party}
+use Rattle.std.proofs.Common.{ap, ◌∙◌, sym, refl, inl}
 use Rattle.permit_base.specs.declared.request.Request.TheVariants.{AddParcel}
 use Rattle.permit_base.specs.declared.words.Action.TheVariants as action
 use Rattle.permit_model.specs.Caller.{Party}
-use Rattle.permit_model.specs.Tables.{Desk, tables}
 use Rattle.permit_model.specs.Facts.{office_facts}
 use Rattle.permit_model.specs.Policy.{decision}
-use Rattle.permit_model.specs.Machine.{entry_of}
-use Rattle.permit_office.proofs.Deciding.{denied_outcome, allowed_outcome, parcel_suits, none_against, number_is}
-use Rattle.permit_office.proofs.Tables.{parcel_more}
-use Rattle.permit_office.proofs.SoundChanges.{on_ok, parcel_sound}
+use Rattle.permit_office.proofs.Deciding.{denied_outcome, allowed_outcome}
 use Rattle.permit_office.proofs.parcels.add_parcel.Goals as goal
 
 pub returns-in-Some-clause-model : goal.returns-in-Some-clause-model
@@ -26,34 +18,13 @@ returns-in-Some-clause-model g c = λ doubt h is held e t.
 
 pub returns-clause-model : goal.returns-clause-model
 returns-clause-model g c = λ doubt h is held e t.
-    let late : (g.S.Store.view c.admit_parcel.new.store).doubt ≡ 0 = omega arith in
     let role = ap (λ (p : Party). p.role) c.caller.view_is in
     let a = c.args in
     let allowed = rw (c.office.ensures, role) at (sym c.in_default.is ∙ c.denial.ensures) in
-    let reason = c.in_ok-admitted.ensures.reason late h a.day a.caller.now.id a.address.now held e in
-    let count = ap (λ (d : Desk). Some (d.parcels + 1)) e in
-    let done = c.carry_out.ensures.model h (entry_of h a.day a.caller.now.id (AddParcel a.lot.now a.address.now a.owner))
-    (c.admit_parcel.ensures.read.kept (tables h) held)
-    (λ number is_ok. let s = parcel_suits h a.day a.caller.now.id a.lot.now a.address.now a.owner (sym reason ∙ none_against _ number is_ok) in (
-      number_is _ number _ c.in_ok-admitted.ensures.number is_ok ∙ count,
-      record { suits = s; in_time = t },
-      parcel_more h a.day a.caller.now.id a.lot.now a.address.now a.owner is,
-    )) in
+    let done = c.make_parcel.ensures.model doubt h is held a.caller.now.id e t in
     rw (allowed_outcome a.policy.now h a.day a.caller.now (AddParcel a.lot.now a.address.now a.owner)
     (decision a.policy.now (office_facts a.caller.now.role action.AddParcel)) allowed)
-    (rw reason at done)
+    done
 
 pub returns-clause-sound : goal.returns-clause-sound
-returns-clause-sound g c = λ doubt t held sound e may.
-    let late : (g.S.Store.view c.admit_parcel.new.store).doubt ≡ 0 = omega arith in
-    let a = c.args in
-    let suits = c.in_ok-admitted.ensures.suits late t held e in
-    c.carry_out.ensures.sound t (c.admit_parcel.ensures.read.kept t held)
-    (λ number is_ok.
-    let fits = on_ok _ c.in_ok-admitted.admitted number is_ok suits in
-    let owner = and_parts _ (has_party t a.owner) fits in (
-      record { suits = fits; in_time = may.in_time },
-      parcel_sound t a.day a.lot.now a.address.now a.owner sound may.in_time may.early
-          (ltb-true t.desk.parcels most_records (and_parts (nat_lt t.desk.parcels most_records) _ owner.0).0) c.parcel_within.ensures.lot
-          c.parcel_within.ensures.address owner.1,
-    ))
+returns-clause-sound g c = λ doubt t held sound e may. c.make_parcel.ensures.sound doubt t held c.args.caller.now.id sound e may

@@ -1,6 +1,5 @@
-use Rattle.std.proofs.Common.{◌≡◌, ◌==◌, ◌∷◌, [], not, ap, ◌∙◌, sym, refl, inl, arith}
+use Rattle.std.proofs.Common.{◌≡◌, ◌==◌, ap, ◌∙◌, sym, refl, inl, arith}
 use Rattle.std.specs.Prelude.{find}
-use Rattle.std.proofs.lemmas.Bool.{and_from}
 use Rattle.permit_base.specs.declared.request.Request.TheVariants.{Declare}
 use Rattle.permit_base.specs.declared.words.Stage.TheVariants.{Office}
 use Rattle.permit_base.specs.declared.words.Action.TheVariants as action
@@ -8,14 +7,10 @@ use Rattle.permit_model.specs.Caller.{Party}
 use Rattle.permit_model.specs.Parcels.{Parcel}
 use Rattle.permit_model.specs.Tables.{tables}
 use Rattle.permit_model.specs.Facts.{Facts, parcel_facts}
-use Rattle.permit_model.specs.Admission.{first_failing}
-use Rattle.permit_base.specs.declared.refusal.Reason.TheVariants.{Taken}
 use Rattle.permit_model.specs.Policy.{decision}
-use Rattle.permit_model.specs.Machine.{entry_of}
-use Rattle.permit_office.proofs.Deciding.{denied_outcome, allowed_outcome, interest_suits, one_pass, none_against, number_is}
+use Rattle.permit_office.proofs.Deciding.{denied_outcome, allowed_outcome}
 use Rattle.permit_office.proofs.Finding.{parcel_owned, declare_judged}
-use Rattle.permit_office.proofs.Tables.{interest_more}
-use Rattle.permit_office.proofs.SoundChanges.{owned_there, interest_sound}
+use Rattle.permit_office.proofs.SoundChanges.{owned_there}
 use Rattle.permit_office.proofs.parcels.declare.Goals as goal
 
 pub returns-in-Some-denial-clause-model : goal.returns-in-Some-denial-clause-model
@@ -44,18 +39,12 @@ returns-clause-model g c = λ doubt h held t party.
     let allowed = rw facts at (sym c.in_default-denial.is ∙ c.denial.ensures) in
     let kept_2 = c.facts_on_parcel.ensures.read.kept (tables h) kept in
     let caller = ap (λ (p : Party). p.id) c.caller.view_is in
-    let reason = c.admit_declaration-admitted.ensures.reason ∙ ap (λ (f : Facts). first_failing ((f.relations.conflict, Taken) ∷ []))
-    (c.facts.view_is ∙ facts) in
-    let done = c.carry_out.ensures.model h (entry_of h a.day a.caller.now.id (Declare a.parcel)) kept_2
-    (λ number is_ok. let s = interest_suits h a.day a.caller.now.id a.parcel owned.land owned.found party (sym reason ∙ none_against _ number is_ok) in (
-      number_is _ number _ c.admit_declaration-admitted.ensures.number is_ok,
-      record { suits = rw caller s; in_time = t },
-      rw caller (interest_more h a.day a.caller.now.id a.parcel),
-    )) in
+    let conflict = ap (λ (f : Facts). f.relations.conflict) (c.facts.view_is ∙ facts) in
+    let done = c.make_interest.ensures.model doubt h kept_2 owned.land owned.found (rw (sym caller) at conflict) t (rw caller party) in
     rw (declare_judged a.policy.now h a.day a.caller.now a.parcel owned.land owned.found
     ∙ allowed_outcome a.policy.now h a.day a.caller.now (Declare a.parcel)
     (decision a.policy.now (parcel_facts h a.caller.now a.parcel Office action.Declare)) allowed)
-    (rw reason at done)
+    (rw caller at done)
 
 pub returns-clause-sound : goal.returns-clause-sound
 returns-clause-sound g c = λ doubt t held sound may.
@@ -67,10 +56,5 @@ returns-clause-sound g c = λ doubt t held sound may.
     let kept = c.owner.ensures.read.kept t held in
     let caller = ap (λ (p : Party). p.id) c.caller.view_is in
     let conflict = ap (λ (f : Facts). f.relations.conflict) c.facts.view_is ∙ c.in_ok-facts.ensures.conflict later t kept in
-    c.carry_out.ensures.sound t (c.facts_on_parcel.ensures.read.kept t kept)
-    (λ number is_ok.
-    let free = one_pass _ Taken (sym c.admit_declaration-admitted.ensures.reason ∙ none_against _ number is_ok) in
-    let suits = and_from _ _ (and_from _ _ placed may.there) (ap not (sym conflict ∙ free)) in (
-      record { suits = rw caller suits; in_time = may.in_time },
-      rw caller (interest_sound t a.day a.parcel a.caller.now.id sound may.in_time may.early placed may.there),
-    ))
+    c.make_interest.ensures.sound doubt t (c.facts_on_parcel.ensures.read.kept t kept) placed (rw (sym caller) at conflict) sound
+    (record { there = rw caller may.there; in_time = may.in_time; early = may.early })

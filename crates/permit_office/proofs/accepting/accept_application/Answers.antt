@@ -1,0 +1,33 @@
+use Rattle.std.proofs.Common.{◌≡◌, ◌==◌, ◌∙◌, sym, refl, inl, arith}
+use Rattle.std.specs.Prelude.{find}
+use Rattle.permit_base.specs.declared.request.Request.TheVariants.{File}
+use Rattle.permit_model.specs.Parcels.{Parcel}
+use Rattle.permit_model.specs.Tables.{tables}
+use Rattle.permit_office.proofs.Finding.{parcel_owned}
+use Rattle.permit_office.proofs.SoundChanges.{owned_there}
+use Rattle.permit_office.proofs.Unjudged.{parcel_missing, parcel_there}
+use Rattle.permit_office.proofs.accepting.accept_application.Goals as goal
+
+pub returns-in_default-clause-model : goal.returns-in_default-clause-model
+returns-in_default-clause-model g c = λ doubt h is held e t party.
+    let a = c.args in
+    let none = sym c.in_default.is ∙ c.in_ok-_owner.ensures.found doubt (tables h) held in
+    rw (parcel_missing h a.day a.caller a.parcel (File a.parcel a.kind a.valuation a.description.now) none)
+    (inl (refl, c.owner.ensures.read.kept (tables h) held))
+
+pub returns-clause-model : goal.returns-clause-model
+returns-clause-model g c = λ doubt h is held e t party.
+    let late : (g.S.Store.view c.owner.new.self).doubt ≡ 0 = omega arith in
+    let a = c.args in
+    let found = sym c.in-Some.is ∙ c.in_ok-_owner.ensures.found late (tables h) held in
+    let owned = parcel_owned h a.parcel c.in-Some._owner found in
+    rw (parcel_there h a.day a.caller a.parcel (File a.parcel a.kind a.valuation a.description.now) owned.land owned.found)
+    (c.make_file.ensures.model doubt h is (c.owner.ensures.read.kept (tables h) held) owned.land owned.found e t party)
+
+pub returns-clause-sound : goal.returns-clause-sound
+returns-clause-sound g c = λ doubt t held sound e may.
+    let late : (g.S.Store.view c.owner.new.self).doubt ≡ 0 = omega arith in
+    let a = c.args in
+    let placed = owned_there (find (λ (p : Parcel). p.id == a.parcel) t.parcels) c.in-Some._owner
+    (sym c.in-Some.is ∙ c.in_ok-_owner.ensures.found late t held) in
+    c.make_file.ensures.sound doubt t (c.owner.ensures.read.kept t held) placed sound e may

@@ -1,0 +1,131 @@
+-- One more line of a text.
+use Rattle.std.proofs.Common.{◌≡◌, refl, sym, ap, ◌∙◌, subst, ℕ, ◌+◌, suc, List, [], ◌∷◌, ◌++◌, length, Option, None, Some, option_map, arith, length-append, inl, inr}
+use Rattle.std.specs.Prelude.{◌⊎◌, Result, Ok, Err, IfSome, IfOk, IfErr}
+use Rattle.std.specs.Io.BufRead.{drop_through}
+use Rattle.permit_model.specs.History.{History}
+use Rattle.permit_store.specs.declared.plain.PlainStore.{PlainStore}
+use Rattle.permit_store.specs.Frames.{StoreView}
+use Rattle.permit_history.specs.declared.entry.Entry.{Entry}
+use Rattle.permit_history.specs.declared.fault.LineFault.{LineFault}
+use Rattle.permit_history.specs.declared.fault.LineFault.TheVariants as line_fault
+use Rattle.permit_history.specs.LineRead.{reading_of}
+use Rattle.permit_history.specs.Outcome.{IsUnlessMemory}
+use Rattle.permit_history.specs.Text.{next_line, AnswersLine, GivesInTurn}
+use Rattle.permit_replay.specs.declared.fault.Why.{Why}
+use Rattle.permit_replay.specs.declared.fault.ReplayFault.{ReplayFault}
+use Rattle.permit_replay.specs.declared.fault.ReplayFault.TheVariants as replay_fault
+use Rattle.permit_replay.specs.declared.replayed.Replayed.{Replayed}
+use Rattle.permit_replay.specs.declared.replayed.Replayed.TheVariants as replayed
+use Rattle.permit_replay.specs.Against.{against}
+use Rattle.permit_replay.specs.Histories.{HasToken, HaveTokens, history_with, history_from, history_by}
+use Rattle.permit_replay.specs.Holding.{Holds, FailsAs, Takes}
+use Rattle.permit_replay.specs.Texts.{EndsAs, HasReplayed, IsAtFault, IsReplayed, StopsAt}
+
+-- ---- what the line says
+
+entry_said : (entry : Entry) (line : Option (List ℕ)) → AnswersLine (Ok entry) line → option_map reading_of line ≡ Some (Ok entry)
+entry_said entry None answer = absurd answer
+entry_said entry (Some line) (inl e) = absurd cc
+entry_said entry (Some line) (inr e) = ap Some (sym e)
+
+said : (fault : LineFault) (answer : Result Entry LineFault) → IsUnlessMemory (Err fault) answer
+    → (fault ≡ line_fault.Memory) ⊎ (answer ≡ Err fault)
+said fault answer (inl e) = inl cc
+said fault answer (inr e) = inr (sym e)
+
+-- what is wrong with the next line
+pub at_fault : (fault : LineFault) (left : List ℕ) → AnswersLine (Err fault) (next_line left) → IsAtFault fault left
+at_fault fault left answer = by (next_line left) refl answer
+  where
+    known : (line : List ℕ) → next_line left ≡ Some line → (f : LineFault) → (f ≡ line_fault.Memory) ⊎ (reading_of line ≡ Err f) → IsAtFault f left
+    known line e line_fault.Memory either = tt
+    known line e line_fault.Long (inl f) = absurd cc
+    known line e line_fault.Syntax (inl f) = absurd cc
+    known line e line_fault.Fields (inl f) = absurd cc
+    known line e line_fault.Form (inl f) = absurd cc
+    known line e line_fault.Long (inr f) = ap (option_map reading_of) e ∙ ap Some f
+    known line e line_fault.Syntax (inr f) = ap (option_map reading_of) e ∙ ap Some f
+    known line e line_fault.Fields (inr f) = ap (option_map reading_of) e ∙ ap Some f
+    known line e line_fault.Form (inr f) = ap (option_map reading_of) e ∙ ap Some f
+
+    by : (o : Option (List ℕ)) → next_line left ≡ o → AnswersLine (Err fault) o → IsAtFault fault left
+    by None e answer = absurd answer
+    by (Some line) e answer = known line e fault (said fault (reading_of line) answer)
+
+-- ---- one entry more
+
+pub given_more : (bytes : List ℕ) (entries : List Entry) (left : List ℕ) (entry : Entry) → GivesInTurn bytes entries left
+    → AnswersLine (Ok entry) (next_line left) → GivesInTurn bytes (entries ++ entry ∷ []) (drop_through 10 left)
+given_more bytes [] left entry given answer = (subst (λ bs. option_map reading_of (next_line bs) ≡ Some (Ok entry)) (sym given)
+    (entry_said entry (next_line left) answer), ap (drop_through 10) given)
+given_more bytes (first ∷ later) left entry given answer = (given.0, given_more (drop_through 10 bytes) later left entry given.1 answer)
+
+from_more : (token_of : List ℕ → List ℕ) (h : History) (entries : List Entry) (entry : Entry)
+    → history_from token_of h (entries ++ entry ∷ []) ≡ history_with token_of (history_from token_of h entries) entry.day entry.deed
+from_more token_of h [] entry = refl
+from_more token_of h (first ∷ later) entry = from_more token_of (history_with token_of h first.day first.deed) later entry
+
+-- the history that one entry more tells
+pub told_more : (token_of : List ℕ → List ℕ) (entries : List Entry) (entry : Entry)
+    → history_by token_of (entries ++ entry ∷ []) ≡ history_with token_of (history_by token_of entries) entry.day entry.deed
+told_more token_of entries entry = from_more token_of [] entries entry
+
+pub tokens_parted : (token_of : List ℕ → List ℕ) (entries : List Entry) (entry : Entry) → HaveTokens token_of (entries ++ entry ∷ [])
+    → HaveTokens token_of entries × HasToken token_of entry.deed
+tokens_parted token_of [] entry have = (tt, have.0)
+tokens_parted token_of (first ∷ later) entry have =
+    let parts = tokens_parted token_of later entry have.1 in ((have.0, parts.0), parts.1)
+
+-- what is replayed with it
+pub replayed_more : (view : PlainStore → StoreView) (bytes : List ℕ) (entries : List Entry) (left : List ℕ) (entry : Entry) (before after : Replayed)
+    → HasReplayed view bytes entries left before → AnswersLine (Ok entry) (next_line left)
+    → ((token_of : List ℕ → List ℕ) (h : History) → Holds view before h → HasToken token_of entry.deed → Takes view token_of h entry.day entry.deed (Ok after))
+    → HasReplayed view bytes (entries ++ entry ∷ []) (drop_through 10 left) after
+replayed_more view bytes entries left entry before after has answer takes = record {
+  given = given_more bytes entries left entry has.given answer;
+  held = λ token_of have.
+      let parts = tokens_parted token_of entries entry have in
+      subst (Holds view after) (sym (told_more token_of entries entry)) (takes token_of (history_by token_of entries) (has.held token_of parts.0) parts.1).1;
+}
+
+-- what stands against it
+pub stopped_there : (view : PlainStore → StoreView) (bytes : List ℕ) (entries : List Entry) (left : List ℕ) (entry : Entry) (before : Replayed) (why : Why)
+    → HasReplayed view bytes entries left before
+    → ((token_of : List ℕ → List ℕ) (h : History) → Holds view before h → HasToken token_of entry.deed → Takes view token_of h entry.day entry.deed (Err why))
+    → (token_of : List ℕ → List ℕ) → HaveTokens token_of (entries ++ entry ∷ [])
+    → FailsAs why (against token_of (history_by token_of entries) entry.day entry.deed)
+stopped_there view bytes entries left entry before why has takes token_of have =
+    let parts = tokens_parted token_of entries entry have in
+    takes token_of (history_by token_of entries) (has.held token_of parts.0) parts.1
+
+pub one_more : (entries : List Entry) (entry : Entry) → length (entries ++ entry ∷ []) ≡ length entries + 1
+one_more entries entry = omega (arith, length-append entries (entry ∷ []))
+
+-- ---- bytes that may be known
+
+pub if_some : {A : Type 0} (o : Option A) (P : A → Type 0) → ((x : A) → o ≡ Some x → P x) → IfSome o P
+if_some None P all = tt
+if_some (Some x) P all = all x refl
+
+pub some_at : {A : Type 0} (o : Option A) (P : A → Type 0) (x : A) → IfSome o P → o ≡ Some x → P x
+some_at None P x said e = absurd cc
+some_at (Some y) P x said e = let same : y ≡ x = cc in subst P same said
+
+-- ---- the end
+
+pub ends_well : (view : PlainStore → StoreView) (bytes : List ℕ) (entries : List Entry) (left : List ℕ) (as_far : Replayed)
+    (result : Result PlainStore ReplayFault) → HasReplayed view bytes entries left as_far → next_line left ≡ None → EndsAs as_far result
+    → IfOk result (IsReplayed view bytes)
+ends_well view bytes entries left replayed.Nothing result has none e = subst (λ r. IfOk r (IsReplayed view bytes)) (sym e) tt
+ends_well view bytes entries left (replayed.Founded founder) result has none e = subst (λ r. IfOk r (IsReplayed view bytes)) (sym e) tt
+ends_well view bytes entries left (replayed.Open store) result has none e =
+    subst (λ r. IfOk r (IsReplayed view bytes)) (sym e) (entries, left, has, none)
+
+pub ends_short : (view : PlainStore → StoreView) (bytes : List ℕ) (entries : List Entry) (left : List ℕ) (as_far : Replayed)
+    (result : Result PlainStore ReplayFault) → HasReplayed view bytes entries left as_far → next_line left ≡ None → EndsAs as_far result
+    → IfErr result (StopsAt view bytes)
+ends_short view bytes entries left replayed.Nothing result has none e =
+    subst (λ r. IfErr r (StopsAt view bytes)) (sym e) (entries, left, replayed.Nothing, has, none, tt)
+ends_short view bytes entries left (replayed.Founded founder) result has none e =
+    subst (λ r. IfErr r (StopsAt view bytes)) (sym e) (entries, left, replayed.Founded founder, has, none, tt)
+ends_short view bytes entries left (replayed.Open store) result has none e = subst (λ r. IfErr r (StopsAt view bytes)) (sym e) tt

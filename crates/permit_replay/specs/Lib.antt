@@ -1,0 +1,4 @@
+pub mod Histories
+pub mod Against
+pub mod Holding
+pub mod Texts

@@ -1,0 +1,50 @@
+//! Why a text is not replayed.
+
+use permit_base::refusal::Refusal;
+use permit_history::fault::LineFault;
+use std::io;
+
+/// Why an entry is not the next one.
+#[derive(Clone, Copy, PartialEq, Eq)]
+pub enum Why {
+    /// It is the first, and founds no office, or founds one on day 0.
+    NoFounding,
+    /// It founds an office behind the first entry.
+    SecondFounding,
+    /// It stands between the founding and the upgrade. Such a history is one, but its tables are of the first edition, and these
+    /// are not held here.
+    FirstEdition,
+    /// It is the upgrade, on another day than the entry before it.
+    UpgradeDay,
+    /// It is the upgrade behind the upgrade.
+    SecondUpgrade,
+    /// It gives a party another token. Such entries are not taken yet.
+    Renewal,
+    /// It is a command that the office refuses, whatever a policy says.
+    Refused(Refusal),
+    /// It is a command that is admitted, and its number isn't that of what it makes.
+    Number,
+    /// Memory was refused, which says nothing of the entry.
+    Memory,
+}
+
+/// Why a text is not replayed. Lines are counted from 1 on.
+#[derive(Drop)]
+pub enum ReplayFault {
+    /// This line is no entry's, or memory was refused while it was read.
+    Line {
+        line: u64,
+        fault: LineFault,
+    },
+    /// The entry of this line is not the next one.
+    Entry {
+        line: u64,
+        why: Why,
+    },
+    /// The text ends before its second line, so that it tells of no office or of one of the first edition.
+    Short,
+    /// The text has 18446744073709551614 lines or more.
+    Endless,
+    /// The source failed, or memory was refused for the bytes of a line.
+    Source(io::Error),
+}

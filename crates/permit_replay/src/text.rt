@@ -1,0 +1,72 @@
+//! Replaying a text.
+
+ghost use Rattle.std.specs.Prelude.{◌≡◌, ℕ, List, IfOk, IfErr, IfSome};
+ghost use Rattle.permit_model.specs.History.{History};
+ghost use Rattle.permit_replay.specs.Histories.{HasToken};
+ghost use Rattle.permit_replay.specs.Holding.{Holds, Takes};
+ghost use Rattle.permit_replay.specs.Texts.{EndsAs, IsReplayed, StopsAt};
+
+use crate::fault::{ReplayFault, Why};
+use crate::replayed::Replayed;
+use permit_history::entry::Entry;
+use permit_history::next_entry;
+use permit_history::text::TextFault;
+use permit_store::plain::PlainStore;
+use permit_store::store::Store;
+use std::alloc::Global;
+use std::io::BufRead;
+
+/// Takes an entry that is not asked for again.
+fn take(replayed: Replayed, alloc: Global, entry: Entry) -> Result<Replayed, Why>
+    ensures { (token_of : List ℕ → List ℕ) (h : History) → Holds ⟦<PlainStore as Store>⟧.view replayed h → HasToken token_of entry.deed
+        → Takes ⟦<PlainStore as Store>⟧.view token_of h entry.day entry.deed result }
+{
+    replayed.take(alloc, &entry)
+}
+
+/// What a text that ends here answers.
+fn finish(replayed: Replayed) -> Result<PlainStore, ReplayFault>
+    ensures { EndsAs replayed result }
+{
+    match replayed {
+        Replayed::Open(store) => Ok(store),
+        Replayed::Nothing | Replayed::Founded(_) => Err(ReplayFault::Short),
+    }
+}
+
+/// Replays a text, with room for its lines.
+fn replay_in<R: BufRead>(
+    alloc: Global,
+    source: &mut R,
+    room: &mut Vec<u8>,
+) -> Result<PlainStore, ReplayFault>
+    ensures replayed { IfSome (R.remaining source.old) (λ bytes. IfOk result (IsReplayed ⟦<PlainStore as Store>⟧.view bytes)) }
+    ensures stopped { IfSome (R.remaining source.old) (λ bytes. IfErr result (StopsAt ⟦<PlainStore as Store>⟧.view bytes)) }
+{
+    let mut replayed = Replayed::Nothing;
+    for line in 1..u64::MAX {
+        match next_entry(alloc, source, room) {
+            Ok(Some(entry)) => match take(replayed, alloc, entry) {
+                Ok(next) => replayed = next,
+                Err(why) => return Err(ReplayFault::Entry { line, why }),
+            },
+            Ok(None) => return finish(replayed),
+            Err(TextFault::Line(fault)) => return Err(ReplayFault::Line { line, fault }),
+            Err(TextFault::Source(error)) => return Err(ReplayFault::Source(error)),
+        }
+    }
+    Err(ReplayFault::Endless)
+}
+
+/// The tables of the history that a text tells, or the lowest line that is no next entry, with its reason. What stands behind
+/// the last LF is no line, and is passed over.
+///
+/// It asks no policy: that of the day isn't known. So it takes each command that some policy could have allowed, and the tables
+/// are those of the machine under a policy that allows everything. It keeps the tables and one line.
+pub fn replay<R: BufRead>(alloc: Global, source: &mut R) -> Result<PlainStore, ReplayFault>
+    ensures replayed { IfSome (R.remaining source.old) (λ bytes. IfOk result (IsReplayed ⟦<PlainStore as Store>⟧.view bytes)) }
+    ensures stopped { IfSome (R.remaining source.old) (λ bytes. IfErr result (StopsAt ⟦<PlainStore as Store>⟧.view bytes)) }
+{
+    let mut room = Vec::new(alloc);
+    replay_in(alloc, source, &mut room)
+}
