@@ -11,7 +11,7 @@ use crate::lane::{Collects, LanePass, LaneReceiver};
 use std::sync::Wait;
 use std::thread;
 
-/// A session's ends and passes.
+/// A session: its number, its ends of the intake and of its lane, and a pass of each.
 #[derive(Drop)]
 pub struct Session<A: Drop, Y: Drop> {
     pub number: usize,
