@@ -106,7 +106,7 @@ is_shaped members =
 abbrev pub is_misshapen : Data → Bool
 is_misshapen value = not (unwrap_or (option_map is_shaped (as_table value)) false)
 
--- the items of the array `rule`, none without the key; None where another key stands beside it or it isn't an array
+-- the items of the array `rule`, or no items without that key; None where there is another key, or where `rule` isn't an array
 abbrev pub tables_in : Members → Option (List Data)
 tables_in members =
     if keys_among (codes "rule" ∷ []) members
