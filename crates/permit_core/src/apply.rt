@@ -119,7 +119,7 @@ fn extended(deadline: Option<u32>, ask: Option<Days>) -> Option<u32>
     }
 }
 
-/// How many steps are approved after a command: at most 5, since the command was admitted.
+/// How many steps are approved after a command: at most 6, since the command was admitted.
 fn done_after(done: u8, command: &Command) -> u8
     ensures { done < 255 → result ≡ RowAfter.done_after (effects command.now).step done }
 {

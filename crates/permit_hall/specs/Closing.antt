@@ -11,6 +11,7 @@ use Rattle.permit_hall.specs.Owner.{HasSent}
 use Rattle.permit_hall.specs.Intake.{requests_in}
 use Rattle.permit_hall.specs.Worker.{WillBe}
 
+-- what was sent through the owner's end of a lane, by its note
 abbrev pub sent_by : {Y : Type 0} → Outlet Y → List Y
 sent_by o = (view o.lane_pass).sent
 
@@ -20,12 +21,13 @@ module _ {A Y : Type 0} where
   IsPlaced on_intake number o s = HasSent (sent_by o) o × (s.number ≡ number) × on_intake s × (receives_on s.lane ≡ sends_on o.lane)
 
 module _ {A Y O T : Type 0} (did : T → List A → List Y → O → Type 0) where
-  -- With something given back: the task was done with as many answers as requests, and they are the first of the replies
-  -- that were sent. Else nothing was put.
+  -- Where the worker gave something back, the task was done with as many answers as requests, and these answers are the first
+  -- of the replies that were sent. Where it gave nothing back, nothing was put.
   abbrev pub Closed : List A → List Y → T → Option O → Type 0
   Closed put sent task out =
       MatchOption out (put ≡ []) (λ x. (got : List Y) × (rest : List Y) × (sent ≡ got ++ rest) × (length put ≡ length got) × did task put got x)
 
+  -- so it is for each session that came back: `known` has what each had put, in the order of their numbers
   abbrev pub AreClosed : List (List A) → List (Outlet Y) → List (Worker A Y O T) → List (Option O) → Type 0
   AreClosed known outlets workers outs =
       (length known ≡ length outs)

@@ -1,4 +1,4 @@
--- Which events act, by what acted before them, in three lists.
+-- Which events act: by what has acted before, kept in three lists. An event that can't act does nothing.
 use Rattle.std.specs.Prelude.{◌≡◌, ℕ, ◌+◌, Bool, List, [], ◌∷◌, ◌++◌, length, map, filter, take}
 use Rattle.std.specs.Prelude.{if◌then◌else◌, ◌==◌, ◌&&◌, nat_lt}
 use Rattle.permit_model.specs.HallRun.{Event, Put, Take, Collect, count_of}
@@ -19,7 +19,7 @@ module _ {A : Type 0} where
   abbrev pub served_puts : Acted A → List (ℕ × A)
   served_puts h = take (length h.days) h.puts
 
-  -- the session has nothing out, and there is room
+  -- the session waits for no answer, and there is room
   abbrev pub puts_now : Acted A → ℕ → Bool
   puts_now h s = (count_of s (sessions h.puts) == count_of s h.collects) && nat_lt (length h.puts) (length h.days + 64)
 
@@ -31,7 +31,7 @@ module _ {A : Type 0} where
   abbrev pub collects_now : Acted A → ℕ → Bool
   collects_now h s = nat_lt (count_of s h.collects) (count_of s (sessions (served_puts h)))
 
-  -- an event that acts is the last that acted
+  -- what has acted after an event: the event too, where it acts
   abbrev pub after : Acted A → Event A → Acted A
   after h (Put s a) = if puts_now h s then record h { puts = h.puts ++ (s, a) ∷ [] } else h
   after h (Take d) = if takes_now h then record h { days = h.days ++ d ∷ [] } else h

@@ -32,13 +32,13 @@ abbrev pub capped : ℕ → ℕ
 capped n = min n (2 ^ 64 - 1)
 
 module _ {In Out : Type 0} (remaining : In → Option (List ℕ)) (contents : Out → Option (List ℕ)) where
-  -- What its bytes ask was served, where its reader tells them: these requests were put, and what its writer holds more are
-  -- the answers to them, and to the faults between them.
+  -- Where the reader tells its bytes, what they ask was served. The requests put are those of the bytes. What the writer holds
+  -- more than before is the answers to them, and to the faults between them.
   abbrev pub IsHeld : Talk In Out → Type 0
   IsHeld talk = (bytes : List ℕ) → remaining talk.reader ≡ Some bytes
       → (ended : Served) × Conversation (contents talk.left) ended bytes fresh (contents talk.writer) talk.exchanges
 
-  -- for the connection, which was served, the session put and collected what it has more
+  -- the connection was served, and what the session has put and collected more than before is that of the connection
   abbrev pub Holds : Session Asked Dated → Session Asked Dated → In → Out → Out → Type 0
   Holds old new reader writer left = (exchanges : Exchanges) × (put_by new ≡ put_by old ++ exchanges.put) × (got_by new ≡ got_by old ++ exchanges.got)
       × IsHeld (record { reader = reader; writer = writer; left = left; exchanges = exchanges })

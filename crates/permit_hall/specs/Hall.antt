@@ -14,11 +14,11 @@ module _ {A Y : Type 0} where
   abbrev pub IsOf : Hall A Y → ℕ → Outlet Y → Session A Y → Type 0
   IsOf h number o s = (s.number ≡ number) × (sends_on s.intake ≡ sends_on h.sender) × (receives_on s.lane ≡ sends_on o.lane)
 
-  -- the owner's pass is on the hall's intake
+  -- the two ends are those of one intake, and the owner's pass has its seat there (`Intake.antt` says what a pass is)
   abbrev pub IsWhole : Hall A Y → Type 0
   IsWhole h = (receives_on h.intake ≡ sends_on h.sender) × IsSeatAt (sends_on h.sender) h.pass
 
-  -- nothing was put, and each session waits at its lane
+  -- nothing was put, and each session has its number, its seat at the intake and its lane
   abbrev pub IsNew : Hall A Y → List (Session A Y) → Type 0
   IsNew h sessions =
       IsWhole h × (view h.pass ≡ owner (length sessions) [] []) × (length h.outlets.items ≡ length sessions)

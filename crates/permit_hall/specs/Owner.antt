@@ -8,8 +8,8 @@ use Rattle.permit_hall.specs.declared.owner.Outlet.{Outlet}
 use Rattle.permit_hall.specs.Intake.{requests_in}
 use Rattle.permit_hall.specs.Lane.{lane_note}
 
--- The entries take the machine from s to t and the clock from c to d, which is asked once for each. Each is of one of n
--- sessions, and those of a session are the requests that were taken of it.
+-- The entries take the machine from s to t. The clock is asked once for each, and goes from c to d. Each entry is of one of n
+-- sessions, and the entries of a session have the requests that were taken of it.
 pub record Serves {S A Y C : Type 0} (step : S → A → ℕ → Y → S → Type 0) (tick : C → ℕ → C → Type 0) (n : ℕ)
     (got : List (Envelope A)) (s t : S) (c d : C) (served : List (Entry A Y)) : Type 0 where
   pub runs : Runs step s served t
@@ -18,10 +18,11 @@ pub record Serves {S A Y C : Type 0} (step : S → A → ℕ → Y → S → Typ
   pub requests : (p : ℕ) → p < n → requests_of p served ≡ requests_in p got
 
 module _ {Y : Type 0} where
-  -- the owner's end of a lane, through which these replies were sent
+  -- it is the owner's end of a lane, and these replies were sent through it
   abbrev pub HasSent : List Y → Outlet Y → Type 0
   HasSent sent o = IsSeatAt (sends_on o.lane) o.lane_pass × (view o.lane_pass ≡ lane_note true false sent [])
 
+  -- the ends after are of the same lanes as those before, in the same order
   abbrev pub SameLanes : List (Outlet Y) → List (Outlet Y) → Type 0
   SameLanes before after =
       (length after ≡ length before)

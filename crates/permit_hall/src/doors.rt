@@ -63,8 +63,8 @@ impl<R: Wait> Service<R> for Session<Asked, Dated> {
 }
 
 /// Serves a connection to its end, which comes with the end of its input, with a reader or a writer that fails, or with
-/// an answer that closes. Faults are answered without the office. Gives how many answers were collected, with those
-/// before, up to the greatest count.
+/// an answer that closes. Faults are answered without the office. Returns how many answers the session has collected in
+/// all, given how many it had before; at the greatest count the number stays.
 fn serve_connection<I: Read, O: Write, R: Wait>(
     rt: &R,
     routes: &mut Routes,

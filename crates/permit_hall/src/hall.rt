@@ -17,10 +17,10 @@ use crate::session::Session;
 use crossbeam_channel::bounded_with;
 use std::alloc::{AllocError, Global};
 
-/// As many requests may wait in the intake.
+/// How many requests may wait in the intake.
 const ROOM: usize = 64;
 
-/// The owner's ends. It never sends by `sender`, which serves to make sessions and to take them back.
+/// The owner's ends. The owner never sends by `sender`: with it sessions are made, and taken back at the end.
 #[derive(Drop)]
 pub struct Hall<A: Drop, Y: Drop> {
     pub sender: IntakeSender<A>,

@@ -14,9 +14,10 @@ pub struct Envelope<A> {
     pub request: Option<A>,
 }
 
-/// What a pass of the intake knows; no value of it is made. A session's pass sends: it has the session's number and what
-/// it has put. The owner's pass gets: it has how many sessions were made, what was got, and what each of the sessions
-/// that came back had put.
+/// The note of a pass of the intake: what the holder of that pass knows. It stands in contracts, and no value of it is made.
+///
+/// A session's pass sends. It knows the session's number and what the session has put. The owner's pass gets. It knows how
+/// many sessions were made, what was got, and what each session that came back had put.
 pub struct IntakeNote<A> {
     pub sends: bool,
     pub gets: bool,
@@ -58,7 +59,7 @@ impl<A> Lesson<Envelope<A>, IntakeNote<A>> for Takes {
     ghost fact = { λ v items. Unit {0} };
 }
 
-/// The owner compares what the sessions that came back had put with what it has taken.
+/// Of the sessions that came back the owner learns that what they had put is what it has taken, and what still waits.
 pub struct Compared;
 
 impl<A> Lesson<Envelope<A>, IntakeNote<A>> for Compared {
@@ -86,5 +87,5 @@ pub type IntakeSender<A> = RuledSender<Envelope<A>, IntakeNote<A>, Intake>;
 /// The owner's end of the intake.
 pub type IntakeReceiver<A> = RuledReceiver<Envelope<A>, IntakeNote<A>, Intake>;
 
-/// What its holder knows of the intake: the owner has one, and each session.
+/// A pass of the intake, with its holder's note. The owner has one, and so has each session.
 pub type IntakePass<A> = Pass<Envelope<A>, IntakeNote<A>>;

@@ -7,8 +7,8 @@ use crossbeam_channel::protocol::{Join, Lesson, Outcome, Protocol, Split};
 use crossbeam_channel::{Pass, RuledReceiver, RuledSender};
 use std::collections::LinkedList;
 
-/// What a pass of a lane knows; no value of it is made. The owner's pass sends and has what was sent, the session's gets
-/// and has what was got.
+/// The note of a pass of a lane: what the holder of that pass knows. It stands in contracts, and no value of it is made.
+/// The owner's pass sends, and knows what was sent. The session's pass gets, and knows what was got.
 pub struct LaneNote<Y> {
     pub sends: bool,
     pub gets: bool,
@@ -47,14 +47,14 @@ impl<Y> Lesson<Y, LaneNote<Y>> for Collects {
     ghost fact = { λ v items. Unit {0} };
 }
 
-/// What was collected, then what is there, is what was sent.
+/// A holder who knows both learns that what was sent is what was collected, and then what still waits.
 pub struct Total;
 
 impl<Y> Lesson<Y, LaneNote<Y>> for Total {
     ghost fact = { λ v items. v.sent ≡ v.got ++ items };
 }
 
-/// The first pass is cut into the owner's and the session's, which come together at the end.
+/// A new lane's one pass is split into the owner's and the session's. The two are joined at the end.
 pub struct Ends;
 
 impl<Y> Split<LaneNote<Y>> for Ends {
@@ -75,5 +75,5 @@ pub type LaneSender<Y> = RuledSender<Y, LaneNote<Y>, Lane>;
 /// The session's end of its lane.
 pub type LaneReceiver<Y> = RuledReceiver<Y, LaneNote<Y>, Lane>;
 
-/// What its holder knows of a lane: the owner and the session have one each.
+/// A pass of a lane, with its holder's note. The owner and the session have one each.
 pub type LanePass<Y> = Pass<Y, LaneNote<Y>>;

@@ -11,7 +11,7 @@ use crate::lane::{Collects, LanePass, LaneReceiver};
 use std::sync::Wait;
 use std::thread;
 
-/// A session's ends and passes.
+/// A session: its number, its ends of the intake and of its lane, and a pass of each.
 #[derive(Drop)]
 pub struct Session<A: Drop, Y: Drop> {
     pub number: usize,
@@ -79,7 +79,7 @@ impl<A: Drop, Y: Drop> Session<A, Y> {
         collect(rt, &self.lane, &mut self.lane_pass)
     }
 
-    /// Puts the end mark, behind which the owner expects nothing of the session.
+    /// Puts the end mark, after which the owner expects nothing more of the session.
     pub fn end<R: Wait>(&mut self, rt: &R)
         requires { IsSession self.old }
         ensures has { Has self.new (put_by self.old) (got_by self.old) }

@@ -26,7 +26,7 @@ use std::alloc::{AllocError, Global};
 use std::sync::Wait;
 use std::thread::Threads;
 
-// Takes a session back: what it has put is known, and what it collected is compared with what was sent.
+// Takes a session back. What it had put is known from then on, and its answers are known to be the first that were sent.
 fn take_back<A: Drop, Y: Drop>(
     sender: &IntakeSender<A>,
     pass: &mut IntakePass<A>,

@@ -24,8 +24,8 @@ pub trait Task<A: Drop, Y: Drop, O>: Drop {
         ensures did { did self (put_by session.new) (got_by session.new) result };
 }
 
-/// A task, and a flag that worker and starter share: it is false where no thread could be made. Then the worker's
-/// closure comes back, and the starter calls it, so that it gives back its session without having begun.
+/// A task, and a flag that its worker and its starter share. The flag is false where no thread could be made. Then the
+/// worker's closure comes back to the starter, who calls it. It sees the flag, and gives its session back without a start.
 #[derive(Drop)]
 pub struct Prepared<T: Drop> {
     pub task: T,

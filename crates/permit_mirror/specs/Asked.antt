@@ -4,14 +4,14 @@ use Rattle.permit_base.specs.declared.route.By.TheVariants as by
 use Rattle.permit_base.specs.declared.route.Route.{Route}
 use Rattle.permit_base.specs.declared.route.Route.TheVariants.{Every, Cell}
 
--- Memory answered. While the store that keeps the tables is trusted, it isn't asked, and stays trusted; it is trusted behind
--- each answer.
+-- Memory answered. Where the store that keeps the tables was trusted, it wasn't asked, and stays trusted. After an answer it is
+-- trusted.
 pub record IsFromMemory {S A E : Type 0} (was_wary is_wary : Bool) (old_kept new_kept : S) (result : Result A E) : Type 0 where
   pub unasked : IsFalse was_wary → new_kept ≡ old_kept
   pub stays : IsFalse was_wary → IsFalse is_wary
   pub trusted : OnOk result (IsFalse is_wary)
 
--- The store that keeps the tables answered. Memory wasn't asked, and that store is trusted behind an answer.
+-- The store that keeps the tables answered, and memory wasn't asked. After an answer that store is trusted.
 pub record IsFromKept {M A E : Type 0} (is_wary : Bool) (old_memory new_memory : M) (result : Result A E) : Type 0 where
   pub unasked : new_memory ≡ old_memory
   pub trusted : OnOk result (IsFalse is_wary)

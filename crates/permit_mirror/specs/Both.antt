@@ -7,8 +7,8 @@ use Rattle.permit_store.specs.Frames.{StoreView, HasOneDesk}
 abbrev pub CanBeRead : StoreView → Type 0
 CanBeRead s = (s.doubt ≡ 0) × HasOneDesk s
 
--- The tables of the store that keeps them, which memory holds too while that store can be read: where it can't, memory says
--- nothing of them. The doubt is that of the store that keeps them, and the file rows handed out are those of each.
+-- The tables are those of the store that keeps them. While that store can be read, memory holds them too; where it can't, memory
+-- says nothing of them. The doubt is that of the store that keeps them. The file rows handed out are those of both.
 abbrev pub both : StoreView → StoreView → (failed commits : ℕ) → StoreView
 both kept memory failed commits = record {
   holds = λ t. kept.holds t × (CanBeRead kept → memory.holds t);
@@ -22,11 +22,11 @@ both kept memory failed commits = record {
 abbrev pub Crash : Type 0 → Type 1
 Crash S = S → S → Tables → ((Tables → Type 0) → Type 0) → Type 0
 
--- It was asked for its desk, or nothing.
+-- It was asked for its desk, or wasn't asked.
 abbrev pub WasAsked : {S : Type 0} → Crash S → S → S → Tables → Type 0
 WasAsked crash old new t = (new ≡ old) ⊎ crash old new t (λ _. ⊥)
 
--- The store that keeps the tables was asked for its desk, or nothing, and then a crash leaves of it what its call says, where
--- it was called.
+-- The store that keeps the tables was asked for its desk, or wasn't asked. Then a crash leaves of it what the call on it says,
+-- where there was one.
 abbrev pub LeftBy : {S : Type 0} → Crash S → S → S → Tables → ((Tables → Type 0) → Type 0) → Type 0
 LeftBy {S} crash old new t made = (between : S) × WasAsked crash old between t × ((new ≡ between) ⊎ crash between new t made)

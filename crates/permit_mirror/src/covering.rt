@@ -96,8 +96,8 @@ fn add_files<M: Memory>(memory: &mut M, index: &mut Index) -> Got<()>
 }
 
 impl<M: Memory + Drop> Indexed<M> {
-    /// The tables in memory, with an index of them. It holds all sound tables that memory holds. It refuses where memory is
-    /// refused.
+    /// The tables in memory, with an index of them. It holds all sound tables that memory holds. It fails where there is no
+    /// memory for the index.
     pub fn load(alloc: Global, memory: M) -> Got<Indexed<M>>
         ensures held { IfOk result (λ s. (t : Tables) → (M.view memory).holds t → IsSoundTables t → (⟦<Indexed<M> as Store>⟧.view s).holds t) }
         ensures handed { IfOk result (λ s. (⟦<Indexed<M> as Store>⟧.view s).handed ≡ 0) }

@@ -8,9 +8,9 @@ use crate::pairs::Pairs;
 use permit_base::values::PartyId;
 use std::alloc::{AllocError, Global};
 
-/// The files that a party may have a relation to. They are a cover: each file to which the party has one is among them, and so
-/// may others be, as those of a reviewer who was replaced. So what a change will need may be added before the change is made.
-/// It counts parcels and files too, by which the next ones are numbered.
+/// For each party the files that concern it, or may do so. Each file to which the party has a relation is among them. Others
+/// may be too, as those of a reviewer who was replaced. So what a change will need can be added before the change is made.
+/// The index counts parcels and files too, since the next ones get the numbers after those.
 #[derive(Drop)]
 pub(crate) struct Index {
     pub(crate) alloc: Global,
@@ -26,7 +26,7 @@ pub(crate) struct Index {
 }
 
 impl Index {
-    /// Of tables with so many parcels and files, none of which is added yet.
+    /// An index of tables with so many parcels and files, none of which is added yet.
     pub(crate) fn new(alloc: Global, parcels: u32, files: u32) -> Index
         ensures counts { (result.parcels ≡ parcels) × (result.files ≡ files) }
         ensures closed { IsClosed result.files_of result.files_on result.people_at }

@@ -32,7 +32,7 @@ pub struct Indexed<M: Memory> {
 }
 
 impl<M: Memory + Drop> Indexed<M> {
-    /// The answer of a call, which counts where it failed.
+    /// The answer of a call. A failure counts.
     fn counted<T>(&mut self, answer: Got<T>) -> Got<T>
         ensures answer { result ≡ answer }
         ensures failed { self.new.failed ≡ failed_after answer self.old.failed }
@@ -47,7 +47,7 @@ impl<M: Memory + Drop> Indexed<M> {
         answer
     }
 
-    /// The answer of a call that looks a file up, which counts where it failed, and where it found one.
+    /// The answer of a call that looks a file up. A failure counts, and so does a file that is found.
     fn looked_up<T>(&mut self, answer: Got<Option<T>>) -> Got<Option<T>>
         ensures answer { result ≡ answer }
         ensures failed { self.new.failed ≡ failed_after answer self.old.failed }
@@ -63,7 +63,7 @@ impl<M: Memory + Drop> Indexed<M> {
         self.counted(answer)
     }
 
-    /// Hands the rows that any of the selections finds among the caller's files to the taker, in rising number.
+    /// Passes to the taker the rows that any of the selections finds among the caller's files, in rising number.
     fn each_of_own<T: Taker<Found>>(
         &mut self,
         routes: &[Route],

@@ -29,9 +29,9 @@ use permit_store::store::{Got, Store};
 /// | `each` of the files of a whole cell, `each_of_any` with such a selection | the store that keeps the tables: its indexes find the rows, where memory would go over all files |
 /// | `commit` | both: memory asks for what the change needs, the store that keeps the tables makes it, then memory makes it |
 ///
-/// Behind a call of the store that keeps the tables that failed, nothing is answered from memory before that store has
-/// answered once more: a fault may have shut it with the change on the disk. It is asked for its desk, and while that fails,
-/// so does each call. Each read says by its clause `asked` which of the two it asks.
+/// After a failed call of the store that keeps the tables, memory answers nothing until that store has answered once more.
+/// A fault may have shut it with the change on the disk. It is asked for its desk, and while that fails, each call
+/// fails. Each read says by its clause `asked` which of the two it asks.
 #[derive(Drop)]
 pub struct Mirrored<S: Store, M: Memory> {
     kept: S,
@@ -62,7 +62,7 @@ impl<S: Store, M: Memory + Drop> Mirrored<S, M> {
         }
     }
 
-    /// Gives the store back that keeps the tables. It holds what was held.
+    /// Returns the store that keeps the tables. It holds what was held.
     pub fn into_kept(self) -> S
         ensures kept { result ≡ self.kept }
         ensures held { (t : Tables) → (⟦<Mirrored<S, M> as Store>⟧.view self).holds t → (S.view result).holds t }
@@ -91,8 +91,8 @@ impl<S: Store, M: Memory + Drop> Mirrored<S, M> {
         answer
     }
 
-    /// Sees that the store that keeps the tables can be read, so that memory may answer: it is asked for its desk where it
-    /// has answered nothing since a commit failed.
+    /// Makes sure that the store that keeps the tables can be read, so that memory may answer. Where it has answered nothing
+    /// since a commit failed, it is asked for its desk.
     fn settle(&mut self) -> Got<()>
         ensures read { IsRead (both (S.view self.old.kept) (M.view self.old.memory) self.old.failed self.old.commits)
             (both (S.view self.new.kept) (M.view self.new.memory) self.new.failed self.new.commits) result }

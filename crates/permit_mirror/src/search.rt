@@ -86,8 +86,8 @@ fn find_row<M: Memory>(
     }
 }
 
-/// Hands the rows of the files of these numbers that any of the selections finds to the taker, until it asks to stop, and
-/// counts them: whether it took them all and each answer was true.
+/// Passes the rows of the files of these numbers to the taker, where any of the selections finds them, until the taker asks to
+/// stop. It counts them, and returns whether the taker took them all and answered true each time.
 pub(crate) fn hand<M: Memory, T: Taker<Found>>(
     memory: &mut M,
     numbers: &[u32],

@@ -38,7 +38,7 @@ view_found day found = record { row = found.row; stage = row_stage day found.row
 abbrev pub views_found : Policy → Party → ℕ → List Found → List FileView
 views_found policy caller day found = map (view_found day) (filter (may_list policy caller day) found)
 
--- The rows were taken: the files among them that may be listed stand behind those before, and the rows count.
+-- The rows were taken: the files among them that may be listed come after those of before, and the rows count.
 pub record Listed (given : List Found) (before after : Lister) : Type 0 where
   pub policy : after.policy ≡ before.policy
   pub caller : after.caller ≡ before.caller

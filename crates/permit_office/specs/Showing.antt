@@ -1,4 +1,4 @@
--- A listing whose files are handed out one at a time.
+-- A listing whose files go to a taker one at a time.
 use Rattle.std.specs.Prelude.{◌≡◌, ◌⊎◌, ◌≤◌, ℕ, ◌%◌, ◌^◌, Bool, true, false, not, IsTrue, nat_lt, if◌then◌else◌, List, Option, None, Some, Result, Ok, Err, ⊤}
 use Rattle.permit_base.specs.declared.refusal.Refusal.{Refusal}
 use Rattle.permit_base.specs.declared.refusal.Refusal.TheVariants as refusal

@@ -24,7 +24,7 @@ use permit_store::store::{Got, Store};
 /// The number of the record that an admitted request makes, if it makes one; or the reason against it.
 pub(crate) type Admitted = Result<Option<u32>, Reason>;
 
-/// The number of a new record behind so many, or that there may be no more.
+/// The number of a new record after so many, or that there may be no more.
 pub(crate) fn next_number(count: u32) -> Admitted
     ensures reason { reason_in result ≡ first_failing ((nat_le most_records count, Full) ∷ []) }
     ensures number { IfOk result (λ number. number ≡ Some (count + 1)) }

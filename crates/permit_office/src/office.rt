@@ -111,7 +111,7 @@ impl<S: Store + Drop> Office<S> {
     /// asks to stop. The refusals are those of a request to list them.
     ///
     /// Where one selection finds all these files, each goes to the taker as the store hands it out: no list is kept, and
-    /// no row behind the file at which the taker stops is read. Where it takes several, the files are listed first.
+    /// no row after the file at which the taker stops is read. Where it takes several, the files are listed first.
     pub fn rows<T: Taker<FileView>>(
         &mut self,
         token: &Token,

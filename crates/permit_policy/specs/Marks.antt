@@ -11,7 +11,8 @@ use Rattle.permit_policy.specs.Dead.{deciding, IsLive}
 abbrev pub is_marked : List Bool → ℕ → Bool
 is_marked marks place = slice_index_or marks place false
 
--- a mark is left, or stands at a rule that decides for some facts; each rule that decides for facts that were seen is marked
+-- Each mark was there before, or stands at a rule that decides for some facts. Each rule that decides for facts that were seen is
+-- marked.
 pub record Marks (policy : Policy) (seen : Facts → Type 0) (old new : List Bool) : Type 0 where
   pub kept : (place : ℕ) → is_marked old place ≡ true → is_marked new place ≡ true
   pub sound : (place : ℕ) → is_marked new place ≡ true → (is_marked old place ≡ true) ⊎ IsLive policy place

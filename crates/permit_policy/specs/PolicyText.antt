@@ -106,7 +106,7 @@ is_shaped members =
 abbrev pub is_misshapen : Data → Bool
 is_misshapen value = not (unwrap_or (option_map is_shaped (as_table value)) false)
 
--- the items of the array `rule`, none without the key; None where another key stands beside it or it isn't an array
+-- the items of the array `rule`, or no items without that key; None where there is another key, or where `rule` isn't an array
 abbrev pub tables_in : Members → Option (List Data)
 tables_in members =
     if keys_among (codes "rule" ∷ []) members
@@ -119,7 +119,7 @@ tables_in members =
 abbrev pub is_new_name : List (List ℕ) → List ℕ → Bool
 is_new_name used name = is_rule_name name && not (bytes_eq name (codes "default")) && not (is_among used name)
 
--- the place of the first name that isn't new behind those used
+-- the place of the first name that isn't new after those used
 abbrev pub first_bad_name : ℕ → List (List ℕ) → List (List ℕ) → Option ℕ
 first_bad_name place used [] = None
 first_bad_name place used (name ∷ names) = if is_new_name used name then first_bad_name (place + 1) (used ++ name ∷ []) names else Some place

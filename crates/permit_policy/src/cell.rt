@@ -65,8 +65,8 @@ impl Cell {
         facts.stored && facts.expiry.is_timed() == (self.timing != Timing::Untimed)
     }
 
-    /// The cell on the day of the rows that are kept in this one: past its deadline an application is abandoned, and a
-    /// permit lapsed.
+    /// The cell on the day for rows that are kept in this one. Past the deadline it has another stage: an application is
+    /// abandoned then, and a permit lapsed.
     pub(crate) fn on_day(self) -> Cell
         ensures { result ≡ cell_on_day self }
     {

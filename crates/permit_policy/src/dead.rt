@@ -16,7 +16,7 @@ use permit_base::values::RuleName;
 use permit_base::words::{Action, Role, Word};
 use std::alloc::{AllocError, Global};
 
-/// Marks the rules that decide for some set of relations in the cell, by the sets that each rule hits.
+/// Marks each rule that decides in the cell for some set of relations. `hits` has the sets that each rule matches.
 fn mark_in_cell(rules: &[Rule], hits: &[u64], cell: Cell, live: &mut [bool])
     requires hits { length hits.now ≡ length rules.now }
     requires marks { length live.old ≡ length rules.now }
@@ -30,7 +30,7 @@ fn mark_in_cell(rules: &[Rule], hits: &[u64], cell: Cell, live: &mut [bool])
     }
 }
 
-/// The same in each cell.
+/// Marks each rule that decides in some cell for some set of relations.
 fn mark_in_cells(rules: &[Rule], hits: &[u64], live: &mut [bool])
     requires hits { length hits.now ≡ length rules.now }
     requires marks { length live.old ≡ length rules.now }
@@ -64,8 +64,8 @@ fn live_rules(alloc: Global, rules: &[Rule]) -> Result<Vec<bool>, AllocError>
     Ok(live)
 }
 
-/// The names of the rules that decide for no facts, in the rules' order: before each of these, other rules match
-/// whatever it matches. It fails only where memory runs out.
+/// The names of the rules that decide for no facts, in the rules' order. Whatever such a rule matches, a rule before it
+/// matches too. It fails only where memory runs out.
 pub fn dead_rules(alloc: Global, policy: &Policy) -> Result<Vec<RuleName>, AllocError>
     ensures exact { IfOk result (λ names. AreDead policy.now names.items) }
 {

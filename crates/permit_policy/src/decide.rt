@@ -41,7 +41,7 @@ impl Policy {
         &self.rules
     }
 
-    /// What its rules were allocated with, and what is made by it may be.
+    /// The allocator of its rules. What is made of the policy may be allocated with it too.
     pub fn allocator(&self) -> Global {
         *self.rules.allocator()
     }

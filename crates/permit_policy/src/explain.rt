@@ -30,8 +30,8 @@ impl Model for Tried {
     ghost inverse = { λ t. record { rule = t.rule; failing = t.failing } };
 }
 
-/// Each rule up to the one that decides, in order: the last one matches, unless no rule does. It fails only where memory
-/// runs out.
+/// Each rule up to the one that decides, in order. The last of them matches; where no rule matches, each rule is there. It
+/// fails only where memory runs out.
 pub fn explain(alloc: Global, policy: &Policy, facts: &Facts) -> Result<Vec<Tried>, AllocError>
     ensures exact { IfOk result (λ tried. tried.items ≡ explanation policy.now facts.now) }
 {

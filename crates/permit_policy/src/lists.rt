@@ -51,7 +51,7 @@ fn read_words<W: Word>(alloc: Global, values: &[Value]) -> Result<Vec<W>, Policy
     Ok(words)
 }
 
-/// The words of two texts, unless the texts are other than two, one spells no word, or both the same.
+/// The words of two texts. `None` where there aren't two texts, where one spells no word, or where both spell the same.
 fn two_words<W: Word>(values: &[Value]) -> Option<(W, W)>
     ensures { result ≡ (if is_bad_pair (named W.spelling W.every) (Some (map text_of (map view values.now))) then None
         else pair_in (words_of (named W.spelling W.every) (Some (map text_of (map view values.now))))) }
@@ -75,8 +75,8 @@ fn list_at<'t>(table: &'t Value, key: &str) -> Option<&'t [Value]>
     }
 }
 
-/// The words of the list at a key of a table: None without the key. A list is refused that is empty, has an unknown
-/// word, or a word twice.
+/// The words of the list at a key of a table, or `None` without the key. A list that is empty, that has an unknown word, or
+/// that has a word twice is refused.
 pub(crate) fn read_list<W: Word>(
     alloc: Global,
     table: &Value,
@@ -100,8 +100,8 @@ pub(crate) fn read_list<W: Word>(
     }
 }
 
-/// The two words of the list at a key of a table: None without the key. A list is refused that has other than two
-/// words, an unknown word, or a word twice.
+/// The two words of the list at a key of a table, or `None` without the key. A list of more or fewer words, with an unknown
+/// word, or with the same word twice is refused.
 pub(crate) fn read_pair<W: Word>(table: &Value, key: &str) -> Result<Option<(W, W)>, PolicyFault>
     ensures sound { IfOk result (λ pair.
         is_bad_pair (named W.spelling W.every) (texts_at key.now (view table.now)) ≡ false) }

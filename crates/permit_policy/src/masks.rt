@@ -50,7 +50,7 @@ impl Masks {
     }
 }
 
-/// The sets of relations that the rule matches for the role and the action, where it covers the cell.
+/// The sets of relations with which the rule matches the role and the action, in any cell that it covers.
 fn hits_of(rule: &Rule, role: Role, action: Action) -> u64
     ensures { (set : TheRelations) → has_set result set ≡ (is_for rule.now role action && matches_relations rule.now.relation set) }
 {
@@ -61,7 +61,7 @@ fn hits_of(rule: &Rule, role: Role, action: Action) -> u64
     }
 }
 
-/// The same of each rule.
+/// These sets for each rule, in the rules' order.
 pub(crate) fn hits_by_rule(
     alloc: Global,
     rules: &[Rule],

@@ -21,7 +21,7 @@ use permit_base::route::{By, Route};
 use permit_base::words::{Action, Relation, Role, Word};
 use std::alloc::{AllocError, Global};
 
-/// A listing has no more routes: 44 cells of kept rows with 15 pairs of relations each.
+/// The most routes of a listing: 44 cells of kept rows, with 15 pairs of relations each.
 const MOST_ROUTES: usize = 660;
 
 static PAIRS: [(Relation, Relation); 15] = [
@@ -61,7 +61,7 @@ fn route_by(cell: Cell, by: By) -> Route
     }
 }
 
-/// Whether the mask holds the set of the two, and neither of them alone.
+/// Whether the mask holds the set of both relations, and neither of the sets of one of them.
 fn allowed_as_two(mask: u64, pair: (Relation, Relation)) -> bool
     ensures { result ≡ allowed_as_two (has_set mask) pair }
 {
@@ -133,8 +133,8 @@ fn is_all(filter: Filter) -> bool
     }
 }
 
-/// The selections of a listing under these masks: one of each row where nothing is wanted, neither of the file nor of
-/// the caller; else those of each kept cell that meets the filter, by the codes of stage, stopped and timing. They are
+/// The selections of a listing under these masks. Where nothing is wanted of a file or of the caller, it is the one of every
+/// row. Else they are those of each kept cell that meets the filter, in the order of the cells' numbers. There are
 /// 660 at most. It fails only where memory runs out.
 pub fn routes(alloc: Global, masks: &Masks, filter: Filter) -> Result<Vec<Route>, AllocError>
     ensures exact { IfOk result (λ routes. routes.items ≡ routes_of (may masks.now) filter) }

@@ -57,7 +57,7 @@ impl Model for Rule {
     ghost view = { λ r. record { name = r.name; effect = r.effect; role = option_map (λ v. v.items) r.role; relation = relation_view r.relation; action = option_map (λ v. v.items) r.action; stage = option_map (λ v. v.items) r.stage; timing = option_map (λ v. v.items) r.timing; stopped = r.stopped } };
 }
 
-/// A word that a key lists: contracts name the equality of its type.
+/// A type of words, of which a key has a list. Its contracts name the equality of the type.
 trait Listed: Copy {
     ghost same: { Self → Self → Bool };
 
@@ -175,7 +175,7 @@ fn word_matches<W: Listed>(key: &Option<Vec<W>>, word: W) -> bool
     }
 }
 
-/// The key under which two relations at once are asked for, or one.
+/// The key under which a rule asks for relations: `both` for two at once, else `relation`.
 fn relation_key(test: &RelationTest) -> Key
     ensures { result ≡ relation_key (relation_view test.now) }
 {

@@ -23,7 +23,8 @@ fn has_rule_alone(document: &Table) -> bool
     document.keys().all(|key| key.as_str() == "rule")
 }
 
-/// The items of the array `rule`, none without the key. None where another key stands beside it, or it is no array.
+/// The items of the array `rule`; without that key there are no items. `None` where there is another key, or where `rule` is
+/// no array.
 fn tables_in(document: &Table) -> Option<&[Value]>
     ensures { option_map (λ tables. map view tables.now) result ≡ tables_in (table_view document.now) }
 {
@@ -113,7 +114,7 @@ fn relation_test(words: Option<Vec<Relation>>, pair: Option<(Relation, Relation)
     }
 }
 
-/// The rule of a table, its name and effect read before.
+/// The rule of a table, whose name and effect were read before.
 fn read_rule(
     alloc: Global,
     table: &Value,
@@ -140,7 +141,7 @@ fn read_rule(
     })
 }
 
-/// The rules of the tables, in order, their names and effects read before.
+/// The rules of the tables, in order. Their names and effects were read before.
 fn read_rules(
     alloc: Global,
     tables: &[Value],

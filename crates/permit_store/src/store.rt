@@ -42,18 +42,19 @@ pub enum OpenError {
 /// all tables that the store holds. A store that can't be read any more holds any tables, and each call of it
 /// fails. A call that answers an error leaves what the store holds.
 ///
-/// A disk may give back what was never written, and no call tells it. So what an answer says of the tables is said
-/// of a store that is without doubt after the call; one that isn't holds any tables. Memory is always without doubt.
+/// A disk may return what was never written, and no call can tell. So an answer says something of the tables only where
+/// the store is without doubt after the call. A store in doubt holds any tables. Memory is always without doubt.
 ///
-/// Each call says by its clauses: `found`, `made` or `handed`, what it answers, makes or hands to a taker; `read`,
-/// `commit` or `handed`, that what the store holds stays, that a doubt never goes, that a store which answered and is
-/// without doubt can be read, and how the three counts move; `crash`, what a crash inside it may leave.
+/// The clauses of each call have the same names. `found`, `made` or `handed` says what the call answers, makes or passes to
+/// a taker. `read`, `commit` or `handed` says that what the store holds stays, that doubt never goes, that a store which
+/// answered and is without doubt can be read, and how the three counts move. `crash` says what a crash inside the call may
+/// leave.
 pub trait Store {
     /// What contracts see of it: the tables that it holds, its doubt, and its counts.
     ghost view: { Self → StoreView };
 
-    /// Over a call from the one store to the other, where the one keeps these tables: a crash leaves what it left before
-    /// the call, or else what this says of the tables that are left. Of memory a crash leaves nothing.
+    /// What a crash inside a call may leave, of the store before the call, which keeps these tables, and the store after it:
+    /// what a crash would have left before the call, or else tables of which the last value holds. Of memory nothing is left.
     ghost crash: { Self → Self → Tables → ((Tables → Type 0) → Type 0) → Type 0 };
 
     /// The edition of the inspections in force, the last day and the counts of parties, parcels and files.
@@ -153,9 +154,9 @@ pub trait Store {
         ensures read { Reads ⊤ (selected_after (λ v. length v.items) result (view self.old).handed) (view self.old) (view self.new) result }
         ensures crash { (t : Tables) → crash self.old self.new t (λ _. ⊥) };
 
-    /// Hands the same rows to the taker, one at a time and in the same order, until it asks to stop. True says that it
-    /// took them all and each answer was true, false that it asked to stop at the last row that it took. After an error
-    /// it has taken a beginning, and each answer was true. Each row that it took counts as handed out.
+    /// Passes the same rows to the taker, one at a time and in the same order, until the taker answers false, which asks to
+    /// stop. Returns true where it took them all, and false where it asked to stop at the last row that it took. Where the
+    /// call fails, it took a beginning of them and never asked to stop. Each row that it took counts as handed out.
     fn each<T: Taker<Found>>(
         &mut self,
         route: &Route,
@@ -167,8 +168,8 @@ pub trait Store {
             × OverTables (view self.old) (view self.new) (λ t. AreHanded t result given (found_by route.now caller day t)) }
         ensures crash { (t : Tables) → crash self.old self.new t (λ _. ⊥) };
 
-    /// Hands the rows that any of the selections finds to the taker, each once and in any order, one at a time, until it
-    /// asks to stop. It answers and counts as `each` does.
+    /// Passes to the taker the rows that any of the selections finds, each once and in any order, one at a time, until the
+    /// taker asks to stop. It answers and counts as `each` does.
     fn each_of_any<T: Taker<Found>>(
         &mut self,
         routes: &[Route],
@@ -180,9 +181,8 @@ pub trait Store {
             × OverTables (view self.old) (view self.new) (λ t. AreAmong result given (found_by_any routes.now caller day t)) }
         ensures crash { (t : Tables) → crash self.old self.new t (λ _. ⊥) };
 
-    /// Makes exactly the change and sets the last day, or answers an error and changes nothing. Of a change that
-    /// doesn't fit the tables, a success promises nothing. A crash inside leaves the tables as before, or with the change
-    /// whole.
+    /// Makes exactly the change and sets the last day, or answers an error and changes nothing. Where the change doesn't fit
+    /// the tables, a success promises nothing. A crash inside leaves the tables as they were, or with the whole change.
     fn commit(&mut self, change: &Change<'_>, day: Day) -> Got<()>
         ensures made { (t : Tables) → (view self.old).holds t → Fits t change.now day → OnOk result ((view self.new).holds (changed t change.now day)) }
         ensures commit { IsCommit (view self.old) (view self.new) result }

@@ -25,6 +25,6 @@ abbrev pub with_target : MessageData → Option Target → Result Asked Fault
 with_target m None = Err Route
 with_target m (Some target) = with_token target m.body (option_and_then token_of m.authorization)
 
--- the request that a whole message asks, or its first fault behind the head
+-- the request that a whole message asks, or its first fault after the head
 abbrev pub asked_in : MessageData → Result Asked Fault
 asked_in m = with_target m (target_of m.method m.path)

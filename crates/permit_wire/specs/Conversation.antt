@@ -13,7 +13,7 @@ pub record Exchanges : Type 0 where
   pub put : List Asked
   pub got : List Dated
 
--- the first of them is this request with this reply, and the others are behind it
+-- the first of them is this request with this reply, and the others come after it
 pub record Takes (ahead : Exchanges) (asked : Asked) (reply : Dated) (behind : Exchanges) : Type 0 where
   pub put : ahead.put ≡ asked ∷ behind.put
   pub got : ahead.got ≡ reply ∷ behind.got
@@ -34,7 +34,7 @@ IsLeft ahead bytes old new left before after _ = Unit {0}
 -- With these bytes to come and this inbox, these requests are put, the writer goes from what it held before to what it
 -- holds after, and the connection ends so.
 pub data Conversation (after : Option (List ℕ)) (ended : Served) : List ℕ → InboxData → Option (List ℕ) → Exchanges → Type 0 where
-  -- an answer goes out that keeps the connection, and the bytes behind what it answers are served likewise
+  -- an answer goes out that keeps the connection, and the bytes after what it answers are served in the same way
   Goes : {bytes : List ℕ} {old : InboxData} {before : Option (List ℕ)} {ahead : Exchanges} (new : InboxData) (left between : Option (List ℕ))
       (rest : List ℕ) (behind : Exchanges)
       → ServesBy Takes ahead behind bytes old new left before between Kept → stream new left ≡ Some rest

@@ -18,9 +18,9 @@ pub data Reading : Type 0 where
   Cut : Reading
   -- a fault of the head, which closes the connection
   Refused : (fault : Fault) → Reading
-  -- a fault of a whole message, which keeps it, whether its head closes, and the rest
+  -- a fault of a whole message, which keeps the connection; whether its head closes it all the same; and the rest
   Kept : (fault : Fault) (closes : Bool) (rest : List ℕ) → Reading
-  -- a request, whether its head closes, and the rest
+  -- a request, whether its head closes the connection, and the rest
   Request : (asked : Asked) (closes : Bool) (rest : List ℕ) → Reading
 
 -- a whole message of this meaning stands in front of the rest
@@ -28,7 +28,7 @@ abbrev pub Asks : List ℕ → Result Asked Fault → Bool → List ℕ → Type
 Asks bytes meaning closes rest =
     (m : MessageData) × IsMessage bytes m rest × (asked_in m ≡ meaning) × (m.closes ≡ closes)
 
--- what it asks; where no head can come any more, both a refusal and the end are allowed
+-- What it asks. Where no whole head can come any more, a fault of the head is allowed, and so is the end.
 abbrev pub AskedOf : List ℕ → Reading → Type 0
 AskedOf bytes Nothing = IsIncoming bytes nothing
 AskedOf bytes Cut = IsIncoming bytes cut
@@ -45,7 +45,7 @@ AskedFrom true bytes reading = reading ≡ Nothing
 abbrev pub closes_after : InboxData → Bool → Bool
 closes_after inbox closes = inbox.closed || closes || nat_le 100 (inbox.count + 1)
 
--- the request's own bytes are gone, those behind it stay, and one answer more is counted
+-- the request's own bytes are gone, those after it stay, and one answer more is counted
 pub record LetGo (old new : InboxData) (left : Option (List ℕ)) (closes : Bool) (rest : List ℕ) : Type 0 where
   pub behind : stream new left ≡ Some rest
   pub count : new.count ≡ min 100 (old.count + 1)
@@ -74,7 +74,7 @@ RequestRead bytes old new left (Err (error.Fault fault)) = FaultRead bytes old n
 abbrev pub ReadsRequest : InboxData → InboxData → Option (List ℕ) → Option (List ℕ) → Result (Option Asked) WireError → Type 0
 ReadsRequest old new before after r = (bytes : List ℕ) → stream old before ≡ Some bytes → RequestRead bytes old new after r
 
--- whether the connection stays open behind a fault
+-- whether the connection stays open after a fault
 abbrev pub is_kept : Fault → Bool
 is_kept Route = true
 is_kept Caller = true

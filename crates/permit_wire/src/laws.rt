@@ -12,7 +12,8 @@ ghost use Rattle.permit_http.specs.declared.fault.Fault.{Fault};
 
 use permit_http::laws::one_meaning;
 
-/// A whole message asks one thing: one request or one fault behind its head, that closes or doesn't, with one rest.
+/// A whole message asks one thing: one request, or one fault after its head. It closes the connection or doesn't, and one
+/// rest follows it.
 pub fn one_request()
     ensures { (bytes rest other_rest : List ℕ) (asked other : Result Asked Fault) (closes other_closes : Bool)
         → Asks bytes asked closes rest → Asks bytes other other_closes other_rest

@@ -56,14 +56,14 @@ fn read_out(routes: &mut Routes, inbox: &mut Inbox, spans: &MessageSpans) -> Res
     asked
 }
 
-/// Reads the next request of a connection, `None` where the input ends with no byte after the last one, or the
-/// connection is closed.
+/// Reads the next request of a connection. It is `None` where the input ends with no byte after the last request, and
+/// where the connection is closed.
 ///
-/// The faults are tested in the order of `Fault`: those of the head on the head alone, the others after the whole body
-/// came. The bytes of a request that was read whole, also of one with such a fault, are dropped, and it counts
-/// among the 100 answers of the connection, which closes with the 100th or where the head asks for it. After another
-/// fault the connection is closed. Memory is taken for the request's texts alone, and for the routes of its method where they
-/// aren't made yet. No read is made behind bytes that hold a whole request or a head with a fault.
+/// The faults are tested in the order of `Fault`: those of the head once the head is there, the others once the body is.
+/// The bytes of a request that was read whole are dropped, also where it has a fault of the second sort. It counts
+/// among the 100 answers of the connection, which closes with the 100th or where the head asks for it. After a fault of
+/// the head the connection is closed. Memory is taken for the request's texts, and for the routes of its method
+/// where they aren't made yet. Where the bytes hold a whole request, or a head with a fault, nothing more is read.
 pub fn read_by<R: Source>(
     routes: &mut Routes,
     inbox: &mut Inbox,

@@ -54,8 +54,8 @@ pub struct Turn {
     pub asked: bool,
 }
 
-/// Writes the answer to the request that was read last from the connection, or to its fault, and closes the connection
-/// where the text that went out closes it, or none went out whole.
+/// Writes the answer to the request that was read last from the connection, or to its fault. It closes the connection
+/// where that answer says so, and where the answer didn't go out whole.
 pub fn answer_with<W: Write>(
     alloc: Global,
     inbox: &mut Inbox,
@@ -78,12 +78,12 @@ pub fn answer_with<W: Write>(
     }
 }
 
-/// Reads one request of a connection, has the service serve it, and writes the answer, or that to the fault that was
-/// read.
+/// Reads one request of a connection, has the service serve it, and writes the answer. Where a fault was read, its answer
+/// is written.
 ///
-/// The routes stay for the next request. The bytes behind the request stay in the inbox. A fault leaves the service as it
-/// was; a request is answered by the one reply that the service gave to it. After `Closed`, `ReadFailed` and `WriteFailed` the connection is closed: a further
-/// call reads nothing and answers `Ended`.
+/// The routes stay for the next request, and the bytes after this one stay in the inbox. A fault leaves the service as it
+/// was. A request is answered by the one reply that the service gave to it. After `Closed`, `ReadFailed` and `WriteFailed`
+/// the connection is closed: a further call reads nothing and answers `Ended`.
 pub fn serve_by<C, T: Service<C>, R: Source, W: Write>(
     routes: &mut Routes,
     service: &mut T,
@@ -137,9 +137,10 @@ pub fn serve_by<C, T: Service<C>, R: Source, W: Write>(
     }
 }
 
-/// Reads one request of a connection, serves it on the day, and writes the answer, or that to the fault that was read.
+/// Reads one request of a connection, serves it on the day, and writes the answer. Where a fault was read, its answer is
+/// written.
 ///
-/// The bytes behind the request stay in the inbox. A fault leaves the office as it was; a request is answered by the one
+/// The bytes after the request stay in the inbox. A fault leaves the office as it was. A request is answered by the one
 /// step that the office made for it. After `Closed`, `ReadFailed` and `WriteFailed` the connection is closed: a further
 /// call reads nothing and answers `Ended`.
 pub fn serve_one<S: Store + Drop, R: Source, W: Write>(

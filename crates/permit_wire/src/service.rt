@@ -13,7 +13,8 @@ pub struct Dated {
     pub reply: Reply,
 }
 
-/// What serves requests, one after the other, by a `C` that each call is given: an office, by the day.
+/// What serves requests, one after the other. Each call is given a `C`, which the service needs for it: an office needs the
+/// day.
 pub trait Service<C> {
     ghost use Rattle.permit_base.specs.declared.request.Asked.{Asked};
     ghost use Rattle.permit_wire.specs.declared.service.Dated.{Dated};
@@ -21,8 +22,8 @@ pub trait Service<C> {
     /// When it may be asked.
     ghost ready: { Self → Type 0 };
 
-    /// What serving a request does: by what the call is given, of the service, the request, its reply, and the service
-    /// after it.
+    /// What serving a request does. It relates what the call is given, the service before it, the request, the reply, and
+    /// the service after it.
     ghost did: { C → Self → Asked → Dated → Self → Type 0 };
 
     /// Serves a request.
