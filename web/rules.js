@@ -52,7 +52,7 @@ export const BEFORE_PERMIT = ['filed', 'review', 'returned', 'approved'];
 export const UNDER_PERMIT = ['issued', 'working'];
 export const CLOSED = ['rejected', 'revoked', 'abandoned', 'lapsed'];
 const OPEN = [...BEFORE_PERMIT, ...UNDER_PERMIT];
-const STOPPABLE = ['issued', 'working', 'lapsed', 'revoked', 'finaled'];
+const STOPPABLE = ['issued', 'working', 'revoked', 'finaled', 'lapsed'];
 
 // Who does each command on a file, beside the official, and the stages that admit it.
 export const COMMANDS = {
