@@ -29,7 +29,5 @@ mod DeskNamed
 mod InOrder
 mod Firsts
 mod Turns
-pub mod Renewals
-pub mod RenewedHistories
 pub mod SoundRenewal
 pub mod Renewing

@@ -27,8 +27,8 @@ use Rattle.permit_sql_statements.proofs.ReadLemmas.{party_shown, digest_shown}
 use Rattle.permit_sql.specs.declared.renew.RenewError.{RenewError}
 use Rattle.permit_sql.specs.declared.renew.RenewError.TheVariants as renew_error
 use Rattle.permit_sql.specs.Found.{AreTyped, IsNumbered, KeepsSound}
-use Rattle.permit_sql.proofs.Renewals.{number_alike, tables_renewed}
-use Rattle.permit_sql.proofs.RenewedHistories.{renewed_follows}
+use Rattle.permit_store.proofs.Renewals.{number_alike, tables_renewed}
+use Rattle.permit_store.proofs.RenewedHistories.{renewed_follows}
 use Rattle.permit_sql.proofs.SoundRenewal.{sound_renewed}
 
 -- ---- look-ups

@@ -15,7 +15,7 @@ use Rattle.permit_model.specs.Tables.{State, FileRow, Paper, Tables, is_notice}
 use Rattle.permit_model.specs.Renewal.{with_digest, with_renewed}
 use Rattle.permit_model.specs.Sound
 use Rattle.permit_model.specs.Sound.{IsSoundTables}
-use Rattle.permit_sql.proofs.Renewals.{number_alike, role_alike, found_alike, some_mapped}
+use Rattle.permit_store.proofs.Renewals.{number_alike, role_alike, found_alike, some_mapped}
 
 all_alike : {A : Type 0} (p q : A → Bool) → ((x : A) → p x ≡ q x) → (xs : List A) → list_all p xs ≡ list_all q xs
 all_alike p q same [] = refl

@@ -7,4 +7,7 @@ pub mod Sieving
 mod Passing
 mod Places
 pub mod Marks
+mod LedBefore
 pub mod Loading
+pub mod Renewals
+pub mod RenewedHistories

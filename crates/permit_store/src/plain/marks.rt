@@ -2,7 +2,7 @@
 
 ghost use Rattle.std.specs.Prelude.{◌≡◌, ◌==◌, ◌<◌, ℕ, nat_eq};
 ghost use Rattle.std.specs.HashMap.{get, spare};
-ghost use Rattle.permit_store.specs.Places.{mark_of as the_mark, led_after};
+ghost use Rattle.permit_store.specs.Places.{mark_of as the_mark, led_after, led_before};
 
 use std::collections::HashMap;
 use std::hash::{FoldHasher, Hasher};
@@ -29,4 +29,16 @@ pub(crate) fn lead(marks: &mut Marks, mark: u64, place: usize)
     if !marks.contains_key(&mark) {
         let _led = marks.insert(mark, place).is_ok();
     }
+}
+
+/// Leads the mark to the place, unless it leads before it already.
+pub(crate) fn lead_before(marks: &mut Marks, mark: u64, place: usize)
+    requires room { 0 < spare marks.old }
+    ensures { (m : ℕ) → get nat_eq marks.new m ≡ led_before (get nat_eq marks.old m) (mark == m) place }
+{
+    let lowest = match marks.get(&mark) {
+        Some(before) => place.min(*before),
+        None => place,
+    };
+    let _led = marks.insert(mark, lowest).is_ok();
 }

@@ -1,12 +1,14 @@
 //! The parties, each found by its number and by the digest of its token.
 
-ghost use Rattle.std.specs.Prelude.{◌≡◌, ◌<◌, ◌≤◌, ◌==◌, [], ◌∷◌, ◌++◌, ◌+◌, length, find, bytes_eq, option_map, OnOk, IsTrue, false, vec_capacity};
+ghost use Rattle.std.specs.Prelude.{◌≡◌, ◌<◌, ◌≤◌, ◌==◌, [], ◌∷◌, ◌++◌, ◌+◌, length, find, map, bytes_eq, option_map, OnOk, IsTrue, false, vec_capacity};
 ghost use Rattle.std.specs.HashMap.{spare};
+ghost use Rattle.std.proofs.Props.{props};
 ghost use Rattle.permit_base.specs.Limits.{most_records};
-ghost use Rattle.permit_store.specs.Places.{AreNumbered, LeadToFirst};
+ghost use Rattle.permit_model.specs.Renewal.{with_digest};
+ghost use Rattle.permit_store.specs.Places.{AreNumbered, LeadBefore};
 
 use crate::plain::find::row_at;
-use crate::plain::marks::{Marks, lead, mark_of};
+use crate::plain::marks::{Marks, lead, lead_before, mark_of};
 use crate::rows::Party;
 use permit_base::values::{Digest, PartyId};
 use permit_base::words::Role;
@@ -17,11 +19,17 @@ use std::collections::HashMap;
 #[derive(Drop)]
 pub(crate) struct Parties {
     pub(crate) rows: Vec<Party>,
-    /// Where they stand by the digests of their tokens.
+    /// Where they stand by the digests of their tokens. The mark of a digest that was given up may lead to a party still.
     pub(crate) tokens: Marks,
     ghost few: { length rows.items ≤ most_records },
     ghost numbered: { AreNumbered (λ p. p.id) rows.items },
-    ghost led: { LeadToFirst (λ p. p.digest) rows.items tokens },
+    ghost led: { LeadBefore (λ p. p.digest) rows.items tokens } by { Prim.hlevel props },
+}
+
+fn set_digest(party: &mut Party, digest: &Digest)
+    ensures { party.new ≡ record party.old { digest = digest.now } }
+{
+    party.digest = *digest;
 }
 
 impl Parties {
@@ -80,6 +88,14 @@ impl Parties {
         ensures spare { OnOk result (0 < spare self.new.tokens) }
     {
         self.rows.reserve(1)?;
+        self.reserve_mark()
+    }
+
+    /// Asks for room for one more mark.
+    pub(crate) fn reserve_mark(&mut self) -> Result<(), AllocError>
+        ensures kept { self.new.rows ≡ self.old.rows }
+        ensures spare { OnOk result (0 < spare self.new.tokens) }
+    {
         self.tokens.reserve(1)
     }
 
@@ -109,5 +125,17 @@ impl Parties {
         };
         self.add(party);
         true
+    }
+
+    /// Gives the party of the number the digest, where there is room for one more mark.
+    pub(crate) fn give(&mut self, id: PartyId, digest: &Digest)
+        requires spare { 0 < spare self.old.tokens }
+        ensures { self.new.rows.items ≡ map (with_digest id digest.now) self.old.rows.items }
+    {
+        let place = id.get() as usize - 1;
+        if place < self.rows.len() {
+            lead_before(&mut self.tokens, mark_of(digest.as_str()), place);
+            set_digest(&mut self.rows[place], digest);
+        }
     }
 }

@@ -1,6 +1,6 @@
 -- The laws are lemmas by induction on the history.
-use Rattle.permit_sql.proofs.Renewals.{tables_renewed}
-use Rattle.permit_sql.proofs.RenewedHistories.{renewed_follows}
+use Rattle.permit_store.proofs.Renewals.{tables_renewed}
+use Rattle.permit_store.proofs.RenewedHistories.{renewed_follows}
 use Rattle.permit_sql.proofs.laws.renewed_histories.Goals as goal
 
 pub returns-clause-history : goal.returns-clause-history

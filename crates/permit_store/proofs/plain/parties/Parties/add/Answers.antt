@@ -3,7 +3,7 @@ use Rattle.std.specs.Prelude.{nat_eq}
 use Rattle.std.specs.HashMap.{get}
 use Rattle.permit_model.specs.Caller.{Party}
 use Rattle.permit_store.specs.Places.{mark_of, led_after}
-use Rattle.permit_store.proofs.Marks.{led_more}
+use Rattle.permit_store.proofs.LedBefore.{before_more}
 use Rattle.permit_store.proofs.Places.{numbers_more}
 use Rattle.permit_store.proofs.plain.parties.Parties.add.Goals as goal
 
@@ -19,6 +19,6 @@ invariant_of-self c =
     record {
       few = omega (arith, count, c.requires.few);
       numbered = rw more (numbers_more (λ p. p.id) 1 rows c.args.party (omega (arith, c.requires.number)) s.numbered);
-      led = rw more (led_more (λ p. p.digest) rows s.tokens s.led c.lead.new.marks c.args.party c.mark_of.result marked
+      led = rw more (before_more (λ p. p.digest) rows s.tokens s.led c.lead.new.marks c.args.party c.mark_of.result marked
           (λ m. c.lead.ensures m ∙ ap (led_after (get nat_eq s.tokens m) (c.mark_of.result == m)) place));
     }

@@ -29,8 +29,8 @@ use Rattle.permit_model.specs.Machine.{Object, TheOffice, OneParcel, OneFile, ob
 use Rattle.permit_model.specs.Machine.{MayFollow, IsFounding, IsHistory}
 use Rattle.permit_model.specs.Renewal.{renewed_deed, renewed, with_digest, against_renewal}
 use Rattle.permit_model.proofs.Numbers.{find_none_front, number_is, parties_numbered}
-use Rattle.permit_sql.proofs.Renewals.{told_by, edition_alike, last_day_alike, filings_alike, case_numbered_alike, parcels_alike, interests_alike, parties_renewed}
-use Rattle.permit_sql.proofs.Renewals.{length_alike, is_party_alike, has_role_alike}
+use Rattle.permit_store.proofs.Renewals.{told_by, edition_alike, last_day_alike, filings_alike, case_numbered_alike, parcels_alike, interests_alike, parties_renewed}
+use Rattle.permit_store.proofs.Renewals.{length_alike, is_party_alike, has_role_alike}
 
 -- ---- whom nobody is
 
