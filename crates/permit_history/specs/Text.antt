@@ -29,6 +29,12 @@ Answers (Ok (Some entry)) next = AnswersLine (Ok entry) next
 Answers (Err (Line fault)) next = AnswersLine (Err fault) next
 Answers (Err (Source error)) next = Unit {0}
 
+-- a fact for a line at fault
+abbrev pub OnBadLine : Result (Option Entry) TextFault → Type 0 → Type 0
+OnBadLine (Ok next) fact = Unit {0}
+OnBadLine (Err (Line fault)) fact = fact
+OnBadLine (Err (Source error)) fact = Unit {0}
+
 -- reading the text a line at a time gives these entries in turn, and leaves these bytes
 abbrev pub GivesInTurn : List ℕ → List Entry → List ℕ → Type 0
 GivesInTurn bytes [] left = bytes ≡ left

@@ -2,7 +2,7 @@
 
 ghost use Rattle.std.specs.Prelude.{◌≡◌, OnOk, IfSome, option_map};
 ghost use Rattle.std.specs.Io.BufRead.{DropsThrough};
-ghost use Rattle.permit_history.specs.Text.{whole_line, next_line, Answers};
+ghost use Rattle.permit_history.specs.Text.{whole_line, next_line, Answers, OnBadLine};
 
 use crate::entry::Entry;
 use crate::fault::LineFault;
@@ -47,7 +47,8 @@ fn entry_in(alloc: Global, bytes: &[u8]) -> Result<Option<Entry>, TextFault>
 /// The next entry of a text, or none at its end. What stands behind the last LF is no line, and is passed over at the end.
 ///
 /// `line` is room for the bytes of a line, and what it holds is dropped. A line is read whole before it is judged, so it takes
-/// as much memory as it has bytes. After a fault the text is not to be read further.
+/// as much memory as it has bytes. After the fault of a line the source stands behind that line. After a failure of its own the
+/// source is not to be read further.
 pub fn next_entry<R: BufRead>(
     alloc: Global,
     source: &mut R,
@@ -55,6 +56,7 @@ pub fn next_entry<R: BufRead>(
 ) -> Result<Option<Entry>, TextFault>
     ensures exact { IfSome (R.remaining source.old) (λ bytes. Answers result (next_line bytes)) }
     ensures rest { OnOk result (DropsThrough (R.remaining source.old) (R.remaining source.new) 10) }
+    ensures behind { OnBadLine result (DropsThrough (R.remaining source.old) (R.remaining source.new) 10) }
 {
     line.clear();
     match source.read_until(b'\n', line) {

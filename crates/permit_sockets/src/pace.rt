@@ -1,10 +1,10 @@
 //! How long a connection may hold a worker: its reader and its writer count the clock.
 
-ghost use Rattle.std.specs.Prelude.{◌≡◌, ◌-◌, ◌<◌, ◌≤◌, IfNone, IfOk, IfSome, None, OnErr, OnOk, Some, length, unwrap_or};
+ghost use Rattle.std.specs.Prelude.{◌≡◌, ◌-◌, ◌<◌, ◌≤◌, IfNone, IfOk, IfSome, IsOk, None, OnErr, OnOk, Some, length, unwrap_or};
 ghost use Rattle.std.specs.Duration.{as_nanos};
 ghost use Rattle.std.specs.Io.{ReadsAtMost, WritesAtMost};
 ghost use Rattle.std.specs.Time.{instant_nanos};
-ghost use Rattle.permit_sockets.specs.Pace.{IsLeft, IsOver, MayWait, begun, in_nanos};
+ghost use Rattle.permit_sockets.specs.Pace.{IsLeft, IsOver, MayWait, answer_time, begun, in_nanos};
 
 use crate::limits::{ANSWER, IDLE_TIMEOUT, LINGER, REQUEST};
 use std::alloc::Global;
@@ -140,7 +140,7 @@ impl<C: Clock + Drop> AnswerWriter<C> {
     /// Writes once, at this time of the clock.
     fn write_at(&mut self, now: Instant, buf: &[u8]) -> io::Result<usize>
         ensures bound { WritesAtMost result buf.now }
-        ensures wait { OnOk result (IfSome self.new.wait (IsLeft ANSWER (unwrap_or self.old.since now) now)) }
+        ensures wait { OnOk result (IfSome self.new.wait (IsLeft answer_time (unwrap_or self.old.since now) now)) }
         ensures set { OnOk result (self.new.wait ≡ None → ⊥) }
         ensures more { IfOk result (λ count. count < length buf.now → self.new.since ≡ Some (unwrap_or self.old.since now)) }
         ensures whole { IfOk result (λ count. length buf.now ≤ count → self.new.since ≡ None) }
@@ -165,7 +165,11 @@ impl<C: Clock + Drop> Write for AnswerWriter<C> {
         self.write_at(now, buf)
     }
 
-    fn flush(&mut self) -> io::Result<()> {
+    /// Each write goes to the socket at once, so nothing is kept back.
+    fn flush(&mut self) -> io::Result<()>
+        ensures ok { IsOk result }
+        ensures unchanged { self.new ≡ self.old }
+    {
         Ok(())
     }
 }
