@@ -1,6 +1,6 @@
 -- A command that is done is an accepted one.
-use Rattle.std.proofs.Common.{◌≡◌, ◌≤◌, refl, sym, ap, ◌∙◌, subst, ℕ, ◌==◌, Bool, true, false, not, List, [], ◌∷◌, Option, None, Some, arith, inl, inr}
-use Rattle.std.specs.Prelude.{◌⊎◌, IsTrue, Result, Ok, Err, IfOk, IfErr, nat_lt, if◌then◌else◌}
+use Rattle.std.proofs.Common.{◌≡◌, ◌≤◌, refl, sym, ap, ◌∙◌, subst, ℕ, Bool, true, false, List, [], ◌∷◌, Option, None, Some, arith, inl, inr}
+use Rattle.std.specs.Prelude.{IsTrue, Result, Ok, Err, IfOk, IfErr, nat_lt, if◌then◌else◌}
 use Rattle.std.proofs.lemmas.Bool.{eqb-true, false≢true}
 use Rattle.std.proofs.lemmas.Bool.Decides.{nat_tests}
 use Rattle.permit_base.specs.declared.words.Edition.TheVariants.{First, Second}
@@ -11,7 +11,7 @@ use Rattle.permit_model.specs.History.{Deed, Founding, Upgrade, Accepted, Entry,
 use Rattle.permit_model.specs.Caller.{is_party}
 use Rattle.permit_model.specs.Admission.{reason_against}
 use Rattle.permit_model.specs.Tables.{Tables, tables}
-use Rattle.permit_model.specs.Machine.{Outcome, Reply, Done, IsAccepted, IsFounding, IsHistory, is_command, is_there, number_made, object_of, entry_of, outcome_by_reason}
+use Rattle.permit_model.specs.Machine.{Outcome, Reply, IsAccepted, IsFounding, IsHistory, is_command, is_there, number_made, object_of, entry_of, outcome_by_reason}
 use Rattle.permit_store.specs.declared.store.StoreError.{StoreError}
 use Rattle.permit_office.specs.Accepting.{outcome_if_there, outcome_in_time, outcome_of_party, outcome_unjudged}
 use Rattle.permit_office.specs.Answers.{Attempts, IsOwn, reply_of, is_store_refusal}
@@ -24,12 +24,12 @@ use Rattle.permit_history.specs.declared.entry.Deed.TheVariants as deed
 use Rattle.permit_history.specs.LineData.{act_number}
 use Rattle.permit_replay.specs.declared.fault.Why.{Why}
 use Rattle.permit_replay.specs.declared.fault.Why.TheVariants as why
-use Rattle.permit_replay.specs.Against.{is_same, against, against_later, against_reply}
-use Rattle.permit_replay.specs.Histories.{HasTokenIn, request_by}
+use Rattle.permit_replay.specs.Against.{is_same, against, against_later, against_reply, against_upgrade}
+use Rattle.permit_replay.specs.Histories.{request_by}
 use Rattle.permit_store.specs.declared.plain.PlainStore.{PlainStore}
 use Rattle.permit_store.specs.Frames.{StoreView}
 use Rattle.permit_replay.specs.declared.replayed.Replayed.TheVariants as replayed
-use Rattle.permit_replay.specs.Holding.{FailsAs, Follows, HoldsHistory, IsAgainst, Takes}
+use Rattle.permit_replay.specs.Holding.{FailsAs, Follows, IsAgainst, Takes}
 
 -- ---- what is done was accepted
 
@@ -120,7 +120,6 @@ fails why.SecondFounding said e = e
 fails why.FirstEdition said e = e
 fails why.UpgradeDay said e = e
 fails why.SecondUpgrade said e = e
-fails why.Renewal said e = e
 fails (why.Refused refusal) said e = e
 fails why.Number said e = e
 
@@ -131,12 +130,14 @@ judged : (holds : Tables → Type 0) (token_of : List ℕ → List ℕ) (h : His
     → Follows holds token_of h day (deed.Accepted caller a) result
 judged holds token_of h day caller a (Err w) is second held said = fails w _ said
 judged holds token_of h day caller a (Ok taken) is second held said =
-    let d = done h day caller (request_by token_of a) (act_number a) (asks_command token_of a) said in
-    (said, record {
-      history = longer h day caller (request_by token_of a) (act_number a) is d.accepted;
-      upgraded = second;
-      held = rw d.history at held;
-    })
+    let d = done h day caller (request_by token_of a) (act_number a) (asks_command token_of a) said in (
+      said,
+      record {
+        history = longer h day caller (request_by token_of a) (act_number a) is d.accepted;
+        upgraded = second;
+        held = rw d.history at held;
+      },
+    )
 
 not_own : (reply : Given) → reply ≡ given.Refused refusal.Store → IsOwn reply → ⊥
 not_own reply e own = let stored : is_store_refusal reply ≡ true = ap is_store_refusal e in cc
@@ -159,6 +160,10 @@ follows holds token_of h day caller a (Ok reply) result is second (inl answered)
     (subst (λ (r : Reply). IsAgainst result (against_reply (act_number a) r)) answered.0 said)
 
 -- ---- behind the upgrade
+
+-- the upgrade doesn't come again
+pub second_upgrade : (h : History) → edition h ≡ Second → against_upgrade (edition h) ≡ Some why.SecondUpgrade
+second_upgrade h second = ap against_upgrade second
 
 founded : (first : Entry) (done : Deed) → IsFounding first done → edition (record first { deed = done } ∷ []) ≡ First
 founded first (Founding name digest) is = refl

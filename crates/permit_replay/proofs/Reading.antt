@@ -1,5 +1,5 @@
 -- One more line of a text.
-use Rattle.std.proofs.Common.{◌≡◌, refl, sym, ap, ◌∙◌, subst, ℕ, ◌+◌, suc, List, [], ◌∷◌, ◌++◌, length, Option, None, Some, option_map, arith, length-append, inl, inr}
+use Rattle.std.proofs.Common.{◌≡◌, refl, sym, ap, ◌∙◌, subst, ℕ, ◌+◌, List, [], ◌∷◌, ◌++◌, length, Option, None, Some, option_map, arith, length-append, inl, inr}
 use Rattle.std.specs.Prelude.{◌⊎◌, Result, Ok, Err, IfSome, IfOk, IfErr}
 use Rattle.std.specs.Io.BufRead.{drop_through}
 use Rattle.permit_model.specs.History.{History}
@@ -9,17 +9,19 @@ use Rattle.permit_history.specs.declared.entry.Entry.{Entry}
 use Rattle.permit_history.specs.declared.fault.LineFault.{LineFault}
 use Rattle.permit_history.specs.declared.fault.LineFault.TheVariants as line_fault
 use Rattle.permit_history.specs.LineRead.{reading_of}
+use Rattle.permit_history.specs.Meaning.{meant_with}
 use Rattle.permit_history.specs.Outcome.{IsUnlessMemory}
+use Rattle.permit_history.specs.Told.{told_history}
 use Rattle.permit_history.specs.Text.{next_line, AnswersLine, GivesInTurn}
 use Rattle.permit_replay.specs.declared.fault.Why.{Why}
 use Rattle.permit_replay.specs.declared.fault.ReplayFault.{ReplayFault}
-use Rattle.permit_replay.specs.declared.fault.ReplayFault.TheVariants as replay_fault
 use Rattle.permit_replay.specs.declared.replayed.Replayed.{Replayed}
 use Rattle.permit_replay.specs.declared.replayed.Replayed.TheVariants as replayed
 use Rattle.permit_replay.specs.Against.{against}
 use Rattle.permit_replay.specs.Histories.{HasToken, HaveTokens, history_with, history_from, history_by}
 use Rattle.permit_replay.specs.Holding.{Holds, FailsAs, Takes}
 use Rattle.permit_replay.specs.Texts.{EndsAs, HasReplayed, IsAtFault, IsReplayed, StopsAt}
+use Rattle.permit_replay.proofs.Telling.{told_with, meant_last}
 
 -- ---- what the line says
 
@@ -56,8 +58,11 @@ at_fault fault left answer = by (next_line left) refl answer
 
 pub given_more : (bytes : List ℕ) (entries : List Entry) (left : List ℕ) (entry : Entry) → GivesInTurn bytes entries left
     → AnswersLine (Ok entry) (next_line left) → GivesInTurn bytes (entries ++ entry ∷ []) (drop_through 10 left)
-given_more bytes [] left entry given answer = (subst (λ bs. option_map reading_of (next_line bs) ≡ Some (Ok entry)) (sym given)
-    (entry_said entry (next_line left) answer), ap (drop_through 10) given)
+given_more bytes [] left entry given answer = (
+  subst (λ bs. option_map reading_of (next_line bs) ≡ Some (Ok entry)) (sym given)
+      (entry_said entry (next_line left) answer),
+  ap (drop_through 10) given,
+)
 given_more bytes (first ∷ later) left entry given answer = (given.0, given_more (drop_through 10 bytes) later left entry given.1 answer)
 
 from_more : (token_of : List ℕ → List ℕ) (h : History) (entries : List Entry) (entry : Entry)
@@ -77,15 +82,23 @@ tokens_parted token_of (first ∷ later) entry have =
     let parts = tokens_parted token_of later entry have.1 in ((have.0, parts.0), parts.1)
 
 -- what is replayed with it
-pub replayed_more : (view : PlainStore → StoreView) (bytes : List ℕ) (entries : List Entry) (left : List ℕ) (entry : Entry) (before after : Replayed)
-    → HasReplayed view bytes entries left before → AnswersLine (Ok entry) (next_line left)
-    → ((token_of : List ℕ → List ℕ) (h : History) → Holds view before h → HasToken token_of entry.deed → Takes view token_of h entry.day entry.deed (Ok after))
+pub replayed_more : (view : PlainStore → StoreView) (bytes : List ℕ) (entries : List Entry) (left : List ℕ) (entry : Entry) (before_it after : Replayed)
+    → HasReplayed view bytes entries left before_it → AnswersLine (Ok entry) (next_line left)
+    → ((token_of : List ℕ → List ℕ) (h : History) → Holds view before_it h → HasToken token_of entry.deed → Takes view token_of h entry.day entry.deed (Ok after))
     → HasReplayed view bytes (entries ++ entry ∷ []) (drop_through 10 left) after
-replayed_more view bytes entries left entry before after has answer takes = record {
+replayed_more view bytes entries left entry before_it after has answer takes = record {
   given = given_more bytes entries left entry has.given answer;
   held = λ token_of have.
       let parts = tokens_parted token_of entries entry have in
       subst (Holds view after) (sym (told_more token_of entries entry)) (takes token_of (history_by token_of entries) (has.held token_of parts.0) parts.1).1;
+  told = λ token_of have.
+      let parts = tokens_parted token_of entries entry have in
+      let before = history_by token_of entries in
+      let taken = takes token_of before (has.held token_of parts.0) parts.1 in
+      ap told_history (told_more token_of entries entry)
+      ∙ told_with view before_it token_of before entry.day entry.deed (has.held token_of parts.0) parts.1 taken.0
+      ∙ ap (λ es. meant_with es entry entry.deed) (has.told token_of parts.0)
+      ∙ sym (meant_last entries entry);
 }
 
 -- what stands against it

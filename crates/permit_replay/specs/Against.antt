@@ -1,6 +1,10 @@
 -- What stands against an entry behind a history.
-use Rattle.std.specs.Prelude.{ℕ, Bool, true, false, ◌==◌, nat_lt, if◌then◌else◌, List, [], ◌∷◌, Option, None, Some}
-use Rattle.permit_model.specs.History.{History}
+use Rattle.std.specs.Prelude.{ℕ, Bool, true, false, ◌==◌, nat_lt, if◌then◌else◌, List, [], ◌∷◌, Option, None, Some, option_map}
+use Rattle.permit_base.specs.declared.words.Edition.{Edition}
+use Rattle.permit_base.specs.declared.words.Edition.TheVariants as edition_word
+use Rattle.permit_model.specs.History.{History, edition}
+use Rattle.permit_model.specs.Caller.{parties}
+use Rattle.permit_model.specs.Renewal.{against_renewal}
 use Rattle.permit_model.specs.Machine.{Reply, Done, ParcelShown, FileShown, Listed, RegisterShown, Refused}
 use Rattle.permit_office.specs.Accepting.{outcome_unjudged}
 use Rattle.permit_history.specs.declared.entry.Deed.{Deed}
@@ -40,11 +44,16 @@ against_reply told (FileShown file papers) = None
 against_reply told (Listed files) = None
 against_reply told (RegisterShown kind files) = None
 
--- those behind have to be accepted commands
+-- the upgrade comes once, and is the second entry
+abbrev pub against_upgrade : Edition → Option Why
+against_upgrade edition_word.First = Some why.FirstEdition
+against_upgrade edition_word.Second = Some why.SecondUpgrade
+
+-- those behind have to be accepted commands, or give another token to a party that is there, of a digest that nobody has
 abbrev pub against_later : (List ℕ → List ℕ) → History → ℕ → Deed → Option Why
 against_later token_of h day (deed.Found name digest) = Some why.SecondFounding
-against_later token_of h day deed.Upgrade = Some why.SecondUpgrade
-against_later token_of h day (deed.RenewToken party digest) = Some why.Renewal
+against_later token_of h day deed.Upgrade = against_upgrade (edition h)
+against_later token_of h day (deed.RenewToken party digest) = option_map why.Refused (against_renewal (parties h) party digest)
 against_later token_of h day (deed.Accepted caller act) =
     against_reply (act_number act) (outcome_unjudged h day caller (request_by token_of act)).reply
 

@@ -1,5 +1,5 @@
 -- The history that entries tell, where each digest is that of a token.
-use Rattle.std.specs.Prelude.{◌≡◌, ℕ, List, [], ◌∷◌, Option, None, Some, ⊤}
+use Rattle.std.specs.Prelude.{◌≡◌, ℕ, Bool, true, false, List, [], ◌∷◌, None, Some, ⊤}
 use Rattle.permit_base.specs.declared.request.Request.{Request}
 use Rattle.permit_base.specs.declared.request.Request.TheVariants.{AddParty, AddParcel, Transfer, Declare, File, OnFile}
 use Rattle.permit_base.specs.Digests.{digest_of}
@@ -62,6 +62,13 @@ history_with token_of h day deed.Upgrade = record { caller = 0; day = day; deed 
 history_with token_of h day (deed.RenewToken party digest) = renewed party (token_of digest) h
 history_with token_of h day (deed.Accepted caller act) =
     record { caller = caller; day = day; deed = Accepted (request_by token_of act); number = act_number act } ∷ h
+
+-- whether the deed adds an entry: another token changes the entry that made its party
+abbrev pub adds_entry : Deed → Bool
+adds_entry (deed.RenewToken party digest) = false
+adds_entry (deed.Found name digest) = true
+adds_entry deed.Upgrade = true
+adds_entry (deed.Accepted caller act) = true
 
 -- the history with the entries, the oldest first
 abbrev pub history_from : (List ℕ → List ℕ) → History → List Entry → History

@@ -35,7 +35,6 @@ FailsAs why.SecondFounding said = said ≡ Some why.SecondFounding
 FailsAs why.FirstEdition said = said ≡ Some why.FirstEdition
 FailsAs why.UpgradeDay said = said ≡ Some why.UpgradeDay
 FailsAs why.SecondUpgrade said = said ≡ Some why.SecondUpgrade
-FailsAs why.Renewal said = said ≡ Some why.Renewal
 FailsAs (why.Refused refusal) said = said ≡ Some (why.Refused refusal)
 FailsAs why.Number said = said ≡ Some why.Number
 

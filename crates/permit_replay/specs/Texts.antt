@@ -1,12 +1,14 @@
 -- What replaying a text answers.
-use Rattle.std.specs.Prelude.{◌≡◌, ℕ, ◌+◌, List, [], ◌∷◌, ◌++◌, length, Option, None, Some, option_map, Result, Ok, Err, ⊤}
+use Rattle.std.specs.Prelude.{◌≡◌, ℕ, ◌+◌, List, [], ◌∷◌, ◌++◌, length, None, Some, option_map, Result, Ok, Err, ⊤}
 use Rattle.permit_store.specs.declared.plain.PlainStore.{PlainStore}
 use Rattle.permit_store.specs.Frames.{StoreView}
 use Rattle.permit_history.specs.declared.entry.Entry.{Entry}
 use Rattle.permit_history.specs.declared.fault.LineFault.{LineFault}
 use Rattle.permit_history.specs.declared.fault.LineFault.TheVariants as line_fault
 use Rattle.permit_history.specs.LineRead.{reading_of}
+use Rattle.permit_history.specs.Meaning.{meant}
 use Rattle.permit_history.specs.Text.{next_line, GivesInTurn}
+use Rattle.permit_history.specs.Told.{told_history}
 use Rattle.permit_replay.specs.declared.fault.ReplayFault.{ReplayFault}
 use Rattle.permit_replay.specs.declared.fault.ReplayFault.TheVariants as replay_fault
 use Rattle.permit_replay.specs.declared.replayed.Replayed.{Replayed}
@@ -15,10 +17,11 @@ use Rattle.permit_replay.specs.Histories.{HaveTokens, history_by}
 use Rattle.permit_replay.specs.Against.{against}
 use Rattle.permit_replay.specs.Holding.{Holds, FailsAs}
 
--- the entries are the first of the text, these bytes stand behind them, and what they tell is held
+-- the entries are the first of the text, these bytes stand behind them, and the history that they tell is held
 pub record HasReplayed (view : PlainStore → StoreView) (bytes : List ℕ) (entries : List Entry) (left : List ℕ) (as_far : Replayed) : Type 0 where
   pub given : GivesInTurn bytes entries left
   pub held : (token_of : List ℕ → List ℕ) → HaveTokens token_of entries → Holds view as_far (history_by token_of entries)
+  pub told : (token_of : List ℕ → List ℕ) → HaveTokens token_of entries → told_history (history_by token_of entries) ≡ meant entries
 
 -- a text is replayed whole: no line is left behind its entries, and the store holds the tables of the history that they tell
 abbrev pub IsReplayed : (PlainStore → StoreView) → List ℕ → PlainStore → Type 0

@@ -18,9 +18,8 @@ pub enum Why {
     UpgradeDay,
     /// It is the upgrade behind the upgrade.
     SecondUpgrade,
-    /// It gives a party another token. Such entries are not taken yet.
-    Renewal,
-    /// It is a command that the office refuses, whatever a policy says.
+    /// It is a command that the office refuses, whatever a policy says. Or it gives another token to a party that isn't there,
+    /// as `Record`, or one of a digest that a party has, as `NotAdmitted` for `Taken`.
     Refused(Refusal),
     /// It is a command that is admitted, and its number isn't that of what it makes.
     Number,
@@ -32,15 +31,9 @@ pub enum Why {
 #[derive(Drop)]
 pub enum ReplayFault {
     /// This line is no entry's, or memory was refused while it was read.
-    Line {
-        line: u64,
-        fault: LineFault,
-    },
+    Line { line: u64, fault: LineFault },
     /// The entry of this line is not the next one.
-    Entry {
-        line: u64,
-        why: Why,
-    },
+    Entry { line: u64, why: Why },
     /// The text ends before its second line, so that it tells of no office or of one of the first edition.
     Short,
     /// The text has 18446744073709551614 lines or more.

@@ -6,6 +6,7 @@
 
 pub mod fault;
 mod following;
+pub mod laws;
 mod recorded;
 pub mod replayed;
 mod text;

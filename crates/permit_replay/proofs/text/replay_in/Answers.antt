@@ -1,7 +1,6 @@
-use Rattle.std.proofs.Common.{◌≡◌, ◌∙◌, sym, ap, subst, ◌+◌, [], ◌∷◌, ◌++◌, Some, None, Ok, Err}
+use Rattle.std.proofs.Common.{◌≡◌, ◌∙◌, sym, ap, subst, ◌+◌, [], ◌∷◌, ◌++◌, Some, Ok, Err}
 use Rattle.std.specs.Io.BufRead.{drop_through}
 use Rattle.permit_history.specs.Text.{next_line, Answers}
-use Rattle.permit_history.specs.declared.text.TextFault.TheVariants as text_fault
 use Rattle.permit_store.specs.contracts.plain.PlainStoreStore.TheImpl as plain
 use Rattle.permit_replay.specs.Texts.{IsAtFault}
 use Rattle.permit_replay.proofs.Reading.{at_fault, ends_short, ends_well, given_more, if_some, one_more, replayed_more, some_at, stopped_there}

@@ -1,6 +1,3 @@
-use Rattle.std.proofs.Common.{◌≡◌, refl, sym, subst, Ok}
-use Rattle.permit_replay.specs.Holding.{Holds, Takes}
-use Rattle.permit_replay.proofs.Accepted.{behind, taken_behind, refused_behind}
 use Rattle.permit_replay.proofs.replayed.Replayed.take.Goals as goal
 
 pub returns-in-Nothing : goal.returns-in-Nothing
