@@ -65,11 +65,10 @@ fn upgrade(alloc: Global, founder: &Founder, day: Day, deed: &Deed) -> Result<Re
 }
 
 impl Replayed {
-    /// Takes the next entry: exactly where nothing stands against it behind those that were taken, or else the lowest reason in
-    /// the order of `Why`. What was replayed is gone after an error.
+    /// Takes the next entry, where nothing stands against it behind those that were taken. Otherwise it answers why; then what was
+    /// replayed is gone.
     ///
-    /// The machine of the model under a policy that allows everything takes a command exactly where it is taken here, with
-    /// the number that it has.
+    /// A command is tested in the order caller, clock, record, not admitted, number.
     pub fn take(self, alloc: Global, entry: &Entry) -> Result<Replayed, Why>
         ensures { (token_of : List ℕ → List ℕ) (h : History) → Holds ⟦<PlainStore as Store>⟧.view self h → HasToken token_of entry.now.deed
             → Takes ⟦<PlainStore as Store>⟧.view token_of h entry.now.day entry.now.deed result }

@@ -1,0 +1,9 @@
+//! Texts of histories that are replayed, and lines that are no next entry, written here by hand.
+#![tactic(auto)]
+
+#[cfg(test)]
+mod life;
+#[cfg(test)]
+mod refused;
+#[cfg(test)]
+mod replayed;
