@@ -10,6 +10,14 @@ use std::alloc::AllocError;
 /// The digest that the tables keep of a token: its SHA-256 (FIPS 180-4) in lower-case hexadecimal.
 ///
 /// It takes no memory, so that it always answers `Ok`.
+///
+/// # Examples
+///
+/// ```
+/// let letters = String::from_str(alloc, "abcdefghijklmnopqrstuvwxyz")?;
+/// let token = Token::new(letters).ok_or("a token")?;
+/// assert!(rt; digest(&token)?.as_str().starts_with("71c480df93d6ae2f"));
+/// ```
 pub fn digest(token: &Token) -> Result<Digest, AllocError>
     ensures { result ≡ Ok (digest_of token.now) }
 {

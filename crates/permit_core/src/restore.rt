@@ -105,6 +105,18 @@ impl StateFields {
 
 impl FileState {
     /// The state with the fields of a row, or None exactly where the facts of the type fail.
+    ///
+    /// # Examples
+    ///
+    /// ```
+    /// let fields = state.fields();
+    /// assert!(rt; FileState::restore(fields).is_some());
+    /// let certified = StateFields {
+    ///     stage: Stage::Certified,
+    ///     ..fields
+    /// };
+    /// assert!(rt; FileState::restore(certified).is_none());
+    /// ```
     pub fn restore(fields: StateFields) -> Option<FileState>
         ensures sound { IsSome result ↔ IsSoundState fields }
         ensures same { IfSome result (λ state. state ≡ fields) }

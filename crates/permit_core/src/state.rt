@@ -48,6 +48,13 @@ impl Model for FileState {
 impl FileState {
     /// The state of an application filed on a day: its deadline is 180 days later (IBC 2018, section 105.3.2). It is
     /// that of the new file in the history with the filing added, where the edition is the one in force.
+    ///
+    /// # Examples
+    ///
+    /// ```
+    /// let state = FileState::file(applicant, parcel, Kind::Repair, Edition::Second, day);
+    /// assert!(rt; state.parcel() == parcel && state.papers() == 0);
+    /// ```
     pub fn file(
         applicant: PartyId,
         parcel: ParcelId,
@@ -112,6 +119,13 @@ impl FileState {
     }
 
     /// The deadline, a count of days since 1970-01-01: the last day on which the file is open.
+    ///
+    /// # Examples
+    ///
+    /// ```
+    /// let state = FileState::file(applicant, parcel, Kind::Repair, Edition::Second, day);
+    /// assert!(rt; state.deadline() == Some(day.get() + TERM));
+    /// ```
     pub fn deadline(&self) -> Option<u32>
         ensures row { result ≡ self.now.deadline }
         ensures model { (file : CaseFile) → self.now ≡ state_of file → result ≡ deadline file }

@@ -7,6 +7,8 @@ mod base;
 #[cfg(test)]
 mod dates;
 #[cfg(test)]
+mod examples;
+#[cfg(test)]
 mod files;
 #[cfg(test)]
 mod interests;

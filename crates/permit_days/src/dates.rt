@@ -26,6 +26,13 @@ fn date_of(day: u32) -> Option<Date>
 
 /// The date of a day as YYYY-MM-DD. The day counts from 1970-01-01; past 9999-12-31, which no deadline reaches, the
 /// text is empty.
+///
+/// # Examples
+///
+/// ```
+/// let date = date_text(alloc, 19723)?;
+/// assert!(rt; date.as_str() == "2024-01-01");
+/// ```
 pub fn date_text(alloc: Global, day: u32) -> Result<String, AllocError>
     ensures text { day ≤ latest_deadline → IfOk result (λ text. IsTextOf day (string_bytes text)) }
 {
@@ -78,6 +85,14 @@ fn day_of_date(date: Date) -> Option<Day>
 
 /// The day of a date written as YYYY-MM-DD, exactly so: none for another form, for a date that doesn't exist, and for a
 /// day that isn't from 1970-01-01 to the day 100000.
+///
+/// # Examples
+///
+/// ```
+/// let day = read_date("2024-01-01").ok_or("a date")?;
+/// assert!(rt; day.get() == 19723);
+/// assert!(rt; read_date("2024-1-1").is_none());
+/// ```
 pub fn read_date(text: &str) -> Option<Day>
     ensures read { IfSome result (λ day. IsTextOf day text.now) }
     ensures every { (day : ℕ) → day ≤ latest_day → IsTextOf day text.now → result ≡ Some day }

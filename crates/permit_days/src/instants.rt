@@ -27,6 +27,14 @@ pub(crate) fn number(date: Date) -> i32
 }
 
 /// The day that a zone's clock shows at an instant, counted from 1970-01-01.
+///
+/// # Examples
+///
+/// ```
+/// let midnight = Timestamp::from_second(1_704_067_200)?;
+/// let there = day_of(midnight, &TimeZone::posix("EST5")?);
+/// assert!(rt; there.map(Day::get) == Ok(19722));
+/// ```
 pub fn day_of(instant: Timestamp, zone: &TimeZone<'_>) -> Result<Day, DayError>
     ensures day { IfOk result (IsDayAt (plain_zone zone.now) instant.nanosecond) }
     ensures range { IfErr result (λ e. (e ≡ DayError.Range) × ((day : ℕ) → day ≤ latest_day → IsDayAt (plain_zone zone.now) instant.nanosecond day → ⊥)) }

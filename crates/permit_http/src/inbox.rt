@@ -35,6 +35,13 @@ impl Model for Inbox {
 
 impl Inbox {
     /// An inbox at the beginning of a connection: no bytes, no answers, not closed. It takes no memory.
+    ///
+    /// # Examples
+    ///
+    /// ```
+    /// let mut inbox = Inbox::new();
+    /// assert!(rt; !inbox.is_closed());
+    /// ```
     pub fn new() -> Inbox
         ensures { result ≡ fresh }
     {

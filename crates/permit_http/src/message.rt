@@ -132,6 +132,16 @@ impl Inbox {
     /// Reads until a whole message stands at the front of the inbox, and says where its parts are; `None` where the
     /// input ends before any byte of it, or the connection is closed. The first fault of a head is reported without
     /// another read: nothing is waited for behind it; after any fault the connection is closed. It takes no memory.
+    ///
+    /// # Examples
+    ///
+    /// ```
+    /// let mut reader: &[u8] = b"GET /files HTTP/1.1\r\nHost: office\r\n\r\n";
+    /// let Ok(Some(spans)) = inbox.read_message(&mut reader) else {
+    ///     return Err(Fail::new("no message"));
+    /// };
+    /// assert!(rt; inbox.message(&spans).path == b"/files".as_slice());
+    /// ```
     pub fn read_message<R: Source>(
         &mut self,
         reader: &mut R,

@@ -51,6 +51,14 @@ impl<S: Store> Model for Office<S> {
 impl<S: Store + Drop> Office<S> {
     /// The office over a store, with a policy. It reads the desk; where that fails, the store comes back with its
     /// content as it was, and `OpenError::Store`.
+    ///
+    /// # Examples
+    ///
+    /// ```
+    /// let Ok(mut office) = Office::open(store, policy) else {
+    ///     return Err(Fail::new("no office"));
+    /// };
+    /// ```
     pub fn open(mut store: S, policy: Policy) -> Result<Office<S>, (S, OpenError)>
         ensures opened { IfOk result (λ office. IsRead (S.view store) (S.view office.store) result) }
         ensures policy { IfOk result (λ office. office.policy ≡ policy) }
@@ -64,6 +72,13 @@ impl<S: Store + Drop> Office<S> {
     }
 
     /// The store, with its content as it is.
+    ///
+    /// # Examples
+    ///
+    /// ```
+    /// let mut store = office.into_store();
+    /// assert!(rt; store.desk()?.files == 0);
+    /// ```
     pub fn into_store(self) -> S
         ensures { result ≡ self.store }
     {
@@ -95,6 +110,16 @@ impl<S: Store + Drop> Office<S> {
     }
 
     /// One step for a request with its caller's token, on the day: `step_as` on the token's digest.
+    ///
+    /// # Examples
+    ///
+    /// ```
+    /// let request = Request::ListFiles {
+    ///     filter: Filter::All,
+    /// };
+    /// let reply = office.step(&Asked { token, request }, day);
+    /// assert!(rt; matches!(reply, Reply::Listed(_)));
+    /// ```
     pub fn step(&mut self, asked: &Asked, day: Day) -> Reply
         ensures model { OverHistory (S.view self.old.store) (S.view self.new.store) (λ h.
             Answers (S.view self.new.store).holds result (step self.old.policy h asked.now day) h) }

@@ -54,6 +54,14 @@ impl Policy {
     }
 
     /// The name of the rule that denies, or None where the policy allows.
+    ///
+    /// # Examples
+    ///
+    /// ```
+    /// let asked = Facts::office(Role::Public, Action::AddParcel);
+    /// let rule = policy.denial(&asked).ok_or("a denial")?;
+    /// assert!(rt; rule.as_str() == "default");
+    /// ```
     pub fn denial(&self, facts: &Facts) -> Option<RuleName>
         ensures { result ≡ denied (decision self.now facts.now) }
     {
@@ -99,6 +107,14 @@ impl Decision {
 
 /// The effect of the first rule that matches, with its name; where none matches, a denial named `default`.
 /// It takes no memory.
+///
+/// # Examples
+///
+/// ```
+/// let asked = Facts::office(Role::Clerk, Action::AddParcel);
+/// let decision = decide(&policy, &asked);
+/// assert!(rt; decision.is_allow() && decision.rule.as_str() == "clerks");
+/// ```
 pub fn decide(policy: &Policy, facts: &Facts) -> Decision
     ensures { result ≡ decision policy.now facts.now }
 {

@@ -185,6 +185,14 @@ fn read_tables(alloc: Global, tables: &[Value]) -> Result<Policy, PolicyError>
 ///
 /// A text with a fault is refused with the fault of the lowest number that applies, and the place of the first table
 /// that has it. Want of memory may come in place of any other answer.
+///
+/// # Examples
+///
+/// ```
+/// let text = "[[rule]]\nname = \"clerks\"\neffect = \"allow\"\nrole = [\"clerk\"]\n";
+/// let policy = read_policy(alloc, text)?;
+/// assert!(rt; policy.rules() == 1);
+/// ```
 pub fn read_policy(alloc: Global, text: &str) -> Result<Policy, PolicyError>
     ensures { Means result (meaning text.now) }
 {

@@ -10,6 +10,13 @@ use std::alloc::{AllocError, Global};
 ///
 /// The form is the scheme `Bearer` in any case, one space and the token (RFC 9110, section 11.4). An `Err` says
 /// that memory for the token ran out.
+///
+/// # Examples
+///
+/// ```
+/// let token = read_token(alloc, b"Bearer abcdefghijklmnopqrstuvwxyz")?;
+/// assert!(rt; token.is_some());
+/// ```
 pub fn read_token(alloc: Global, value: &[u8]) -> Result<Option<Token>, AllocError>
     ensures { IfOk result (λ token. token ≡ token_of value.now) }
 {

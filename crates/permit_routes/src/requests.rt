@@ -86,6 +86,13 @@ fn without_body(request: Request, body: &[u8]) -> Result<Request, BodyFault>
 ///
 /// The body is an object with exactly the keys of its request; an empty body counts as `{}`. A target that
 /// only reads has no body. Where a key stands twice, its last value counts.
+///
+/// # Examples
+///
+/// ```
+/// let request = read_body(alloc, Target::Transfer(parcel), b"{\"to\":5}");
+/// assert!(rt; matches!(request, Ok(Request::Transfer { .. })));
+/// ```
 pub fn read_body(alloc: Global, target: Target, body: &[u8]) -> Result<Request, BodyFault>
     ensures { ReadsAs same result (request_of target body.now) }
 {

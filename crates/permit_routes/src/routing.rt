@@ -232,6 +232,13 @@ impl Routes {
 
 /// The target of a method and a path, or none where they have no route, as `Routes::target` gives it, by routes that are
 /// made for this one request.
+///
+/// # Examples
+///
+/// ```
+/// let target = route(alloc, b"GET", b"/files")?;
+/// assert!(rt; target == Some(Target::ListFiles(Filter::All)));
+/// ```
 pub fn route(alloc: Global, method: &[u8], path: &[u8]) -> Result<Option<Target>, AllocError>
     ensures { IfOk result (λ target. target ≡ target_of method.now path.now) }
 {

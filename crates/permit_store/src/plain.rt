@@ -72,6 +72,13 @@ impl PlainStore {
 
     /// The tables after a founding and the upgrade: one party, number 1, an official, on the founding day. It refuses only as
     /// `Store`, where memory is refused.
+    ///
+    /// # Examples
+    ///
+    /// ```
+    /// let mut store = PlainStore::create(alloc, &founder)?;
+    /// assert!(rt; store.desk()?.parties == 1);
+    /// ```
     pub fn create(alloc: Global, founder: &Founder) -> Result<PlainStore, OpenError>
         ensures founded { IfOk result (λ s. (⟦<PlainStore as Store>⟧.view s).holds
             (tables (founding founder.now.name founder.now.digest founder.now.day))) }

@@ -90,6 +90,15 @@ pub fn read_by<R: Source>(
 }
 
 /// Reads the next request of a connection as `read_by` does, by routes that are made for it alone.
+///
+/// # Examples
+///
+/// ```
+/// let mut inbox = Inbox::new();
+/// let mut reader: &[u8] = b"";
+/// let read = read_request(alloc, &mut inbox, &mut reader);
+/// assert!(rt; matches!(read, Ok(None)));
+/// ```
 pub fn read_request<R: Source>(
     alloc: Global,
     inbox: &mut Inbox,

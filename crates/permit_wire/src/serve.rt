@@ -40,6 +40,12 @@ pub enum Served {
 
 impl Served {
     /// Whether nothing more is served of the connection.
+    ///
+    /// # Examples
+    ///
+    /// ```
+    /// assert!(rt; Served::Ended.is_shut() && !Served::Kept.is_shut());
+    /// ```
     pub fn is_shut(self) -> bool
         ensures { result ≡ is_shut self }
     {
@@ -143,6 +149,17 @@ pub fn serve_by<C, T: Service<C>, R: Source, W: Write>(
 /// The bytes after the request stay in the inbox. A fault leaves the office as it was. A request is answered by the one
 /// step that the office made for it. After `Closed`, `ReadFailed` and `WriteFailed` the connection is closed: a further
 /// call reads nothing and answers `Ended`.
+///
+/// # Examples
+///
+/// ```
+/// let mut inbox = Inbox::new();
+/// let mut reader: &[u8] = b"GET /files HTTP/1.1\r\nHost: office\r\n\r\n";
+/// let mut written = Vec::new(alloc);
+/// let served = serve_one(alloc, office, &mut inbox, &mut reader, &mut written, day);
+/// assert!(rt; served == Served::Kept);
+/// assert!(rt; written.as_slice().starts_with(b"HTTP/1.1 401 Unauthorized"));
+/// ```
 pub fn serve_one<S: Store + Drop, R: Source, W: Write>(
     alloc: Global,
     office: &mut Office<S>,

@@ -1,0 +1,153 @@
+//! The examples of the doc comments, line by line as they stand there.
+
+use jiff::Timestamp;
+use jiff::tz::TimeZone;
+use permit_base::digests::digest;
+use permit_base::limits::TERM;
+use permit_base::request::{Asked, Filter, Request};
+use permit_base::values::{Day, Lot, PartyId, Token};
+use permit_base::words::{Action, Edition, Kind, Role, Stage};
+use permit_core::restore::StateFields;
+use permit_core::state::FileState;
+use permit_days::dates::{date_text, read_date};
+use permit_days::instants::day_of;
+use permit_http::inbox::Inbox;
+use permit_office::office::Office;
+use permit_office::reply::Reply;
+use permit_policy::decide::decide;
+use permit_policy::facts::Facts;
+use permit_policy::read_policy;
+use permit_routes::bearer::read_token;
+use permit_routes::requests::read_body;
+use permit_routes::routing::{Target, route};
+use permit_samples::ask::TOKENS;
+use permit_samples::makers::{day, digest_of, parcel, party, text, token};
+use permit_samples::offices::over_vectors;
+use permit_samples::standard::POLICY;
+use permit_store::founder::Founder;
+use permit_store::plain::PlainStore;
+use permit_store::store::Store;
+use permit_wire::read::read_request;
+use permit_wire::serve::{Served, serve_one};
+use std::alloc::Global;
+use std::process::Abort;
+use std::test::Fail;
+
+fn numbers_and_texts(rt: &impl Abort, alloc: Global) -> Result<(), Fail> {
+    let party = PartyId::new(7).ok_or("a party")?;
+    assert!(rt; party.get() == 7);
+    assert!(rt; PartyId::new(0).is_none());
+    let lot = Lot::new(String::from_str(alloc, "A-1")?).ok_or("a lot")?;
+    assert!(rt; lot.as_str() == "A-1");
+    assert!(rt; Lot::new(String::from_str(alloc, "a lot")?).is_none());
+    let letters = String::from_str(alloc, "abcdefghijklmnopqrstuvwxyz")?;
+    let token = Token::new(letters).ok_or("a token")?;
+    assert!(rt; digest(&token)?.as_str().starts_with("71c480df93d6ae2f"));
+    Ok(())
+}
+
+fn days(rt: &impl Abort, alloc: Global) -> Result<(), Fail> {
+    let day = read_date("2024-01-01").ok_or("a date")?;
+    assert!(rt; day.get() == 19723);
+    assert!(rt; read_date("2024-1-1").is_none());
+    let date = date_text(alloc, 19723)?;
+    assert!(rt; date.as_str() == "2024-01-01");
+    let midnight = Timestamp::from_second(1_704_067_200)?;
+    let there = day_of(midnight, &TimeZone::posix("EST5")?);
+    assert!(rt; there.map(Day::get) == Ok(19722));
+    Ok(())
+}
+
+fn states(rt: &impl Abort) -> Result<(), Fail> {
+    let (applicant, parcel, day) = (party(5)?, parcel(1)?, day(19723)?);
+    let state = FileState::file(applicant, parcel, Kind::Repair, Edition::Second, day);
+    assert!(rt; state.parcel() == parcel && state.papers() == 0);
+    let state = FileState::file(applicant, parcel, Kind::Repair, Edition::Second, day);
+    assert!(rt; state.deadline() == Some(day.get() + TERM));
+    let fields = state.fields();
+    assert!(rt; FileState::restore(fields).is_some());
+    let certified = StateFields {
+        stage: Stage::Certified,
+        ..fields
+    };
+    assert!(rt; FileState::restore(certified).is_none());
+    Ok(())
+}
+
+fn policies(rt: &impl Abort, alloc: Global) -> Result<(), Fail> {
+    let text = "[[rule]]\nname = \"clerks\"\neffect = \"allow\"\nrole = [\"clerk\"]\n";
+    let policy = read_policy(alloc, text)?;
+    assert!(rt; policy.rules() == 1);
+    let asked = Facts::office(Role::Public, Action::AddParcel);
+    let rule = policy.denial(&asked).ok_or("a denial")?;
+    assert!(rt; rule.as_str() == "default");
+    let asked = Facts::office(Role::Clerk, Action::AddParcel);
+    let decision = decide(&policy, &asked);
+    assert!(rt; decision.is_allow() && decision.rule.as_str() == "clerks");
+    Ok(())
+}
+
+fn offices(rt: &impl Abort, alloc: Global) -> Result<(), Fail> {
+    let (name, digest, day) = (
+        text(alloc, "Ada")?,
+        digest_of(alloc, TOKENS[0])?,
+        day(19700)?,
+    );
+    let (policy, token) = (read_policy(alloc, POLICY)?, token(alloc, TOKENS[0])?);
+    let founder = Founder::new(name, digest, day).ok_or("a founder")?;
+    let mut store = PlainStore::create(alloc, &founder)?;
+    assert!(rt; store.desk()?.parties == 1);
+    let Ok(mut office) = Office::open(store, policy) else {
+        return Err(Fail::new("no office"));
+    };
+    let request = Request::ListFiles {
+        filter: Filter::All,
+    };
+    let reply = office.step(&Asked { token, request }, day);
+    assert!(rt; matches!(reply, Reply::Listed(_)));
+    let mut store = office.into_store();
+    assert!(rt; store.desk()?.files == 0);
+    Ok(())
+}
+
+fn connections(rt: &impl Abort, alloc: Global) -> Result<(), Fail> {
+    let (parcel, day) = (parcel(1)?, day(19700)?);
+    let office = &mut over_vectors(alloc)?;
+    let target = route(alloc, b"GET", b"/files")?;
+    assert!(rt; target == Some(Target::ListFiles(Filter::All)));
+    let token = read_token(alloc, b"Bearer abcdefghijklmnopqrstuvwxyz")?;
+    assert!(rt; token.is_some());
+    let request = read_body(alloc, Target::Transfer(parcel), b"{\"to\":5}");
+    assert!(rt; matches!(request, Ok(Request::Transfer { .. })));
+    let mut inbox = Inbox::new();
+    assert!(rt; !inbox.is_closed());
+    let mut reader: &[u8] = b"GET /files HTTP/1.1\r\nHost: office\r\n\r\n";
+    let Ok(Some(spans)) = inbox.read_message(&mut reader) else {
+        return Err(Fail::new("no message"));
+    };
+    assert!(rt; inbox.message(&spans).path == b"/files".as_slice());
+    let mut inbox = Inbox::new();
+    let mut reader: &[u8] = b"GET /files HTTP/1.1\r\nHost: office\r\n\r\n";
+    let mut written = Vec::new(alloc);
+    let served = serve_one(alloc, office, &mut inbox, &mut reader, &mut written, day);
+    assert!(rt; served == Served::Kept);
+    assert!(rt; written.as_slice().starts_with(b"HTTP/1.1 401 Unauthorized"));
+    assert!(rt; Served::Ended.is_shut() && !Served::Kept.is_shut());
+    let mut inbox = Inbox::new();
+    let mut reader: &[u8] = b"";
+    let read = read_request(alloc, &mut inbox, &mut reader);
+    assert!(rt; matches!(read, Ok(None)));
+    Ok(())
+}
+
+#[test]
+fn examples_hold(rt: HostRuntime) -> Result<(), Fail> {
+    let alloc = rt.alloc();
+    numbers_and_texts(&rt, alloc)?;
+    days(&rt, alloc)?;
+    states(&rt)?;
+    policies(&rt, alloc)?;
+    offices(&rt, alloc)?;
+    connections(&rt, alloc)?;
+    Ok(())
+}
