@@ -226,9 +226,7 @@ fn work_rule(state: &FileState) -> Option<FileRule>
         Some(FileRule::Stopped)
     } else if !fits_ask(state) {
         Some(FileRule::Ask)
-    } else if state.temporary().is_some()
-        && !(facts.occupied && has_certificates(state.kind()))
-    {
+    } else if state.temporary().is_some() && !(facts.occupied && has_certificates(state.kind())) {
         Some(FileRule::TemporaryStage)
     } else if state.notices() != 0 && !facts.begun {
         Some(FileRule::NoticesStage)
