@@ -1,10 +1,9 @@
 -- The calls of a store over SQLite leave what the trait says.
-use Rattle.std.proofs.Common.{◌≡◌, ◌≤◌, ℕ, List, [], ◌∷◌, Result, Ok, Err, ap, sym, ◌∙◌, refl, subst, arith}
+use Rattle.std.proofs.Common.{◌≡◌, ℕ, List, [], ◌∷◌, Result, Ok, Err, ap, sym, ◌∙◌, refl, subst, arith}
 use Rattle.std.specs.Prelude.{IsTrue, IfSome, Option, None, Some, OnOk, OnErr, ⊤, pos, slice_index_or}
 use Rattle.sqlite.specs.declared.types.Value.{Value}
 use Rattle.sqlite.specs.declared.types.Value.TheVariants.{Null, Int}
 use Rattle.sqlite_value.specs.Order.{Row}
-use Rattle.sqlite_trees.specs.View.{doubt as disk_doubt}
 use Rattle.sqlite_trees.specs.declared.store.Store.{Ghosts}
 use Rattle.sqlite.specs.Effect.{Database}
 use Rattle.sqlite.specs.State.{State, HasCleanDisk}
@@ -20,6 +19,7 @@ use Rattle.permit_store.specs.Frames.{HasOneDesk, Reads, IsCommit}
 use Rattle.permit_sql_rows.specs.Schema.{upgrade_tree}
 use Rattle.permit_sql_rows.specs.Rows.{upgrade_row}
 use Rattle.permit_sql_rows.specs.Kept.{KeepsUnder, Keeps, Shows}
+use Rattle.permit_sql_statements.specs.Frames.{FailureLeavesTables, IsOpenAfter, IsRead, KeepsDoubt}
 use Rattle.permit_sql.specs.Seen.{seen}
 
 -- ---- what a database keeps is of one desk
@@ -75,68 +75,54 @@ seen_one s upgrade handed failed commits clean open_ t u one other = one_desk Se
 
 -- ---- calls
 
--- a call of the connection, and what the store then holds and counts
-module _ {S : Type 0} (g : Ghosts S) (old new : Held S) (upgrade : Option ℕ) (handed failed commits : ℕ)
-    (store : Held S) (upgrade' : Option ℕ) (handed' failed' commits' : ℕ) where
-  abbrev KeepsShown : Type 0
-  KeepsShown = (t : Tables) → HasCleanDisk (state g new) → Shows t (state g old) → Shows t (state g new)
+-- after a success on a clean disk
+one_desk_after : {S A E : Type 0} (g : Ghosts S) (new store : Held S) (upgrade : Option ℕ) (handed failed commits : ℕ) (got r : Result A E) → r ≡ got →
+    store ≡ new → IsOpenAfter g new got → HasCleanDisk (state g store) → OnOk r (HasOneDesk (seen (state g store) upgrade handed failed commits))
+one_desk_after {S} {A} {E} g new store upgrade handed failed commits got r same conn opened =
+    subst (λ x. HasCleanDisk (state g store) → OnOk x (HasOneDesk (seen (state g store) upgrade handed failed commits))) (sym same)
+    (subst (λ h. HasCleanDisk (state g h) → OnOk got (HasOneDesk (seen (state g h) upgrade handed failed commits))) (sym conn)
+    (λ clean. go got clean (opened clean)))
+  where
+    go : (x : Result A E) → HasCleanDisk (state g new) → OnOk x (IsTrue (state g new).is_open) →
+        OnOk x (HasOneDesk (seen (state g new) upgrade handed failed commits))
+    go (Ok a) clean up = seen_one (state g new) upgrade handed failed commits clean up
+    go (Err e) clean up = tt
 
-  abbrev Doubts : Type 0
-  Doubts = disk_doubt (state g old).is_clean ≤ disk_doubt (state g new).is_clean
+-- ---- a call of the connection, and what the store then holds and counts
 
-  module _ {A E : Type 0} (got r : Result A E) (same : r ≡ got) (conn : store ≡ new) (kept : upgrade' ≡ upgrade) (doubts : Doubts)
-      (open_ : HasCleanDisk (state g new) → OnOk got (IsTrue (state g new).is_open)) where
-    clean_was : HasCleanDisk (state g new) → HasCleanDisk (state g old)
-    clean_was clean = omega (arith, doubts, clean)
+module _ {S A E : Type 0} (g : Ghosts S) where
+  -- it reads: what it shows stays, and a failure counts
+  pub read_counted : (handed : ℕ) {old new store : Held S} {got r : Result A E} {upgrade upgrade' : Option ℕ} {count handed' failed failed' commits commits' : ℕ} →
+      IsRead g old new got → r ≡ got → store ≡ new → upgrade' ≡ upgrade → handed' ≡ count → failed' ≡ failed_after got failed → commits' ≡ commits →
+      Reads ⊤ count (seen (state g old) upgrade handed failed commits) (seen (state g store) upgrade' handed' failed' commits') r
+  read_counted handed {old} {new} {store} {got} {r} {upgrade} {upgrade'} {count} {handed'} {failed} {failed'} {commits} {commits'} read same conn kept hands fails stay = record {
+    kept = λ t held. subst (λ h. HasCleanDisk (state g h) → (t.upgrade ≡ upgrade') × Shows t (state g h)) (sym conn) (λ clean.
+        let was = held (omega (arith, read.doubt, clean)) in (was.0 ∙ sym kept, read.kept t clean was.1));
+    one = λ clean _. one_desk_after g new store upgrade' handed' failed' commits' got r same conn read.opened clean;
+    doubt = subst (λ h. KeepsDoubt g old h) (sym conn) read.doubt;
+    failed = fails ∙ ap (λ x. failed_after x failed) (sym same);
+    commits = stay;
+    handed = hands;
+  }
 
-    still : (t : Tables) → ((t.upgrade ≡ upgrade) × Shows t (state g old) → Shows t (state g new)) → (t.upgrade ≡ upgrade) × Shows t (state g old) →
-        (t.upgrade ≡ upgrade') × Shows t (state g new)
-    still t stays h = (h.0 ∙ sym kept, stays h)
-
-    one_desk_after : HasCleanDisk (state g store) → OnOk r (HasOneDesk (seen (state g store) upgrade' handed' failed' commits'))
-    one_desk_after =
-        subst (λ x. HasCleanDisk (state g store) → OnOk x (HasOneDesk (seen (state g store) upgrade' handed' failed' commits'))) (sym same)
-        (subst (λ h. HasCleanDisk (state g h) → OnOk got (HasOneDesk (seen (state g h) upgrade' handed' failed' commits'))) (sym conn)
-        (λ clean. go got clean (open_ clean)))
-      where
-        go : (x : Result A E) → HasCleanDisk (state g new) → OnOk x (IsTrue (state g new).is_open) →
-            OnOk x (HasOneDesk (seen (state g new) upgrade' handed' failed' commits'))
-        go (Ok a) clean up = seen_one (state g new) upgrade' handed' failed' commits' clean up
-        go (Err e) clean up = tt
-
-    doubt_stays : disk_doubt (state g old).is_clean ≤ disk_doubt (state g store).is_clean
-    doubt_stays = subst (λ h. disk_doubt (state g old).is_clean ≤ disk_doubt (state g h).is_clean) (sym conn) doubts
-
-    -- it reads: what it shows stays, and a failure counts
-    pub read_counted : (count : ℕ) → handed' ≡ count → failed' ≡ failed_after got failed → commits' ≡ commits → KeepsShown →
-        Reads ⊤ count (seen (state g old) upgrade handed failed commits) (seen (state g store) upgrade' handed' failed' commits') r
-    read_counted count hands fails commits_stay stays = record {
-      kept = λ t held. subst (λ h. HasCleanDisk (state g h) → (t.upgrade ≡ upgrade') × Shows t (state g h)) (sym conn)
-          (λ clean. still t (λ h. stays t clean h.1) (held (clean_was clean)));
-      one = λ clean _. one_desk_after clean;
-      doubt = doubt_stays;
-      failed = fails ∙ ap (λ x. failed_after x failed) (sym same);
-      commits = commits_stay;
-      handed = hands;
-    }
-
-    -- it commits: a failure leaves what was shown, and counts
-    pub commit_counted : handed' ≡ handed → failed' ≡ failed_after got failed → commits' ≡ next_count commits →
-        ((t : Tables) → HasCleanDisk (state g new) → Shows t (state g old) → OnErr got (Shows t (state g new))) →
-        IsCommit (seen (state g old) upgrade handed failed commits) (seen (state g store) upgrade' handed' failed' commits') r
-    commit_counted hands fails more stays = record {
-      kept = λ t held. subst (λ x. OnErr x (HasCleanDisk (state g store) → (t.upgrade ≡ upgrade') × Shows t (state g store))) (sym same)
-          (subst (λ h. OnErr got (HasCleanDisk (state g h) → (t.upgrade ≡ upgrade') × Shows t (state g h))) (sym conn)
-          (go got (λ clean. held (clean_was clean)) (λ clean h. stays t clean h.1)));
-      one = one_desk_after;
-      doubt = doubt_stays;
-      failed = fails ∙ ap (λ x. failed_after x failed) (sym same);
-      commits = more;
-      handed = hands;
-    }
-      where
-        go : {t : Tables} (x : Result A E) → (HasCleanDisk (state g new) → (t.upgrade ≡ upgrade) × Shows t (state g old)) →
-            (HasCleanDisk (state g new) → (t.upgrade ≡ upgrade) × Shows t (state g old) → OnErr x (Shows t (state g new))) →
-            OnErr x (HasCleanDisk (state g new) → (t.upgrade ≡ upgrade') × Shows t (state g new))
-        go (Ok a) held stays = tt
-        go {t} (Err e) held stays = λ clean. still t (stays clean) (held clean)
+  -- it commits: a failure leaves what was shown, and counts
+  pub commit_counted : (old : Held S) (handed : ℕ) {new store : Held S} {got r : Result A E} {upgrade upgrade' : Option ℕ} {handed' failed failed' commits commits' : ℕ} →
+      r ≡ got → store ≡ new → FailureLeavesTables g old new got → IsOpenAfter g new got → KeepsDoubt g old new → upgrade' ≡ upgrade →
+      handed' ≡ handed → failed' ≡ failed_after got failed → commits' ≡ next_count commits →
+      IsCommit (seen (state g old) upgrade handed failed commits) (seen (state g store) upgrade' handed' failed' commits') r
+  commit_counted old handed {new} {store} {got} {r} {upgrade} {upgrade'} {handed'} {failed} {failed'} {commits} {commits'} same conn stays opened doubts kept hands fails more = record {
+    kept = λ t held. subst (λ x. OnErr x (HasCleanDisk (state g store) → (t.upgrade ≡ upgrade') × Shows t (state g store))) (sym same)
+        (subst (λ h. OnErr got (HasCleanDisk (state g h) → (t.upgrade ≡ upgrade') × Shows t (state g h))) (sym conn)
+        (go got (λ clean. held (omega (arith, doubts, clean))) (λ clean h. stays t clean h.1)));
+    one = one_desk_after g new store upgrade' handed' failed' commits' got r same conn opened;
+    doubt = subst (λ h. KeepsDoubt g old h) (sym conn) doubts;
+    failed = fails ∙ ap (λ x. failed_after x failed) (sym same);
+    commits = more;
+    handed = hands;
+  }
+    where
+      go : {t : Tables} (x : Result A E) → (HasCleanDisk (state g new) → (t.upgrade ≡ upgrade) × Shows t (state g old)) →
+          (HasCleanDisk (state g new) → (t.upgrade ≡ upgrade) × Shows t (state g old) → OnErr x (Shows t (state g new))) →
+          OnErr x (HasCleanDisk (state g new) → (t.upgrade ≡ upgrade') × Shows t (state g new))
+      go (Ok a) held stays = tt
+      go (Err e) held stays = λ clean. let was = held clean in (was.0 ∙ sym kept, stays clean was)

@@ -1,4 +1,5 @@
 pub mod Offices
+pub mod Looks
 pub mod Version
 pub mod UpgradeMeaning
 pub mod Upgrades

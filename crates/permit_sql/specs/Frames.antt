@@ -6,6 +6,7 @@ use Rattle.sqlite.specs.Held.{Held, state}
 use Rattle.permit_base.specs.declared.words.Edition.{Edition}
 use Rattle.permit_model.specs.Tables.{Tables}
 use Rattle.permit_sql_rows.specs.Kept.{IsFine, KeepsUnder}
+use Rattle.permit_sql_statements.specs.Frames.{IsIdle, IsOpenAfter}
 use Rattle.permit_sql.specs.Found.{AreTyped}
 
 module _ {S : Type 0} (g : Ghosts S) where
@@ -24,3 +25,10 @@ module _ {S : Type 0} (g : Ghosts S) where
   -- A crash inside leaves what it left before.
   abbrev pub LeavesOverCrash : Held S → Held S → Type 0
   LeavesOverCrash old new = Survives (state g old) (state g new) (λ _. ⊥)
+
+  -- A look over the rows of a connection between transactions, which it leaves.
+  pub record IsLook {A E : Type 0} (old new : Held S) (result : Result A E) : Type 0 where
+    pub idle : IsIdle new
+    pub opened : IsOpenAfter g new result
+    pub left : LeavesRows old new
+    pub crash : LeavesOverCrash old new

@@ -9,8 +9,8 @@ ghost use Rattle.permit_sql_rows.specs.Rows.{shown_party, shown_parcel};
 ghost use Rattle.permit_sql_rows.specs.Typed.{firsts, IsParty, IsParcel};
 ghost use Rattle.permit_sql.specs.Taken.{TookRows};
 ghost use Rattle.permit_sql.specs.Found.{TookTable, TakesNumbered, TakesInterest, RefusesNumbered, RefusesInterest, HasParties, HasParcels, HasInterests};
-ghost use Rattle.permit_sql.specs.Frames.{OverTyped, LeavesRows, LeavesOverCrash};
-ghost use Rattle.permit_sql_statements.specs.Frames.{IsOpenAfter, IsPlainIn};
+ghost use Rattle.permit_sql.specs.Frames.{IsLook, OverTyped};
+ghost use Rattle.permit_sql_statements.specs.Frames.{IsIdle, IsPlainIn};
 
 use crate::each::{Taker, each_row};
 use crate::texts::{EACH_INTEREST, EACH_PARCEL, EACH_PARTY};
@@ -31,17 +31,14 @@ pub(crate) fn takes_all<S: Alter, T: Taker>(
     sql: &str,
     taker: &mut T,
 ) -> Got<bool>
-    requires not_in_transaction { conn.old.in_transaction ≡ false }
+    requires idle { IsIdle conn.old }
     requires plain { IsPlainIn edition sql.now }
     ensures all { HasCleanDisk (state S.Store conn.new)
         → IfOk result (λ all. IsTrue all → IsOffice edition (state S.Store conn.old).now.schema
         × TookTable T.Taker.took S.Store sql.now conn.old conn.new taker.old taker.new) }
     ensures handed { HasCleanDisk (state S.Store conn.new)
         → IfOk result (λ all. TookRows T.Taker.took S.Store sql.now [] conn.old conn.new taker.old taker.new all) }
-    ensures open { IsOpenAfter S.Store conn.new result }
-    ensures left { LeavesRows S.Store conn.old conn.new }
-    ensures crash { LeavesOverCrash S.Store conn.old conn.new }
-    ensures not_in_transaction { conn.new.in_transaction ≡ false }
+    ensures look { IsLook S.Store conn.old conn.new result }
 {
     if !is_office(edition, conn.schema()) {
         return Err(StoreError);
@@ -154,15 +151,12 @@ pub(crate) fn check_parties<S: Alter>(
     edition: Edition,
     count: u32,
 ) -> Got<bool>
-    requires not_in_transaction { conn.old.in_transaction ≡ false }
+    requires idle { IsIdle conn.old }
     ensures good { HasCleanDisk (state S.Store conn.new)
         → IfOk result (λ good. IsTrue good → HasParties count ((state S.Store conn.old).now.trees 1)) }
     ensures kept { HasCleanDisk (state S.Store conn.new)
         → OverTyped S.Store edition conn.old (λ t. count ≡ t.desk.parties → IfOk result IsTrue) }
-    ensures open { IsOpenAfter S.Store conn.new result }
-    ensures left { LeavesRows S.Store conn.old conn.new }
-    ensures crash { LeavesOverCrash S.Store conn.old conn.new }
-    ensures not_in_transaction { conn.new.in_transaction ≡ false }
+    ensures look { IsLook S.Store conn.old conn.new result }
 {
     let mut parties = Numbered::<Party>::new();
     let all = takes_all(conn, edition, EACH_PARTY, &mut parties)?;
@@ -178,15 +172,12 @@ pub(crate) fn check_parcels<S: Alter>(
     edition: Edition,
     count: u32,
 ) -> Got<bool>
-    requires not_in_transaction { conn.old.in_transaction ≡ false }
+    requires idle { IsIdle conn.old }
     ensures good { HasCleanDisk (state S.Store conn.new)
         → IfOk result (λ good. IsTrue good → HasParcels count ((state S.Store conn.old).now.trees 3)) }
     ensures kept { HasCleanDisk (state S.Store conn.new)
         → OverTyped S.Store edition conn.old (λ t. count ≡ t.desk.parcels → IfOk result IsTrue) }
-    ensures open { IsOpenAfter S.Store conn.new result }
-    ensures left { LeavesRows S.Store conn.old conn.new }
-    ensures crash { LeavesOverCrash S.Store conn.old conn.new }
-    ensures not_in_transaction { conn.new.in_transaction ≡ false }
+    ensures look { IsLook S.Store conn.old conn.new result }
 {
     let mut parcels = Numbered::<Parcel>::new();
     let all = takes_all(conn, edition, EACH_PARCEL, &mut parcels)?;
@@ -222,14 +213,11 @@ impl Taker for Interests {
 
 /// Whether each interest is of numbers within their limits.
 pub(crate) fn check_interests<S: Alter>(conn: &mut Connection<S>, edition: Edition) -> Got<bool>
-    requires not_in_transaction { conn.old.in_transaction ≡ false }
+    requires idle { IsIdle conn.old }
     ensures good { HasCleanDisk (state S.Store conn.new)
         → IfOk result (λ good. IsTrue good → HasInterests ((state S.Store conn.old).now.trees 5)) }
     ensures kept { HasCleanDisk (state S.Store conn.new) → OverTyped S.Store edition conn.old (λ t. IfOk result IsTrue) }
-    ensures open { IsOpenAfter S.Store conn.new result }
-    ensures left { LeavesRows S.Store conn.old conn.new }
-    ensures crash { LeavesOverCrash S.Store conn.old conn.new }
-    ensures not_in_transaction { conn.new.in_transaction ≡ false }
+    ensures look { IsLook S.Store conn.old conn.new result }
 {
     takes_all(conn, edition, EACH_INTEREST, &mut Interests)
 }

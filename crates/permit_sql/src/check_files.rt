@@ -1,12 +1,12 @@
 //! The rows of files and papers, tested one at a time.
 
-ghost use Rattle.std.specs.Prelude.{◌≡◌, ◌↔◌, false, IsTrue, MatchBool, IfOk, IfSome, IsSomeAnd, length, map};
+ghost use Rattle.std.specs.Prelude.{◌≡◌, ◌↔◌, IsTrue, MatchBool, IfOk, IfSome, IsSomeAnd, length, map};
 ghost use Rattle.sqlite.specs.State.{HasCleanDisk};
 ghost use Rattle.sqlite.specs.Held.{state};
 ghost use Rattle.permit_sql.specs.Found.{TakesFile, TakesPaper, TakesRowid, RefusesFile, RefusesPaper, RefusesRowid};
 ghost use Rattle.permit_sql.specs.Found.{IsLater, HasFiles, HasPapers, IsApart};
-ghost use Rattle.permit_sql.specs.Frames.{OverTyped, LeavesRows, LeavesOverCrash};
-ghost use Rattle.permit_sql_statements.specs.Frames.{IsOpenAfter};
+ghost use Rattle.permit_sql.specs.Frames.{IsLook, OverTyped};
+ghost use Rattle.permit_sql_statements.specs.Frames.{IsIdle};
 
 use crate::check::takes_all;
 use crate::each::Taker;
@@ -61,16 +61,13 @@ pub(crate) fn check_files<S: Alter>(
     upgrade: Option<u32>,
     count: u32,
 ) -> Got<Option<Vec<u16>>>
-    requires not_in_transaction { conn.old.in_transaction ≡ false }
+    requires idle { IsIdle conn.old }
     ensures good { HasCleanDisk (state S.Store conn.new)
         → IfOk result (λ o. IfSome o (λ counts. HasFiles upgrade counts.items ((state S.Store conn.old).now.trees 7))) }
     ensures counted { IfOk result (λ o. IfSome o (λ counts. length counts.items ≡ count)) }
     ensures kept { HasCleanDisk (state S.Store conn.new)
         → OverTyped S.Store edition conn.old (λ t. count ≡ t.desk.files → t.upgrade ≡ upgrade → IfOk result (λ o. IsSomeAnd o (λ counts. counts.items ≡ map (λ f. f.state.papers) t.files))) }
-    ensures open { IsOpenAfter S.Store conn.new result }
-    ensures left { LeavesRows S.Store conn.old conn.new }
-    ensures crash { LeavesOverCrash S.Store conn.old conn.new }
-    ensures not_in_transaction { conn.new.in_transaction ≡ false }
+    ensures look { IsLook S.Store conn.old conn.new result }
 {
     let mut files = Files {
         upgrade,
@@ -149,15 +146,12 @@ pub(crate) fn check_papers<S: Alter>(
     edition: Edition,
     counts: Vec<u16>,
 ) -> Got<bool>
-    requires not_in_transaction { conn.old.in_transaction ≡ false }
+    requires idle { IsIdle conn.old }
     ensures good { HasCleanDisk (state S.Store conn.new)
         → IfOk result (λ good. IsTrue good → HasPapers counts.items ((state S.Store conn.old).now.trees 8)) }
     ensures kept { HasCleanDisk (state S.Store conn.new)
         → OverTyped S.Store edition conn.old (λ t. counts.items ≡ map (λ f. f.state.papers) t.files → IfOk result IsTrue) }
-    ensures open { IsOpenAfter S.Store conn.new result }
-    ensures left { LeavesRows S.Store conn.old conn.new }
-    ensures crash { LeavesOverCrash S.Store conn.old conn.new }
-    ensures not_in_transaction { conn.new.in_transaction ≡ false }
+    ensures look { IsLook S.Store conn.old conn.new result }
 {
     let mut papers = Papers {
         file: 0,
@@ -199,14 +193,11 @@ impl Taker for Rowids {
 
 /// Whether no rowid of a paper comes twice.
 pub(crate) fn check_rowids<S: Alter>(conn: &mut Connection<S>, edition: Edition) -> Got<bool>
-    requires not_in_transaction { conn.old.in_transaction ≡ false }
+    requires idle { IsIdle conn.old }
     ensures good { HasCleanDisk (state S.Store conn.new)
         → IfOk result (λ good. IsTrue good → IsApart ((state S.Store conn.old).now.trees 8)) }
     ensures kept { HasCleanDisk (state S.Store conn.new) → OverTyped S.Store edition conn.old (λ t. IfOk result IsTrue) }
-    ensures open { IsOpenAfter S.Store conn.new result }
-    ensures left { LeavesRows S.Store conn.old conn.new }
-    ensures crash { LeavesOverCrash S.Store conn.old conn.new }
-    ensures not_in_transaction { conn.new.in_transaction ≡ false }
+    ensures look { IsLook S.Store conn.old conn.new result }
 {
     let mut rowids = Rowids {
         last: None,

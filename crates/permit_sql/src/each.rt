@@ -1,6 +1,6 @@
 //! The rows of an answer, tested one at a time.
 
-ghost use Rattle.std.specs.Prelude.{◌≡◌, Bool, false, IfOk};
+ghost use Rattle.std.specs.Prelude.{Bool, IfOk};
 ghost use Rattle.sqlite_value.specs.Order.{Row as SqlRow};
 ghost use Rattle.sqlite.specs.State.{HasCleanDisk};
 ghost use Rattle.sqlite.specs.Values.{bound};
@@ -8,8 +8,8 @@ ghost use Rattle.sqlite.specs.Held.{state};
 ghost use Rattle.sqlite.specs.Given.{IsPlain};
 ghost use Rattle.sqlite.specs.Listing.{understood};
 ghost use Rattle.permit_sql.specs.Taken.{TookRows};
-ghost use Rattle.permit_sql.specs.Frames.{LeavesRows, LeavesOverCrash};
-ghost use Rattle.permit_sql_statements.specs.Frames.{IsOpenAfter};
+ghost use Rattle.permit_sql.specs.Frames.{IsLook};
+ghost use Rattle.permit_sql_statements.specs.Frames.{IsIdle};
 
 use sqlite::{Alter, Connection, Error, ErrorCode, Row};
 use sqlite_value::value::ValueRef;
@@ -29,14 +29,11 @@ pub fn each_row<S: Alter, T: Taker>(
     params: &[ValueRef<'_>],
     taker: &mut T,
 ) -> Result<bool, Error>
-    requires not_in_transaction { conn.old.in_transaction ≡ false }
+    requires idle { IsIdle conn.old }
     requires plain { IsPlain (understood conn.old.schema sql.now) }
     ensures ok { HasCleanDisk (state S.Store conn.new)
         → IfOk result (λ all. TookRows T.Taker.took S.Store sql.now (bound params.now) conn.old conn.new taker.old taker.new all) }
-    ensures open { IsOpenAfter S.Store conn.new result }
-    ensures left { LeavesRows S.Store conn.old conn.new }
-    ensures crash { LeavesOverCrash S.Store conn.old conn.new }
-    ensures not_in_transaction { conn.new.in_transaction ≡ false }
+    ensures look { IsLook S.Store conn.old conn.new result }
 {
     let _settled = conn.is_autocommit();
     let mut rows = conn.query(sql, params)?;

@@ -13,8 +13,8 @@ ghost use Rattle.permit_sql_rows.specs.Typed.{firsts, IsDesk};
 ghost use Rattle.permit_sql_rows.specs.Kept.{IsFine};
 ghost use Rattle.permit_sql.specs.Opening.{seen_desk, seen_upgrade, IsOther, HasOtherVersion};
 ghost use Rattle.permit_sql.specs.Found.{HasDesk, HasUpgrade, HasObjects, HasCases, HasSound, KeepsSoundUnder};
-ghost use Rattle.permit_sql.specs.Frames.{OverTyped, LeavesRows, LeavesOverCrash, StaysOpen};
-ghost use Rattle.permit_sql_statements.specs.Frames.{IsOpenAfter};
+ghost use Rattle.permit_sql.specs.Frames.{IsLook, LeavesOverCrash, LeavesRows, OverTyped, StaysOpen};
+ghost use Rattle.permit_sql_statements.specs.Frames.{IsIdle, IsOpenAfter};
 
 use crate::check::{check_interests, check_parcels, check_parties};
 use crate::check_files::{check_files, check_papers, check_rowids};
@@ -43,15 +43,11 @@ fn is_other(edition: Edition, row: &Row, at: usize) -> bool
 
 /// The rows of the desk's table, which is the first.
 pub(crate) fn desk_seen<S: Alter>(conn: &mut Connection<S>) -> Got<Vec<Row>>
-    requires not_in_transaction { conn.old.in_transaction ≡ false }
+    requires idle { IsIdle conn.old }
     requires desk { slice_get (state S.Store conn.old).now.schema.tables 0 ≡ Some desk_table }
     ensures rows { HasCleanDisk (state S.Store conn.new)
         → IfOk result (λ rows. IsPermutation (map seen_desk ((state S.Store conn.old).now.trees 0)) rows.items) }
-    ensures fine { IsFine (state S.Store conn.new) → IsFine (state S.Store conn.old) }
-    ensures same { IsFine (state S.Store conn.new) → (state S.Store conn.new).now ≡ (state S.Store conn.old).now }
-    ensures open { IsOpenAfter S.Store conn.new result }
-    ensures crash { LeavesOverCrash S.Store conn.old conn.new }
-    ensures not_in_transaction { conn.new.in_transaction ≡ false }
+    ensures look { IsLook S.Store conn.old conn.new result }
 {
     match read_all(conn, READ_DESK, &[]) {
         Ok(rows) => Ok(rows),
@@ -61,17 +57,13 @@ pub(crate) fn desk_seen<S: Alter>(conn: &mut Connection<S>) -> Got<Vec<Row>>
 
 /// Whether the desk's one row says another version than that of the tables under the edition.
 pub(crate) fn has_other_version<S: Alter>(conn: &mut Connection<S>, edition: Edition) -> Got<bool>
-    requires not_in_transaction { conn.old.in_transaction ≡ false }
+    requires idle { IsIdle conn.old }
     requires desk { slice_get (state S.Store conn.old).now.schema.tables 0 ≡ Some desk_table }
     ensures other { HasCleanDisk (state S.Store conn.new)
         → IfOk result (λ is. IsTrue is → HasOtherVersion edition (state S.Store conn.old).now) }
     ensures told { HasCleanDisk (state S.Store conn.new) → HasOtherVersion edition (state S.Store conn.old).now
         → IfOk result (λ is. IsTrue is) }
-    ensures fine { IsFine (state S.Store conn.new) → IsFine (state S.Store conn.old) }
-    ensures same { IsFine (state S.Store conn.new) → (state S.Store conn.new).now ≡ (state S.Store conn.old).now }
-    ensures open { IsOpenAfter S.Store conn.new result }
-    ensures crash { LeavesOverCrash S.Store conn.old conn.new }
-    ensures not_in_transaction { conn.new.in_transaction ≡ false }
+    ensures look { IsLook S.Store conn.old conn.new result }
 {
     let rows = desk_seen(conn)?;
     match rows.as_slice() {
@@ -110,17 +102,14 @@ fn only_desk(edition: Edition, rows: &[Row]) -> Option<Desk>
 
 /// The desk, where it has one row, of number 1 and the edition's version, within its limits.
 pub(crate) fn find_desk<S: Alter>(conn: &mut Connection<S>, edition: Edition) -> Got<Option<Desk>>
-    requires not_in_transaction { conn.old.in_transaction ≡ false }
+    requires idle { IsIdle conn.old }
     requires desk { slice_get (state S.Store conn.old).now.schema.tables 0 ≡ Some desk_table }
     ensures good { IsFine (state S.Store conn.new) → IsOffice edition (state S.Store conn.old).now.schema
         → IfOk result (λ o. IfSome o (λ d. HasDesk d ((state S.Store conn.old).now.trees 0))) }
     ensures now { IfOk result (λ o. IfSome o (λ d. d.edition ≡ edition)) }
     ensures kept { IsFine (state S.Store conn.new)
         → OverTyped S.Store edition conn.old (λ t. IfOk result (λ o. o ≡ Some t.desk)) }
-    ensures open { IsOpenAfter S.Store conn.new result }
-    ensures left { LeavesRows S.Store conn.old conn.new }
-    ensures crash { LeavesOverCrash S.Store conn.old conn.new }
-    ensures not_in_transaction { conn.new.in_transaction ≡ false }
+    ensures look { IsLook S.Store conn.old conn.new result }
 {
     // Its contract says that the database obeys the schema.
     let _schema = conn.schema();
@@ -130,15 +119,12 @@ pub(crate) fn find_desk<S: Alter>(conn: &mut Connection<S>, edition: Edition) ->
 
 /// The rows of the upgrade's table.
 pub(crate) fn upgrade_seen<S: Alter>(conn: &mut Connection<S>) -> Got<Vec<Row>>
-    requires not_in_transaction { conn.old.in_transaction ≡ false }
+    requires idle { IsIdle conn.old }
     requires office { IsOffice Second (state S.Store conn.old).now.schema }
     ensures rows { HasCleanDisk (state S.Store conn.new)
         → IfOk result (λ rows. IsPermutation (map seen_upgrade ((state S.Store conn.old).now.trees (upgrade_tree (state S.Store conn.old).now.schema)))
         rows.items) }
-    ensures open { IsOpenAfter S.Store conn.new result }
-    ensures left { LeavesRows S.Store conn.old conn.new }
-    ensures crash { LeavesOverCrash S.Store conn.old conn.new }
-    ensures not_in_transaction { conn.new.in_transaction ≡ false }
+    ensures look { IsLook S.Store conn.old conn.new result }
 {
     match read_all(conn, READ_UPGRADE, &[]) {
         Ok(rows) => Ok(rows),
@@ -175,7 +161,7 @@ pub(crate) fn find_upgrade<S: Alter>(
     edition: Edition,
     files: u32,
 ) -> Got<Option<Option<u32>>>
-    requires not_in_transaction { conn.old.in_transaction ≡ false }
+    requires idle { IsIdle conn.old }
     ensures good { IsFine (state S.Store conn.new)
         → IfOk result (λ o. IfSome o (λ upgrade. HasUpgrade edition files upgrade (state S.Store conn.old).now)) }
     ensures kept { IsFine (state S.Store conn.new)
@@ -183,7 +169,7 @@ pub(crate) fn find_upgrade<S: Alter>(
     ensures open { StaysOpen S.Store conn.old conn.new result }
     ensures left { LeavesRows S.Store conn.old conn.new }
     ensures crash { LeavesOverCrash S.Store conn.old conn.new }
-    ensures not_in_transaction { conn.new.in_transaction ≡ false }
+    ensures idle { IsIdle conn.new }
 {
     match edition {
         Edition::First => Ok(Some(None)),
@@ -202,15 +188,12 @@ pub(crate) fn find_upgrade<S: Alter>(
 
 /// Whether the parties and parcels are as the desk counts them, and they and the interests within their limits.
 fn has_sound_objects<S: Alter>(conn: &mut Connection<S>, edition: Edition, desk: Desk) -> Got<bool>
-    requires not_in_transaction { conn.old.in_transaction ≡ false }
+    requires idle { IsIdle conn.old }
     ensures good { IsFine (state S.Store conn.new)
         → IfOk result (λ good. IsTrue good → HasObjects desk (state S.Store conn.old).now.trees) }
     ensures kept { IsFine (state S.Store conn.new)
         → OverTyped S.Store edition conn.old (λ t. desk ≡ t.desk → IfOk result IsTrue) }
-    ensures open { IsOpenAfter S.Store conn.new result }
-    ensures left { LeavesRows S.Store conn.old conn.new }
-    ensures crash { LeavesOverCrash S.Store conn.old conn.new }
-    ensures not_in_transaction { conn.new.in_transaction ≡ false }
+    ensures look { IsLook S.Store conn.old conn.new result }
 {
     if !check_parties(conn, edition, desk.parties)? {
         return Ok(false);
@@ -229,15 +212,12 @@ fn has_sound_files<S: Alter>(
     desk: Desk,
     upgrade: Option<u32>,
 ) -> Got<bool>
-    requires not_in_transaction { conn.old.in_transaction ≡ false }
+    requires idle { IsIdle conn.old }
     ensures good { IsFine (state S.Store conn.new)
         → IfOk result (λ good. IsTrue good → HasCases desk upgrade (state S.Store conn.old).now.trees) }
     ensures kept { IsFine (state S.Store conn.new)
         → OverTyped S.Store edition conn.old (λ t. desk ≡ t.desk → t.upgrade ≡ upgrade → IfOk result IsTrue) }
-    ensures open { IsOpenAfter S.Store conn.new result }
-    ensures left { LeavesRows S.Store conn.old conn.new }
-    ensures crash { LeavesOverCrash S.Store conn.old conn.new }
-    ensures not_in_transaction { conn.new.in_transaction ≡ false }
+    ensures look { IsLook S.Store conn.old conn.new result }
 {
     let Some(counts) = check_files(conn, alloc, edition, upgrade, desk.files)? else {
         return Ok(false);
@@ -263,15 +243,12 @@ pub(crate) fn find_sound<S: Alter>(
     alloc: Global,
     edition: Edition,
 ) -> Got<Option<Sound>>
-    requires not_in_transaction { conn.old.in_transaction ≡ false }
+    requires idle { IsIdle conn.old }
     requires desk { slice_get (state S.Store conn.old).now.schema.tables 0 ≡ Some desk_table }
     ensures good { IsFine (state S.Store conn.new) → IsOffice edition (state S.Store conn.old).now.schema
         → IfOk result (λ o. IfSome o (λ s. HasSound edition (state S.Store conn.old).now s.desk s.upgrade)) }
     ensures kept { IsFine (state S.Store conn.new) → KeepsSoundUnder edition (state S.Store conn.old).now → IfOk result (λ o. IsSome o) }
-    ensures open { IsOpenAfter S.Store conn.new result }
-    ensures left { LeavesRows S.Store conn.old conn.new }
-    ensures crash { LeavesOverCrash S.Store conn.old conn.new }
-    ensures not_in_transaction { conn.new.in_transaction ≡ false }
+    ensures look { IsLook S.Store conn.old conn.new result }
 {
     let Some(desk) = find_desk(conn, edition)? else {
         return Ok(None);
@@ -298,18 +275,15 @@ fn check_tables<S: Alter>(
     alloc: Global,
     edition: Edition,
 ) -> Result<Sound, OpenError>
-    requires not_in_transaction { conn.old.in_transaction ≡ false }
+    requires idle { IsIdle conn.old }
     ensures sound { IsFine (state S.Store conn.new) → IfOk result (λ s. HasSound edition (state S.Store conn.new).now s.desk s.upgrade) }
     ensures damaged { HasCleanDisk (state S.Store conn.new)
         → IfErr result (λ e. e ≡ open_error.Damaged → ¬ KeepsSoundUnder edition (state S.Store conn.old).now) }
     ensures schema { IfErr result (λ e. e ≡ open_error.Damaged → IsOffice edition (state S.Store conn.old).now.schema) }
-    ensures open { IsOpenAfter S.Store conn.new result }
+    ensures look { IsLook S.Store conn.old conn.new result }
     ensures judged { HasCleanDisk (state S.Store conn.new)
         → IfErr result (λ e. e ≢ open_error.Store → IsTrue (state S.Store conn.new).is_open) }
-    ensures left { LeavesRows S.Store conn.old conn.new }
     ensures refusal { IfErr result (λ e. (e ≡ open_error.Damaged) ⊎ (e ≡ open_error.Store)) }
-    ensures crash { LeavesOverCrash S.Store conn.old conn.new }
-    ensures not_in_transaction { conn.new.in_transaction ≡ false }
 {
     if !is_office(edition, conn.schema()) {
         return Err(OpenError::Store);
@@ -327,7 +301,7 @@ fn check_versioned<S: Alter>(
     alloc: Global,
     edition: Edition,
 ) -> Result<Sound, OpenError>
-    requires not_in_transaction { conn.old.in_transaction ≡ false }
+    requires idle { IsIdle conn.old }
     requires desk { slice_get (state S.Store conn.old).now.schema.tables 0 ≡ Some desk_table }
     ensures sound { IsFine (state S.Store conn.new) → IfOk result (λ s. HasSound edition (state S.Store conn.new).now s.desk s.upgrade) }
     ensures damaged { HasCleanDisk (state S.Store conn.new)
@@ -338,13 +312,10 @@ fn check_versioned<S: Alter>(
         → IfErr result (λ e. e ≡ open_error.Version → HasOtherVersion edition (state S.Store conn.old).now) }
     ensures told { HasCleanDisk (state S.Store conn.new) → HasOtherVersion edition (state S.Store conn.old).now
         → (result ≡ Err open_error.Version) ⊎ (result ≡ Err open_error.Store) }
-    ensures open { IsOpenAfter S.Store conn.new result }
+    ensures look { IsLook S.Store conn.old conn.new result }
     ensures judged { HasCleanDisk (state S.Store conn.new)
         → IfErr result (λ e. e ≢ open_error.Store → IsTrue (state S.Store conn.new).is_open) }
-    ensures left { LeavesRows S.Store conn.old conn.new }
     ensures refusal { IfErr result (λ e. (e ≡ open_error.Damaged) ⊎ ((e ≡ open_error.Version) ⊎ (e ≡ open_error.Store))) }
-    ensures crash { LeavesOverCrash S.Store conn.old conn.new }
-    ensures not_in_transaction { conn.new.in_transaction ≡ false }
 {
     match has_other_version(conn, edition) {
         Ok(false) => check_tables(conn, alloc, edition),
@@ -375,7 +346,7 @@ pub(crate) fn check<S: Alter>(
     ensures refusal { IfErr result (λ e. (e ≡ open_error.Damaged) ⊎ ((e ≡ open_error.Version) ⊎ (e ≡ open_error.Store))) }
     ensures busy { IsTrue conn.old.in_transaction → result ≡ Err open_error.Store }
     ensures crash { LeavesOverCrash S.Store conn.old conn.new }
-    ensures not_in_transaction { OnOk result (conn.new.in_transaction ≡ false) }
+    ensures idle { OnOk result (IsIdle conn.new) }
     ensures transaction { conn.new.in_transaction ≡ conn.old.in_transaction }
 {
     if !conn.is_autocommit() {

@@ -1,6 +1,6 @@
 //! A new token for a party.
 
-ghost use Rattle.std.specs.Prelude.{◌≡◌, ◌≢◌, ◌==◌, ◌⊎◌, ℕ, List, false, not, length, find, is_some, bytes_eq, None, Some, Err, IsTrue, IfOk, IfErr, OnOk, OnErr};
+ghost use Rattle.std.specs.Prelude.{◌≡◌, ◌≢◌, ◌==◌, ◌⊎◌, ℕ, List, not, length, find, is_some, bytes_eq, None, Some, Err, IsTrue, IfOk, IfErr, OnOk, OnErr};
 ghost use Rattle.sqlite_value.specs.Order.{Row as SqlRow};
 ghost use Rattle.sqlite.specs.State.{HasCleanDisk, Shown, Survives};
 ghost use Rattle.sqlite.specs.Values.{bound};
@@ -17,9 +17,9 @@ ghost use Rattle.permit_model.specs.Tables.{Tables, tables};
 ghost use Rattle.permit_store.specs.declared.store.OpenError.TheVariants as open_error;
 ghost use Rattle.permit_sql_rows.specs.Schema.{IsOffice};
 ghost use Rattle.permit_sql_rows.specs.Kept.{IsFine, Keeps};
-ghost use Rattle.permit_sql_statements.specs.Frames.{IsOpenAfter, IsPlainIn};
+ghost use Rattle.permit_sql_statements.specs.Frames.{IsIdle, IsPlainIn};
 ghost use Rattle.permit_sql.specs.Found.{KeepsSound};
-ghost use Rattle.permit_sql.specs.Frames.{LeavesOverCrash, LeavesRows};
+ghost use Rattle.permit_sql.specs.Frames.{IsLook};
 ghost use Rattle.permit_sql.specs.Opening.{HasOtherVersion};
 ghost use Rattle.permit_sql.specs.Renewing.{OverKept, IsRenewed};
 ghost use Rattle.permit_sql.specs.declared.renew.RenewError.TheVariants as renew_error;
@@ -51,14 +51,11 @@ pub enum RenewError {
 /// Whether the answer to a query has a row, in a database of an office's schema; with another it fails. The database
 /// stays as it is.
 fn has_row<S: Alter>(conn: &mut Connection<S>, sql: &str, params: &[ValueRef<'_>]) -> Got<bool>
-    requires not_in_transaction { conn.old.in_transaction ≡ false }
+    requires idle { IsIdle conn.old }
     requires plain { IsPlainIn Second sql.now }
     ensures shown { HasCleanDisk (state S.Store conn.new) → IfOk result (λ has. (rows : List SqlRow)
         × Shown sql.now (bound params.now) (state S.Store conn.old) (state S.Store conn.new) rows × (has ≡ not (length rows == 0))) }
-    ensures open { IsOpenAfter S.Store conn.new result }
-    ensures left { LeavesRows S.Store conn.old conn.new }
-    ensures crash { LeavesOverCrash S.Store conn.old conn.new }
-    ensures not_in_transaction { conn.new.in_transaction ≡ false }
+    ensures look { IsLook S.Store conn.old conn.new result }
 {
     if !is_office(Edition::Second, conn.schema()) {
         return Err(StoreError);
@@ -71,24 +68,18 @@ fn has_row<S: Alter>(conn: &mut Connection<S>, sql: &str, params: &[ValueRef<'_>
 
 /// Whether there is a party with the number.
 fn has_party<S: Alter>(conn: &mut Connection<S>, party: u32) -> Got<bool>
-    requires not_in_transaction { conn.old.in_transaction ≡ false }
+    requires idle { IsIdle conn.old }
     ensures found { OverKept S.Store conn.old conn.new (λ t. IfOk result (λ has. has ≡ is_some (find (λ p. p.id == party) t.parties))) }
-    ensures open { IsOpenAfter S.Store conn.new result }
-    ensures left { LeavesRows S.Store conn.old conn.new }
-    ensures crash { LeavesOverCrash S.Store conn.old conn.new }
-    ensures not_in_transaction { conn.new.in_transaction ≡ false }
+    ensures look { IsLook S.Store conn.old conn.new result }
 {
     has_row(conn, READ_PARTY, params![party])
 }
 
 /// Whether a party has the digest.
 fn has_digest<S: Alter>(conn: &mut Connection<S>, digest: &Digest) -> Got<bool>
-    requires not_in_transaction { conn.old.in_transaction ≡ false }
+    requires idle { IsIdle conn.old }
     ensures found { OverKept S.Store conn.old conn.new (λ t. IfOk result (λ has. has ≡ is_some (find (λ p. bytes_eq p.digest digest.now) t.parties))) }
-    ensures open { IsOpenAfter S.Store conn.new result }
-    ensures left { LeavesRows S.Store conn.old conn.new }
-    ensures crash { LeavesOverCrash S.Store conn.old conn.new }
-    ensures not_in_transaction { conn.new.in_transaction ≡ false }
+    ensures look { IsLook S.Store conn.old conn.new result }
 {
     has_row(conn, FIND_PARTY, params![digest.as_str()])
 }
@@ -99,13 +90,10 @@ fn find_against<S: Alter>(
     party: u32,
     digest: &Digest,
 ) -> Got<Option<Refusal>>
-    requires not_in_transaction { conn.old.in_transaction ≡ false }
+    requires idle { IsIdle conn.old }
     ensures found { OverKept S.Store conn.old conn.new (λ t. IfOk result (λ against. against ≡ against_renewal t.parties party digest.now)) }
     ensures two { IfOk result (λ against. (against ≡ None) ⊎ ((against ≡ Some refused.Record) ⊎ (against ≡ Some (refused.NotAdmitted reason.Taken)))) }
-    ensures open { IsOpenAfter S.Store conn.new result }
-    ensures left { LeavesRows S.Store conn.old conn.new }
-    ensures crash { LeavesOverCrash S.Store conn.old conn.new }
-    ensures not_in_transaction { conn.new.in_transaction ≡ false }
+    ensures look { IsLook S.Store conn.old conn.new result }
 {
     if !has_party(conn, party)? {
         return Ok(Some(Refusal::Record));
@@ -123,7 +111,7 @@ fn give_digest<S: Alter>(
     party: u32,
     digest: &Digest,
 ) -> Result<(), RenewError>
-    requires not_in_transaction { conn.old.in_transaction ≡ false }
+    requires idle { IsIdle conn.old }
     ensures made { OverKept S.Store conn.old conn.new (λ t. OnOk result (Keeps (with_renewed party digest.now t) (state S.Store conn.new).now)) }
     ensures admitted { OverKept S.Store conn.old conn.new (λ t. OnOk result (against_renewal t.parties party digest.now ≡ None)) }
     ensures refused { OverKept S.Store conn.old conn.new (λ t. IfErr result (λ e. (why : TheRefusal) → e ≡ renew_error.Refused why
@@ -136,7 +124,7 @@ fn give_digest<S: Alter>(
     ensures refusal { IfErr result (λ e. (e ≡ renew_error.Refused refused.Record) ⊎ ((e ≡ renew_error.Refused (refused.NotAdmitted reason.Taken))
         ⊎ (e ≡ renew_error.Open open_error.Store))) }
     ensures crash { Survives (state S.Store conn.old) (state S.Store conn.new) (IsRenewed party digest.now (state S.Store conn.old).now) }
-    ensures not_in_transaction { conn.new.in_transaction ≡ false }
+    ensures idle { IsIdle conn.new }
 {
     match find_against(conn, party, digest) {
         Ok(None) => match renew_in(conn, party, digest) {

@@ -1,13 +1,13 @@
 //! Whether typed tables are sound: the parties, parcels and interests.
 
-ghost use Rattle.std.specs.Prelude.{◌≡◌, ◌++◌, ◌∷◌, [], map, false, IsTrue, MatchBool, IfOk};
+ghost use Rattle.std.specs.Prelude.{◌≡◌, ◌++◌, ◌∷◌, [], map, IsTrue, MatchBool, IfOk};
 ghost use Rattle.std.specs.List.{list_all};
 ghost use Rattle.sqlite.specs.State.{HasCleanDisk};
 ghost use Rattle.sqlite.specs.Held.{state};
 ghost use Rattle.permit_sql.specs.Tested.{fits_parcel, fits_interest};
 ghost use Rattle.permit_sql.specs.Passed.{PassesParty, PassesParcel, StopsParcel, PassesInterest, StopsInterest, StopsParty};
-ghost use Rattle.permit_sql.specs.Frames.{OverTyped, LeavesRows, LeavesOverCrash};
-ghost use Rattle.permit_sql_statements.specs.Frames.{IsOpenAfter};
+ghost use Rattle.permit_sql.specs.Frames.{IsLook, OverTyped};
+ghost use Rattle.permit_sql_statements.specs.Frames.{IsIdle};
 
 use crate::check::takes_all;
 use crate::each::Taker;
@@ -48,13 +48,10 @@ pub(crate) fn roles_of<S: Alter>(
     alloc: Global,
     edition: Edition,
 ) -> Got<Vec<Role>>
-    requires not_in_transaction { conn.old.in_transaction ≡ false }
+    requires idle { IsIdle conn.old }
     ensures told { HasCleanDisk (state S.Store conn.new)
         → OverTyped S.Store edition conn.old (λ t. IfOk result (λ roles. roles.items ≡ map (λ p. p.role) t.parties)) }
-    ensures open { IsOpenAfter S.Store conn.new result }
-    ensures left { LeavesRows S.Store conn.old conn.new }
-    ensures crash { LeavesOverCrash S.Store conn.old conn.new }
-    ensures not_in_transaction { conn.new.in_transaction ≡ false }
+    ensures look { IsLook S.Store conn.old conn.new result }
 {
     let mut roles = Roles {
         roles: Vec::new(alloc),
@@ -93,13 +90,10 @@ pub(crate) fn has_owners<S: Alter>(
     edition: Edition,
     parties: u32,
 ) -> Got<bool>
-    requires not_in_transaction { conn.old.in_transaction ≡ false }
+    requires idle { IsIdle conn.old }
     ensures told { HasCleanDisk (state S.Store conn.new)
         → OverTyped S.Store edition conn.old (λ t. IfOk result (λ good. good ≡ list_all (fits_parcel parties) t.parcels)) }
-    ensures open { IsOpenAfter S.Store conn.new result }
-    ensures left { LeavesRows S.Store conn.old conn.new }
-    ensures crash { LeavesOverCrash S.Store conn.old conn.new }
-    ensures not_in_transaction { conn.new.in_transaction ≡ false }
+    ensures look { IsLook S.Store conn.old conn.new result }
 {
     takes_all(conn, edition, EACH_PARCEL, &mut Owners { parties })
 }
@@ -131,13 +125,10 @@ pub(crate) fn has_declarers<S: Alter>(
     parcels: u32,
     parties: u32,
 ) -> Got<bool>
-    requires not_in_transaction { conn.old.in_transaction ≡ false }
+    requires idle { IsIdle conn.old }
     ensures told { HasCleanDisk (state S.Store conn.new)
         → OverTyped S.Store edition conn.old (λ t. IfOk result (λ good. good ≡ list_all (fits_interest parcels parties) t.interests)) }
-    ensures open { IsOpenAfter S.Store conn.new result }
-    ensures left { LeavesRows S.Store conn.old conn.new }
-    ensures crash { LeavesOverCrash S.Store conn.old conn.new }
-    ensures not_in_transaction { conn.new.in_transaction ≡ false }
+    ensures look { IsLook S.Store conn.old conn.new result }
 {
     takes_all(
         conn,

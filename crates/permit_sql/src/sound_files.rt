@@ -1,6 +1,6 @@
 //! Whether typed tables are sound: the files and their papers, and all of them.
 
-ghost use Rattle.std.specs.Prelude.{◌≡◌, ◌↔◌, false, IsTrue, MatchBool, IfOk, IfSome, true, map, is_some, nat_le};
+ghost use Rattle.std.specs.Prelude.{◌≡◌, ◌↔◌, IsTrue, MatchBool, IfOk, IfSome, true, map, is_some, nat_le};
 ghost use Rattle.std.specs.List.{list_all};
 ghost use Rattle.sqlite.specs.State.{HasCleanDisk};
 ghost use Rattle.sqlite.specs.Held.{state};
@@ -9,8 +9,8 @@ ghost use Rattle.permit_model.specs.Sound.{IsSoundTables};
 ghost use Rattle.permit_sql_rows.specs.Kept.{IsFine};
 ghost use Rattle.permit_sql.specs.Tested.{fits_file as fits_state, fits_parcels, fits_papers, fits_cases, first_tally};
 ghost use Rattle.permit_sql.specs.Passed.{PassesFile, StopsFile, PassesPaper, StopsPaper};
-ghost use Rattle.permit_sql.specs.Frames.{OverTyped, LeavesRows, LeavesOverCrash, StaysOpen};
-ghost use Rattle.permit_sql_statements.specs.Frames.{IsOpenAfter};
+ghost use Rattle.permit_sql.specs.Frames.{IsLook, LeavesOverCrash, LeavesRows, OverTyped, StaysOpen};
+ghost use Rattle.permit_sql_statements.specs.Frames.{IsIdle};
 
 use crate::check::takes_all;
 use crate::each::Taker;
@@ -71,15 +71,12 @@ pub(crate) fn tallies_of<S: Alter>(
     parcels: u32,
     last: Day,
 ) -> Got<Option<Vec<Tally>>>
-    requires not_in_transaction { conn.old.in_transaction ≡ false }
+    requires idle { IsIdle conn.old }
     ensures told { HasCleanDisk (state S.Store conn.new)
         → OverTyped S.Store edition conn.old (λ t. t.upgrade ≡ upgrade
         → IfOk result (λ o. (is_some o ≡ list_all (λ f. fits_state roles.items parcels last f.state) t.files)
         × IfSome o (λ tallies. tallies.items ≡ map (λ f. first_tally f.state) t.files))) }
-    ensures open { IsOpenAfter S.Store conn.new result }
-    ensures left { LeavesRows S.Store conn.old conn.new }
-    ensures crash { LeavesOverCrash S.Store conn.old conn.new }
-    ensures not_in_transaction { conn.new.in_transaction ≡ false }
+    ensures look { IsLook S.Store conn.old conn.new result }
 {
     let mut filed = Filed {
         upgrade,
@@ -145,15 +142,12 @@ pub(crate) fn has_sound_papers<S: Alter>(
     last: Day,
     tallies: Vec<Tally>,
 ) -> Got<bool>
-    requires not_in_transaction { conn.old.in_transaction ≡ false }
+    requires idle { IsIdle conn.old }
     ensures told { HasCleanDisk (state S.Store conn.new)
         → OverTyped S.Store edition conn.old (λ t. parties ≡ t.desk.parties → last ≡ t.desk.last → tallies.items ≡ map (λ f. first_tally f.state) t.files
         → list_all (λ f. nat_le f.state.papers most_papers) t.files ≡ true
         → IfOk result (λ good. good ≡ fits_papers t)) }
-    ensures open { IsOpenAfter S.Store conn.new result }
-    ensures left { LeavesRows S.Store conn.old conn.new }
-    ensures crash { LeavesOverCrash S.Store conn.old conn.new }
-    ensures not_in_transaction { conn.new.in_transaction ≡ false }
+    ensures look { IsLook S.Store conn.old conn.new result }
 {
     let mut entered = Entered {
         parties,
@@ -180,14 +174,11 @@ fn has_sound_cases<S: Alter>(
     upgrade: Option<u32>,
     roles: Vec<Role>,
 ) -> Got<bool>
-    requires not_in_transaction { conn.old.in_transaction ≡ false }
+    requires idle { IsIdle conn.old }
     ensures told { IsFine (state S.Store conn.new)
         → OverTyped S.Store edition conn.old (λ t. t.desk ≡ desk → t.upgrade ≡ upgrade
         → IfOk result (λ good. good ≡ fits_cases roles.items t)) }
-    ensures open { IsOpenAfter S.Store conn.new result }
-    ensures left { LeavesRows S.Store conn.old conn.new }
-    ensures crash { LeavesOverCrash S.Store conn.old conn.new }
-    ensures not_in_transaction { conn.new.in_transaction ≡ false }
+    ensures look { IsLook S.Store conn.old conn.new result }
 {
     match tallies_of(
         conn,
@@ -205,13 +196,10 @@ fn has_sound_cases<S: Alter>(
 
 /// Whether the typed parcels and interests are sound.
 fn has_sound_parcels<S: Alter>(conn: &mut Connection<S>, edition: Edition, desk: Desk) -> Got<bool>
-    requires not_in_transaction { conn.old.in_transaction ≡ false }
+    requires idle { IsIdle conn.old }
     ensures told { IsFine (state S.Store conn.new)
         → OverTyped S.Store edition conn.old (λ t. t.desk ≡ desk → IfOk result (λ good. good ≡ fits_parcels t)) }
-    ensures open { IsOpenAfter S.Store conn.new result }
-    ensures left { LeavesRows S.Store conn.old conn.new }
-    ensures crash { LeavesOverCrash S.Store conn.old conn.new }
-    ensures not_in_transaction { conn.new.in_transaction ≡ false }
+    ensures look { IsLook S.Store conn.old conn.new result }
 {
     if !has_owners(conn, edition, desk.parties)? {
         return Ok(false);
@@ -227,7 +215,7 @@ pub(crate) fn are_sound<S: Alter>(
     desk: Desk,
     upgrade: Option<u32>,
 ) -> Got<bool>
-    requires not_in_transaction { conn.old.in_transaction ≡ false }
+    requires idle { IsIdle conn.old }
     ensures told { IsFine (state S.Store conn.new)
         → OverTyped S.Store edition conn.old (λ t. t.desk ≡ desk → t.upgrade ≡ upgrade
         → IfOk result (λ good. IsTrue good ↔ IsSoundTables t)) }
@@ -235,7 +223,7 @@ pub(crate) fn are_sound<S: Alter>(
     ensures stays { StaysOpen S.Store conn.old conn.new result }
     ensures left { LeavesRows S.Store conn.old conn.new }
     ensures crash { LeavesOverCrash S.Store conn.old conn.new }
-    ensures not_in_transaction { conn.new.in_transaction ≡ false }
+    ensures idle { IsIdle conn.new }
 {
     if !fits_desk(desk) {
         return Ok(false);

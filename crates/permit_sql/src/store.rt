@@ -21,6 +21,7 @@ ghost use Rattle.permit_sql.specs.Opening.{HasOtherVersion};
 ghost use Rattle.permit_sql.specs.Found.{KeepsSound, KeepsSoundUnder};
 ghost use Rattle.permit_sql.specs.Upgrading.{IsUpgraded};
 ghost use Rattle.permit_sql_statements.specs.Founding.{AreCounted};
+ghost use Rattle.permit_sql_statements.specs.Frames.{IsIdle};
 
 use crate::open::check;
 use permit_base::route::Route;
@@ -30,6 +31,7 @@ use permit_core::state::FileState;
 use permit_core::taker::Taker;
 use permit_sql_statements::commit::commit_in;
 use permit_sql_statements::create::{create_in, upgrade_in};
+use permit_sql_statements::idle::Idle;
 use permit_sql_statements::read::{
     find_parcel, find_party, has_interest, has_open_notice, read_desk, read_file, read_interests,
     read_owner, read_papers, read_parcel, read_party, read_role, read_state,
@@ -47,7 +49,7 @@ use std::sync::atomic::{AtomicBool, Ordering};
 #[derive(Drop)]
 pub struct SqlStore<S: Alter> {
     alloc: Global,
-    conn: Connection<S>,
+    conn: Idle<S>,
     /// How many files there were at the upgrade.
     upgrade: Option<u32>,
     handed: u64,
@@ -57,7 +59,6 @@ pub struct SqlStore<S: Alter> {
     is_suspect: bool,
     /// What is set once the connection is shut.
     shut: Option<Arc<AtomicBool, Global>>,
-    ghost not_in_transaction: { conn.in_transaction ≡ false },
 }
 
 /// Whether the database has no table, no index and no view.
@@ -203,7 +204,7 @@ impl<S: Alter> SqlStore<S> {
         match create_in(&mut conn, founder) {
             Ok(()) => Ok(SqlStore {
                 alloc,
-                conn,
+                conn: Idle::new(conn),
                 upgrade: Some(0),
                 handed: 0,
                 failed: 0,
@@ -251,7 +252,7 @@ impl<S: Alter> SqlStore<S> {
         match check(&mut conn, alloc, Edition::Second) {
             Ok(sound) => Ok(SqlStore {
                 alloc,
-                conn,
+                conn: Idle::new(conn),
                 upgrade: sound.upgrade,
                 handed: 0,
                 failed: 0,
@@ -314,6 +315,7 @@ impl<S: Alter> SqlStore<S> {
     /// what was written, leaves it open.
     pub fn into_connection(self) -> Connection<S>
         ensures conn { result ≡ self.conn }
+        ensures idle { IsIdle result }
         ensures lasts { IsTrue (state S.Store self.conn).is_open → Lasts (state S.Store self.conn) }
     {
         let SqlStore {
@@ -326,6 +328,7 @@ impl<S: Alter> SqlStore<S> {
             is_suspect: _,
             shut: _,
         } = self;
+        let conn = conn.into_connection();
         let _settled = conn.is_autocommit();
         conn
     }

@@ -1,6 +1,6 @@
 //! The first of typed parcels, interests and files that isn't sound.
 
-ghost use Rattle.std.specs.Prelude.{◌≡◌, false, map, MatchBool, IsTrue, IfOk, IfSome};
+ghost use Rattle.std.specs.Prelude.{◌≡◌, map, MatchBool, IsTrue, IfOk, IfSome};
 ghost use Rattle.sqlite.specs.State.{HasCleanDisk};
 ghost use Rattle.sqlite.specs.Held.{state};
 ghost use Rattle.permit_sql_rows.specs.Rows.{shown_parcel, shown_interest, shown_file};
@@ -8,8 +8,8 @@ ghost use Rattle.permit_sql_rows.specs.Typed.{IsParcel, IsInterest};
 ghost use Rattle.permit_sql.specs.Found.{IsGoodFile};
 ghost use Rattle.permit_sql.specs.Named.{breaks};
 ghost use Rattle.permit_sql.specs.First.{of_parcel, of_interest, of_file, first_in, IsFirstInterest, Passes, Names};
-ghost use Rattle.permit_sql_statements.specs.Frames.{IsOpenAfter};
-ghost use Rattle.permit_sql.specs.Frames.{OverTyped, LeavesRows, LeavesOverCrash};
+ghost use Rattle.permit_sql_statements.specs.Frames.{IsIdle};
+ghost use Rattle.permit_sql.specs.Frames.{IsLook, OverTyped};
 
 use crate::check::takes_all;
 use crate::each::Taker;
@@ -56,15 +56,12 @@ pub(crate) fn parcel_fault<S: Alter>(
     edition: Edition,
     parties: u32,
 ) -> Got<Option<Fault>>
-    requires not_in_transaction { conn.old.in_transaction ≡ false }
+    requires idle { IsIdle conn.old }
     ensures named { HasCleanDisk (state S.Store conn.new)
         → OverTyped S.Store edition conn.old (λ t. parties ≡ t.desk.parties → IfOk result (λ o. IfSome o (λ fault. IsTrue (breaks t fault)))) }
     ensures first { HasCleanDisk (state S.Store conn.new)
         → OverTyped S.Store edition conn.old (λ t. IfOk result (λ o. o ≡ first_in (of_parcel parties) t.parcels)) }
-    ensures open { IsOpenAfter S.Store conn.new result }
-    ensures left { LeavesRows S.Store conn.old conn.new }
-    ensures crash { LeavesOverCrash S.Store conn.old conn.new }
-    ensures not_in_transaction { conn.new.in_transaction ≡ false }
+    ensures look { IsLook S.Store conn.old conn.new result }
 {
     let mut owned = Owned {
         parties,
@@ -116,16 +113,13 @@ pub(crate) fn interest_fault<S: Alter>(
     parcels: u32,
     parties: u32,
 ) -> Got<Option<Fault>>
-    requires not_in_transaction { conn.old.in_transaction ≡ false }
+    requires idle { IsIdle conn.old }
     ensures named { HasCleanDisk (state S.Store conn.new)
         → OverTyped S.Store edition conn.old (λ t. parcels ≡ t.desk.parcels → parties ≡ t.desk.parties
         → IfOk result (λ o. IfSome o (λ fault. IsTrue (breaks t fault)))) }
     ensures first { HasCleanDisk (state S.Store conn.new)
         → OverTyped S.Store edition conn.old (λ t. IfOk result (IsFirstInterest parcels parties t.interests)) }
-    ensures open { IsOpenAfter S.Store conn.new result }
-    ensures left { LeavesRows S.Store conn.old conn.new }
-    ensures crash { LeavesOverCrash S.Store conn.old conn.new }
-    ensures not_in_transaction { conn.new.in_transaction ≡ false }
+    ensures look { IsLook S.Store conn.old conn.new result }
 {
     let mut declared = Declared {
         parcels,
@@ -178,16 +172,13 @@ pub(crate) fn file_fault<S: Alter>(
     parcels: u32,
     last: Day,
 ) -> Got<Option<Fault>>
-    requires not_in_transaction { conn.old.in_transaction ≡ false }
+    requires idle { IsIdle conn.old }
     ensures named { HasCleanDisk (state S.Store conn.new)
         → OverTyped S.Store edition conn.old (λ t. t.upgrade ≡ upgrade → roles.items ≡ map (λ p. p.role) t.parties → parcels ≡ t.desk.parcels
         → last ≡ t.desk.last → IfOk result (λ o. IfSome o (λ fault. IsTrue (breaks t fault)))) }
     ensures first { HasCleanDisk (state S.Store conn.new)
         → OverTyped S.Store edition conn.old (λ t. t.upgrade ≡ upgrade → IfOk result (λ o. o ≡ first_in (of_file roles.items parcels last) t.files)) }
-    ensures open { IsOpenAfter S.Store conn.new result }
-    ensures left { LeavesRows S.Store conn.old conn.new }
-    ensures crash { LeavesOverCrash S.Store conn.old conn.new }
-    ensures not_in_transaction { conn.new.in_transaction ≡ false }
+    ensures look { IsLook S.Store conn.old conn.new result }
 {
     let mut tested = Tested {
         upgrade,

@@ -1,6 +1,6 @@
 //! The first of typed papers that isn't sound, or the first file whose papers aren't as its row counts them.
 
-ghost use Rattle.std.specs.Prelude.{◌≡◌, false, true, map, nat_le, Some, IsTrue, IfOk, IfSome, MatchBool};
+ghost use Rattle.std.specs.Prelude.{◌≡◌, true, map, nat_le, Some, IsTrue, IfOk, IfSome, MatchBool};
 ghost use Rattle.std.specs.List.{list_all};
 ghost use Rattle.sqlite.specs.State.{HasCleanDisk};
 ghost use Rattle.sqlite.specs.Held.{state};
@@ -10,8 +10,8 @@ ghost use Rattle.permit_base.specs.Limits.{most_papers};
 ghost use Rattle.permit_sql.specs.Tested.{first_tally};
 ghost use Rattle.permit_sql.specs.Named.{breaks};
 ghost use Rattle.permit_sql.specs.First.{first_of_papers, ReadsPaper, NamesPaper};
-ghost use Rattle.permit_sql_statements.specs.Frames.{IsOpenAfter};
-ghost use Rattle.permit_sql.specs.Frames.{OverTyped, LeavesRows, LeavesOverCrash};
+ghost use Rattle.permit_sql_statements.specs.Frames.{IsIdle};
+ghost use Rattle.permit_sql.specs.Frames.{IsLook, OverTyped};
 
 use crate::check::takes_all;
 use crate::each::Taker;
@@ -90,7 +90,7 @@ fn first_of<S: Alter>(
     desk: Desk,
     tallies: Vec<Tally>,
 ) -> Got<Option<Fault>>
-    requires not_in_transaction { conn.old.in_transaction ≡ false }
+    requires idle { IsIdle conn.old }
     ensures named { HasCleanDisk (state S.Store conn.new)
         → OverTyped S.Store Second conn.old (λ t. desk ≡ t.desk → tallies.items ≡ map (λ f. first_tally f.state) t.files
         → list_all (λ f. nat_le f.state.papers most_papers) t.files ≡ true
@@ -98,10 +98,7 @@ fn first_of<S: Alter>(
     ensures first { HasCleanDisk (state S.Store conn.new)
         → OverTyped S.Store Second conn.old (λ t. desk ≡ t.desk → tallies.items ≡ map (λ f. first_tally f.state) t.files
         → list_all (λ f. nat_le f.state.papers most_papers) t.files ≡ true → IfOk result (λ o. o ≡ first_of_papers t)) }
-    ensures open { IsOpenAfter S.Store conn.new result }
-    ensures left { LeavesRows S.Store conn.old conn.new }
-    ensures crash { LeavesOverCrash S.Store conn.old conn.new }
-    ensures not_in_transaction { conn.new.in_transaction ≡ false }
+    ensures look { IsLook S.Store conn.old conn.new result }
 {
     let mut read = Read {
         parties: desk.parties,
@@ -128,16 +125,13 @@ pub(crate) fn papers_fault<S: Alter>(
     desk: Desk,
     upgrade: Option<u32>,
 ) -> Got<Option<Fault>>
-    requires not_in_transaction { conn.old.in_transaction ≡ false }
+    requires idle { IsIdle conn.old }
     ensures named { IsFine (state S.Store conn.new)
         → OverTyped S.Store Second conn.old (λ t. desk ≡ t.desk → t.upgrade ≡ upgrade
         → IfOk result (λ o. IfSome o (λ fault. IsTrue (breaks t fault)))) }
     ensures first { IsFine (state S.Store conn.new)
         → OverTyped S.Store Second conn.old (λ t. desk ≡ t.desk → t.upgrade ≡ upgrade → IfOk result (λ o. o ≡ first_of_papers t)) }
-    ensures open { IsOpenAfter S.Store conn.new result }
-    ensures left { LeavesRows S.Store conn.old conn.new }
-    ensures crash { LeavesOverCrash S.Store conn.old conn.new }
-    ensures not_in_transaction { conn.new.in_transaction ≡ false }
+    ensures look { IsLook S.Store conn.old conn.new result }
 {
     let edition = Edition::Second;
     let roles = roles_of(conn, alloc, edition)?;

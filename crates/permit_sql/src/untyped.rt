@@ -1,8 +1,7 @@
 //! The first row of a table that isn't one of its type, or hasn't the next number.
 
-ghost use Rattle.std.specs.Prelude.{◌≡◌, false};
-ghost use Rattle.permit_sql_statements.specs.Frames.{IsOpenAfter};
-ghost use Rattle.permit_sql.specs.Frames.{LeavesRows, LeavesOverCrash};
+ghost use Rattle.permit_sql_statements.specs.Frames.{IsIdle};
+ghost use Rattle.permit_sql.specs.Frames.{IsLook};
 
 use crate::check::takes_all;
 use crate::each::Taker;
@@ -167,11 +166,8 @@ impl Taker for Rows {
 
 /// Whether all rows of a table are of its type, in rising number.
 fn takes_rows<S: Alter>(conn: &mut Connection<S>, table: Table, rows: &mut Rows) -> Got<bool>
-    requires not_in_transaction { conn.old.in_transaction ≡ false }
-    ensures open { IsOpenAfter S.Store conn.new result }
-    ensures left { LeavesRows S.Store conn.old conn.new }
-    ensures crash { LeavesOverCrash S.Store conn.old conn.new }
-    ensures not_in_transaction { conn.new.in_transaction ≡ false }
+    requires idle { IsIdle conn.old }
+    ensures look { IsLook S.Store conn.old conn.new result }
 {
     match table {
         Table::Party => takes_all(conn, Edition::Second, EACH_PARTY, rows),
@@ -190,11 +186,8 @@ pub(crate) fn first_untyped<S: Alter>(
     upgrade: Option<u32>,
     counts: Vec<u16>,
 ) -> Got<Option<Fault>>
-    requires not_in_transaction { conn.old.in_transaction ≡ false }
-    ensures open { IsOpenAfter S.Store conn.new result }
-    ensures left { LeavesRows S.Store conn.old conn.new }
-    ensures crash { LeavesOverCrash S.Store conn.old conn.new }
-    ensures not_in_transaction { conn.new.in_transaction ≡ false }
+    requires idle { IsIdle conn.old }
+    ensures look { IsLook S.Store conn.old conn.new result }
 {
     let mut rows = Rows {
         table,

@@ -3,7 +3,7 @@
 //! The tables are read in their order, desk, upgrade, party, parcel, interest, file and paper: first for rows that aren't
 //! of their table's type, numbers with gaps, and counts; and then, where they are typed, for what they say together.
 
-ghost use Rattle.std.specs.Prelude.{◌≡◌, false, true, map, None, Some, IsTrue, IfOk, IfSome, IsSome};
+ghost use Rattle.std.specs.Prelude.{◌≡◌, true, map, None, Some, IsTrue, IfOk, IfSome, IsSome};
 ghost use Rattle.sqlite.specs.State.{HasCleanDisk};
 ghost use Rattle.sqlite.specs.Held.{state};
 ghost use Rattle.permit_base.specs.declared.words.Edition.TheVariants.{Second};
@@ -12,8 +12,8 @@ ghost use Rattle.permit_sql.specs.Found.{KeepsSound};
 ghost use Rattle.permit_sql.specs.Tested.{fits_desk};
 ghost use Rattle.permit_sql.specs.Named.{breaks};
 ghost use Rattle.permit_sql.specs.First.{or_else, first_of_parcels, first_of_interests, first_of_files, first_of_papers, first_of_rows, IsFirst, IsFirstWith};
-ghost use Rattle.permit_sql_statements.specs.Frames.{IsOpenAfter};
-ghost use Rattle.permit_sql.specs.Frames.{OverTyped, LeavesRows, LeavesOverCrash, StaysOpen};
+ghost use Rattle.permit_sql_statements.specs.Frames.{IsIdle, IsOpenAfter};
+ghost use Rattle.permit_sql.specs.Frames.{IsLook, LeavesOverCrash, LeavesRows, OverTyped, StaysOpen};
 
 use crate::check::{check_interests, check_parcels, check_parties};
 use crate::check_files::{check_files, check_papers, check_rowids};
@@ -34,11 +34,8 @@ use std::alloc::Global;
 
 /// What the rows of the desk break, which aren't one row of a desk.
 fn desk_fault<S: Alter>(conn: &mut Connection<S>) -> Got<Fault>
-    requires not_in_transaction { conn.old.in_transaction ≡ false }
-    ensures open { IsOpenAfter S.Store conn.new result }
-    ensures left { LeavesRows S.Store conn.old conn.new }
-    ensures crash { LeavesOverCrash S.Store conn.old conn.new }
-    ensures not_in_transaction { conn.new.in_transaction ≡ false }
+    requires idle { IsIdle conn.old }
+    ensures look { IsLook S.Store conn.old conn.new result }
 {
     if !has_desk(conn.schema()) {
         return Err(StoreError);
@@ -52,11 +49,8 @@ fn desk_fault<S: Alter>(conn: &mut Connection<S>) -> Got<Fault>
 
 /// What the rows of the upgrade break, which aren't one row of an upgrade, of at most the files of the desk.
 fn upgrade_fault<S: Alter>(conn: &mut Connection<S>) -> Got<Fault>
-    requires not_in_transaction { conn.old.in_transaction ≡ false }
-    ensures open { IsOpenAfter S.Store conn.new result }
-    ensures left { LeavesRows S.Store conn.old conn.new }
-    ensures crash { LeavesOverCrash S.Store conn.old conn.new }
-    ensures not_in_transaction { conn.new.in_transaction ≡ false }
+    requires idle { IsIdle conn.old }
+    ensures look { IsLook S.Store conn.old conn.new result }
 {
     if !is_office(Edition::Second, conn.schema()) {
         return Err(StoreError);
@@ -76,11 +70,8 @@ fn untyped_or<S: Alter>(
     counts: Vec<u16>,
     other: Fault,
 ) -> Got<Option<Fault>>
-    requires not_in_transaction { conn.old.in_transaction ≡ false }
-    ensures open { IsOpenAfter S.Store conn.new result }
-    ensures left { LeavesRows S.Store conn.old conn.new }
-    ensures crash { LeavesOverCrash S.Store conn.old conn.new }
-    ensures not_in_transaction { conn.new.in_transaction ≡ false }
+    requires idle { IsIdle conn.old }
+    ensures look { IsLook S.Store conn.old conn.new result }
 {
     match first_untyped(conn, table, upgrade, counts)? {
         Some(fault) => Ok(Some(fault)),
@@ -94,13 +85,10 @@ fn untyped_objects<S: Alter>(
     alloc: Global,
     desk: Desk,
 ) -> Got<Option<Fault>>
-    requires not_in_transaction { conn.old.in_transaction ≡ false }
+    requires idle { IsIdle conn.old }
     ensures typed { IsFine (state S.Store conn.new)
         → OverTyped S.Store Second conn.old (λ t. desk ≡ t.desk → IfOk result (λ o. o ≡ None)) }
-    ensures open { IsOpenAfter S.Store conn.new result }
-    ensures left { LeavesRows S.Store conn.old conn.new }
-    ensures crash { LeavesOverCrash S.Store conn.old conn.new }
-    ensures not_in_transaction { conn.new.in_transaction ≡ false }
+    ensures look { IsLook S.Store conn.old conn.new result }
 {
     if !check_parties(conn, Edition::Second, desk.parties)? {
         let other = Fault::Desk(DeskRule::Parties);
@@ -123,13 +111,10 @@ fn untyped_files<S: Alter>(
     desk: Desk,
     upgrade: Option<u32>,
 ) -> Got<Option<Fault>>
-    requires not_in_transaction { conn.old.in_transaction ≡ false }
+    requires idle { IsIdle conn.old }
     ensures typed { IsFine (state S.Store conn.new)
         → OverTyped S.Store Second conn.old (λ t. desk ≡ t.desk → t.upgrade ≡ upgrade → IfOk result (λ o. o ≡ None)) }
-    ensures open { IsOpenAfter S.Store conn.new result }
-    ensures left { LeavesRows S.Store conn.old conn.new }
-    ensures crash { LeavesOverCrash S.Store conn.old conn.new }
-    ensures not_in_transaction { conn.new.in_transaction ≡ false }
+    ensures look { IsLook S.Store conn.old conn.new result }
 {
     match check_files(conn, alloc, Edition::Second, upgrade, desk.files)? {
         Some(_) => Ok(None),
@@ -147,13 +132,10 @@ fn untyped_papers<S: Alter>(
     desk: Desk,
     upgrade: Option<u32>,
 ) -> Got<Option<Fault>>
-    requires not_in_transaction { conn.old.in_transaction ≡ false }
+    requires idle { IsIdle conn.old }
     ensures typed { IsFine (state S.Store conn.new)
         → OverTyped S.Store Second conn.old (λ t. desk ≡ t.desk → t.upgrade ≡ upgrade → IfOk result (λ o. o ≡ None)) }
-    ensures open { IsOpenAfter S.Store conn.new result }
-    ensures left { LeavesRows S.Store conn.old conn.new }
-    ensures crash { LeavesOverCrash S.Store conn.old conn.new }
-    ensures not_in_transaction { conn.new.in_transaction ≡ false }
+    ensures look { IsLook S.Store conn.old conn.new result }
 {
     let Some(counts) = check_files(conn, alloc, Edition::Second, upgrade, desk.files)? else {
         return Err(StoreError);
@@ -181,13 +163,10 @@ fn untyped<S: Alter>(
     desk: Desk,
     upgrade: Option<u32>,
 ) -> Got<Option<Fault>>
-    requires not_in_transaction { conn.old.in_transaction ≡ false }
+    requires idle { IsIdle conn.old }
     ensures typed { IsFine (state S.Store conn.new)
         → OverTyped S.Store Second conn.old (λ t. desk ≡ t.desk → t.upgrade ≡ upgrade → IfOk result (λ o. o ≡ None)) }
-    ensures open { IsOpenAfter S.Store conn.new result }
-    ensures left { LeavesRows S.Store conn.old conn.new }
-    ensures crash { LeavesOverCrash S.Store conn.old conn.new }
-    ensures not_in_transaction { conn.new.in_transaction ≡ false }
+    ensures look { IsLook S.Store conn.old conn.new result }
 {
     if let Some(fault) = untyped_objects(conn, alloc, desk)? {
         return Ok(Some(fault));
@@ -200,15 +179,12 @@ fn untyped<S: Alter>(
 
 /// The first of typed parcels and interests that isn't sound.
 fn unsound_parcels<S: Alter>(conn: &mut Connection<S>, desk: Desk) -> Got<Option<Fault>>
-    requires not_in_transaction { conn.old.in_transaction ≡ false }
+    requires idle { IsIdle conn.old }
     ensures named { IsFine (state S.Store conn.new)
         → OverTyped S.Store Second conn.old (λ t. desk ≡ t.desk → IfOk result (λ o. IfSome o (λ fault. IsTrue (breaks t fault)))) }
     ensures first { IsFine (state S.Store conn.new)
         → OverTyped S.Store Second conn.old (λ t. desk ≡ t.desk → IfOk result (λ o. IsFirstWith t (λ u. or_else (first_of_parcels u) (first_of_interests u)) o)) }
-    ensures open { IsOpenAfter S.Store conn.new result }
-    ensures left { LeavesRows S.Store conn.old conn.new }
-    ensures crash { LeavesOverCrash S.Store conn.old conn.new }
-    ensures not_in_transaction { conn.new.in_transaction ≡ false }
+    ensures look { IsLook S.Store conn.old conn.new result }
 {
     if let Some(fault) = parcel_fault(conn, Edition::Second, desk.parties)? {
         return Ok(Some(fault));
@@ -224,17 +200,14 @@ fn unsound_cases<S: Alter>(
     upgrade: Option<u32>,
     roles: Vec<Role>,
 ) -> Got<Option<Fault>>
-    requires not_in_transaction { conn.old.in_transaction ≡ false }
+    requires idle { IsIdle conn.old }
     ensures named { IsFine (state S.Store conn.new)
         → OverTyped S.Store Second conn.old (λ t. desk ≡ t.desk → t.upgrade ≡ upgrade → roles.items ≡ map (λ p. p.role) t.parties
         → IfOk result (λ o. IfSome o (λ fault. IsTrue (breaks t fault)))) }
     ensures first { IsFine (state S.Store conn.new)
         → OverTyped S.Store Second conn.old (λ t. desk ≡ t.desk → t.upgrade ≡ upgrade → roles.items ≡ map (λ p. p.role) t.parties
         → IfOk result (λ o. o ≡ or_else (first_of_files t) (first_of_papers t))) }
-    ensures open { IsOpenAfter S.Store conn.new result }
-    ensures left { LeavesRows S.Store conn.old conn.new }
-    ensures crash { LeavesOverCrash S.Store conn.old conn.new }
-    ensures not_in_transaction { conn.new.in_transaction ≡ false }
+    ensures look { IsLook S.Store conn.old conn.new result }
 {
     if let Some(fault) = file_fault(
         conn,
@@ -256,17 +229,14 @@ fn unsound_rows<S: Alter>(
     desk: Desk,
     upgrade: Option<u32>,
 ) -> Got<Option<Fault>>
-    requires not_in_transaction { conn.old.in_transaction ≡ false }
+    requires idle { IsIdle conn.old }
     requires fits { fits_desk desk ≡ true }
     ensures named { IsFine (state S.Store conn.new)
         → OverTyped S.Store Second conn.old (λ t. desk ≡ t.desk → t.upgrade ≡ upgrade
         → IfOk result (λ o. IfSome o (λ fault. IsTrue (breaks t fault)))) }
     ensures first { IsFine (state S.Store conn.new)
         → OverTyped S.Store Second conn.old (λ t. desk ≡ t.desk → t.upgrade ≡ upgrade → IfOk result (IsFirstWith t first_of_rows)) }
-    ensures open { IsOpenAfter S.Store conn.new result }
-    ensures left { LeavesRows S.Store conn.old conn.new }
-    ensures crash { LeavesOverCrash S.Store conn.old conn.new }
-    ensures not_in_transaction { conn.new.in_transaction ≡ false }
+    ensures look { IsLook S.Store conn.old conn.new result }
 {
     let roles = roles_of(conn, alloc, Edition::Second)?;
     if !has_official(&roles) {
@@ -288,7 +258,7 @@ fn unsound<S: Alter>(
     desk: Desk,
     upgrade: Option<u32>,
 ) -> Got<Option<Fault>>
-    requires not_in_transaction { conn.old.in_transaction ≡ false }
+    requires idle { IsIdle conn.old }
     ensures named { IsFine (state S.Store conn.new)
         → OverTyped S.Store Second conn.old (λ t. desk ≡ t.desk → t.upgrade ≡ upgrade
         → IfOk result (λ o. IfSome o (λ fault. IsTrue (breaks t fault)))) }
@@ -297,7 +267,7 @@ fn unsound<S: Alter>(
     ensures open { StaysOpen S.Store conn.old conn.new result }
     ensures left { LeavesRows S.Store conn.old conn.new }
     ensures crash { LeavesOverCrash S.Store conn.old conn.new }
-    ensures not_in_transaction { conn.new.in_transaction ≡ false }
+    ensures idle { IsIdle conn.new }
 {
     match desk_rule(desk) {
         Some(rule) => Ok(Some(Fault::Desk(rule))),
@@ -312,16 +282,13 @@ fn fault_under<S: Alter>(
     desk: Desk,
     upgrade: Option<u32>,
 ) -> Got<Option<Fault>>
-    requires not_in_transaction { conn.old.in_transaction ≡ false }
+    requires idle { IsIdle conn.old }
     ensures named { IsFine (state S.Store conn.new)
         → OverTyped S.Store Second conn.old (λ t. desk ≡ t.desk → t.upgrade ≡ upgrade
         → IfOk result (λ o. IfSome o (λ fault. IsTrue (breaks t fault)))) }
     ensures first { IsFine (state S.Store conn.new)
         → OverTyped S.Store Second conn.old (λ t. desk ≡ t.desk → t.upgrade ≡ upgrade → IfOk result (IsFirst t)) }
-    ensures open { IsOpenAfter S.Store conn.new result }
-    ensures left { LeavesRows S.Store conn.old conn.new }
-    ensures crash { LeavesOverCrash S.Store conn.old conn.new }
-    ensures not_in_transaction { conn.new.in_transaction ≡ false }
+    ensures look { IsLook S.Store conn.old conn.new result }
 {
     match untyped(conn, alloc, desk, upgrade)? {
         Some(fault) => Ok(Some(fault)),
@@ -331,14 +298,11 @@ fn fault_under<S: Alter>(
 
 /// The first place at which tables aren't sound.
 fn place<S: Alter>(conn: &mut Connection<S>, alloc: Global) -> Got<Option<Fault>>
-    requires not_in_transaction { conn.old.in_transaction ≡ false }
+    requires idle { IsIdle conn.old }
     ensures named { IsFine (state S.Store conn.new)
         → OverTyped S.Store Second conn.old (λ t. IfOk result (λ o. IfSome o (λ fault. IsTrue (breaks t fault)))) }
     ensures first { IsFine (state S.Store conn.new) → OverTyped S.Store Second conn.old (λ t. IfOk result (IsFirst t)) }
-    ensures open { IsOpenAfter S.Store conn.new result }
-    ensures left { LeavesRows S.Store conn.old conn.new }
-    ensures crash { LeavesOverCrash S.Store conn.old conn.new }
-    ensures not_in_transaction { conn.new.in_transaction ≡ false }
+    ensures look { IsLook S.Store conn.old conn.new result }
 {
     if !has_desk(conn.schema()) {
         return Err(StoreError);

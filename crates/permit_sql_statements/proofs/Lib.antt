@@ -22,5 +22,6 @@ pub mod Creating
 pub mod Closing
 pub mod Commits
 pub mod Committing
+pub mod Running
 pub mod KeptLemmas
 pub mod Renewing

@@ -1,5 +1,5 @@
 -- What statements leave of the tables that a connection shows, and what a crash inside them may leave.
-use Rattle.std.specs.Prelude.{◌≡◌, ◌≤◌, ℕ, List, Result, OnOk, OnErr, IsTrue}
+use Rattle.std.specs.Prelude.{◌≡◌, ◌≤◌, ℕ, false, List, Result, OnOk, OnErr, IsTrue}
 use Rattle.sqlite_trees.specs.declared.store.Store.{Ghosts}
 use Rattle.sqlite_trees.specs.View.{doubt}
 use Rattle.sqlite_schema.specs.declared.schema.Schema.{Schema}
@@ -13,12 +13,16 @@ use Rattle.permit_store.specs.declared.change.Change.{Change}
 use Rattle.permit_store.specs.Changes.{changed, Fits}
 use Rattle.permit_base.specs.declared.words.Edition.{Edition}
 use Rattle.permit_sql_rows.specs.Schema.{IsOffice}
-use Rattle.permit_sql_rows.specs.Kept.{Keeps, Shows}
+use Rattle.permit_sql_rows.specs.Kept.{IsFine, Keeps, Shows}
 use Rattle.permit_sql_statements.specs.Statements.{Statement, RanAll}
 
 -- The text neither writes nor ends a transaction, in each schema of the office under the edition.
 abbrev pub IsPlainIn : Edition → List ℕ → Type 0
 IsPlainIn edition sql = (schema : Schema) → IsOffice edition schema → IsPlain (understood schema sql)
+
+-- It is between transactions.
+abbrev pub IsIdle : {S : Type 0} → Held S → Type 0
+IsIdle h = h.in_transaction ≡ false
 
 module _ {S : Type 0} (g : Ghosts S) where
   -- Said of all tables that the connection showed before, where its disk is clean afterwards.
@@ -45,6 +49,33 @@ module _ {S : Type 0} (g : Ghosts S) where
   abbrev pub ReadSurvives : Held S → Held S → Type 0
   ReadSurvives old new = (t : Tables) → Keeps t (state g old).now → Survives (state g old) (state g new) (λ _. ⊥)
 
+  -- A read: it shows what it showed before.
+  pub record IsRead {A E : Type 0} (old new : Held S) (result : Result A E) : Type 0 where
+    pub kept : LeavesTables old new
+    pub opened : IsOpenAfter new result
+    pub doubt : KeepsDoubt old new
+    pub crash : ReadSurvives old new
+
+  -- A query. One that is well afterwards was so before, and shows the same where the text neither writes nor ends a
+  -- transaction; a crash inside such a text leaves what it left before.
+  pub record IsQuery {A E : Type 0} (sql : List ℕ) (old new : Held S) (result : Result A E) : Type 0 where
+    pub idle : IsIdle new
+    pub fine : IsFine (state g new) → IsFine (state g old)
+    pub same : IsFine (state g new) → IsPlain (understood old.schema sql)
+        → ((state g new).now ≡ (state g old).now) × ((state g new).committed ≡ (state g old).committed)
+    pub opened : IsOpenAfter new result
+    pub doubt : KeepsDoubt old new
+    pub crash : (HasCleanDisk (state g new) → IsPlain (understood old.schema sql)) → Survives (state g old) (state g new) (λ _. ⊥)
+
+  -- A transaction. After a failure it shows what it showed before, and nothing is committed. One that is open afterwards
+  -- was so before.
+  pub record IsTransaction {A E : Type 0} (old new : Held S) (result : Result A E) : Type 0 where
+    pub idle : IsIdle new
+    pub none : HasCleanDisk (state g new) → IsTrue (state g new).is_open
+        → OnErr result (((state g new).now ≡ (state g old).now) × ((state g new).committed ≡ (state g old).committed))
+    pub was_open : HasCleanDisk (state g new) → IsTrue (state g new).is_open → IsTrue (state g old).is_open
+    pub opened : IsOpenAfter new result
+
   -- A success makes the change, where it fits and the desk is the one after it.
   abbrev pub MakesChange : {A E : Type 0} → Desk → Change → Held S → Held S → Result A E → Type 0
   MakesChange desk change old new result =
@@ -70,3 +101,26 @@ module _ {S : Type 0} (g : Ghosts S) where
   abbrev pub StatementsSurvive : List Statement → Held S → Held S → Type 0
   StatementsSurvive statements old new =
       Survives (state g old) (state g new) (λ trees. (db : Database) × RanAll g statements old db × (trees ≡ db.trees))
+
+  -- A transaction of these statements: after a success all of them have run, and are committed.
+  pub record RunsAll {A E : Type 0} (statements : List Statement) (old new : Held S) (result : Result A E) : Type 0 where
+    pub all : HasCleanDisk (state g new) → OnOk result (RanAll g statements old (state g new).committed)
+    pub shown : HasCleanDisk (state g new) → OnOk result ((state g new).now ≡ (state g new).committed)
+    pub transaction : IsTransaction old new result
+    pub crash : StatementsSurvive statements old new
+
+  -- These statements, by which tables change: all of them, or none.
+  pub record IsRun {A E : Type 0} (statements : List Statement) (old new : Held S) (result : Result A E) : Type 0 where
+    pub made : ShowsAfter statements old new result
+    pub kept : FailureLeavesTables old new result
+    pub opened : IsOpenAfter new result
+    pub doubt : KeepsDoubt old new
+    pub crash : StatementsSurvive statements old new
+
+  -- A change, or nothing.
+  pub record IsChange {A E : Type 0} (desk : Desk) (change : Change) (old new : Held S) (result : Result A E) : Type 0 where
+    pub made : MakesChange desk change old new result
+    pub kept : FailureLeavesTables old new result
+    pub opened : IsOpenAfter new result
+    pub doubt : KeepsDoubt old new
+    pub crash : ChangeSurvives desk change old new

@@ -1,6 +1,6 @@
 //! The changes of the tables, each in one transaction. The desk that a change is given is the one after it.
 
-ghost use Rattle.std.specs.Prelude.{◌≡◌, ◌≢◌, ◌+◌, ℕ, Option, false, Some, OnOk, IfOk};
+ghost use Rattle.std.specs.Prelude.{◌≡◌, ◌≢◌, ◌+◌, ℕ, Option, Some, OnOk, IfOk};
 ghost use Rattle.sqlite.specs.Effect.{Database};
 ghost use Rattle.sqlite.specs.State.{Survives};
 ghost use Rattle.sqlite.specs.Held.{state};
@@ -9,8 +9,9 @@ ghost use Rattle.permit_store.specs.Changes.{changed, Fits};
 ghost use Rattle.permit_store.specs.declared.change.Change.TheVariants.{NewParty, NewParcel, NewOwner, NewInterest, NewFile, NewRow};
 ghost use Rattle.permit_store.specs.declared.change.RowEffect.TheVariants as effect;
 ghost use Rattle.permit_sql_rows.specs.Kept.{IsNamed, Keeps, Shows};
-ghost use Rattle.permit_sql_statements.specs.Frames.{OverShown, FailureLeavesTables, IsOpenAfter, KeepsDoubt, MakesChange, ChangeSurvives};
+ghost use Rattle.permit_sql_statements.specs.Frames.{OverShown, FailureLeavesTables, IsChange, IsOpenAfter, KeepsDoubt};
 
+use crate::idle::Idle;
 use crate::read::read_desk;
 use crate::runs::{run_three, run_two};
 use crate::texts::{
@@ -29,7 +30,7 @@ use permit_sql_rows::values::{
 };
 use permit_store::rows::{Change, Desk, NewPaper, RowEffect};
 use permit_store::store::{Got, StoreError};
-use sqlite::{Alter, Connection};
+use sqlite::Alter;
 
 /// A party's number isn't 0.
 fn is_party(party: Option<PartyId>)
@@ -64,19 +65,13 @@ fn fields_of(row: &FileState) -> StateFields
 
 /// Adds a party, whose number is the desk's count of parties.
 fn add_party<S: Alter>(
-    conn: &mut Connection<S>,
+    conn: &mut Idle<S>,
     desk: &Desk,
     name: &Text,
     role: Role,
     digest: &Digest,
 ) -> Got<()>
-    requires not_in_transaction { conn.old.in_transaction ≡ false }
-    ensures made { MakesChange S.Store desk.now (NewParty name.entry role digest.entry) conn.old conn.new result }
-    ensures kept { FailureLeavesTables S.Store conn.old conn.new result }
-    ensures not_in_transaction { conn.new.in_transaction ≡ false }
-    ensures open { IsOpenAfter S.Store conn.new result }
-    ensures doubt { KeepsDoubt S.Store conn.old conn.new }
-    ensures crash { ChangeSurvives S.Store desk.now (NewParty name.entry role digest.entry) conn.old conn.new }
+    ensures { IsChange S.Store desk.now (NewParty name.entry role digest.entry) conn.old conn.new result }
 {
     let party = party_values(desk, name, role, digest);
     let office = desk_values(desk);
@@ -85,19 +80,13 @@ fn add_party<S: Alter>(
 
 /// Adds a parcel, whose number is the desk's count of parcels.
 fn add_parcel<S: Alter>(
-    conn: &mut Connection<S>,
+    conn: &mut Idle<S>,
     desk: &Desk,
     lot: &Lot,
     address: &Text,
     owner: PartyId,
 ) -> Got<()>
-    requires not_in_transaction { conn.old.in_transaction ≡ false }
-    ensures made { MakesChange S.Store desk.now (NewParcel lot.entry address.entry owner) conn.old conn.new result }
-    ensures kept { FailureLeavesTables S.Store conn.old conn.new result }
-    ensures not_in_transaction { conn.new.in_transaction ≡ false }
-    ensures open { IsOpenAfter S.Store conn.new result }
-    ensures doubt { KeepsDoubt S.Store conn.old conn.new }
-    ensures crash { ChangeSurvives S.Store desk.now (NewParcel lot.entry address.entry owner) conn.old conn.new }
+    ensures { IsChange S.Store desk.now (NewParcel lot.entry address.entry owner) conn.old conn.new result }
 {
     let parcel = parcel_values(desk, lot, address, owner);
     let office = desk_values(desk);
@@ -105,19 +94,8 @@ fn add_parcel<S: Alter>(
 }
 
 /// Gives a parcel another owner.
-fn set_owner<S: Alter>(
-    conn: &mut Connection<S>,
-    desk: &Desk,
-    parcel: ParcelId,
-    owner: PartyId,
-) -> Got<()>
-    requires not_in_transaction { conn.old.in_transaction ≡ false }
-    ensures made { MakesChange S.Store desk.now (NewOwner parcel owner) conn.old conn.new result }
-    ensures kept { FailureLeavesTables S.Store conn.old conn.new result }
-    ensures not_in_transaction { conn.new.in_transaction ≡ false }
-    ensures open { IsOpenAfter S.Store conn.new result }
-    ensures doubt { KeepsDoubt S.Store conn.old conn.new }
-    ensures crash { ChangeSurvives S.Store desk.now (NewOwner parcel owner) conn.old conn.new }
+fn set_owner<S: Alter>(conn: &mut Idle<S>, desk: &Desk, parcel: ParcelId, owner: PartyId) -> Got<()>
+    ensures { IsChange S.Store desk.now (NewOwner parcel owner) conn.old conn.new result }
 {
     let pair = pair_values(parcel.get(), owner.get());
     let office = desk_values(desk);
@@ -126,18 +104,12 @@ fn set_owner<S: Alter>(
 
 /// Adds an interest of a party in a parcel.
 fn add_interest<S: Alter>(
-    conn: &mut Connection<S>,
+    conn: &mut Idle<S>,
     desk: &Desk,
     parcel: ParcelId,
     party: PartyId,
 ) -> Got<()>
-    requires not_in_transaction { conn.old.in_transaction ≡ false }
-    ensures made { MakesChange S.Store desk.now (NewInterest parcel party) conn.old conn.new result }
-    ensures kept { FailureLeavesTables S.Store conn.old conn.new result }
-    ensures not_in_transaction { conn.new.in_transaction ≡ false }
-    ensures open { IsOpenAfter S.Store conn.new result }
-    ensures doubt { KeepsDoubt S.Store conn.old conn.new }
-    ensures crash { ChangeSurvives S.Store desk.now (NewInterest parcel party) conn.old conn.new }
+    ensures { IsChange S.Store desk.now (NewInterest parcel party) conn.old conn.new result }
 {
     let pair = pair_values(parcel.get(), party.get());
     let office = desk_values(desk);
@@ -146,19 +118,13 @@ fn add_interest<S: Alter>(
 
 /// Adds a file, whose number is the desk's count of files.
 fn add_file<S: Alter>(
-    conn: &mut Connection<S>,
+    conn: &mut Idle<S>,
     desk: &Desk,
     new: &FileState,
     valuation: Cents,
     description: &Text,
 ) -> Got<()>
-    requires not_in_transaction { conn.old.in_transaction ≡ false }
-    ensures made { MakesChange S.Store desk.now (NewFile new.now valuation description.entry) conn.old conn.new result }
-    ensures kept { FailureLeavesTables S.Store conn.old conn.new result }
-    ensures not_in_transaction { conn.new.in_transaction ≡ false }
-    ensures open { IsOpenAfter S.Store conn.new result }
-    ensures doubt { KeepsDoubt S.Store conn.old conn.new }
-    ensures crash { ChangeSurvives S.Store desk.now (NewFile new.now valuation description.entry) conn.old conn.new }
+    ensures { IsChange S.Store desk.now (NewFile new.now valuation description.entry) conn.old conn.new result }
 {
     let file = file_values(desk, valuation, description, &fields_of(new));
     let office = desk_values(desk);
@@ -166,19 +132,8 @@ fn add_file<S: Alter>(
 }
 
 /// Sets a file's row.
-fn set_row<S: Alter>(
-    conn: &mut Connection<S>,
-    desk: &Desk,
-    file: FileId,
-    new: &FileState,
-) -> Got<()>
-    requires not_in_transaction { conn.old.in_transaction ≡ false }
-    ensures made { MakesChange S.Store desk.now (NewRow file new.now effect.None) conn.old conn.new result }
-    ensures kept { FailureLeavesTables S.Store conn.old conn.new result }
-    ensures not_in_transaction { conn.new.in_transaction ≡ false }
-    ensures open { IsOpenAfter S.Store conn.new result }
-    ensures doubt { KeepsDoubt S.Store conn.old conn.new }
-    ensures crash { ChangeSurvives S.Store desk.now (NewRow file new.now effect.None) conn.old conn.new }
+fn set_row<S: Alter>(conn: &mut Idle<S>, desk: &Desk, file: FileId, new: &FileState) -> Got<()>
+    ensures { IsChange S.Store desk.now (NewRow file new.now effect.None) conn.old conn.new result }
 {
     let fields = row_values(file, &fields_of(new));
     let office = desk_values(desk);
@@ -187,19 +142,13 @@ fn set_row<S: Alter>(
 
 /// Sets a file's row and adds a paper on the desk's day, whose number is the row's count of papers.
 fn add_paper<S: Alter>(
-    conn: &mut Connection<S>,
+    conn: &mut Idle<S>,
     desk: &Desk,
     file: FileId,
     new: &FileState,
     paper: &NewPaper<'_>,
 ) -> Got<()>
-    requires not_in_transaction { conn.old.in_transaction ≡ false }
-    ensures made { MakesChange S.Store desk.now (NewRow file new.now (effect.Paper paper.now)) conn.old conn.new result }
-    ensures kept { FailureLeavesTables S.Store conn.old conn.new result }
-    ensures not_in_transaction { conn.new.in_transaction ≡ false }
-    ensures open { IsOpenAfter S.Store conn.new result }
-    ensures doubt { KeepsDoubt S.Store conn.old conn.new }
-    ensures crash { ChangeSurvives S.Store desk.now (NewRow file new.now (effect.Paper paper.now)) conn.old conn.new }
+    ensures { IsChange S.Store desk.now (NewRow file new.now (effect.Paper paper.now)) conn.old conn.new result }
 {
     let now = fields_of(new);
     let fields = row_values(file, &now);
@@ -212,19 +161,13 @@ fn add_paper<S: Alter>(
 
 /// Sets a file's row and closes a notice of the file.
 fn close_notice<S: Alter>(
-    conn: &mut Connection<S>,
+    conn: &mut Idle<S>,
     desk: &Desk,
     file: FileId,
     new: &FileState,
     number: PaperNumber,
 ) -> Got<()>
-    requires not_in_transaction { conn.old.in_transaction ≡ false }
-    ensures made { MakesChange S.Store desk.now (NewRow file new.now (effect.NoticeClosed number)) conn.old conn.new result }
-    ensures kept { FailureLeavesTables S.Store conn.old conn.new result }
-    ensures not_in_transaction { conn.new.in_transaction ≡ false }
-    ensures open { IsOpenAfter S.Store conn.new result }
-    ensures doubt { KeepsDoubt S.Store conn.old conn.new }
-    ensures crash { ChangeSurvives S.Store desk.now (NewRow file new.now (effect.NoticeClosed number)) conn.old conn.new }
+    ensures { IsChange S.Store desk.now (NewRow file new.now (effect.NoticeClosed number)) conn.old conn.new result }
 {
     let fields = row_values(file, &fields_of(new));
     let pair = pair_values(file.get(), number.get());
@@ -242,19 +185,13 @@ fn close_notice<S: Alter>(
 
 /// Makes a file's new row, with its effect.
 fn make_row<S: Alter>(
-    conn: &mut Connection<S>,
+    conn: &mut Idle<S>,
     desk: &Desk,
     file: FileId,
     new: &FileState,
     effect: &RowEffect<'_>,
 ) -> Got<()>
-    requires not_in_transaction { conn.old.in_transaction ≡ false }
-    ensures made { MakesChange S.Store desk.now (NewRow file new.now effect.now) conn.old conn.new result }
-    ensures kept { FailureLeavesTables S.Store conn.old conn.new result }
-    ensures not_in_transaction { conn.new.in_transaction ≡ false }
-    ensures open { IsOpenAfter S.Store conn.new result }
-    ensures doubt { KeepsDoubt S.Store conn.old conn.new }
-    ensures crash { ChangeSurvives S.Store desk.now (NewRow file new.now effect.now) conn.old conn.new }
+    ensures { IsChange S.Store desk.now (NewRow file new.now effect.now) conn.old conn.new result }
 {
     match effect {
         RowEffect::None => set_row(conn, desk, file, new),
@@ -264,14 +201,8 @@ fn make_row<S: Alter>(
 }
 
 /// Makes a change.
-fn make<S: Alter>(conn: &mut Connection<S>, desk: &Desk, change: &Change<'_>) -> Got<()>
-    requires not_in_transaction { conn.old.in_transaction ≡ false }
-    ensures made { MakesChange S.Store desk.now change.now conn.old conn.new result }
-    ensures kept { FailureLeavesTables S.Store conn.old conn.new result }
-    ensures not_in_transaction { conn.new.in_transaction ≡ false }
-    ensures open { IsOpenAfter S.Store conn.new result }
-    ensures doubt { KeepsDoubt S.Store conn.old conn.new }
-    ensures crash { ChangeSurvives S.Store desk.now change.now conn.old conn.new }
+fn make<S: Alter>(conn: &mut Idle<S>, desk: &Desk, change: &Change<'_>) -> Got<()>
+    ensures { IsChange S.Store desk.now change.now conn.old conn.new result }
 {
     match change {
         Change::NewParty { name, role, digest } => add_party(conn, desk, name, *role, digest),
@@ -327,12 +258,10 @@ fn desk_after(desk: &Desk, change: &Change<'_>, day: Day) -> Got<Desk>
 }
 
 /// Makes a change that fits on a day, or changes nothing, also over a crash.
-pub fn commit_in<S: Alter>(conn: &mut Connection<S>, change: &Change<'_>, day: Day) -> Got<()>
-    requires not_in_transaction { conn.old.in_transaction ≡ false }
+pub fn commit_in<S: Alter>(conn: &mut Idle<S>, change: &Change<'_>, day: Day) -> Got<()>
     ensures made { OverShown S.Store conn.old conn.new
         (λ t. Fits t change.now day → OnOk result (Shows (changed t change.now day) (state S.Store conn.new))) }
     ensures kept { FailureLeavesTables S.Store conn.old conn.new result }
-    ensures not_in_transaction { conn.new.in_transaction ≡ false }
     ensures open { IsOpenAfter S.Store conn.new result }
     ensures doubt { KeepsDoubt S.Store conn.old conn.new }
     ensures crash { (t : Tables) → Keeps t (state S.Store conn.old).now → Fits t change.now day

@@ -1,16 +1,15 @@
 //! The tables with their founding, in an empty database, and their upgrade from version 1.
 
-ghost use Rattle.std.specs.Prelude.{◌≡◌, false, [], IsTrue, OnOk, OnErr};
+ghost use Rattle.std.specs.Prelude.{◌≡◌, [], OnOk};
 ghost use Rattle.sqlite.specs.State.{HasCleanDisk, Survives};
 ghost use Rattle.sqlite.specs.Held.{state};
 ghost use Rattle.sqlite.specs.Values.{bound};
 ghost use Rattle.permit_model.specs.Tables.{tables, with_upgrade};
 ghost use Rattle.permit_store.specs.Founding.{founding};
 ghost use Rattle.permit_sql_rows.specs.Schema.{empty_schema};
-ghost use Rattle.permit_sql_statements.specs.Statements.{RanAll};
 ghost use Rattle.permit_sql_statements.specs.Founding.{founding_statements, upgrade_statements, OverFirst};
 ghost use Rattle.permit_sql_rows.specs.Kept.{Keeps};
-ghost use Rattle.permit_sql_statements.specs.Frames.{IsOpenAfter, StatementsSurvive};
+ghost use Rattle.permit_sql_statements.specs.Frames.{IsIdle, IsTransaction, RunsAll};
 
 use crate::statements::{Statement, run_all};
 use crate::texts::{
@@ -38,17 +37,9 @@ fn found<'a, S: Alter>(
     upgrade: &'a [ValueRef<'a>],
     party: &'a [ValueRef<'a>],
 ) -> Result<(), Error>
-    requires not_in_transaction { conn.old.in_transaction ≡ false }
+    requires idle { IsIdle conn.old }
     requires bare { none.now ≡ [] }
-    ensures all { HasCleanDisk (state S.Store conn.new)
-        → OnOk result (RanAll S.Store (founding_statements (bound desk.now) (bound upgrade.now) (bound party.now)) conn.old (state S.Store conn.new).committed) }
-    ensures shown { HasCleanDisk (state S.Store conn.new) → OnOk result ((state S.Store conn.new).now ≡ (state S.Store conn.new).committed) }
-    ensures none { HasCleanDisk (state S.Store conn.new) → IsTrue (state S.Store conn.new).is_open
-        → OnErr result (((state S.Store conn.new).now ≡ (state S.Store conn.old).now)
-        × ((state S.Store conn.new).committed ≡ (state S.Store conn.old).committed)) }
-    ensures open { IsOpenAfter S.Store conn.new result }
-    ensures not_in_transaction { conn.new.in_transaction ≡ false }
-    ensures crash { StatementsSurvive S.Store (founding_statements (bound desk.now) (bound upgrade.now) (bound party.now)) conn.old conn.new }
+    ensures { RunsAll S.Store (founding_statements (bound desk.now) (bound upgrade.now) (bound party.now)) conn.old conn.new result }
 {
     run_all(
         conn,
@@ -83,15 +74,11 @@ const NO_FILES: u32 = 0;
 
 /// Makes the tables with their founding and the upgrade in a database that has none, or changes nothing, also over a crash.
 pub fn create_in<S: Alter>(conn: &mut Connection<S>, founder: &Founder) -> Result<(), Error>
-    requires not_in_transaction { conn.old.in_transaction ≡ false }
+    requires idle { IsIdle conn.old }
     requires empty { (state S.Store conn.old).now.schema ≡ empty_schema }
     ensures made { HasCleanDisk (state S.Store conn.new)
         → OnOk result (Keeps (tables (founding founder.now.name founder.now.digest founder.now.day)) (state S.Store conn.new).now) }
-    ensures none { HasCleanDisk (state S.Store conn.new) → IsTrue (state S.Store conn.new).is_open
-        → OnErr result (((state S.Store conn.new).now ≡ (state S.Store conn.old).now)
-        × ((state S.Store conn.new).committed ≡ (state S.Store conn.old).committed)) }
-    ensures open { IsOpenAfter S.Store conn.new result }
-    ensures not_in_transaction { conn.new.in_transaction ≡ false }
+    ensures transaction { IsTransaction S.Store conn.old conn.new result }
     ensures crash { Survives (state S.Store conn.old) (state S.Store conn.new)
         (λ trees. (db : _) × Keeps (tables (founding founder.now.name founder.now.digest founder.now.day)) db × (trees ≡ db.trees)) }
 {
@@ -115,18 +102,9 @@ fn upgraded<'a, S: Alter>(
     none: &'a [ValueRef<'a>],
     files: &'a [ValueRef<'a>],
 ) -> Result<(), Error>
-    requires not_in_transaction { conn.old.in_transaction ≡ false }
+    requires idle { IsIdle conn.old }
     requires bare { none.now ≡ [] }
-    ensures all { HasCleanDisk (state S.Store conn.new)
-        → OnOk result (RanAll S.Store (upgrade_statements (bound files.now)) conn.old (state S.Store conn.new).committed) }
-    ensures shown { HasCleanDisk (state S.Store conn.new) → OnOk result ((state S.Store conn.new).now ≡ (state S.Store conn.new).committed) }
-    ensures none { HasCleanDisk (state S.Store conn.new) → IsTrue (state S.Store conn.new).is_open
-        → OnErr result (((state S.Store conn.new).now ≡ (state S.Store conn.old).now)
-        × ((state S.Store conn.new).committed ≡ (state S.Store conn.old).committed)) }
-    ensures opened { HasCleanDisk (state S.Store conn.new) → IsTrue (state S.Store conn.new).is_open → IsTrue (state S.Store conn.old).is_open }
-    ensures open { IsOpenAfter S.Store conn.new result }
-    ensures not_in_transaction { conn.new.in_transaction ≡ false }
-    ensures crash { StatementsSurvive S.Store (upgrade_statements (bound files.now)) conn.old conn.new }
+    ensures { RunsAll S.Store (upgrade_statements (bound files.now)) conn.old conn.new result }
 {
     run_all(
         conn,
@@ -140,15 +118,10 @@ fn upgraded<'a, S: Alter>(
 
 /// Makes of tables of version 1 with so many files those after the upgrade, or changes nothing, also over a crash.
 pub fn upgrade_in<S: Alter>(conn: &mut Connection<S>, files: u32) -> Result<(), Error>
-    requires not_in_transaction { conn.old.in_transaction ≡ false }
+    requires idle { IsIdle conn.old }
     ensures made { HasCleanDisk (state S.Store conn.new)
         → OverFirst files (state S.Store conn.old).now (λ t. OnOk result (Keeps (with_upgrade t) (state S.Store conn.new).now)) }
-    ensures none { HasCleanDisk (state S.Store conn.new) → IsTrue (state S.Store conn.new).is_open
-        → OnErr result (((state S.Store conn.new).now ≡ (state S.Store conn.old).now)
-        × ((state S.Store conn.new).committed ≡ (state S.Store conn.old).committed)) }
-    ensures opened { HasCleanDisk (state S.Store conn.new) → IsTrue (state S.Store conn.new).is_open → IsTrue (state S.Store conn.old).is_open }
-    ensures open { IsOpenAfter S.Store conn.new result }
-    ensures not_in_transaction { conn.new.in_transaction ≡ false }
+    ensures transaction { IsTransaction S.Store conn.old conn.new result }
     ensures crash { Survives (state S.Store conn.old) (state S.Store conn.new)
         (λ trees. OverFirst files (state S.Store conn.old).now (λ t. (db : _) × Keeps (with_upgrade t) db × (trees ≡ db.trees))) }
 {

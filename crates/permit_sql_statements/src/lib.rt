@@ -7,6 +7,7 @@
 
 pub mod commit;
 pub mod create;
+pub mod idle;
 pub mod query;
 mod question;
 pub mod read;

@@ -1,6 +1,6 @@
 //! What is read of the tables, over a connection.
 
-ghost use Rattle.std.specs.Prelude.{◌≡◌, ◌==◌, ◌&&◌, Bool, false, not, List, [], ◌∷◌, ◌++◌, map, filter, find, length};
+ghost use Rattle.std.specs.Prelude.{◌≡◌, ◌==◌, ◌&&◌, Bool, not, List, [], ◌∷◌, ◌++◌, map, filter, find, length};
 ghost use Rattle.std.specs.Prelude.{Option, option_map, slice_get, bytes_eq, IfOk, IfErr, OnOk, IfSome, IsSome, IsOk, IsPermutation};
 ghost use Rattle.std.specs.Result.{result_ok};
 ghost use Rattle.std.specs.List.{list_any};
@@ -11,8 +11,9 @@ ghost use Rattle.permit_model.specs.Tables.{Desk as TheDesk, FileRow as TheRow, 
 ghost use Rattle.permit_sql_rows.specs.Rows.{flag, shown_desk, shown_party, shown_parcel, shown_file, shown_interest, shown_paper};
 ghost use Rattle.permit_sql_rows.specs.Kept.{IsNamed};
 ghost use Rattle.permit_sql_rows.specs.Typed.{IsObject, IsDesk, IsParty, IsParcel, IsFile};
-ghost use Rattle.permit_sql_statements.specs.Frames.{OverShown, LeavesTables, IsOpenAfter, KeepsDoubt, ReadSurvives};
+ghost use Rattle.permit_sql_statements.specs.Frames.{IsRead, OverShown};
 
+use crate::idle::Idle;
 use crate::query::rows_of;
 use crate::texts::{
     FIND_INTEREST, FIND_INTERESTED, FIND_NOTICE, FIND_PARCEL, FIND_PARTY, READ_DESK, READ_FILE,
@@ -28,169 +29,106 @@ use permit_sql_rows::decode::{
 use permit_sql_rows::fields::{Read, RowFault};
 use permit_store::rows::{Desk, FileRow, Interest, Paper, Parcel, Party};
 use permit_store::store::{Got, StoreError};
-use sqlite::{Alter, Connection, Row, params};
+use sqlite::{Alter, Row, params};
 use std::alloc::Global;
 
 /// The row of the desk.
-fn desk_rows<S: Alter>(conn: &mut Connection<S>) -> Got<Vec<Row>>
-    requires not_in_transaction { conn.old.in_transaction ≡ false }
+fn desk_rows<S: Alter>(conn: &mut Idle<S>) -> Got<Vec<Row>>
     ensures found { OverShown S.Store conn.old conn.new
         (λ t. IfOk result (λ rows. rows.items ≡ shown_desk t.desk ∷ [])) }
-    ensures kept { LeavesTables S.Store conn.old conn.new }
-    ensures open { IsOpenAfter S.Store conn.new result }
-    ensures doubt { KeepsDoubt S.Store conn.old conn.new }
-    ensures crash { ReadSurvives S.Store conn.old conn.new }
-    ensures not_in_transaction { conn.new.in_transaction ≡ false }
+    ensures read { IsRead S.Store conn.old conn.new result }
 {
     rows_of(conn, READ_DESK, &[])
 }
 
 /// The row of the party with the number, if there is one.
-fn party_rows<S: Alter>(conn: &mut Connection<S>, party: PartyId) -> Got<Vec<Row>>
-    requires not_in_transaction { conn.old.in_transaction ≡ false }
+fn party_rows<S: Alter>(conn: &mut Idle<S>, party: PartyId) -> Got<Vec<Row>>
     ensures found { OverShown S.Store conn.old conn.new
         (λ t. IfOk result (λ rows. slice_get rows.items 0 ≡ option_map shown_party (find (λ p. p.id == party) t.parties))) }
-    ensures kept { LeavesTables S.Store conn.old conn.new }
-    ensures open { IsOpenAfter S.Store conn.new result }
-    ensures doubt { KeepsDoubt S.Store conn.old conn.new }
-    ensures crash { ReadSurvives S.Store conn.old conn.new }
-    ensures not_in_transaction { conn.new.in_transaction ≡ false }
+    ensures read { IsRead S.Store conn.old conn.new result }
 {
     rows_of(conn, READ_PARTY, params![party.get()])
 }
 
 /// The row of the party that keeps the digest, if there is one.
-fn digest_rows<S: Alter>(conn: &mut Connection<S>, digest: &Digest) -> Got<Vec<Row>>
-    requires not_in_transaction { conn.old.in_transaction ≡ false }
+fn digest_rows<S: Alter>(conn: &mut Idle<S>, digest: &Digest) -> Got<Vec<Row>>
     ensures found { OverShown S.Store conn.old conn.new
         (λ t. IfOk result (λ rows. slice_get rows.items 0 ≡ option_map shown_party (find (λ p. bytes_eq p.digest digest.now) t.parties))) }
-    ensures kept { LeavesTables S.Store conn.old conn.new }
-    ensures open { IsOpenAfter S.Store conn.new result }
-    ensures doubt { KeepsDoubt S.Store conn.old conn.new }
-    ensures crash { ReadSurvives S.Store conn.old conn.new }
-    ensures not_in_transaction { conn.new.in_transaction ≡ false }
+    ensures read { IsRead S.Store conn.old conn.new result }
 {
     rows_of(conn, FIND_PARTY, params![digest.as_str()])
 }
 
 /// The row of the parcel with the number, if there is one.
-fn parcel_rows<S: Alter>(conn: &mut Connection<S>, parcel: ParcelId) -> Got<Vec<Row>>
-    requires not_in_transaction { conn.old.in_transaction ≡ false }
+fn parcel_rows<S: Alter>(conn: &mut Idle<S>, parcel: ParcelId) -> Got<Vec<Row>>
     ensures found { OverShown S.Store conn.old conn.new
         (λ t. IfOk result (λ rows. slice_get rows.items 0 ≡ option_map shown_parcel (find (λ p. p.id == parcel) t.parcels))) }
-    ensures kept { LeavesTables S.Store conn.old conn.new }
-    ensures open { IsOpenAfter S.Store conn.new result }
-    ensures doubt { KeepsDoubt S.Store conn.old conn.new }
-    ensures crash { ReadSurvives S.Store conn.old conn.new }
-    ensures not_in_transaction { conn.new.in_transaction ≡ false }
+    ensures read { IsRead S.Store conn.old conn.new result }
 {
     rows_of(conn, READ_PARCEL, params![parcel.get()])
 }
 
 /// The row of the parcel of the lot, if there is one.
-fn lot_rows<S: Alter>(conn: &mut Connection<S>, lot: &Lot) -> Got<Vec<Row>>
-    requires not_in_transaction { conn.old.in_transaction ≡ false }
+fn lot_rows<S: Alter>(conn: &mut Idle<S>, lot: &Lot) -> Got<Vec<Row>>
     ensures found { OverShown S.Store conn.old conn.new
         (λ t. IfOk result (λ rows. slice_get rows.items 0 ≡ option_map shown_parcel (find (λ p. bytes_eq p.lot lot.now) t.parcels))) }
-    ensures kept { LeavesTables S.Store conn.old conn.new }
-    ensures open { IsOpenAfter S.Store conn.new result }
-    ensures doubt { KeepsDoubt S.Store conn.old conn.new }
-    ensures crash { ReadSurvives S.Store conn.old conn.new }
-    ensures not_in_transaction { conn.new.in_transaction ≡ false }
+    ensures read { IsRead S.Store conn.old conn.new result }
 {
     rows_of(conn, FIND_PARCEL, params![lot.as_str()])
 }
 
 /// A row for each interest of the party in the parcel.
-fn interest_rows<S: Alter>(
-    conn: &mut Connection<S>,
-    parcel: ParcelId,
-    party: PartyId,
-) -> Got<Vec<Row>>
-    requires not_in_transaction { conn.old.in_transaction ≡ false }
+fn interest_rows<S: Alter>(conn: &mut Idle<S>, parcel: ParcelId, party: PartyId) -> Got<Vec<Row>>
     ensures found { OverShown S.Store conn.old conn.new
         (λ t. IfOk result (λ rows. not (length rows.items == 0) ≡ list_any (λ i. (i.parcel == parcel) && (i.party == party)) t.interests)) }
-    ensures kept { LeavesTables S.Store conn.old conn.new }
-    ensures open { IsOpenAfter S.Store conn.new result }
-    ensures doubt { KeepsDoubt S.Store conn.old conn.new }
-    ensures crash { ReadSurvives S.Store conn.old conn.new }
-    ensures not_in_transaction { conn.new.in_transaction ≡ false }
+    ensures read { IsRead S.Store conn.old conn.new result }
 {
     rows_of(conn, FIND_INTEREST, params![parcel.get(), party.get()])
 }
 
 /// The rows of all interests.
-fn declared_rows<S: Alter>(conn: &mut Connection<S>) -> Got<Vec<Row>>
-    requires not_in_transaction { conn.old.in_transaction ≡ false }
+fn declared_rows<S: Alter>(conn: &mut Idle<S>) -> Got<Vec<Row>>
     ensures found { OverShown S.Store conn.old conn.new
         (λ t. IfOk result (λ rows. (given : List TheInterest) × (rows.items ≡ map shown_interest given) × IsPermutation given t.interests)) }
-    ensures kept { LeavesTables S.Store conn.old conn.new }
-    ensures open { IsOpenAfter S.Store conn.new result }
-    ensures doubt { KeepsDoubt S.Store conn.old conn.new }
-    ensures crash { ReadSurvives S.Store conn.old conn.new }
-    ensures not_in_transaction { conn.new.in_transaction ≡ false }
+    ensures read { IsRead S.Store conn.old conn.new result }
 {
     rows_of(conn, READ_INTERESTS, &[])
 }
 
 /// A row that says whether the party has declared an interest.
-fn interested_rows<S: Alter>(conn: &mut Connection<S>, party: PartyId) -> Got<Vec<Row>>
-    requires not_in_transaction { conn.old.in_transaction ≡ false }
+fn interested_rows<S: Alter>(conn: &mut Idle<S>, party: PartyId) -> Got<Vec<Row>>
     ensures found { OverShown S.Store conn.old conn.new
         (λ t. IfOk result (λ rows. rows.items ≡ (flag (list_any (λ i. i.party == party) t.interests) ∷ []) ∷ [])) }
-    ensures kept { LeavesTables S.Store conn.old conn.new }
-    ensures open { IsOpenAfter S.Store conn.new result }
-    ensures doubt { KeepsDoubt S.Store conn.old conn.new }
-    ensures crash { ReadSurvives S.Store conn.old conn.new }
-    ensures not_in_transaction { conn.new.in_transaction ≡ false }
+    ensures read { IsRead S.Store conn.old conn.new result }
 {
     rows_of(conn, FIND_INTERESTED, params![party.get()])
 }
 
 /// The row of the file with the number, if there is one.
-fn file_rows<S: Alter>(conn: &mut Connection<S>, file: FileId) -> Got<Vec<Row>>
-    requires not_in_transaction { conn.old.in_transaction ≡ false }
+fn file_rows<S: Alter>(conn: &mut Idle<S>, file: FileId) -> Got<Vec<Row>>
     ensures found { OverShown S.Store conn.old conn.new
         (λ t. IfOk result (λ rows. slice_get rows.items 0 ≡ option_map shown_file (find (λ f. f.id == file) t.files))) }
     ensures named { OverShown S.Store conn.old conn.new
         (λ t. IfOk result (λ rows. IfSome (find (λ f. f.id == file) t.files) (λ f. IsNamed t.upgrade f.id f.state))) }
-    ensures kept { LeavesTables S.Store conn.old conn.new }
-    ensures open { IsOpenAfter S.Store conn.new result }
-    ensures doubt { KeepsDoubt S.Store conn.old conn.new }
-    ensures crash { ReadSurvives S.Store conn.old conn.new }
-    ensures not_in_transaction { conn.new.in_transaction ≡ false }
+    ensures read { IsRead S.Store conn.old conn.new result }
 {
     rows_of(conn, READ_FILE, params![file.get()])
 }
 
 /// The rows of the papers of the file, in rising number.
-fn paper_rows<S: Alter>(conn: &mut Connection<S>, file: FileId) -> Got<Vec<Row>>
-    requires not_in_transaction { conn.old.in_transaction ≡ false }
+fn paper_rows<S: Alter>(conn: &mut Idle<S>, file: FileId) -> Got<Vec<Row>>
     ensures found { OverShown S.Store conn.old conn.new
         (λ t. IfOk result (λ rows. rows.items ≡ map shown_paper (filter (λ p. p.file == file) t.papers))) }
-    ensures kept { LeavesTables S.Store conn.old conn.new }
-    ensures open { IsOpenAfter S.Store conn.new result }
-    ensures doubt { KeepsDoubt S.Store conn.old conn.new }
-    ensures crash { ReadSurvives S.Store conn.old conn.new }
-    ensures not_in_transaction { conn.new.in_transaction ≡ false }
+    ensures read { IsRead S.Store conn.old conn.new result }
 {
     rows_of(conn, READ_PAPERS, params![file.get()])
 }
 
 /// A row for each paper of the number that is an open notice of the file.
-fn notice_rows<S: Alter>(
-    conn: &mut Connection<S>,
-    file: FileId,
-    number: PaperNumber,
-) -> Got<Vec<Row>>
-    requires not_in_transaction { conn.old.in_transaction ≡ false }
+fn notice_rows<S: Alter>(conn: &mut Idle<S>, file: FileId, number: PaperNumber) -> Got<Vec<Row>>
     ensures found { OverShown S.Store conn.old conn.new
         (λ t. IfOk result (λ rows. not (length rows.items == 0) ≡ list_any (λ p. (p.file == file) && (p.is_open && (p.number == number))) t.papers)) }
-    ensures kept { LeavesTables S.Store conn.old conn.new }
-    ensures open { IsOpenAfter S.Store conn.new result }
-    ensures doubt { KeepsDoubt S.Store conn.old conn.new }
-    ensures crash { ReadSurvives S.Store conn.old conn.new }
-    ensures not_in_transaction { conn.new.in_transaction ≡ false }
+    ensures read { IsRead S.Store conn.old conn.new result }
 {
     rows_of(conn, FIND_NOTICE, params![file.get(), number.get()])
 }
@@ -333,138 +271,89 @@ fn first_desk(rows: &[Row]) -> Got<Desk>
 }
 
 /// The desk.
-pub fn read_desk<S: Alter>(conn: &mut Connection<S>) -> Got<Desk>
-    requires not_in_transaction { conn.old.in_transaction ≡ false }
+pub fn read_desk<S: Alter>(conn: &mut Idle<S>) -> Got<Desk>
     ensures found { OverShown S.Store conn.old conn.new (λ t. IfOk result (λ d. d ≡ t.desk)) }
-    ensures kept { LeavesTables S.Store conn.old conn.new }
-    ensures open { IsOpenAfter S.Store conn.new result }
-    ensures doubt { KeepsDoubt S.Store conn.old conn.new }
-    ensures crash { ReadSurvives S.Store conn.old conn.new }
-    ensures not_in_transaction { conn.new.in_transaction ≡ false }
+    ensures read { IsRead S.Store conn.old conn.new result }
 {
     let rows = desk_rows(conn)?;
     first_desk(&rows)
 }
 
 /// The party with the number.
-pub fn read_party<S: Alter>(conn: &mut Connection<S>, party: PartyId) -> Got<Option<Party>>
-    requires not_in_transaction { conn.old.in_transaction ≡ false }
+pub fn read_party<S: Alter>(conn: &mut Idle<S>, party: PartyId) -> Got<Option<Party>>
     ensures found { OverShown S.Store conn.old conn.new
         (λ t. IfOk result (λ p. p ≡ find (λ p. p.id == party) t.parties)) }
-    ensures kept { LeavesTables S.Store conn.old conn.new }
-    ensures open { IsOpenAfter S.Store conn.new result }
-    ensures doubt { KeepsDoubt S.Store conn.old conn.new }
-    ensures crash { ReadSurvives S.Store conn.old conn.new }
-    ensures not_in_transaction { conn.new.in_transaction ≡ false }
+    ensures read { IsRead S.Store conn.old conn.new result }
 {
     let rows = party_rows(conn, party)?;
     got(first_party(&rows))
 }
 
 /// The role of the party with the number, read of its row without a copy of its name.
-pub fn read_role<S: Alter>(conn: &mut Connection<S>, party: PartyId) -> Got<Option<Role>>
-    requires not_in_transaction { conn.old.in_transaction ≡ false }
+pub fn read_role<S: Alter>(conn: &mut Idle<S>, party: PartyId) -> Got<Option<Role>>
     ensures found { OverShown S.Store conn.old conn.new
         (λ t. IfOk result (λ r. r ≡ option_map (λ p. p.role) (find (λ p. p.id == party) t.parties))) }
-    ensures kept { LeavesTables S.Store conn.old conn.new }
-    ensures open { IsOpenAfter S.Store conn.new result }
-    ensures doubt { KeepsDoubt S.Store conn.old conn.new }
-    ensures crash { ReadSurvives S.Store conn.old conn.new }
-    ensures not_in_transaction { conn.new.in_transaction ≡ false }
+    ensures read { IsRead S.Store conn.old conn.new result }
 {
     let rows = party_rows(conn, party)?;
     first_role(&rows)
 }
 
 /// The party that keeps the digest.
-pub fn find_party<S: Alter>(conn: &mut Connection<S>, digest: &Digest) -> Got<Option<Party>>
-    requires not_in_transaction { conn.old.in_transaction ≡ false }
+pub fn find_party<S: Alter>(conn: &mut Idle<S>, digest: &Digest) -> Got<Option<Party>>
     ensures found { OverShown S.Store conn.old conn.new
         (λ t. IfOk result (λ p. p ≡ find (λ p. bytes_eq p.digest digest.now) t.parties)) }
-    ensures kept { LeavesTables S.Store conn.old conn.new }
-    ensures open { IsOpenAfter S.Store conn.new result }
-    ensures doubt { KeepsDoubt S.Store conn.old conn.new }
-    ensures crash { ReadSurvives S.Store conn.old conn.new }
-    ensures not_in_transaction { conn.new.in_transaction ≡ false }
+    ensures read { IsRead S.Store conn.old conn.new result }
 {
     let rows = digest_rows(conn, digest)?;
     got(first_party(&rows))
 }
 
 /// The parcel with the number.
-pub fn read_parcel<S: Alter>(conn: &mut Connection<S>, parcel: ParcelId) -> Got<Option<Parcel>>
-    requires not_in_transaction { conn.old.in_transaction ≡ false }
+pub fn read_parcel<S: Alter>(conn: &mut Idle<S>, parcel: ParcelId) -> Got<Option<Parcel>>
     ensures found { OverShown S.Store conn.old conn.new
         (λ t. IfOk result (λ p. p ≡ find (λ p. p.id == parcel) t.parcels)) }
-    ensures kept { LeavesTables S.Store conn.old conn.new }
-    ensures open { IsOpenAfter S.Store conn.new result }
-    ensures doubt { KeepsDoubt S.Store conn.old conn.new }
-    ensures crash { ReadSurvives S.Store conn.old conn.new }
-    ensures not_in_transaction { conn.new.in_transaction ≡ false }
+    ensures read { IsRead S.Store conn.old conn.new result }
 {
     let rows = parcel_rows(conn, parcel)?;
     got(first_parcel(&rows))
 }
 
 /// The owner of the parcel with the number, read of its row without a copy of its texts.
-pub fn read_owner<S: Alter>(conn: &mut Connection<S>, parcel: ParcelId) -> Got<Option<PartyId>>
-    requires not_in_transaction { conn.old.in_transaction ≡ false }
+pub fn read_owner<S: Alter>(conn: &mut Idle<S>, parcel: ParcelId) -> Got<Option<PartyId>>
     ensures found { OverShown S.Store conn.old conn.new
         (λ t. IfOk result (λ o. o ≡ option_map (λ p. p.owner) (find (λ p. p.id == parcel) t.parcels))) }
-    ensures kept { LeavesTables S.Store conn.old conn.new }
-    ensures open { IsOpenAfter S.Store conn.new result }
-    ensures doubt { KeepsDoubt S.Store conn.old conn.new }
-    ensures crash { ReadSurvives S.Store conn.old conn.new }
-    ensures not_in_transaction { conn.new.in_transaction ≡ false }
+    ensures read { IsRead S.Store conn.old conn.new result }
 {
     let rows = parcel_rows(conn, parcel)?;
     first_owner(&rows)
 }
 
 /// The parcel of the lot.
-pub fn find_parcel<S: Alter>(conn: &mut Connection<S>, lot: &Lot) -> Got<Option<Parcel>>
-    requires not_in_transaction { conn.old.in_transaction ≡ false }
+pub fn find_parcel<S: Alter>(conn: &mut Idle<S>, lot: &Lot) -> Got<Option<Parcel>>
     ensures found { OverShown S.Store conn.old conn.new
         (λ t. IfOk result (λ p. p ≡ find (λ p. bytes_eq p.lot lot.now) t.parcels)) }
-    ensures kept { LeavesTables S.Store conn.old conn.new }
-    ensures open { IsOpenAfter S.Store conn.new result }
-    ensures doubt { KeepsDoubt S.Store conn.old conn.new }
-    ensures crash { ReadSurvives S.Store conn.old conn.new }
-    ensures not_in_transaction { conn.new.in_transaction ≡ false }
+    ensures read { IsRead S.Store conn.old conn.new result }
 {
     let rows = lot_rows(conn, lot)?;
     got(first_parcel(&rows))
 }
 
 /// Whether the party has declared an interest in the parcel.
-pub fn has_interest<S: Alter>(
-    conn: &mut Connection<S>,
-    parcel: ParcelId,
-    party: PartyId,
-) -> Got<bool>
-    requires not_in_transaction { conn.old.in_transaction ≡ false }
+pub fn has_interest<S: Alter>(conn: &mut Idle<S>, parcel: ParcelId, party: PartyId) -> Got<bool>
     ensures found { OverShown S.Store conn.old conn.new
         (λ t. IfOk result (λ b. b ≡ list_any (λ i. (i.parcel == parcel) && (i.party == party)) t.interests)) }
-    ensures kept { LeavesTables S.Store conn.old conn.new }
-    ensures open { IsOpenAfter S.Store conn.new result }
-    ensures doubt { KeepsDoubt S.Store conn.old conn.new }
-    ensures crash { ReadSurvives S.Store conn.old conn.new }
-    ensures not_in_transaction { conn.new.in_transaction ≡ false }
+    ensures read { IsRead S.Store conn.old conn.new result }
 {
     let rows = interest_rows(conn, parcel, party)?;
     Ok(rows.len() != 0)
 }
 
 /// Whether the party has declared an interest in any parcel.
-pub(crate) fn is_interested<S: Alter>(conn: &mut Connection<S>, party: PartyId) -> Got<bool>
-    requires not_in_transaction { conn.old.in_transaction ≡ false }
+pub(crate) fn is_interested<S: Alter>(conn: &mut Idle<S>, party: PartyId) -> Got<bool>
     ensures found { OverShown S.Store conn.old conn.new
         (λ t. IfOk result (λ b. b ≡ list_any (λ i. i.party == party) t.interests)) }
-    ensures kept { LeavesTables S.Store conn.old conn.new }
-    ensures open { IsOpenAfter S.Store conn.new result }
-    ensures doubt { KeepsDoubt S.Store conn.old conn.new }
-    ensures crash { ReadSurvives S.Store conn.old conn.new }
-    ensures not_in_transaction { conn.new.in_transaction ≡ false }
+    ensures read { IsRead S.Store conn.old conn.new result }
 {
     let rows = interested_rows(conn, party)?;
     first_truth(&rows)
@@ -499,14 +388,9 @@ fn all_interests(alloc: Global, rows: &[Row]) -> Got<Vec<Interest>>
 }
 
 /// All interests, in any order.
-pub fn read_interests<S: Alter>(conn: &mut Connection<S>, alloc: Global) -> Got<Vec<Interest>>
-    requires not_in_transaction { conn.old.in_transaction ≡ false }
+pub fn read_interests<S: Alter>(conn: &mut Idle<S>, alloc: Global) -> Got<Vec<Interest>>
     ensures found { OverShown S.Store conn.old conn.new (λ t. IfOk result (λ v. IsPermutation v.items t.interests)) }
-    ensures kept { LeavesTables S.Store conn.old conn.new }
-    ensures open { IsOpenAfter S.Store conn.new result }
-    ensures doubt { KeepsDoubt S.Store conn.old conn.new }
-    ensures crash { ReadSurvives S.Store conn.old conn.new }
-    ensures not_in_transaction { conn.new.in_transaction ≡ false }
+    ensures read { IsRead S.Store conn.old conn.new result }
 {
     let rows = declared_rows(conn)?;
     all_interests(alloc, &rows)
@@ -514,18 +398,13 @@ pub fn read_interests<S: Alter>(conn: &mut Connection<S>, alloc: Global) -> Got<
 
 /// The row of the file with the number, where there were so many files at the upgrade.
 pub fn read_file<S: Alter>(
-    conn: &mut Connection<S>,
+    conn: &mut Idle<S>,
     file: FileId,
     upgrade: Option<u32>,
 ) -> Got<Option<FileRow>>
-    requires not_in_transaction { conn.old.in_transaction ≡ false }
     ensures found { OverShown S.Store conn.old conn.new
         (λ t. t.upgrade ≡ upgrade → IfOk result (λ f. f ≡ find (λ f. f.id == file) t.files)) }
-    ensures kept { LeavesTables S.Store conn.old conn.new }
-    ensures open { IsOpenAfter S.Store conn.new result }
-    ensures doubt { KeepsDoubt S.Store conn.old conn.new }
-    ensures crash { ReadSurvives S.Store conn.old conn.new }
-    ensures not_in_transaction { conn.new.in_transaction ≡ false }
+    ensures read { IsRead S.Store conn.old conn.new result }
 {
     let rows = file_rows(conn, file)?;
     got(first_file(&rows, upgrade))
@@ -533,37 +412,23 @@ pub fn read_file<S: Alter>(
 
 /// The state of the file with the number, read of its row without a copy of its description.
 pub fn read_state<S: Alter>(
-    conn: &mut Connection<S>,
+    conn: &mut Idle<S>,
     file: FileId,
     upgrade: Option<u32>,
 ) -> Got<Option<FileState>>
-    requires not_in_transaction { conn.old.in_transaction ≡ false }
     ensures found { OverShown S.Store conn.old conn.new
         (λ t. t.upgrade ≡ upgrade → IfOk result (λ s. s ≡ option_map (λ f. f.state) (find (λ f. f.id == file) t.files))) }
-    ensures kept { LeavesTables S.Store conn.old conn.new }
-    ensures open { IsOpenAfter S.Store conn.new result }
-    ensures doubt { KeepsDoubt S.Store conn.old conn.new }
-    ensures crash { ReadSurvives S.Store conn.old conn.new }
-    ensures not_in_transaction { conn.new.in_transaction ≡ false }
+    ensures read { IsRead S.Store conn.old conn.new result }
 {
     let rows = file_rows(conn, file)?;
     first_state(&rows, upgrade)
 }
 
 /// Whether the paper of the number is an open notice of the file.
-pub fn has_open_notice<S: Alter>(
-    conn: &mut Connection<S>,
-    file: FileId,
-    number: PaperNumber,
-) -> Got<bool>
-    requires not_in_transaction { conn.old.in_transaction ≡ false }
+pub fn has_open_notice<S: Alter>(conn: &mut Idle<S>, file: FileId, number: PaperNumber) -> Got<bool>
     ensures found { OverShown S.Store conn.old conn.new
         (λ t. IfOk result (λ b. b ≡ list_any (λ p. (p.file == file) && (p.is_open && (p.number == number))) t.papers)) }
-    ensures kept { LeavesTables S.Store conn.old conn.new }
-    ensures open { IsOpenAfter S.Store conn.new result }
-    ensures doubt { KeepsDoubt S.Store conn.old conn.new }
-    ensures crash { ReadSurvives S.Store conn.old conn.new }
-    ensures not_in_transaction { conn.new.in_transaction ≡ false }
+    ensures read { IsRead S.Store conn.old conn.new result }
 {
     let rows = notice_rows(conn, file, number)?;
     Ok(rows.len() != 0)
@@ -594,19 +459,10 @@ fn all_papers(alloc: Global, rows: &[Row]) -> Got<Vec<Paper>>
 }
 
 /// The papers of the file, in rising number.
-pub fn read_papers<S: Alter>(
-    conn: &mut Connection<S>,
-    file: FileId,
-    alloc: Global,
-) -> Got<Vec<Paper>>
-    requires not_in_transaction { conn.old.in_transaction ≡ false }
+pub fn read_papers<S: Alter>(conn: &mut Idle<S>, file: FileId, alloc: Global) -> Got<Vec<Paper>>
     ensures found { OverShown S.Store conn.old conn.new
         (λ t. IfOk result (λ v. v.items ≡ filter (λ p. p.file == file) t.papers)) }
-    ensures kept { LeavesTables S.Store conn.old conn.new }
-    ensures open { IsOpenAfter S.Store conn.new result }
-    ensures doubt { KeepsDoubt S.Store conn.old conn.new }
-    ensures crash { ReadSurvives S.Store conn.old conn.new }
-    ensures not_in_transaction { conn.new.in_transaction ≡ false }
+    ensures read { IsRead S.Store conn.old conn.new result }
 {
     let rows = paper_rows(conn, file)?;
     all_papers(alloc, &rows)

@@ -1,26 +1,21 @@
 //! Statements that lead from the tables that a connection shows to others, in one transaction.
 
-ghost use Rattle.std.specs.Prelude.{◌≡◌, map, false, [], ◌∷◌};
+ghost use Rattle.std.specs.Prelude.{map, [], ◌∷◌};
 ghost use Rattle.sqlite.specs.Values.{bound};
 ghost use Rattle.permit_sql_statements.specs.TextAndParams.{text_and_params};
-ghost use Rattle.permit_sql_statements.specs.Frames.{FailureLeavesTables, IsOpenAfter, KeepsDoubt, ShowsAfter, StatementsSurvive};
+ghost use Rattle.permit_sql_statements.specs.Frames.{IsRun};
 
+use crate::idle::Idle;
 use crate::statements::{Statement, run_all};
 use permit_store::store::{Got, StoreError};
-use sqlite::{Alter, Connection};
+use sqlite::Alter;
 use sqlite_value::value::ValueRef;
 
 /// All statements in turn or none, also over a crash.
-fn run<S: Alter>(conn: &mut Connection<S>, statements: &[Statement<'_>]) -> Got<()>
-    requires not_in_transaction { conn.old.in_transaction ≡ false }
-    ensures made { ShowsAfter S.Store (map text_and_params statements.now) conn.old conn.new result }
-    ensures kept { FailureLeavesTables S.Store conn.old conn.new result }
-    ensures not_in_transaction { conn.new.in_transaction ≡ false }
-    ensures open { IsOpenAfter S.Store conn.new result }
-    ensures doubt { KeepsDoubt S.Store conn.old conn.new }
-    ensures crash { StatementsSurvive S.Store (map text_and_params statements.now) conn.old conn.new }
+fn run<S: Alter>(conn: &mut Idle<S>, statements: &[Statement<'_>]) -> Got<()>
+    ensures { IsRun S.Store (map text_and_params statements.now) conn.old conn.new result }
 {
-    match run_all(conn, statements) {
+    match run_all(&mut conn.conn, statements) {
         Ok(()) => Ok(()),
         Err(_) => Err(StoreError),
     }
@@ -28,19 +23,13 @@ fn run<S: Alter>(conn: &mut Connection<S>, statements: &[Statement<'_>]) -> Got<
 
 /// Two statements in turn or none, also over a crash.
 pub(crate) fn run_two<'a, S: Alter>(
-    conn: &mut Connection<S>,
+    conn: &mut Idle<S>,
     first: &'a str,
     one: &'a [ValueRef<'a>],
     last: &'a str,
     two: &'a [ValueRef<'a>],
 ) -> Got<()>
-    requires not_in_transaction { conn.old.in_transaction ≡ false }
-    ensures made { ShowsAfter S.Store ((first.now, bound one.now) ∷ (last.now, bound two.now) ∷ []) conn.old conn.new result }
-    ensures kept { FailureLeavesTables S.Store conn.old conn.new result }
-    ensures not_in_transaction { conn.new.in_transaction ≡ false }
-    ensures open { IsOpenAfter S.Store conn.new result }
-    ensures doubt { KeepsDoubt S.Store conn.old conn.new }
-    ensures crash { StatementsSurvive S.Store ((first.now, bound one.now) ∷ (last.now, bound two.now) ∷ []) conn.old conn.new }
+    ensures { IsRun S.Store ((first.now, bound one.now) ∷ (last.now, bound two.now) ∷ []) conn.old conn.new result }
 {
     run(
         conn,
@@ -59,7 +48,7 @@ pub(crate) fn run_two<'a, S: Alter>(
 
 /// Three statements in turn or none, also over a crash.
 pub(crate) fn run_three<'a, S: Alter>(
-    conn: &mut Connection<S>,
+    conn: &mut Idle<S>,
     first: &'a str,
     one: &'a [ValueRef<'a>],
     second: &'a str,
@@ -67,17 +56,9 @@ pub(crate) fn run_three<'a, S: Alter>(
     last: &'a str,
     three: &'a [ValueRef<'a>],
 ) -> Got<()>
-    requires not_in_transaction { conn.old.in_transaction ≡ false }
-    ensures made { ShowsAfter S.Store
+    ensures { IsRun S.Store
         ((first.now, bound one.now) ∷ (second.now, bound two.now) ∷ (last.now, bound three.now) ∷ [])
         conn.old conn.new result }
-    ensures kept { FailureLeavesTables S.Store conn.old conn.new result }
-    ensures not_in_transaction { conn.new.in_transaction ≡ false }
-    ensures open { IsOpenAfter S.Store conn.new result }
-    ensures doubt { KeepsDoubt S.Store conn.old conn.new }
-    ensures crash { StatementsSurvive S.Store
-        ((first.now, bound one.now) ∷ (second.now, bound two.now) ∷ (last.now, bound three.now) ∷ [])
-        conn.old conn.new }
 {
     run(
         conn,

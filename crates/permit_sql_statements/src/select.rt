@@ -10,12 +10,13 @@ ghost use Rattle.permit_base.specs.declared.route.Route.TheVariants.{Every};
 ghost use Rattle.permit_model.specs.Tables.{Tables};
 ghost use Rattle.permit_model.specs.Routes.{Found as TheFound, found_by};
 ghost use Rattle.permit_store.specs.Handing.{AreAmong, AreFound, AreHanded, Took, found_by_any, is_found_by_any, more_handed};
-ghost use Rattle.permit_sql_rows.specs.Kept.{IsFine, Keeps};
+ghost use Rattle.permit_sql_rows.specs.Kept.{Keeps};
 ghost use Rattle.permit_sql_rows.specs.Rows.{shown_found};
 ghost use Rattle.permit_sql_statements.specs.Selected.{AreNamed, ShowFound};
 ghost use Rattle.permit_sql_statements.specs.Gave.{Gave};
-ghost use Rattle.permit_sql_statements.specs.Frames.{OverShown, LeavesTables, IsOpenAfter, KeepsDoubt, ReadSurvives};
+ghost use Rattle.permit_sql_statements.specs.Frames.{IsIdle, IsQuery, IsRead, OverShown};
 
+use crate::idle::Idle;
 use crate::query::rows_of;
 use crate::question::{
     EVERY_WITHOUT, count_of, text_of, text_of_any, text_of_any_without, values_of,
@@ -35,19 +36,14 @@ use std::alloc::Global;
 
 /// The rows that show what the selection finds for the caller on the day.
 fn found_rows<S: Alter>(
-    conn: &mut Connection<S>,
+    conn: &mut Idle<S>,
     route: &Route,
     caller: PartyId,
     day: Day,
 ) -> Got<Vec<Row>>
-    requires not_in_transaction { conn.old.in_transaction ≡ false }
     ensures found { OverShown S.Store conn.old conn.new
         (λ t. IfOk result (λ rows. ShowFound t rows.items (found_by route.now caller day t))) }
-    ensures kept { LeavesTables S.Store conn.old conn.new }
-    ensures open { IsOpenAfter S.Store conn.new result }
-    ensures doubt { KeepsDoubt S.Store conn.old conn.new }
-    ensures crash { ReadSurvives S.Store conn.old conn.new }
-    ensures not_in_transaction { conn.new.in_transaction ≡ false }
+    ensures read { IsRead S.Store conn.old conn.new result }
 {
     // Its number isn't 0, which stands for none in a row.
     let _id = caller.get();
@@ -81,21 +77,16 @@ fn all_found(alloc: Global, rows: &[Row], upgrade: Option<u32>) -> Got<Vec<Found
 
 /// The rows that the selection finds for the caller on the day, in rising number.
 pub fn select_found<S: Alter>(
-    conn: &mut Connection<S>,
+    conn: &mut Idle<S>,
     route: &Route,
     caller: PartyId,
     day: Day,
     upgrade: Option<u32>,
     alloc: Global,
 ) -> Got<Vec<Found>>
-    requires not_in_transaction { conn.old.in_transaction ≡ false }
     ensures found { OverShown S.Store conn.old conn.new
         (λ t. t.upgrade ≡ upgrade → IfOk result (λ v. AreFound t v.items (found_by route.now caller day t))) }
-    ensures kept { LeavesTables S.Store conn.old conn.new }
-    ensures open { IsOpenAfter S.Store conn.new result }
-    ensures doubt { KeepsDoubt S.Store conn.old conn.new }
-    ensures crash { ReadSurvives S.Store conn.old conn.new }
-    ensures not_in_transaction { conn.new.in_transaction ≡ false }
+    ensures read { IsRead S.Store conn.old conn.new result }
 {
     let rows = found_rows(conn, route, caller, day)?;
     all_found(alloc, &rows, upgrade)
@@ -111,18 +102,11 @@ fn hand_rows<S: Alter, T: Taker<Found>>(
     handed: &mut u64,
     taker: &mut T,
 ) -> Got<bool>
-    requires not_in_transaction { conn.old.in_transaction ≡ false }
+    requires { IsIdle conn.old }
     ensures handed { (given : List TheFound) × Took T.took given taker.old taker.new result × (handed.new ≡ more_handed (length given) handed.old)
         × (HasCleanDisk (state S.Store conn.new) → (IsTrue (state S.Store conn.old).is_open → IsPlain (understood conn.old.schema sql.now))
         → Gave upgrade result sql.now (bound params.now) (state S.Store conn.old) (state S.Store conn.new) given) }
-    ensures fine { IsFine (state S.Store conn.new) → IsFine (state S.Store conn.old) }
-    ensures same { IsFine (state S.Store conn.new) → IsPlain (understood conn.old.schema sql.now)
-        → (state S.Store conn.new).now ≡ (state S.Store conn.old).now }
-    ensures open { IsOpenAfter S.Store conn.new result }
-    ensures doubt { KeepsDoubt S.Store conn.old conn.new }
-    ensures crash { (HasCleanDisk (state S.Store conn.new) → IsPlain (understood conn.old.schema sql.now))
-        → Survives (state S.Store conn.old) (state S.Store conn.new) (λ _. ⊥) }
-    ensures not_in_transaction { conn.new.in_transaction ≡ false }
+    ensures query { IsQuery S.Store sql.now conn.old conn.new result }
 {
     let before = *handed;
     prove!(before <= u64::MAX);
@@ -150,7 +134,7 @@ fn hand_rows<S: Alter, T: Taker<Found>>(
 
 /// Hands the rows that the selection's text finds, of which a look for an interest is a part.
 fn each_by_text<S: Alter, T: Taker<Found>>(
-    conn: &mut Connection<S>,
+    conn: &mut Idle<S>,
     route: &Route,
     caller: PartyId,
     day: Day,
@@ -158,21 +142,17 @@ fn each_by_text<S: Alter, T: Taker<Found>>(
     handed: &mut u64,
     taker: &mut T,
 ) -> Got<bool>
-    requires not_in_transaction { conn.old.in_transaction ≡ false }
     ensures handed { (given : List TheFound) × Took T.took given taker.old taker.new result × (handed.new ≡ more_handed (length given) handed.old)
         × OverShown S.Store conn.old conn.new (λ t. t.upgrade ≡ upgrade → AreHanded t result given (found_by route.now caller day t)) }
-    ensures kept { LeavesTables S.Store conn.old conn.new }
-    ensures open { IsOpenAfter S.Store conn.new result }
-    ensures doubt { KeepsDoubt S.Store conn.old conn.new }
+    ensures read { IsRead S.Store conn.old conn.new result }
     ensures crash { (t : Tables) → (HasCleanDisk (state S.Store conn.new) → Keeps t (state S.Store conn.old).now)
         → Survives (state S.Store conn.old) (state S.Store conn.new) (λ _. ⊥) }
-    ensures not_in_transaction { conn.new.in_transaction ≡ false }
 {
     // Its number isn't 0, which stands for none in a row.
     let _id = caller.get();
     let values = values_of(route, caller, day);
     hand_rows(
-        conn,
+        &mut conn.conn,
         text_of(route),
         &values[..count_of(route)],
         upgrade,
@@ -183,21 +163,16 @@ fn each_by_text<S: Alter, T: Taker<Found>>(
 
 /// Hands every file's row: for a caller who has declared no interest none is looked for at each.
 fn each_of_every<S: Alter, T: Taker<Found>>(
-    conn: &mut Connection<S>,
+    conn: &mut Idle<S>,
     caller: PartyId,
     day: Day,
     upgrade: Option<u32>,
     handed: &mut u64,
     taker: &mut T,
 ) -> Got<bool>
-    requires not_in_transaction { conn.old.in_transaction ≡ false }
     ensures handed { (given : List TheFound) × Took T.took given taker.old taker.new result × (handed.new ≡ more_handed (length given) handed.old)
         × OverShown S.Store conn.old conn.new (λ t. t.upgrade ≡ upgrade → AreHanded t result given (found_by Every caller day t)) }
-    ensures kept { LeavesTables S.Store conn.old conn.new }
-    ensures open { IsOpenAfter S.Store conn.new result }
-    ensures doubt { KeepsDoubt S.Store conn.old conn.new }
-    ensures crash { ReadSurvives S.Store conn.old conn.new }
-    ensures not_in_transaction { conn.new.in_transaction ≡ false }
+    ensures read { IsRead S.Store conn.old conn.new result }
 {
     let before = *handed;
     prove!(before <= u64::MAX);
@@ -205,13 +180,20 @@ fn each_of_every<S: Alter, T: Taker<Found>>(
         return each_by_text(conn, &Route::Every, caller, day, upgrade, handed, taker);
     }
     let params = [number(caller.get()), number(0)];
-    hand_rows(conn, EVERY_WITHOUT, &params, upgrade, handed, taker)
+    hand_rows(
+        &mut conn.conn,
+        EVERY_WITHOUT,
+        &params,
+        upgrade,
+        handed,
+        taker,
+    )
 }
 
 /// Hands the rows that the selection finds for the caller on the day to the taker, one at a time and in rising number,
 /// until it asks to stop, and counts each that it took. True says that it took them all.
 pub fn each_found<S: Alter, T: Taker<Found>>(
-    conn: &mut Connection<S>,
+    conn: &mut Idle<S>,
     route: &Route,
     caller: PartyId,
     day: Day,
@@ -219,14 +201,9 @@ pub fn each_found<S: Alter, T: Taker<Found>>(
     handed: &mut u64,
     taker: &mut T,
 ) -> Got<bool>
-    requires not_in_transaction { conn.old.in_transaction ≡ false }
     ensures handed { (given : List TheFound) × Took T.took given taker.old taker.new result × (handed.new ≡ more_handed (length given) handed.old)
         × OverShown S.Store conn.old conn.new (λ t. t.upgrade ≡ upgrade → AreHanded t result given (found_by route.now caller day t)) }
-    ensures kept { LeavesTables S.Store conn.old conn.new }
-    ensures open { IsOpenAfter S.Store conn.new result }
-    ensures doubt { KeepsDoubt S.Store conn.old conn.new }
-    ensures crash { ReadSurvives S.Store conn.old conn.new }
-    ensures not_in_transaction { conn.new.in_transaction ≡ false }
+    ensures read { IsRead S.Store conn.old conn.new result }
 {
     match *route {
         Route::Every => each_of_every(conn, caller, day, upgrade, handed, taker),
@@ -236,7 +213,7 @@ pub fn each_found<S: Alter, T: Taker<Found>>(
 
 /// Hands the rows of the answer that any of the selections finds for the caller on the day, as `hand_rows` does.
 fn hand_sifted<S: Alter, T: Taker<Found>>(
-    conn: &mut Connection<S>,
+    conn: &mut Idle<S>,
     sql: &str,
     params: &[ValueRef<'_>],
     routes: &[Route],
@@ -246,19 +223,11 @@ fn hand_sifted<S: Alter, T: Taker<Found>>(
     handed: &mut u64,
     taker: &mut T,
 ) -> Got<bool>
-    requires not_in_transaction { conn.old.in_transaction ≡ false }
     ensures handed { (given : List TheFound) × Took T.took (filter (is_found_by_any routes.now caller day) given) taker.old taker.new result
         × (handed.new ≡ more_handed (length (filter (is_found_by_any routes.now caller day) given)) handed.old)
         × (HasCleanDisk (state S.Store conn.new) → (IsTrue (state S.Store conn.old).is_open → IsPlain (understood conn.old.schema sql.now))
         → Gave upgrade result sql.now (bound params.now) (state S.Store conn.old) (state S.Store conn.new) given) }
-    ensures fine { IsFine (state S.Store conn.new) → IsFine (state S.Store conn.old) }
-    ensures same { IsFine (state S.Store conn.new) → IsPlain (understood conn.old.schema sql.now)
-        → (state S.Store conn.new).now ≡ (state S.Store conn.old).now }
-    ensures open { IsOpenAfter S.Store conn.new result }
-    ensures doubt { KeepsDoubt S.Store conn.old conn.new }
-    ensures crash { (HasCleanDisk (state S.Store conn.new) → IsPlain (understood conn.old.schema sql.now))
-        → Survives (state S.Store conn.old) (state S.Store conn.new) (λ _. ⊥) }
-    ensures not_in_transaction { conn.new.in_transaction ≡ false }
+    ensures query { IsQuery S.Store sql.now conn.old conn.new result }
 {
     // Counts also the rows that none of the selections finds, so it isn't what was handed out.
     let mut seen = 0;
@@ -269,14 +238,14 @@ fn hand_sifted<S: Alter, T: Taker<Found>>(
         taker,
         passed: 0,
     };
-    let all = hand_rows(conn, sql, params, upgrade, &mut seen, &mut sieve);
+    let all = hand_rows(&mut conn.conn, sql, params, upgrade, &mut seen, &mut sieve);
     *handed = handed.wrapping_add(sieve.passed);
     all
 }
 
 /// Hands the rows that any of the selections finds, by a text of which a look for an interest is a part.
 fn each_by_any_text<S: Alter, T: Taker<Found>>(
-    conn: &mut Connection<S>,
+    conn: &mut Idle<S>,
     routes: &[Route],
     caller: PartyId,
     day: Day,
@@ -284,15 +253,11 @@ fn each_by_any_text<S: Alter, T: Taker<Found>>(
     handed: &mut u64,
     taker: &mut T,
 ) -> Got<bool>
-    requires not_in_transaction { conn.old.in_transaction ≡ false }
     ensures handed { (given : List TheFound) × Took T.took given taker.old taker.new result × (handed.new ≡ more_handed (length given) handed.old)
         × OverShown S.Store conn.old conn.new (λ t. t.upgrade ≡ upgrade → AreAmong result given (found_by_any routes.now caller day t)) }
-    ensures kept { LeavesTables S.Store conn.old conn.new }
-    ensures open { IsOpenAfter S.Store conn.new result }
-    ensures doubt { KeepsDoubt S.Store conn.old conn.new }
+    ensures read { IsRead S.Store conn.old conn.new result }
     ensures crash { (t : Tables) → (HasCleanDisk (state S.Store conn.new) → Keeps t (state S.Store conn.old).now)
         → Survives (state S.Store conn.old) (state S.Store conn.new) (λ _. ⊥) }
-    ensures not_in_transaction { conn.new.in_transaction ≡ false }
 {
     // Its number isn't 0, which stands for none in a row.
     let params = [number(caller.get())];
@@ -312,7 +277,7 @@ fn each_by_any_text<S: Alter, T: Taker<Found>>(
 /// Hands the rows that any of the selections finds for the caller on the day to the taker, each once and in any order, one
 /// at a time, until it asks to stop, and counts each that it took. True says that it took them all.
 pub fn each_of_any_found<S: Alter, T: Taker<Found>>(
-    conn: &mut Connection<S>,
+    conn: &mut Idle<S>,
     routes: &[Route],
     caller: PartyId,
     day: Day,
@@ -320,14 +285,9 @@ pub fn each_of_any_found<S: Alter, T: Taker<Found>>(
     handed: &mut u64,
     taker: &mut T,
 ) -> Got<bool>
-    requires not_in_transaction { conn.old.in_transaction ≡ false }
     ensures handed { (given : List TheFound) × Took T.took given taker.old taker.new result × (handed.new ≡ more_handed (length given) handed.old)
         × OverShown S.Store conn.old conn.new (λ t. t.upgrade ≡ upgrade → AreAmong result given (found_by_any routes.now caller day t)) }
-    ensures kept { LeavesTables S.Store conn.old conn.new }
-    ensures open { IsOpenAfter S.Store conn.new result }
-    ensures doubt { KeepsDoubt S.Store conn.old conn.new }
-    ensures crash { ReadSurvives S.Store conn.old conn.new }
-    ensures not_in_transaction { conn.new.in_transaction ≡ false }
+    ensures read { IsRead S.Store conn.old conn.new result }
 {
     let before = *handed;
     prove!(before <= u64::MAX);

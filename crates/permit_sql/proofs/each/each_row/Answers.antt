@@ -15,14 +15,6 @@ commits_nothing : (sql : List ℕ) (params : Row) (old new : State) → IsPlain 
     Survives old new (λ _. ⊥)
 commits_nothing sql params old new plain = survives_weaker old new _ _ (λ _ db. never_commits sql params old db plain)
 
-pub returns-in_err-rows-clause-crash : goal.returns-in_err-rows-clause-crash
-returns-in_err-rows-clause-crash g c =
-    let old = state g.S.Store c.args.conn.now in
-    let new = state g.S.Store c.query.follows.lender-at-none in
-    let held = c.query.follows.holds-at-none in
-    let kept : Survives old new (CommitsShowing c.args.sql.now (bound c.args.params.now) old) = search rules in
-    commits_nothing c.args.sql.now (bound c.args.params.now) old new c.requires.plain kept
-
 pub rows-init : goal.rows-init
 rows-init g c =
     let made = c.in_ok-rows.ensures in (
@@ -70,21 +62,33 @@ returns-then-not-take-clause-ok g c clean =
       (c.rows.taker, was.3, rw c.if-not-take.true at c.take.ensures),
     )
 
-pub returns-in_default-clause-open : goal.returns-in_default-clause-open
-returns-in_default-clause-open g c clean =
+pub returns-in_default-clause-look : goal.returns-in_default-clause-look
+returns-in_default-clause-look g c =
     let moved = c.next.follows.holds-at-none in
     let now = c.next.follows.lender-at-none.conn.now in
-    let late : HasCleanDisk (state g.S.Store now) = search rules in
-    let kept = rw c.in_ok-row.was at (moved.same late) in
-    let last : IsTrue (state g.S.Store now).is_open = kept.0.is_open in search rules
+    record {
+      idle = search rules;
+      opened = λ clean.
+          let late : HasCleanDisk (state g.S.Store now) = search rules in
+          let kept = rw c.in_ok-row.was at (moved.same late) in
+          let last : IsTrue (state g.S.Store now).is_open = kept.0.is_open in search rules;
+      left = search rules;
+      crash = search rules;
+    }
 
-pub returns-then-not-take-clause-open : goal.returns-then-not-take-clause-open
-returns-then-not-take-clause-open g c clean =
+pub returns-then-not-take-clause-look : goal.returns-then-not-take-clause-look
+returns-then-not-take-clause-look g c =
     let moved = c.next.follows.holds-at-none in
     let now = c.next.follows.lender-at-none.conn.now in
-    let late : HasCleanDisk (state g.S.Store now) = search rules in
-    let kept = rw c.in_ok-row.was at (moved.same late) in
-    let last : IsTrue (state g.S.Store now).is_open = kept.0.is_open in search rules
+    record {
+      idle = search rules;
+      opened = λ clean.
+          let late : HasCleanDisk (state g.S.Store now) = search rules in
+          let kept = rw c.in_ok-row.was at (moved.same late) in
+          let last : IsTrue (state g.S.Store now).is_open = kept.0.is_open in search rules;
+      left = search rules;
+      crash = search rules;
+    }
 
 pub rows-preserved : goal.rows-preserved
 rows-preserved g c =
@@ -109,8 +113,8 @@ rows-preserved g c =
       moved.mode c.rows.invariant.3,
     )
 
-pub returns-in_err-rows-clause-left : goal.returns-in_err-rows-clause-left
-returns-in_err-rows-clause-left g c fine =
+pub returns-in_err-rows-clause-look : goal.returns-in_err-rows-clause-look
+returns-in_err-rows-clause-look g c =
     let sql = c.args.sql.now in
     let params = bound c.args.params.now in
     let last = c.query.follows.lender-at-none in
@@ -118,8 +122,14 @@ returns-in_err-rows-clause-left g c fine =
     let new = state g.S.Store last in
     let held = c.query.follows.holds-at-none in
     let refused : IsRefused g.S.Store sql params c.args.conn.now c.query.result last = search rules in
-    let failed : FailsToQuery sql params old new c.in_err-rows.field-0.0 = rw c.in_err-rows.was at (refused.err fine.0) in
-    let settled = c.is_autocommit-settled.ensures.settled (c.is_autocommit-settled.ensures.value ∙ ap not c.requires.not_in_transaction) in (
-      (omega (arith, fine.0, refused.survives.clean), failed_open sql params old new c.in_err-rows.field-0.0 fine.1 failed),
-      (failed_same sql params old new c.in_err-rows.field-0.0 c.requires.plain settled fine.1 failed).0,
-    )
+    record {
+      idle = search rules;
+      opened = search rules;
+      left = λ fine.
+          let failed : FailsToQuery sql params old new c.in_err-rows.field-0.0 = rw c.in_err-rows.was at (refused.err fine.0) in
+          let settled = c.is_autocommit-settled.ensures.settled (c.is_autocommit-settled.ensures.value ∙ ap not c.requires.idle) in (
+            (omega (arith, fine.0, refused.survives.clean), failed_open sql params old new c.in_err-rows.field-0.0 fine.1 failed),
+            (failed_same sql params old new c.in_err-rows.field-0.0 c.requires.plain settled fine.1 failed).0,
+          );
+      crash = commits_nothing sql params old new c.requires.plain refused.survives;
+    }

@@ -16,11 +16,11 @@ damaged_too (Err e) opened damaged too = λ is. too (opened (λ store. absurd (l
 pub returns-in-Ok-false-clause-damaged : goal.returns-in-Ok-false-clause-damaged
 returns-in-Ok-false-clause-damaged g c clean =
     damaged_too c.check_tables.result (c.check_tables.ensures.judged clean) (c.check_tables.ensures.damaged clean) (λ is_open never has.
-    let was = c.check_tables.ensures.left (clean, is_open) in
-    never (subst (KeepsSoundUnder c.args.edition) (sym (c.has_other_version.ensures.same was.0)) has))
+    let was = c.check_tables.ensures.look.left (clean, is_open) in
+    never (subst (KeepsSoundUnder c.args.edition) (sym (c.has_other_version.ensures.look.left was.0).1) has))
 
 pub returns-in-Ok-false-clause-schema : goal.returns-in-Ok-false-clause-schema
 returns-in-Ok-false-clause-schema g c clean =
     damaged_too c.check_tables.result (c.check_tables.ensures.judged clean) c.check_tables.ensures.schema (λ is_open office.
-    let was = c.check_tables.ensures.left (clean, is_open) in
-    subst (λ (db : Database). IsOffice c.args.edition db.schema) (c.has_other_version.ensures.same was.0) office)
+    let was = c.check_tables.ensures.look.left (clean, is_open) in
+    subst (λ (db : Database). IsOffice c.args.edition db.schema) (c.has_other_version.ensures.look.left was.0).1 office)

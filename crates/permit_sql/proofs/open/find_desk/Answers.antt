@@ -9,7 +9,7 @@ of_both (Some x) p q f = f x p q
 
 pub returns-clause-good : goal.returns-clause-good
 returns-clause-good g c fine office =
-    let was = c.desk_seen.ensures.fine fine in
+    let was = (c.desk_seen.ensures.look.left fine).0 in
     let is = c.as_slice.ensures.value in
     of_both c.only_desk.result c.only_desk.ensures.back c.only_desk.ensures.typed (λ d shown good.
     only_found c.args.edition (state g.S.Store c.args.conn.now).now c.in_ok-rows.rows.items shown.0 d office (c.schema-schema.ensures.live was.1).0

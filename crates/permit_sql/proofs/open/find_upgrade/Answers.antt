@@ -7,7 +7,7 @@ use Rattle.permit_sql.proofs.open.find_upgrade.Goals as goal
 
 pub returns-in-Some-clause-good : goal.returns-in-Some-clause-good
 returns-in-Some-clause-good g c fine =
-    let was = c.upgrade_seen.ensures.left fine in
+    let was = c.upgrade_seen.ensures.look.left fine in
     let office = subst (IsOffice Second) c.schema.ensures.value (c.is_office.ensures.told.0 c.if-not-is_office.false) in
     let shown = c.in-Some.ensures.back in
     record {

@@ -11,5 +11,5 @@ returns g c t held clean is_open =
       kept = kept clean is_open;
       live = (c.schema-schema.ensures.live is_open).0;
       same = c.is_autocommit-settled.ensures.settled (c.is_autocommit-settled.ensures.value
-          ∙ ap not (ap (λ h. h.in_transaction) c.into_connection-conn.ensures.conn ∙ c.args.store.not_in_transaction)) is_open;
+          ∙ ap not c.into_connection-conn.ensures.idle) is_open;
     }

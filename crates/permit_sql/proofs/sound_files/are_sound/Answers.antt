@@ -16,8 +16,8 @@ returns-then-not-has_official-clause-told g c fine t typed k desk upgrade =
 
 pub returns-then-not-branch-clause-told : goal.returns-then-not-branch-clause-told
 returns-then-not-branch-clause-told g c fine t typed k desk upgrade =
-    let was = c.has_sound_parcels.ensures.left fine in
-    let same = (c.roles_of.ensures.left was.0).1 in
+    let was = c.has_sound_parcels.ensures.look.left fine in
+    let same = (c.roles_of.ensures.look.left was.0).1 in
     let told = c.in_ok-has_sound_parcels.ensures.told fine t typed (subst (KeepsUnder c.args.edition t) (sym same) k) desk in (
       λ never. absurd (true≢false (sym never)),
       λ sound. sym c.if-not-branch.true ∙ told ∙ (tested t typed k.keyed sound).parcels,
@@ -25,9 +25,9 @@ returns-then-not-branch-clause-told g c fine t typed k desk upgrade =
 
 pub returns-clause-told : goal.returns-clause-told
 returns-clause-told g c fine t typed k desk upgrade =
-    let third = c.has_sound_cases.ensures.left fine in
-    let second = c.has_sound_parcels.ensures.left third.0 in
-    let first = c.roles_of.ensures.left second.0 in
+    let third = c.has_sound_cases.ensures.look.left fine in
+    let second = c.has_sound_parcels.ensures.look.left third.0 in
+    let first = c.roles_of.ensures.look.left second.0 in
     let roles = c.in_ok-roles.ensures.told second.0.0 t typed k in
     let parcels = c.in_ok-has_sound_parcels.ensures.told third.0 t typed (subst (KeepsUnder c.args.edition t) (sym first.1) k) desk in
     let cases = c.has_sound_cases.ensures.told fine t typed (subst (KeepsUnder c.args.edition t) (sym (second.1 ∙ first.1)) k) desk upgrade in

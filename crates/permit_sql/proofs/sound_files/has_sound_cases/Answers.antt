@@ -10,8 +10,8 @@ use Rattle.permit_sql.proofs.sound_files.has_sound_cases.Goals as goal
 
 pub returns-in-Some-clause-told : goal.returns-in-Some-clause-told
 returns-in-Some-clause-told g c fine t typed k desk upgrade =
-    let was = c.has_sound_papers.ensures.left fine in
-    let first = c.tallies_of.ensures.left was.0 in
+    let was = c.has_sound_papers.ensures.look.left fine in
+    let first = c.tallies_of.ensures.look.left was.0 in
     let told = rw c.in-Some.is at (c.in_ok-tallies.ensures.told was.0.0 t typed k upgrade) in
     let own_parties : c.desk.inside.parties ≡ c.args.desk.parties = search rules in
     let own_parcels : c.desk.inside.parcels ≡ c.args.desk.parcels = search rules in

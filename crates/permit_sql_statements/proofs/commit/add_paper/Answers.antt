@@ -1,16 +1,8 @@
-use Rattle.sqlite.specs.Held.{state}
-use Rattle.sqlite.proofs.StateLemmas.{survives_weaker}
 use Rattle.permit_sql_statements.proofs.Committing.{paper_committed}
+use Rattle.permit_sql_statements.proofs.Running.{changed_by}
 use Rattle.permit_sql_statements.proofs.commit.add_paper.Goals as goal
 
-pub returns-clause-made : goal.returns-clause-made
-returns-clause-made g c t day clean shows desk fits =
-    c.run_three.ensures.made t _ clean shows
-    (λ k db ran. paper_committed g.S.Store c.args.conn.now db t k day c.args.desk.now c.args.file c.args.new.now c.args.paper.now c.fields_of-now.ensures.named desk fits (rw (c.row_values-fields.ensures, c.paper_values-added.ensures, c.desk_values-office.ensures, c.fields_of-now.ensures.same) at ran))
-
-pub returns-clause-crash : goal.returns-clause-crash
-returns-clause-crash g c =
-    survives_weaker (state g.S.Store c.args.conn.now) (state g.S.Store c.run_three.new.conn) _ _
-    (λ clean trees h t day k desk fits.
-    (h.0, paper_committed g.S.Store c.args.conn.now h.0 t k day c.args.desk.now c.args.file c.args.new.now c.args.paper.now c.fields_of-now.ensures.named desk fits (rw (c.row_values-fields.ensures, c.paper_values-added.ensures, c.desk_values-office.ensures, c.fields_of-now.ensures.same) at h.1), h.2))
-    c.run_three.ensures.crash
+pub returns : goal.returns
+returns g c =
+    changed_by g.S.Store (rw (c.row_values-fields.ensures, c.paper_values-added.ensures, c.desk_values-office.ensures, c.fields_of-now.ensures.same) at c.run_three.ensures)
+    (λ db t k day. paper_committed g.S.Store c.args.conn.now db t k day c.args.desk.now c.args.file c.args.new.now c.args.paper.now c.fields_of-now.ensures.named)

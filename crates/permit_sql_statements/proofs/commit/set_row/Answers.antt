@@ -1,21 +1,8 @@
-use Rattle.sqlite.specs.Held.{state}
-use Rattle.sqlite.proofs.StateLemmas.{survives_weaker}
 use Rattle.permit_sql_statements.proofs.Committing.{row_committed}
+use Rattle.permit_sql_statements.proofs.Running.{changed_by}
 use Rattle.permit_sql_statements.proofs.commit.set_row.Goals as goal
 
-pub returns-clause-made : goal.returns-clause-made
-returns-clause-made g c t day clean shows desk fits =
-    c.run_two.ensures.made t _ clean shows
-    (λ k db ran. row_committed g.S.Store c.args.conn.now db t k day c.args.desk.now c.args.file c.args.new.now c.fields_of.ensures.named desk fits
-    (rw (c.row_values-fields.ensures, c.desk_values-office.ensures, c.fields_of.ensures.same) at ran))
-
-pub returns-clause-crash : goal.returns-clause-crash
-returns-clause-crash g c =
-    survives_weaker (state g.S.Store c.args.conn.now) (state g.S.Store c.run_two.new.conn) _ _
-    (λ clean trees h t day k desk fits. (
-      h.0,
-      row_committed g.S.Store c.args.conn.now h.0 t k day c.args.desk.now c.args.file c.args.new.now c.fields_of.ensures.named desk fits
-          (rw (c.row_values-fields.ensures, c.desk_values-office.ensures, c.fields_of.ensures.same) at h.1),
-      h.2,
-    ))
-    c.run_two.ensures.crash
+pub returns : goal.returns
+returns g c =
+    changed_by g.S.Store (rw (c.row_values-fields.ensures, c.desk_values-office.ensures, c.fields_of.ensures.same) at c.run_two.ensures)
+    (λ db t k day. row_committed g.S.Store c.args.conn.now db t k day c.args.desk.now c.args.file c.args.new.now c.fields_of.ensures.named)

@@ -18,11 +18,8 @@ returns-clause-found g c t clean there =
     let shown = file_shown old new t rows.items keeps c.args.file (rw (c.params-to_sql.ensures, c.get.ensures.same) at h) in
     ap (λ l. slice_get l 0) shown ∙ first_of shown_file (λ f. eqb f.id c.args.file) t.files) (c.rows_of.ensures.shown clean)
 
-pub returns-clause-kept : goal.returns-clause-kept
-returns-clause-kept g c t clean there = c.rows_of.ensures.kept (plain_second READ_FILE.now read_file_plain) t clean there
-
-pub returns-clause-crash : goal.returns-clause-crash
-returns-clause-crash g c t there = c.rows_of.ensures.crash (plain_second READ_FILE.now read_file_plain) t there
+pub returns-clause-read : goal.returns-clause-read
+returns-clause-read g c = c.rows_of.ensures.read (plain_second READ_FILE.now read_file_plain)
 
 pub returns-clause-named : goal.returns-clause-named
 returns-clause-named g c t clean there =

@@ -15,8 +15,5 @@ returns-clause-found g c t clean there =
     interest_shown old new t rows.items keeps c.args.parcel c.args.party
     (rw (c.params-to_sql.ensures, c.params-to_sql-2.ensures, c.get.ensures.same, c.get-2.ensures.same) at h)) (c.rows_of.ensures.shown clean)
 
-pub returns-clause-kept : goal.returns-clause-kept
-returns-clause-kept g c t clean there = c.rows_of.ensures.kept (plain_second FIND_INTEREST.now find_interest_plain) t clean there
-
-pub returns-clause-crash : goal.returns-clause-crash
-returns-clause-crash g c t there = c.rows_of.ensures.crash (plain_second FIND_INTEREST.now find_interest_plain) t there
+pub returns-clause-read : goal.returns-clause-read
+returns-clause-read g c = c.rows_of.ensures.read (plain_second FIND_INTEREST.now find_interest_plain)

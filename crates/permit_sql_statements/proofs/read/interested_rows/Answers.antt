@@ -14,8 +14,5 @@ returns-clause-found g c t clean there =
     let keeps = there (shown_open _ _ old new rows.items h) in
     interested_shown old new t rows.items keeps c.args.party (rw (c.params-to_sql.ensures, c.get.ensures.same) at h)) (c.rows_of.ensures.shown clean)
 
-pub returns-clause-kept : goal.returns-clause-kept
-returns-clause-kept g c t clean there = c.rows_of.ensures.kept (plain_second FIND_INTERESTED.now find_interested_plain) t clean there
-
-pub returns-clause-crash : goal.returns-clause-crash
-returns-clause-crash g c t there = c.rows_of.ensures.crash (plain_second FIND_INTERESTED.now find_interested_plain) t there
+pub returns-clause-read : goal.returns-clause-read
+returns-clause-read g c = c.rows_of.ensures.read (plain_second FIND_INTERESTED.now find_interested_plain)

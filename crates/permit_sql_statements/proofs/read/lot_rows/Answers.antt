@@ -18,8 +18,5 @@ returns-clause-found g c t clean there =
     let shown = lot_shown old new t rows.items keeps c.args.lot.now (rw (c.params-to_sql.ensures, c.as_str.ensures.same) at h) in
     ap (λ l. slice_get l 0) shown ∙ first_of shown_parcel (λ p. bytes_eq p.lot c.args.lot.now) t.parcels) (c.rows_of.ensures.shown clean)
 
-pub returns-clause-kept : goal.returns-clause-kept
-returns-clause-kept g c t clean there = c.rows_of.ensures.kept (plain_second FIND_PARCEL.now find_parcel_plain) t clean there
-
-pub returns-clause-crash : goal.returns-clause-crash
-returns-clause-crash g c t there = c.rows_of.ensures.crash (plain_second FIND_PARCEL.now find_parcel_plain) t there
+pub returns-clause-read : goal.returns-clause-read
+returns-clause-read g c = c.rows_of.ensures.read (plain_second FIND_PARCEL.now find_parcel_plain)

@@ -15,8 +15,5 @@ returns-clause-found g c t clean there =
     notice_shown old new t rows.items keeps c.args.file c.args.number (rw
     (c.params-to_sql.ensures, c.params-to_sql-2.ensures, c.get.ensures.same, c.get-2.ensures.same) at h)) (c.rows_of.ensures.shown clean)
 
-pub returns-clause-kept : goal.returns-clause-kept
-returns-clause-kept g c t clean there = c.rows_of.ensures.kept (plain_second FIND_NOTICE.now find_notice_plain) t clean there
-
-pub returns-clause-crash : goal.returns-clause-crash
-returns-clause-crash g c t there = c.rows_of.ensures.crash (plain_second FIND_NOTICE.now find_notice_plain) t there
+pub returns-clause-read : goal.returns-clause-read
+returns-clause-read g c = c.rows_of.ensures.read (plain_second FIND_NOTICE.now find_notice_plain)

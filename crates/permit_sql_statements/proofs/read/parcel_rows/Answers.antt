@@ -17,8 +17,5 @@ returns-clause-found g c t clean there =
     let shown = parcel_shown old new t rows.items keeps c.args.parcel (rw (c.params-to_sql.ensures, c.get.ensures.same) at h) in
     ap (λ l. slice_get l 0) shown ∙ first_of shown_parcel (λ p. eqb p.id c.args.parcel) t.parcels) (c.rows_of.ensures.shown clean)
 
-pub returns-clause-kept : goal.returns-clause-kept
-returns-clause-kept g c t clean there = c.rows_of.ensures.kept (plain_second READ_PARCEL.now read_parcel_plain) t clean there
-
-pub returns-clause-crash : goal.returns-clause-crash
-returns-clause-crash g c t there = c.rows_of.ensures.crash (plain_second READ_PARCEL.now read_parcel_plain) t there
+pub returns-clause-read : goal.returns-clause-read
+returns-clause-read g c = c.rows_of.ensures.read (plain_second READ_PARCEL.now read_parcel_plain)

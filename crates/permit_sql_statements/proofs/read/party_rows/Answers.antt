@@ -17,8 +17,5 @@ returns-clause-found g c t clean there =
     let shown = party_shown old new t rows.items keeps c.args.party (rw (c.params-to_sql.ensures, c.get.ensures.same) at h) in
     ap (λ l. slice_get l 0) shown ∙ first_of shown_party (λ p. eqb p.id c.args.party) t.parties) (c.rows_of.ensures.shown clean)
 
-pub returns-clause-kept : goal.returns-clause-kept
-returns-clause-kept g c t clean there = c.rows_of.ensures.kept (plain_second READ_PARTY.now read_party_plain) t clean there
-
-pub returns-clause-crash : goal.returns-clause-crash
-returns-clause-crash g c t there = c.rows_of.ensures.crash (plain_second READ_PARTY.now read_party_plain) t there
+pub returns-clause-read : goal.returns-clause-read
+returns-clause-read g c = c.rows_of.ensures.read (plain_second READ_PARTY.now read_party_plain)

@@ -1,11 +1,11 @@
-use Rattle.std.proofs.Common.{[], ◌∷◌, filter, sym, ap, subst, ◌∙◌}
+use Rattle.std.proofs.Common.{[], ◌∷◌, filter, ap, subst, ◌∙◌}
 use Rattle.sqlite.specs.Held.{state}
 use Rattle.permit_store.specs.Handing.{AreAmong, is_found_by_any}
 use Rattle.permit_store.proofs.Sieving.{among}
-use Rattle.permit_sql_rows.specs.Kept.{Keeps}
 use Rattle.permit_sql_rows.specs.Rows.{int}
 use Rattle.permit_sql_statements.specs.Gave.{Gave}
 use Rattle.permit_sql_statements.proofs.Handing.{gave_under}
+use Rattle.permit_sql_statements.proofs.KeptLemmas.{query_reads}
 use Rattle.permit_sql_statements.proofs.AnyHanding.{handed_among, any_plain}
 use Rattle.permit_sql_statements.proofs.select.each_by_any_text.Goals as goal
 
@@ -29,13 +29,11 @@ returns-clause-handed g c =
           subst (AreAmong c.hand_sifted.result (filter test it.0)) all.2 (among c.hand_sifted.result test it.0 all.1.0 all.0 all.1.1 all.1.2),
     )
 
-pub returns-clause-kept : goal.returns-clause-kept
-returns-clause-kept g c t clean there = λ opened.
-    let old = state g.S.Store c.args.conn.now in
-    let k = there (c.hand_sifted.ensures.fine (clean, opened)).1 in
-    subst (Keeps t) (sym (c.hand_sifted.ensures.same (clean, opened)
-    (any_plain t old.now c.args.routes.now c.text_of_any.result.now c.text_of_any.ensures k))) k
+pub returns-clause-read : goal.returns-clause-read
+returns-clause-read g c =
+    query_reads g.S.Store c.hand_sifted.result c.hand_sifted.ensures.query c.hand_sifted.ensures.query.opened
+    (λ t k. any_plain t (state g.S.Store c.args.conn.now).now c.args.routes.now c.text_of_any.result.now c.text_of_any.ensures k)
 
 pub returns-clause-crash : goal.returns-clause-crash
-returns-clause-crash g c t k = c.hand_sifted.ensures.crash (λ clean. any_plain t
+returns-clause-crash g c t k = c.hand_sifted.ensures.query.crash (λ clean. any_plain t
     (state g.S.Store c.args.conn.now).now c.args.routes.now c.text_of_any.result.now c.text_of_any.ensures (k clean))

@@ -1,7 +1,7 @@
-use Rattle.std.proofs.Common.{sym, subst, subst₂}
+use Rattle.std.proofs.Common.{subst₂}
 use Rattle.sqlite.specs.Held.{state}
-use Rattle.permit_sql_rows.specs.Kept.{Keeps}
 use Rattle.permit_sql_statements.specs.Gave.{Gave}
+use Rattle.permit_sql_statements.proofs.KeptLemmas.{query_reads}
 use Rattle.permit_sql_statements.proofs.RouteAnswers.{asked}
 use Rattle.permit_sql_statements.proofs.Handing.{gave_under, plain_in, handed_shown}
 use Rattle.permit_sql_statements.proofs.select.each_by_text.Goals as goal
@@ -10,7 +10,7 @@ pub returns-clause-handed : goal.returns-clause-handed
 returns-clause-handed g c =
     let old = state g.S.Store c.args.conn.now in
     let new = state g.S.Store c.hand_rows.new.conn in
-    let it = c.hand_rows.ensures.handed in
+    let it = rw c.conn.view_is at c.hand_rows.ensures.handed in
     let params = asked c.args.route.now c.args.caller c.args.day c.count_of.result c.values_of-values.result c.count_of.ensures c.values_of-values.ensures in (
       it.0,
       it.1,
@@ -22,12 +22,12 @@ returns-clause-handed g c =
           (subst₂ (λ s p. Gave c.args.upgrade c.hand_rows.result s p old new it.0) c.text_of.ensures params gave)),
     )
 
-pub returns-clause-kept : goal.returns-clause-kept
-returns-clause-kept g c t clean there = λ opened.
-    let old = state g.S.Store c.args.conn.now in
-    let k = there (c.hand_rows.ensures.fine (clean, opened)).1 in
-    subst (Keeps t) (sym (c.hand_rows.ensures.same (clean, opened) (plain_in t old.now c.args.route.now c.text_of.result.now c.text_of.ensures k))) k
+pub returns-clause-read : goal.returns-clause-read
+returns-clause-read g c =
+    query_reads g.S.Store c.hand_rows.result (rw c.conn.view_is at c.hand_rows.ensures.query) c.hand_rows.ensures.query.opened
+    (λ t k. plain_in t (state g.S.Store c.args.conn.now).now c.args.route.now c.text_of.result.now c.text_of.ensures k)
 
 pub returns-clause-crash : goal.returns-clause-crash
-returns-clause-crash g c t k = c.hand_rows.ensures.crash (λ clean. plain_in t
-    (state g.S.Store c.args.conn.now).now c.args.route.now c.text_of.result.now c.text_of.ensures (k clean))
+returns-clause-crash g c t k =
+    let query = rw c.conn.view_is at c.hand_rows.ensures.query in
+    query.crash (λ clean. plain_in t (state g.S.Store c.args.conn.now).now c.args.route.now c.text_of.result.now c.text_of.ensures (k clean))

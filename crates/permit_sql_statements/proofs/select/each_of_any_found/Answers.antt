@@ -1,6 +1,7 @@
 use Rattle.std.proofs.Common.{[], ◌∷◌, filter, sym, ap, ap₂, subst, ◌∙◌, arith}
 use Rattle.sqlite.specs.State.{HasCleanDisk}
 use Rattle.sqlite.specs.Held.{state}
+use Rattle.permit_model.specs.Tables.{Tables}
 use Rattle.permit_store.specs.Handing.{AreAmong, is_found_by_any}
 use Rattle.permit_store.proofs.Sieving.{among}
 use Rattle.permit_sql_rows.specs.Kept.{Keeps}
@@ -8,7 +9,7 @@ use Rattle.permit_sql_rows.specs.Rows.{int}
 use Rattle.permit_sql_statements.specs.Gave.{Gave}
 use Rattle.permit_sql_statements.proofs.AnyHanding.{handed_among_without, any_plain_without}
 use Rattle.permit_sql_statements.proofs.Handing.{gave_under, none_taken, none_among}
-use Rattle.permit_sql_statements.proofs.KeptLemmas.{survives_both}
+use Rattle.permit_sql_statements.proofs.KeptLemmas.{query_reads, reads_then}
 use Rattle.permit_sql_statements.proofs.Reading.{none_counted}
 use Rattle.permit_sql_statements.proofs.select.each_of_any_found.Goals as goal
 
@@ -27,20 +28,14 @@ returns-then-branch-clause-handed g c =
       it.0,
       it.1,
       it.2,
-      λ t clean there. it.3 t clean (c.is_interested.ensures.kept t
-          (omega (arith, c.each_by_any_text-then-branch.ensures.doubt, clean)) there),
+      λ t clean there. it.3 t clean (c.is_interested.ensures.read.kept t
+          (omega (arith, c.each_by_any_text-then-branch.ensures.read.doubt, clean)) there),
     )
 
-pub returns-then-branch-clause-kept : goal.returns-then-branch-clause-kept
-returns-then-branch-clause-kept g c t clean there =
-    c.each_by_any_text-then-branch.ensures.kept t clean (c.is_interested.ensures.kept t
-    (omega (arith, c.each_by_any_text-then-branch.ensures.doubt, clean)) there)
-
-pub returns-then-branch-clause-crash : goal.returns-then-branch-clause-crash
-returns-then-branch-clause-crash g c t k =
-    survives_both _ _ _ (c.is_interested.ensures.crash t k) (c.each_by_any_text-then-branch.ensures.crash t (λ clean.
-    let late : HasCleanDisk (state g.S.Store c.is_interested.new.conn) = omega (arith, c.each_by_any_text-then-branch.ensures.doubt, clean) in
-    c.is_interested.ensures.kept t late (λ opened. k) (c.in_ok-is_interested.ensures.open late)))
+pub returns-then-branch-clause-read : goal.returns-then-branch-clause-read
+returns-then-branch-clause-read g c =
+    reads_then g.S.Store c.each_by_any_text-then-branch.result c.in_ok-is_interested.ensures.read c.in_ok-is_interested.ensures.read.opened
+    c.each_by_any_text-then-branch.ensures.read c.each_by_any_text-then-branch.ensures.crash
 
 pub returns-clause-handed : goal.returns-clause-handed
 returns-clause-handed g c =
@@ -54,8 +49,8 @@ returns-clause-handed g c =
       it.1,
       it.2,
       λ t clean there same.
-          let late : HasCleanDisk (state g.S.Store c.is_interested.new.conn) = omega (arith, c.hand_sifted.ensures.doubt, clean) in
-          let shows = c.is_interested.ensures.kept t late there in
+          let late : HasCleanDisk (state g.S.Store c.is_interested.new.conn) = omega (arith, c.hand_sifted.ensures.query.doubt, clean) in
+          let shows = c.is_interested.ensures.read.kept t late there in
           let none = sym (c.in_ok-is_interested.ensures.found t late there) ∙ c.if-branch.false in
           let asked = ap₂ (λ v w. v ∷ w ∷ []) (c.number.ensures ∙ ap int c.get.ensures.same) c.number-2.ensures in
           let gave = it.3 clean (λ opened. any_plain_without t mid.now routes text c.in-Some.ensures.some (shows opened)) in
@@ -65,18 +60,11 @@ returns-clause-handed g c =
           subst (AreAmong c.hand_sifted.result (filter test it.0)) all.2 (among c.hand_sifted.result test it.0 all.1.0 all.0 all.1.1 all.1.2),
     )
 
-pub returns-clause-kept : goal.returns-clause-kept
-returns-clause-kept g c t clean there = λ opened.
+pub returns-clause-read : goal.returns-clause-read
+returns-clause-read g c =
     let mid = state g.S.Store c.is_interested.new.conn in
-    let shows = c.is_interested.ensures.kept t (omega (arith, c.hand_sifted.ensures.doubt, clean)) there in
-    let k = shows (c.hand_sifted.ensures.fine (clean, opened)).1 in
-    subst (Keeps t) (sym (c.hand_sifted.ensures.same (clean, opened)
-    (any_plain_without t mid.now c.args.routes.now c.in-Some.text.now c.in-Some.ensures.some k))) k
-
-pub returns-clause-crash : goal.returns-clause-crash
-returns-clause-crash g c t k =
-    let mid = state g.S.Store c.is_interested.new.conn in
-    survives_both _ _ _ (c.is_interested.ensures.crash t k) (c.hand_sifted.ensures.crash (λ clean.
-    let late : HasCleanDisk (state g.S.Store c.is_interested.new.conn) = omega (arith, c.hand_sifted.ensures.doubt, clean) in
-    any_plain_without t mid.now c.args.routes.now c.in-Some.text.now c.in-Some.ensures.some
-    (c.is_interested.ensures.kept t late (λ opened. k) (c.in_ok-is_interested.ensures.open late))))
+    let plain = λ (t : Tables) (k : Keeps t mid.now). any_plain_without t mid.now c.args.routes.now c.in-Some.text.now c.in-Some.ensures.some k in
+    let query = c.hand_sifted.ensures.query in
+    let two = query_reads g.S.Store c.hand_sifted.result query query.opened plain in
+    reads_then g.S.Store c.hand_sifted.result c.in_ok-is_interested.ensures.read c.in_ok-is_interested.ensures.read.opened two
+    (λ t k. query.crash (λ clean. plain t (k clean)))

@@ -15,10 +15,6 @@ returns-clause-found g c t clean there =
     route_shown t c.args.caller c.get-id.ensures.within.0 c.args.route.now c.args.day old new (there (shown_open _ _ old new rows.items h)) rows.items
     (rw (c.text_of.ensures, params) at h)) (c.rows_of.ensures.shown clean)
 
-pub returns-clause-kept : goal.returns-clause-kept
-returns-clause-kept g c t clean there = c.rows_of.ensures.kept
-    (plain_second c.text_of.result.now (λ o. plain_for o c.args.route.now c.text_of.result.now c.text_of.ensures)) t clean there
-
-pub returns-clause-crash : goal.returns-clause-crash
-returns-clause-crash g c t there = c.rows_of.ensures.crash
-    (plain_second c.text_of.result.now (λ o. plain_for o c.args.route.now c.text_of.result.now c.text_of.ensures)) t there
+pub returns-clause-read : goal.returns-clause-read
+returns-clause-read g c = c.rows_of.ensures.read
+    (plain_second c.text_of.result.now (λ o. plain_for o c.args.route.now c.text_of.result.now c.text_of.ensures))

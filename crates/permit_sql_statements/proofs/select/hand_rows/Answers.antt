@@ -43,38 +43,28 @@ returns-in_default-clause-handed g c = (
   λ clean plain. record { rows = []; are = inl refl; shown = tt },
 )
 
-pub returns-in_default-clause-fine : goal.returns-in_default-clause-fine
-returns-in_default-clause-fine g c fine =
+pub returns-in_default-clause-query : goal.returns-in_default-clause-query
+returns-in_default-clause-query g c =
     let sql = c.args.sql.now in
     let params = bound c.args.params.now in
     let last = c.query.follows.lender-at-none in
     let held = c.query.follows.holds-at-none in
+    let old = state g.S.Store c.args.conn.now in
+    let new = state g.S.Store last in
     let refused : IsRefused g.S.Store sql params c.args.conn.now c.query.result last = search rules in
-    let failed = rw c.in_default.is at (refused.err fine.0) in (
-      omega (arith, fine.0, refused.survives.clean),
-      failed_open sql params (state g.S.Store c.args.conn.now)
-          (state g.S.Store last) c.in_default.field-0 fine.1 failed,
-    )
-
-pub returns-in_default-clause-same : goal.returns-in_default-clause-same
-returns-in_default-clause-same g c fine plain =
-    let sql = c.args.sql.now in
-    let params = bound c.args.params.now in
-    let last = c.query.follows.lender-at-none in
-    let held = c.query.follows.holds-at-none in
-    let refused : IsRefused g.S.Store sql params c.args.conn.now c.query.result last = search rules in
-    let failed = rw c.in_default.is at (refused.err fine.0) in
-    let settled = c.is_autocommit-settled.ensures.settled (c.is_autocommit-settled.ensures.value ∙ ap not c.requires.not_in_transaction) in
-    (failed_same sql params (state g.S.Store c.args.conn.now) (state g.S.Store last) c.in_default.field-0 plain settled fine.1 failed).0
-
-pub returns-in_default-clause-crash : goal.returns-in_default-clause-crash
-returns-in_default-clause-crash g c plain =
-    let sql = c.args.sql.now in
-    let params = bound c.args.params.now in
-    let last = c.query.follows.lender-at-none in
-    let held = c.query.follows.holds-at-none in
-    let refused : IsRefused g.S.Store sql params c.args.conn.now c.query.result last = search rules in
-    commits_nothing sql params (state g.S.Store c.args.conn.now) (state g.S.Store last) plain refused.survives
+    record {
+      idle = search rules;
+      fine = λ fine. (
+        omega (arith, fine.0, refused.survives.clean),
+        failed_open sql params old new c.in_default.field-0 fine.1 (rw c.in_default.is at (refused.err fine.0)),
+      );
+      same = λ fine plain.
+          let settled = c.is_autocommit-settled.ensures.settled (c.is_autocommit-settled.ensures.value ∙ ap not c.requires) in
+          failed_same sql params old new c.in_default.field-0 plain settled fine.1 (rw c.in_default.is at (refused.err fine.0));
+      opened = search rules;
+      doubt = search rules;
+      crash = λ plain. commits_nothing sql params old new plain refused.survives;
+    }
 
 pub rows-init : goal.rows-init
 rows-init g c =
@@ -84,7 +74,7 @@ rows-init g c =
       refl,
       made.survives.clean,
       made.survives,
-      made.mode c.requires.not_in_transaction,
+      made.mode c.requires,
       [],
       refl,
       none_counted c.args.handed.now (omega (arith, c.if-prove.false)),
@@ -195,33 +185,61 @@ returns-then-not-take-clause-handed g c =
           },
     )
 
-pub returns-in_default-next-clause-crash : goal.returns-in_default-next-clause-crash
-returns-in_default-next-clause-crash g c plain =
+pub returns-in_default-next-clause-query : goal.returns-in_default-next-clause-query
+returns-in_default-next-clause-query g c =
     let now = c.next.follows.lender-at-none.conn.now in
     let same : now ≡ c.conn-in_default-next-1.given.0 = search rules in
-    ended c.args.sql.now (bound c.args.params.now) (state g.S.Store c.args.conn.now) (state g.S.Store c.rows.rows.conn.now)
-    (state g.S.Store now) _ c.rows.invariant.2 c.next.follows.holds-at-none.survives (ap (state g.S.Store) same) plain
+    record {
+      idle = search rules;
+      fine = search rules;
+      same = search rules;
+      opened = search rules;
+      doubt = search rules;
+      crash = λ plain. ended c.args.sql.now (bound c.args.params.now) (state g.S.Store c.args.conn.now) (state g.S.Store c.rows.rows.conn.now)
+          (state g.S.Store now) _ c.rows.invariant.2 c.next.follows.holds-at-none.survives (ap (state g.S.Store) same) plain;
+    }
 
-pub returns-in_default-next-2-clause-crash : goal.returns-in_default-next-2-clause-crash
-returns-in_default-next-2-clause-crash g c plain =
+pub returns-in_default-next-2-clause-query : goal.returns-in_default-next-2-clause-query
+returns-in_default-next-2-clause-query g c =
     let now = c.next.follows.lender-at-none.conn.now in
     let same : now ≡ c.conn-in_default-next-2-1.given.0 = search rules in
-    ended c.args.sql.now (bound c.args.params.now) (state g.S.Store c.args.conn.now) (state g.S.Store c.rows.rows.conn.now)
-    (state g.S.Store now) _ c.rows.invariant.2 c.next.follows.holds-at-none.survives (ap (state g.S.Store) same) plain
+    record {
+      idle = search rules;
+      fine = search rules;
+      same = search rules;
+      opened = search rules;
+      doubt = search rules;
+      crash = λ plain. ended c.args.sql.now (bound c.args.params.now) (state g.S.Store c.args.conn.now) (state g.S.Store c.rows.rows.conn.now)
+          (state g.S.Store now) _ c.rows.invariant.2 c.next.follows.holds-at-none.survives (ap (state g.S.Store) same) plain;
+    }
 
-pub returns-in_default-found_of-clause-crash : goal.returns-in_default-found_of-clause-crash
-returns-in_default-found_of-clause-crash g c plain =
+pub returns-in_default-found_of-clause-query : goal.returns-in_default-found_of-clause-query
+returns-in_default-found_of-clause-query g c =
     let now = c.next.follows.lender-at-none.conn.now in
     let same : now ≡ c.conn-in_default-found_of-1.given.0 = search rules in
-    ended c.args.sql.now (bound c.args.params.now) (state g.S.Store c.args.conn.now) (state g.S.Store c.rows.rows.conn.now)
-    (state g.S.Store now) _ c.rows.invariant.2 c.next.follows.holds-at-none.survives (ap (state g.S.Store) same) plain
+    record {
+      idle = search rules;
+      fine = search rules;
+      same = search rules;
+      opened = search rules;
+      doubt = search rules;
+      crash = λ plain. ended c.args.sql.now (bound c.args.params.now) (state g.S.Store c.args.conn.now) (state g.S.Store c.rows.rows.conn.now)
+          (state g.S.Store now) _ c.rows.invariant.2 c.next.follows.holds-at-none.survives (ap (state g.S.Store) same) plain;
+    }
 
-pub returns-then-not-take-clause-crash : goal.returns-then-not-take-clause-crash
-returns-then-not-take-clause-crash g c plain =
+pub returns-then-not-take-clause-query : goal.returns-then-not-take-clause-query
+returns-then-not-take-clause-query g c =
     let now = c.next.follows.lender-at-none.conn.now in
     let same : now ≡ c.conn-then-not-take-1.given.0 = search rules in
-    ended c.args.sql.now (bound c.args.params.now) (state g.S.Store c.args.conn.now) (state g.S.Store c.rows.rows.conn.now)
-    (state g.S.Store now) _ c.rows.invariant.2 c.next.follows.holds-at-none.survives (ap (state g.S.Store) same) plain
+    record {
+      idle = search rules;
+      fine = search rules;
+      same = search rules;
+      opened = search rules;
+      doubt = search rules;
+      crash = λ plain. ended c.args.sql.now (bound c.args.params.now) (state g.S.Store c.args.conn.now) (state g.S.Store c.rows.rows.conn.now)
+          (state g.S.Store now) _ c.rows.invariant.2 c.next.follows.holds-at-none.survives (ap (state g.S.Store) same) plain;
+    }
 
 pub rows-preserved : goal.rows-preserved
 rows-preserved g c =

@@ -10,7 +10,7 @@ counted more passed before after e f = omega arith
 pub returns-clause-handed : goal.returns-clause-handed
 returns-clause-handed g c =
     let routes = c.args.routes.now in
-    let it = c.hand_rows-all.ensures.handed in
+    let it = rw c.conn.view_is at c.hand_rows-all.ensures.handed in
     let test = is_found_by_any routes c.args.caller c.args.day in
     let on = passed_on g.T.Taker.took routes c.args.caller c.args.day c.hand_rows-all.result it.0 _ c.hand_rows-all.new.taker (omega arith)
     (refl, refl, refl) it.1 in
@@ -20,3 +20,6 @@ returns-clause-handed g c =
       counted (length (filter test it.0)) c.hand_rows-all.new.taker.passed c.args.handed.now _ on.passed refl,
       it.3,
     )
+
+pub returns-clause-query : goal.returns-clause-query
+returns-clause-query g c = rw c.conn.view_is at c.hand_rows-all.ensures.query

@@ -1,6 +1,5 @@
 use Rattle.std.proofs.Common.{◌≡◌, List, [], ◌∷◌, ◌++◌, map, take, take_all, get_or, length, ◌≤◌, Ok, true, ℕ, refl, sym, subst, ◌∙◌, arith, rules}
 use Rattle.sqlite.specs.Held.{Held, state}
-use Rattle.sqlite_trees.specs.Tree.{Trees}
 use Rattle.sqlite_trees.specs.declared.store.Store.{Ghosts}
 use Rattle.sqlite.specs.Effect.{Database}
 use Rattle.sqlite.specs.State.{HasCleanDisk, Survives, Executes}
@@ -50,45 +49,49 @@ all_ran g statements at old last whole ran = record {
   is = refl;
 }
 
-pub returns-clause-all : goal.returns-clause-all
-returns-clause-all g c clean =
+-- the last call ends the transaction: all statements are made by it, or it leaves what was there
+ended : {S : Type 0} (g : Ghosts S) (statements : List program.Statement) (at : ℕ) (old last mid end : Held S) → mid ≡ end → length statements ≤ at →
+    Survives (state g (record old { in_transaction = true })) (state g last) (λ _. ⊥) →
+    (HasCleanDisk (state g last) → Ran g (map text_and_params (take at statements)) (record old { in_transaction = true }) last) →
+    Survives (state g last) (state g mid) (λ trees. trees ≡ (state g last).now.trees) →
+    Survives (state g old) (state g end) (λ trees. (db : Database) × RanAll g (map text_and_params statements) old db × (trees ≡ db.trees))
+ended g statements at old last mid end same whole before ran commits =
+    subst (λ h. Survives (state g old) (state g h) (λ trees. (db : Database) × RanAll g (map text_and_params statements) old db × (trees ≡ db.trees))) same
+    (survives_then (state g old) (state g last) (state g mid) _ _ _ (λ _ db none. absurd none)
+    (λ clean db is. ((state g last).now, all_ran g statements at old last whole (ran (omega (arith, commits.clean, clean))), is))
+    (survives_begin g old (state g last) _ before) commits)
+
+pub returns : goal.returns
+returns g c =
+    let old = c.args.conn.now in
     let last = c.statements.tx.conn.now in
     let end = c.commit.new.self.0 in
+    let at = c.statements.statement-index in
     let same : end ≡ c.conn-2-1.given.0 = search rules in
-    let late : HasCleanDisk (state g.S.Store end) = search rules in
-    let kept = c.statements.invariant.2 (omega (arith, c.commit.ensures.survives.clean)) in
-    let made = all_ran g.S.Store c.args.statements.now c.statements.statement-index c.args.conn.now last (omega (arith, c.statements-test.false)) kept.0 in
-    subst (λ h. RanAll g.S.Store (map text_and_params c.args.statements.now) c.args.conn.now (state g.S.Store h).committed) same
-    (subst (RanAll g.S.Store (map text_and_params c.args.statements.now) c.args.conn.now) (sym (c.in_ok-commit.ensures.ok late).1.committed_is) made)
+    record {
+      all = λ clean.
+          let late : HasCleanDisk (state g.S.Store end) = search rules in
+          let kept = c.statements.invariant.2 (omega (arith, c.commit.ensures.survives.clean)) in
+          let made = all_ran g.S.Store c.args.statements.now at old last (omega (arith, c.statements-test.false)) kept.0 in
+          subst (λ h. RanAll g.S.Store (map text_and_params c.args.statements.now) old (state g.S.Store h).committed) same
+          (subst (RanAll g.S.Store (map text_and_params c.args.statements.now) old) (sym (c.in_ok-commit.ensures.ok late).1.committed_is) made);
+      shown = search rules;
+      transaction = search rules;
+      crash = ended g.S.Store c.args.statements.now at old last end _ same (omega (arith, c.statements-test.false)) c.statements.invariant.1
+          (λ clean. (c.statements.invariant.2 clean).0) c.commit.ensures.survives;
+    }
 
-pub returns-clause-crash : goal.returns-clause-crash
-returns-clause-crash g c =
+pub returns-in_err-commit : goal.returns-in_err-commit
+returns-in_err-commit g c =
     let old = c.args.conn.now in
     let last = c.statements.tx.conn.now in
-    let P = λ (trees : Trees). (db : Database) × RanAll g.S.Store (map text_and_params c.args.statements.now) old db × (trees ≡ db.trees) in
-    let whole = survives_then (state g.S.Store old) (state g.S.Store last) (state g.S.Store c.commit.new.self.0) _ _ P (λ _ db none. absurd none)
-    (λ clean db is. (
-      _,
-      all_ran g.S.Store c.args.statements.now c.statements.statement-index old last (omega (arith, c.statements-test.false))
-          (c.statements.invariant.2 (omega (arith, c.commit.ensures.survives.clean))).0,
-      is,
-    ))
-    (survives_begin g.S.Store old (state g.S.Store last) _ c.statements.invariant.1) c.commit.ensures.survives in
-    let same : c.commit.new.self.0 ≡ c.conn-2-1.given.0 = search rules in
-    subst (λ h. Survives (state g.S.Store old) (state g.S.Store h) P) same whole
-
-pub returns-in_err-commit-clause-crash : goal.returns-in_err-commit-clause-crash
-returns-in_err-commit-clause-crash g c =
-    let old = c.args.conn.now in
-    let last = c.statements.tx.conn.now in
-    let P = λ (trees : Trees). (db : Database) × RanAll g.S.Store (map text_and_params c.args.statements.now) old db × (trees ≡ db.trees) in
-    let whole = survives_then (state g.S.Store old) (state g.S.Store last) (state g.S.Store c.commit.new.self.0) _ _ P (λ _ db none. absurd none)
-    (λ clean db is. (
-      _,
-      all_ran g.S.Store c.args.statements.now c.statements.statement-index old last (omega (arith, c.statements-test.false))
-          (c.statements.invariant.2 (omega (arith, c.commit.ensures.survives.clean))).0,
-      is,
-    ))
-    (survives_begin g.S.Store old (state g.S.Store last) _ c.statements.invariant.1) c.commit.ensures.survives in
-    let same : c.commit.new.self.0 ≡ c.conn-2-1.given.0 = search rules in
-    subst (λ h. Survives (state g.S.Store old) (state g.S.Store h) P) same whole
+    let end = c.commit.new.self.0 in
+    let at = c.statements.statement-index in
+    let same : end ≡ c.conn-2-1.given.0 = search rules in
+    record {
+      all = search rules;
+      shown = search rules;
+      transaction = search rules;
+      crash = ended g.S.Store c.args.statements.now at old last end _ same (omega (arith, c.statements-test.false)) c.statements.invariant.1
+          (λ clean. (c.statements.invariant.2 clean).0) c.commit.ensures.survives;
+    }

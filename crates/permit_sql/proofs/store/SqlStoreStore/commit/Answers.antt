@@ -31,12 +31,9 @@ returns-clause-made g c t held fits =
 
 pub returns-clause-commit : goal.returns-clause-commit
 returns-clause-commit g c =
-    let s = c.args.self.now in
-    let n = c.counted.new.self in
     let e = c.counted.ensures in
     let it = c.commit_in-got.ensures in
-    commit_counted g.S.Store s.conn c.commit_in-got.new.conn s.upgrade s.handed s.failed s.commits n.conn n.upgrade n.handed n.failed n.commits
-    c.commit_in-got.result c.counted.result e.same e.conn e.others.2 it.doubt it.open e.others.0 e.failed e.others.1 it.kept
+    commit_counted g.S.Store c.args.self.now.conn c.args.self.now.handed e.same e.conn it.kept it.open it.doubt e.others.2 e.others.0 e.failed e.others.1
 
 pub returns-clause-crash : goal.returns-clause-crash
 returns-clause-crash g c t fits keeps = rw c.counted.ensures.conn (c.commit_in-got.ensures.crash t keeps fits)

@@ -6,23 +6,19 @@ use Rattle.permit_sql.proofs.store.SqlStoreStore.each.Goals as goal
 
 pub returns-clause-handed : goal.returns-clause-handed
 returns-clause-handed g c =
-    let s = c.args.self.now in
-    let n = c.counted.new.self in
     let e = c.counted.ensures in
     let it = c.each_found-all.ensures in
     let given = it.handed in (
       given.0,
       record {
         taken = rw e.same given.1;
-        read = read_counted g.S.Store s.conn c.each_found-all.new.conn s.upgrade s.handed s.failed s.commits n.conn n.upgrade n.handed n.failed n.commits
-            c.each_found-all.result c.counted.result e.same e.conn e.others.2 it.doubt it.open _
-            (e.others.0 ∙ given.2) e.failed e.others.1 it.kept;
+        read = read_counted g.S.Store c.args.self.now.handed it.read e.same e.conn e.others.2 (e.others.0 ∙ given.2) e.failed e.others.1;
       },
       λ sure t held.
           let clean = subst (λ h. HasCleanDisk (state g.S.Store h)) e.conn sure in
-          let was = held (omega (arith, it.doubt, clean)) in
+          let was = held (omega (arith, it.read.doubt, clean)) in
           rw e.same (given.3 t clean was.1 was.0),
     )
 
 pub returns-clause-crash : goal.returns-clause-crash
-returns-clause-crash g c t keeps = rw c.counted.ensures.conn (c.each_found-all.ensures.crash t keeps)
+returns-clause-crash g c t keeps = rw c.counted.ensures.conn (c.each_found-all.ensures.read.crash t keeps)

@@ -9,18 +9,15 @@ pub returns-clause-found : goal.returns-clause-found
 returns-clause-found g c sure t held =
     let it = c.read_file-got.ensures in
     let clean = subst (λ h. HasCleanDisk (state g.S.Store h)) c.looked_up.ensures.conn sure in
-    let was = held (omega (arith, it.doubt, clean)) in
+    let was = held (omega (arith, it.read.doubt, clean)) in
     rw c.looked_up.ensures.same (it.found t clean was.1 was.0)
 
 pub returns-clause-read : goal.returns-clause-read
 returns-clause-read g c =
     let s = c.args.self.now in
-    let n = c.looked_up.new.self in
     let e = c.looked_up.ensures in
     let it = c.read_file-got.ensures in
-    read_counted g.S.Store s.conn c.read_file-got.new.conn s.upgrade s.handed s.failed s.commits n.conn n.upgrade n.handed n.failed n.commits
-    c.read_file-got.result c.looked_up.result e.same e.conn e.others.1 it.doubt it.open _
-    (e.handed ∙ ap (λ x. handed_after x s.handed) (sym e.same)) e.failed e.others.0 it.kept
+    read_counted g.S.Store s.handed it.read e.same e.conn e.others.1 (e.handed ∙ ap (λ x. handed_after x s.handed) (sym e.same)) e.failed e.others.0
 
 pub returns-clause-crash : goal.returns-clause-crash
-returns-clause-crash g c t keeps = rw c.looked_up.ensures.conn (c.read_file-got.ensures.crash t keeps)
+returns-clause-crash g c t keeps = rw c.looked_up.ensures.conn (c.read_file-got.ensures.read.crash t keeps)

@@ -8,16 +8,13 @@ pub returns-clause-found : goal.returns-clause-found
 returns-clause-found g c sure t held =
     let it = c.read_role-got.ensures in
     let clean = subst (λ h. HasCleanDisk (state g.S.Store h)) c.counted.ensures.conn sure in
-    rw c.counted.ensures.same (it.found t clean (held (omega (arith, it.doubt, clean))).1)
+    rw c.counted.ensures.same (it.found t clean (held (omega (arith, it.read.doubt, clean))).1)
 
 pub returns-clause-read : goal.returns-clause-read
 returns-clause-read g c =
-    let s = c.args.self.now in
-    let n = c.counted.new.self in
     let e = c.counted.ensures in
     let it = c.read_role-got.ensures in
-    read_counted g.S.Store s.conn c.read_role-got.new.conn s.upgrade s.handed s.failed s.commits n.conn n.upgrade n.handed n.failed n.commits
-    c.read_role-got.result c.counted.result e.same e.conn e.others.2 it.doubt it.open _ e.others.0 e.failed e.others.1 it.kept
+    read_counted g.S.Store c.args.self.now.handed it.read e.same e.conn e.others.2 e.others.0 e.failed e.others.1
 
 pub returns-clause-crash : goal.returns-clause-crash
-returns-clause-crash g c t keeps = rw c.counted.ensures.conn (c.read_role-got.ensures.crash t keeps)
+returns-clause-crash g c t keeps = rw c.counted.ensures.conn (c.read_role-got.ensures.read.crash t keeps)

@@ -9,18 +9,15 @@ pub returns-clause-found : goal.returns-clause-found
 returns-clause-found g c sure t held =
     let it = c.select_found-got.ensures in
     let clean = subst (λ h. HasCleanDisk (state g.S.Store h)) c.selected.ensures.conn sure in
-    let was = held (omega (arith, it.doubt, clean)) in
+    let was = held (omega (arith, it.read.doubt, clean)) in
     rw c.selected.ensures.same (it.found t clean was.1 was.0)
 
 pub returns-clause-read : goal.returns-clause-read
 returns-clause-read g c =
     let s = c.args.self.now in
-    let n = c.selected.new.self in
     let e = c.selected.ensures in
     let it = c.select_found-got.ensures in
-    read_counted g.S.Store s.conn c.select_found-got.new.conn s.upgrade s.handed s.failed s.commits n.conn n.upgrade n.handed n.failed n.commits
-    c.select_found-got.result c.selected.result e.same e.conn e.others.1 it.doubt it.open _
-    (e.handed ∙ ap (λ x. selected_after (λ v. length v.items) x s.handed) (sym e.same)) e.failed e.others.0 it.kept
+    read_counted g.S.Store s.handed it.read e.same e.conn e.others.1 (e.handed ∙ ap (λ x. selected_after (λ v. length v.items) x s.handed) (sym e.same)) e.failed e.others.0
 
 pub returns-clause-crash : goal.returns-clause-crash
-returns-clause-crash g c t keeps = rw c.selected.ensures.conn (c.select_found-got.ensures.crash t keeps)
+returns-clause-crash g c t keeps = rw c.selected.ensures.conn (c.select_found-got.ensures.read.crash t keeps)
