@@ -1,7 +1,7 @@
 //! The tables that a text leaves.
 
-use crate::life::{LINES, replay_lines, text};
-use permit_base::values::{Day, Digest, FileId, PaperNumber, ParcelId, PartyId};
+use crate::life::{life, replay_lines, text};
+use permit_base::values::{Digest, FileId, PaperNumber, ParcelId, PartyId};
 use permit_base::words::{Edition, Kind, PaperSort, Role, Stage};
 use permit_replay::fault::ReplayFault;
 use permit_replay::replay;
@@ -18,6 +18,13 @@ fn store_of(alloc: Global, lines: &[&str]) -> Result<PlainStore, Fail> {
     }
 }
 
+/// The first lines of the life, so many.
+fn first(alloc: Global, count: usize) -> Result<Vec<&'static str>, Fail> {
+    let mut lines = life(alloc)?;
+    lines.truncate(count);
+    Ok(lines)
+}
+
 /// A party's number.
 fn party(number: u32) -> Result<PartyId, Fail> {
     Ok(PartyId::new(number).ok_or("a party")?)
@@ -25,7 +32,7 @@ fn party(number: u32) -> Result<PartyId, Fail> {
 
 #[test]
 fn the_founding_and_the_upgrade_make_an_office(rt: HostRuntime) -> Result<(), Fail> {
-    let mut store = store_of(rt.alloc(), &LINES[..2])?;
+    let mut store = store_of(rt.alloc(), first(rt.alloc(), 2)?.as_slice())?;
     let desk = store.desk().ok().ok_or("a desk")?;
     assert!(rt; desk.edition == Edition::Second && desk.last.get() == 19700);
     assert!(rt; desk.parties == 1 && desk.parcels == 0 && desk.files == 0);
@@ -36,7 +43,7 @@ fn the_founding_and_the_upgrade_make_an_office(rt: HostRuntime) -> Result<(), Fa
 
 #[test]
 fn a_whole_life_leaves_its_tables(rt: HostRuntime) -> Result<(), Fail> {
-    let mut store = store_of(rt.alloc(), &LINES)?;
+    let mut store = store_of(rt.alloc(), life(rt.alloc())?.as_slice())?;
     let desk = store.desk().ok().ok_or("a desk")?;
     assert!(rt; desk.last.get() == 19732);
     assert!(rt; desk.parties == 6 && desk.parcels == 1 && desk.files == 1);
@@ -60,7 +67,7 @@ fn a_whole_life_leaves_its_tables(rt: HostRuntime) -> Result<(), Fail> {
 
 #[test]
 fn a_whole_life_leaves_its_papers(rt: HostRuntime) -> Result<(), Fail> {
-    let mut store = store_of(rt.alloc(), &LINES)?;
+    let mut store = store_of(rt.alloc(), life(rt.alloc())?.as_slice())?;
     let house = FileId::new(1).ok_or("a file")?;
     let papers = store.papers(house).ok().ok_or("papers")?;
     assert!(rt; papers.len() == 10);
@@ -76,7 +83,7 @@ fn a_whole_life_leaves_its_papers(rt: HostRuntime) -> Result<(), Fail> {
 
 #[test]
 fn a_party_is_found_by_the_digest_of_its_line(rt: HostRuntime) -> Result<(), Fail> {
-    let mut store = store_of(rt.alloc(), &LINES)?;
+    let mut store = store_of(rt.alloc(), life(rt.alloc())?.as_slice())?;
     let fives = "5555555555555555555555555555555555555555555555555555555555555555";
     let digest = Digest::read(fives).ok_or("a digest")?;
     let sam = store
@@ -90,16 +97,13 @@ fn a_party_is_found_by_the_digest_of_its_line(rt: HostRuntime) -> Result<(), Fai
 
 #[test]
 fn each_beginning_is_replayed_to_its_last_day(rt: HostRuntime) -> Result<(), Fail> {
-    for count in 2..=LINES.len() {
-        let mut store = store_of(rt.alloc(), &LINES[..count])?;
-        let line = LINES[count - 1];
-        let at = line.find("\"day\":").ok_or("a day")? + 6;
-        let day = line[at..at + 5].parse::<u32>().ok().ok_or("a number")?;
+    let life = life(rt.alloc())?;
+    for count in 2..life.len() {
+        let mut store = store_of(rt.alloc(), life.get(..count).ok_or("so many lines")?)?;
+        let (_, rest) = life[count - 1].split_once("\"day\":").ok_or("a day")?;
+        let (day, _) = rest.split_once(',').ok_or("a comma")?;
         let desk = store.desk().ok().ok_or("a desk")?;
-        assert!(rt;
-            Some(desk.last.get()) == Day::new(day).map(|day| day.get()),
-            "{count}"
-        );
+        assert!(rt; desk.last.get() == day.parse::<u32>()?, "{count}");
     }
     Ok(())
 }
@@ -107,7 +111,7 @@ fn each_beginning_is_replayed_to_its_last_day(rt: HostRuntime) -> Result<(), Fai
 #[test]
 fn what_stands_behind_the_last_lf_is_no_line(rt: HostRuntime) -> Result<(), Fail> {
     let alloc = rt.alloc();
-    let mut bytes = text(alloc, &LINES[..3])?;
+    let mut bytes = text(alloc, first(alloc, 3)?.as_slice())?;
     bytes.extend_from_slice(b"{\"body\"")?;
     let mut source = bytes.as_slice();
     let mut store = replay(alloc, &mut source).ok().ok_or("a store")?;
@@ -118,10 +122,20 @@ fn what_stands_behind_the_last_lf_is_no_line(rt: HostRuntime) -> Result<(), Fail
 #[test]
 fn a_text_without_its_second_line_is_short(rt: HostRuntime) -> Result<(), Fail> {
     let alloc = rt.alloc();
-    let none: [&str; 0] = [];
-    assert!(rt; matches!(&replay_lines(alloc, &none)?, Err(ReplayFault::Short)));
-    assert!(rt; matches!(&replay_lines(alloc, &LINES[..1])?, Err(ReplayFault::Short)));
-    let mut bytes = text(alloc, &LINES[..2])?;
+    let none = first(alloc, 0)?;
+    assert!(rt;
+        matches!(
+            &replay_lines(alloc, none.as_slice())?,
+            Err(ReplayFault::Short)
+        )
+    );
+    assert!(rt;
+        matches!(
+            &replay_lines(alloc, first(alloc, 1)?.as_slice())?,
+            Err(ReplayFault::Short)
+        )
+    );
+    let mut bytes = text(alloc, first(alloc, 2)?.as_slice())?;
     let _lf = bytes.pop();
     let mut source = bytes.as_slice();
     assert!(rt; matches!(&replay(alloc, &mut source), Err(ReplayFault::Short)));
@@ -135,8 +149,7 @@ fn a_renewed_token_is_its_partys_and_the_old_one_nobodys(rt: HostRuntime) -> Res
         r#"{"body":{"digest":"@7","party":5},"caller":0,"day":0,"done":"renew-token","id":null,"number":null}"#;
     let again =
         r#"{"body":{"digest":"@5","name":"Eve","role":"public"},"caller":2,"day":19732,"done":"add-party","id":null,"number":7}"#;
-    let mut lines = Vec::new(alloc);
-    lines.extend_from_slice(&LINES)?;
+    let mut lines = life(alloc)?;
     lines.push(renewal)?;
     lines.push(again)?;
     let mut store = store_of(alloc, lines.as_slice())?;
