@@ -59,6 +59,14 @@ fn act<'a, S: Store + Drop>(
 ///
 /// Room for all is made first, so an error means that nothing was done. A request that is refused for the store has its
 /// refusal at its place, and has changed nothing.
+///
+/// # Examples
+///
+/// ```
+/// let events = [Event::Put(0, asked), Event::Take(day), Event::Collect(0)];
+/// let answers = hall_run(alloc, office, &events)?;
+/// assert!(rt; matches!(answers.as_slice(), [(0, Reply::Listed(_))]));
+/// ```
 pub fn hall_run<S: Store + Drop>(
     alloc: Global,
     office: &mut Office<S>,
