@@ -13,6 +13,6 @@ pub record SendsMember (key : List ℕ) (value : Data) (old new : Log) : Type 0 
   pub first : Logs old named (field_key key AsIs)
   pub then : SendsValue value named new
 
--- the members of a file up to notices: whatever members end the object behind them, all are sent
+-- the members of a file up to notices: whatever members end the object after them, all are sent
 abbrev pub SendsBefore : FileView → Log → Log → Type 0
 SendsBefore file old new = (others : Members) (last : Log) → SendsMembers others new last → SendsMembers (members_before file others) old last

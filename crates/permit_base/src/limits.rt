@@ -36,7 +36,7 @@ pub const LONGEST_PERMIT_EXTENSION: u32 = 180;
 /// The most days of a temporary certificate.
 pub const LONGEST_TEMPORARY: u32 = 180;
 
-/// The number of the record behind so many of its kind, where there may be one more.
+/// The number of the record after so many of its kind, where there may be one more.
 pub fn number_after(count: u32) -> Option<u32>
     ensures exact { result ≡ (if nat_lt count most_records then Some (count + 1) else None) }
 {

@@ -59,6 +59,17 @@ fn act<'a, S: Store + Drop>(
 ///
 /// Room for all is made first, so an error means that nothing was done. A request that is refused for the store has its
 /// refusal at its place, and has changed nothing.
+///
+/// # Examples
+///
+/// ```
+/// let events = [Event::Put(0, asked), Event::Take(day), Event::Collect(0)];
+/// let answers = hall_run(alloc, office, &events)?;
+/// let [(session, reply)] = answers.as_slice() else {
+///     return Err(Fail::new("one answer"));
+/// };
+/// assert!(rt; *session == 0 && matches!(reply, Reply::Listed(_)));
+/// ```
 pub fn hall_run<S: Store + Drop>(
     alloc: Global,
     office: &mut Office<S>,

@@ -46,7 +46,7 @@ IsUnfinished bytes = LacksHead bytes ⊎ LacksBody bytes
 abbrev pub HasFault : List ℕ → Fault → Type 0
 HasFault bytes fault = (h : RequestHead) × (after : List ℕ) × HeadAt bytes h after × (judged h.minor (pairs_of h) ≡ Err fault)
 
--- the bytes show a fault, whatever comes behind them: a head that is there has it, or none is and no more of one may come
+-- the bytes show a fault, whatever comes after them: a head that is there has it, or none is and no more of one may come
 abbrev pub ShowsFault : List ℕ → Fault → Type 0
 ShowsFault bytes fault = HasFault bytes fault ⊎ ((fault ≡ Head) × LacksHead bytes × (head_limit ≤ length bytes))
 

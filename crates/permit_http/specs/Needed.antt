@@ -9,7 +9,7 @@ abbrev pub IsWaiting : List ℕ → Type 0
 IsWaiting bytes = IsOpen bytes ⊎ LacksBody bytes
 
 module _ {R : Type 0} (waits : List ℕ → Type 0) (gave : R → List ℕ → R → Type 0) where
-  -- Reads gave these pieces, one after the other, and each was made behind bytes that waited for it. The bytes and the
+  -- Reads gave these pieces, one after the other, and each was made after bytes that waited for it. The bytes and the
   -- reader are at last these.
   abbrev pub ReadsOn : List ℕ → R → List (List ℕ) → List ℕ → R → Type 0
   ReadsOn bytes reader [] last after = (last ≡ bytes) × (after ≡ reader)
@@ -20,6 +20,6 @@ module _ {R : Type 0} (waits : List ℕ → Type 0) (gave : R → List ℕ → R
   abbrev pub ReadsWhile : List ℕ → R → List ℕ → R → Type 0
   ReadsWhile bytes reader last after = (pieces : List (List ℕ)) × ReadsOn bytes reader pieces last after
 
--- what was read for a message: each read was made behind bytes that decide nothing, and none on a closed connection
+-- what was read for a message: each read was made after bytes that decide nothing, and none on a closed connection
 abbrev pub ReadsNeeded : {R : Type 0} → (R → List ℕ → R → Type 0) → InboxData → R → List ℕ → R → Type 0
 ReadsNeeded gave inbox reader last after = ReadsWhile IsWaiting gave inbox.bytes reader last after × (inbox.closed ≡ true → after ≡ reader)

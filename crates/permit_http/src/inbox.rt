@@ -96,7 +96,7 @@ impl Inbox {
         self.len = len - n;
     }
 
-    /// Reads once behind the bytes, and says how many came.
+    /// Reads once, to the end of the bytes, and says how many came.
     pub(crate) fn fill<R: Source>(&mut self, reader: &mut R) -> io::Result<usize>
         requires room { length self.old.bytes < 24576 }
         ensures filled { Filled self.old self.new (R.remaining reader.old) (R.remaining reader.new) }

@@ -15,7 +15,7 @@ pub fn one_meaning()
     ensures fault_or_unfinished { (bytes : List ℕ) (fault : Fault) → HasFault bytes fault → IsUnfinished bytes → ⊥ }
 {}
 
-/// The message or the fault that bytes begin with, they begin with whatever comes behind them. So bytes that begin with
+/// The message or the fault that bytes begin with, they begin with whatever comes after them. So bytes that begin with
 /// either are the beginning of no unfinished ones.
 pub fn front_stays()
     ensures message { (bytes rest more : List ℕ) (m : MessageData) → IsMessage bytes m rest → IsMessage (bytes ++ more) m (rest ++ more) }

@@ -73,7 +73,7 @@ impl Inbox {
         }
     }
 
-    /// Judges the head at the front, and then reads the body behind it.
+    /// Judges the head at the front, and then reads the body after it.
     fn read_found<R: Source>(
         &mut self,
         reader: &mut R,
@@ -131,7 +131,7 @@ impl Inbox {
 
     /// Reads until a whole message stands at the front of the inbox, and says where its parts are; `None` where the
     /// input ends before any byte of it, or the connection is closed. The first fault of a head is reported without
-    /// another read: nothing is waited for behind it; after any fault the connection is closed. It takes no memory.
+    /// another read: nothing is waited for after it; after any fault the connection is closed. It takes no memory.
     ///
     /// # Examples
     ///
@@ -190,7 +190,7 @@ impl Inbox {
         }
     }
 
-    /// Lets the bytes of a message go, those behind it stay. The request counts among the 100 answers of its
+    /// Lets the bytes of a message go, those after it stay. The request counts among the 100 answers of its
     /// connection, which closes with the 100th, and where the head asks for it.
     pub fn let_go(&mut self, spans: &MessageSpans)
         requires { Holds self.old spans.now }

@@ -17,7 +17,7 @@ use Rattle.permit_import.specs.declared.fault.ImportFault.TheVariants.{FirstReco
 use Rattle.permit_import.specs.declared.outcome.Outcome.{Outcome}
 use Rattle.permit_import.specs.declared.tally.Tally.{Tally}
 
--- no record was tried, or those that a beginning of the list has behind the first
+-- no record was tried, or those that a beginning of the list has after the first
 abbrev pub HaveBegun : Option (List ℕ) → List Fields → Type 0
 HaveBegun left rows = (rows ≡ []) ⊎ BeginWith left (header ∷ rows)
 
@@ -35,10 +35,10 @@ pub record StopsInLast (asked : Bool) (before after : Option (List ℕ)) (outcom
   pub are : outcomes ≡ told ++ last ∷ []
   pub wrote : WroteInto before after (lines_from asked 1 told) (record_lines asked (length told + 1) last)
 
--- Which records were tried, and what is written. With a tally these are all behind the first, with their lines and the
+-- Which records were tried, and what is written. With a tally these are all after the first, with their lines and the
 -- counts. Where the first is wrong nothing is tried, where reading fails each that was tried has its line, and where memory
 -- runs out each, or each but the last. Where the writer fails it was inside the line of the last record that was tried, or
--- behind the lines of all, inside the counts, or inside the line of a heading that is wrong. With a line goes the one that says
+-- after the lines of all, inside the counts, or inside the line of a heading that is wrong. With a line goes the one that says
 -- why the record is refused, where that is asked for.
 abbrev pub EndsOf : Bool → Option (List ℕ) → Option (List ℕ) → Option (List ℕ) → Result Tally ImportFault → List Fields → List Outcome → Type 0
 EndsOf asked left before after (Ok tally) rows outcomes =

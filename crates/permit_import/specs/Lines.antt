@@ -37,6 +37,6 @@ lines_from asked number (outcome ∷ outcomes) = record_lines asked number outco
 abbrev pub count_text : Tally → List ℕ
 count_text tally = codes "added " ++ decimal tally.added ++ codes " kept " ++ decimal tally.kept ++ codes " refused " ++ decimal tally.refused
 
--- the line behind all records
+-- the line after all records
 abbrev pub count_line : Tally → List ℕ
 count_line tally = count_text tally ++ codes "\n"

@@ -34,7 +34,7 @@ why_of Kept = None
 why_of (Malformed fault) = Some (why.Record fault)
 why_of (Refused refused) = Some (why.Office refused)
 
--- what became of a record and of those behind it, by the replies that are left
+-- what became of a record and of those after it, by the replies that are left
 abbrev pub outcomes_with : Fields → Option Request → List Reply → (List Reply → List Outcome) → List Outcome
 outcomes_with row None replies behind = unasked row ∷ behind replies
 outcomes_with row (Some request) (reply ∷ replies) behind = outcome_of reply ∷ behind replies

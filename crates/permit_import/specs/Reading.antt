@@ -21,7 +21,7 @@ BeginWith left rows = (bytes : List ℕ) → left ≡ Some bytes
 abbrev pub LacksHeader : Option (List ℕ) → Fields → Type 0
 LacksHeader left first = (AreAll left [] × (first ≡ [])) ⊎ ((first ≢ header) × BeginWith left (first ∷ []))
 
--- a reader over the bytes stands behind these records
+-- a reader over the bytes has read these records
 pub record Behind {R : Type 0} (remaining : R → Option (List ℕ)) (left : Option (List ℕ)) (reader : Reader R) (rows : List Fields) : Type 0 where
   pub trim : reader_trim reader ≡ trim.None
   pub ready : Ready reader

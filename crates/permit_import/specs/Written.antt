@@ -10,7 +10,7 @@ pub record WroteFront (old new : Option (List ℕ)) (text : List ℕ) : Type 0 w
   pub within : count < length text
   pub wrote : Appends old new (take count text)
 
--- known bytes grew by the whole of a text, and behind it by a beginning of the next, which isn't the whole
+-- known bytes grew by the whole of a text, and after it by a beginning of the next, which isn't the whole
 pub record WroteInto (old new : Option (List ℕ)) (text next : List ℕ) : Type 0 where
   pub count : ℕ
   pub within : count < length next

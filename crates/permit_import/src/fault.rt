@@ -10,7 +10,7 @@ use std::alloc::AllocError;
 pub enum ImportFault {
     /// The first record is not exactly `lot`, `address`, `owner`, or is not there.
     FirstRecord,
-    /// The reader failed or found no memory, or more than 999999 records stand behind the first.
+    /// The reader failed or found no memory, or more than 999999 records stand after the first.
     Reading,
     /// Memory ran out for a record's values or its line.
     Memory,

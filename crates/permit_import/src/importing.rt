@@ -17,7 +17,7 @@ use permit_store::store::Store;
 use std::alloc::Global;
 use std::io::{Read, Write};
 
-/// The most records behind the first.
+/// The most records after the first.
 const MOST_RECORDS: u32 = 999999;
 
 /// More bytes than the lines of one record have, or the line of a heading.
@@ -26,10 +26,10 @@ const LINE_ROOM: usize = 384;
 /// Imports a parcel list for the caller of the token, on the day.
 ///
 /// The list is text of comma-separated records, as `csv` reads them by default. The first is exactly `lot`, `address`,
-/// `owner`. Each behind it, at most 999999, is one step of the office for a new parcel, and has its line: `K added N`;
+/// `owner`. Each after it, at most 999999, is one step of the office for a new parcel, and has its line: `K added N`;
 /// `K kept` where a parcel of its lot is there already; else `K refused: ..` with the refusal, which is `syntax` for a
 /// record that has another number of fields, a field that is not UTF-8 or a value out of its limits. The line of the
-/// counts stands behind them. One record is held at a time, so memory does not grow with the list.
+/// counts stands after them. One record is held at a time, so memory does not grow with the list.
 ///
 /// With `why`, a line `K why: FIELD: WHAT` follows each `K refused: ..`, with the field and what is wrong with it, and a first
 /// record that isn't the one above has a line that shows it.
@@ -37,6 +37,16 @@ const LINE_ROOM: usize = 384;
 /// After a fault what was tried before it stands, and the lines of the records that were tried are out. Of the last one's
 /// only a beginning is where the writer failed, and maybe nothing where memory ran out. Where the writer failed inside the
 /// counts, all were tried. A record that the store refuses has that refusal in its line, and the import goes on.
+///
+/// # Examples
+///
+/// ```
+/// let list = b"lot,address,owner\nA-1,1 Main St,1\n".as_slice();
+/// let mut out = Vec::new(alloc);
+/// let ended = import(alloc, office, &token, day, false, list, &mut out);
+/// assert!(rt; ended.is_ok());
+/// assert!(rt; out.as_slice() == b"1 added 1\nadded 1 kept 0 refused 0\n".as_slice());
+/// ```
 pub fn import<S: Store + Drop, R: Read + Drop, W: Write>(
     alloc: Global,
     office: &mut Office<S>,

@@ -292,7 +292,7 @@ interest_turns =
 abbrev pub notice_given : List Turn
 notice_given = on_one 6 19820 (RequestInspection Frame) ∷ on_one 4 19820 (Notice (codes "Cracks")) ∷ []
 
--- the inspection requested anew, and approved once the notice is cleared
+-- the inspection requested again, and approved once the notice is cleared
 abbrev pub notice_cleared : List Turn
 notice_cleared =
     on_one 6 19830 (RequestInspection Frame) ∷ on_one 4 19830 (ApproveStep Frame) ∷ on_one 4 19830 (ClearNotice 1) ∷ on_one 4 19830 (ClearNotice 2)
@@ -304,7 +304,7 @@ one_of_two_cleared =
     notice_given ++ on_one 6 19821 (RequestInspection Frame) ∷ on_one 4 19821 (Notice (codes "Bolts"))
     ∷ on_one 4 19830 (ClearNotice 2) ∷ on_one 4 19830 (ClearNotice 2) ∷ []
 
--- the inspection requested anew, and approved once the second notice is cleared as well
+-- the inspection requested again, and approved once the second notice is cleared as well
 abbrev pub other_cleared : List Turn
 other_cleared =
     on_one 6 19830 (RequestInspection Frame) ∷ on_one 4 19830 (ApproveStep Frame) ∷ on_one 4 19830 (ClearNotice 3) ∷ on_one 4 19830 (ApproveStep Frame) ∷ []
@@ -344,7 +344,7 @@ paper_turns =
     ∷ on_one 6 19820 (RequestInspection Footing) ∷ on_one 4 19830 (Notice (codes "Cracks"))
     ∷ on_one 4 19831 (Stop (codes "Unsafe") (codes "Shore it")) ∷ on_one 1 19840 (Revoke (codes "Void")) ∷ []
 
--- ten days are asked at work, a step is approved, a notice given, and the inspection requested anew; on a later day the
+-- ten days are asked at work, a step is approved, a notice given, and the inspection requested again; on a later day the
 -- notice is cleared, people are named, a part is occupied, and the work stopped and released
 abbrev pub worked_with_ask : List Turn
 worked_with_ask =

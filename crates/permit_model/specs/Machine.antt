@@ -229,7 +229,7 @@ pub record IsUpgrade (before : History) (entry : Entry) : Type 0 where
   pub numberless : entry.number ≡ None
   pub once : edition before ≡ First
 
--- the deed may stand behind the entries before it
+-- the deed may stand after the entries before it
 abbrev pub MayFollow : History → Entry → Deed → Type 0
 MayFollow before entry (Founding name digest) = ⊥
 MayFollow before entry Upgrade = IsUpgrade before entry

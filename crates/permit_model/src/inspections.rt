@@ -73,7 +73,7 @@ pub fn temporary_certificates_by_kind()
 {}
 
 /// With its five steps approved a construction is finaled, and then certified, without a timing: the certificate is a
-/// paper behind the permit. A demolition gets none.
+/// paper after the permit. A demolition gets none.
 pub fn certificates_by_kind()
     ensures finaled { read_after finaled_file 19824 ≡ Some (stage.Finaled, timing.Untimed, None) }
     ensures certified { read_after (finaled_file ++ on_one 1 19825 Certify ∷ []) 19825 ≡ Some (stage.Certified, timing.Untimed, None) }

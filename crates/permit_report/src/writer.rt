@@ -51,7 +51,7 @@ fn write_part<W: Write>(
 /// Writes a register one line at a time: the header before the first line, and the foot at the end.
 ///
 /// It takes no memory. After a write that failed it stands where it stood, with a beginning of what it was to write
-/// behind the known bytes.
+/// after the known bytes.
 #[derive(Drop)]
 pub struct RegisterWriter<'w, W> {
     writer: &'w mut W,
@@ -125,6 +125,15 @@ impl<W: Write> Taker<FileView> for RegisterWriter<'_, W> {
 ///
 /// A write that fails, also one that was interrupted, and a write that takes no byte are an error; a beginning of the
 /// text is then out, and not the whole. It takes no memory.
+///
+/// # Examples
+///
+/// ```
+/// let mut out = Vec::new(alloc);
+/// let written = register(RegisterKind::Files, day, &[], &mut out);
+/// assert!(rt; written.is_ok());
+/// assert!(rt; out.as_slice().ends_with(b"CENTS\nfiles 0\n"));
+/// ```
 pub fn register<W: Write>(
     kind: RegisterKind,
     day: Day,

@@ -28,7 +28,7 @@ pub record IsLeft (seconds : ℕ) (since now : Instant) (rest : Duration) : Type
 abbrev pub begun : Bool → Option Instant → Option Instant
 begun answered since = if answered then None else since
 
--- a read may wait 2 seconds for the first byte of a request, and behind it what is left of 10
+-- a read may wait 2 seconds for the first byte of a request, and after it what is left of 10
 abbrev pub MayWait : Option Instant → Instant → Duration → Type 0
 MayWait None now wait = as_nanos wait ≡ in_nanos idle_time
 MayWait (Some since) now wait = IsLeft request_time since now wait

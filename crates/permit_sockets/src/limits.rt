@@ -9,7 +9,7 @@ pub const REQUEST: u64 = 10;
 /// So many seconds the other end may take to accept an answer.
 pub const ANSWER: u64 = 10;
 
-/// So many seconds what the other end still sends is read away behind an answer that closes. To close a socket with
+/// So many seconds what the other end still sends is read away after an answer that closes. To close a socket with
 /// bytes that were not read would reset the connection, and could take the answer from the other end.
 pub const LINGER: u64 = 1;
 

@@ -111,7 +111,7 @@ pub fn any_stopped<R: Drop>(ends: &Ends<R>) -> bool
     ends.iter().any(|end| is_stopped(end))
 }
 
-/// Serves an office until its workers have ended, each by its count of connections or with the connection behind which it
+/// Serves an office until its workers have ended, each by its count of connections or with the connection after which it
 /// finds the flag set, on the days of a clock that is asked once for each request as it is taken, and gives it back: what
 /// its clients asked is one history of it. Says how each worker's door ended. With a failure the office is as it was, and
 /// the clock was not asked; that no worker could be started is one.

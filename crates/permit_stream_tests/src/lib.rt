@@ -7,6 +7,8 @@ mod answers;
 #[cfg(test)]
 mod calendar;
 #[cfg(test)]
+mod examples;
+#[cfg(test)]
 mod hall;
 #[cfg(test)]
 mod hall_commands;

@@ -1,0 +1,59 @@
+//! The examples of the doc comments of what writes streams and serves sessions, line by line as they stand there.
+
+use permit_base::request::{Asked, Filter, Request};
+use permit_base::words::RegisterKind;
+use permit_hall::events::{Event, hall_run};
+use permit_import::importing::import;
+use permit_office::reply::Reply;
+use permit_report::register;
+use permit_samples::ask::TOKENS;
+use permit_samples::makers::{day, token};
+use permit_samples::offices::over_vectors;
+use std::alloc::Global;
+use std::process::Abort;
+use std::test::Fail;
+
+fn registers(rt: &impl Abort, alloc: Global) -> Result<(), Fail> {
+    let day = day(19700)?;
+    let mut out = Vec::new(alloc);
+    let written = register(RegisterKind::Files, day, &[], &mut out);
+    assert!(rt; written.is_ok());
+    assert!(rt; out.as_slice().ends_with(b"CENTS\nfiles 0\n"));
+    Ok(())
+}
+
+fn imports(rt: &impl Abort, alloc: Global) -> Result<(), Fail> {
+    let (token, day) = (token(alloc, TOKENS[0])?, day(19700)?);
+    let office = &mut over_vectors(alloc)?;
+    let list = b"lot,address,owner\nA-1,1 Main St,1\n".as_slice();
+    let mut out = Vec::new(alloc);
+    let ended = import(alloc, office, &token, day, false, list, &mut out);
+    assert!(rt; ended.is_ok());
+    assert!(rt; out.as_slice() == b"1 added 1\nadded 1 kept 0 refused 0\n".as_slice());
+    Ok(())
+}
+
+fn halls(rt: &impl Abort, alloc: Global) -> Result<(), Fail> {
+    let request = Request::ListFiles {
+        filter: Filter::All,
+    };
+    let token = token(alloc, TOKENS[0])?;
+    let (asked, day) = (Asked { token, request }, day(19700)?);
+    let office = &mut over_vectors(alloc)?;
+    let events = [Event::Put(0, asked), Event::Take(day), Event::Collect(0)];
+    let answers = hall_run(alloc, office, &events)?;
+    let [(session, reply)] = answers.as_slice() else {
+        return Err(Fail::new("one answer"));
+    };
+    assert!(rt; *session == 0 && matches!(reply, Reply::Listed(_)));
+    Ok(())
+}
+
+#[test]
+fn examples_hold(rt: HostRuntime) -> Result<(), Fail> {
+    let alloc = rt.alloc();
+    registers(&rt, alloc)?;
+    imports(&rt, alloc)?;
+    halls(&rt, alloc)?;
+    Ok(())
+}
