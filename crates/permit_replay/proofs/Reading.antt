@@ -25,7 +25,7 @@ use Rattle.permit_replay.proofs.Telling.{told_with, meant_last}
 
 -- ---- what the line says
 
-entry_said : (entry : Entry) (line : Option (List ℕ)) → AnswersLine (Ok entry) line → option_map reading_of line ≡ Some (Ok entry)
+pub entry_said : (entry : Entry) (line : Option (List ℕ)) → AnswersLine (Ok entry) line → option_map reading_of line ≡ Some (Ok entry)
 entry_said entry None answer = absurd answer
 entry_said entry (Some line) (inl e) = absurd cc
 entry_said entry (Some line) (inr e) = ap Some (sym e)

@@ -49,8 +49,9 @@ StopsAt view bytes (replay_fault.Line line fault) =
     (entries : List Entry) × (left : List ℕ) × (as_far : Replayed) × HasReplayed view bytes entries left as_far
     × (line ≡ length entries + 1) × IsAtFault fault left
 StopsAt view bytes (replay_fault.Entry line why) =
-    (entries : List Entry) × (entry : Entry) × (left : List ℕ) × GivesInTurn bytes (entries ++ entry ∷ []) left
+    (entries : List Entry) × (left : List ℕ) × (as_far : Replayed) × HasReplayed view bytes entries left as_far
     × (line ≡ length entries + 1)
+    × (entry : Entry) × (option_map reading_of (next_line left) ≡ Some (Ok entry))
     × ((token_of : List ℕ → List ℕ) → HaveTokens token_of (entries ++ entry ∷ [])
     → FailsAs why (against token_of (history_by token_of entries) entry.day entry.deed))
 StopsAt view bytes replay_fault.Short =

@@ -3,7 +3,7 @@ use Rattle.std.specs.Io.BufRead.{drop_through}
 use Rattle.permit_history.specs.Text.{next_line, Answers}
 use Rattle.permit_store.specs.contracts.plain.PlainStoreStore.TheImpl as plain
 use Rattle.permit_replay.specs.Texts.{IsAtFault}
-use Rattle.permit_replay.proofs.Reading.{at_fault, ends_short, ends_well, given_more, if_some, one_more, replayed_more, some_at, stopped_there}
+use Rattle.permit_replay.proofs.Reading.{at_fault, ends_short, ends_well, entry_said, if_some, one_more, replayed_more, some_at, stopped_there}
 use Rattle.permit_replay.proofs.text.replay_in.Goals as goal
 
 pub loop-line-preserved : goal.loop-line-preserved
@@ -33,10 +33,12 @@ returns-in-Err-clause-stopped g c = if_some (g.R.Read.remaining c.args.source.no
     c.in-Ok-Some.ensures.exact i.2 in
     let answer = rw c.in-Ok-Some.field-0-is at said in (
       i.0,
-      entry,
-      drop_through 10 i.1,
-      given_more bytes i.0 i.1 entry i.4.given answer,
+      i.1,
+      c.loop-line.replayed,
+      i.4,
       i.3,
+      entry,
+      entry_said entry (next_line i.1) answer,
       stopped_there plain.view-value.it bytes i.0 i.1 entry c.loop-line.replayed c.in-Err.why i.4 c.in-Err.ensures,
     ))
 
