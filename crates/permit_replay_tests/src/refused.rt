@@ -5,6 +5,7 @@ use permit_base::refusal::Refusal;
 use permit_base::words::Word;
 use permit_history::fault::LineFault;
 use permit_replay::fault::{ReplayFault, Why};
+use std::alloc::Global;
 use std::test::*;
 
 /// Each line is refused behind so many lines of the life, and for this reason.
@@ -55,45 +56,71 @@ fn word(why: Why) -> &'static str {
     }
 }
 
+/// The line at which replaying these lines stops, and the reason in a word; line 0 where it doesn't.
+fn stop_of(alloc: Global, lines: &[&str]) -> Result<(u64, &'static str), Fail> {
+    Ok(match &replay_lines(alloc, lines)? {
+        Ok(_) => (0, "replayed"),
+        Err(ReplayFault::Entry { line, why }) => (*line, word(*why)),
+        Err(ReplayFault::Line { line, fault }) => match fault {
+            LineFault::Syntax => (*line, "syntax"),
+            _ => (*line, "another fault"),
+        },
+        Err(_) => (0, "another fault"),
+    })
+}
+
+/// Fails where the line of a case isn't refused as it says.
+fn refuses(alloc: Global, life: &[&'static str], case: &'static str) -> Result<(), Fail> {
+    let (count, rest) = case.split_once(' ').ok_or("a count")?;
+    let (reason, refused) = rest.split_once(' ').ok_or("a reason")?;
+    let before = life.get(..count.parse()?).ok_or("so many lines")?;
+    let mut lines = Vec::new(alloc);
+    lines.extend_from_slice(before)?;
+    lines.push(refused)?;
+    let (line, told) = stop_of(alloc, lines.as_slice())?;
+    if line == lines.len() as u64 && told == reason {
+        Ok(())
+    } else {
+        Err(Fail::new(format!(in alloc; "{line} {told}: {case}")?))
+    }
+}
+
 #[test]
 fn a_line_that_is_no_next_entry_is_refused_with_its_reason(rt: HostRuntime) -> Result<(), Fail> {
     let life = life(rt.alloc())?;
     for case in REFUSED.lines() {
-        let (count, rest) = case.split_once(' ').ok_or("a count")?;
-        let (reason, refused) = rest.split_once(' ').ok_or("a reason")?;
-        let count: usize = count.parse()?;
-        let mut lines = Vec::new(rt.alloc());
-        lines.extend_from_slice(life.get(..count).ok_or("so many lines")?)?;
-        lines.push(refused)?;
-        match &replay_lines(rt.alloc(), lines.as_slice())? {
-            Err(ReplayFault::Entry { line, why }) => {
-                assert!(rt; *line as usize == lines.len(), "{case}");
-                assert!(rt; word(*why) == reason, "{case}");
-            }
-            _ => assert!(rt; false, "{case}"),
-        }
+        refuses(rt.alloc(), life.as_slice(), case)?;
     }
     Ok(())
+}
+
+/// Fails where a line that stands twice isn't refused there, unless it changes nothing the second time.
+fn finds_twice(alloc: Global, life: &[&'static str], place: usize) -> Result<(), Fail> {
+    let (before, behind) = life.split_at_checked(place).ok_or("a place")?;
+    let twice = *behind.first().ok_or("a line")?;
+    let mut lines = Vec::new(alloc);
+    lines.extend_from_slice(before)?;
+    lines.push(twice)?;
+    lines.extend_from_slice(behind)?;
+    let (line, told) = stop_of(alloc, lines.as_slice())?;
+    let changes_nothing = twice.contains("assign-") || twice.contains("name-");
+    let wanted = if changes_nothing {
+        0
+    } else {
+        before.len() as u64 + 2
+    };
+    if line == wanted {
+        Ok(())
+    } else {
+        Err(Fail::new(format!(in alloc; "{line} {told}: {twice}")?))
+    }
 }
 
 #[test]
 fn a_line_that_stands_twice_is_found(rt: HostRuntime) -> Result<(), Fail> {
     let life = life(rt.alloc())?;
     for place in 0..life.len() {
-        let mut lines = Vec::new(rt.alloc());
-        lines.extend_from_slice(life.get(..place + 1).ok_or("those before")?)?;
-        lines.extend_from_slice(life.get(place..).ok_or("those behind")?)?;
-        let is_without_effect = life[place].contains("assign-") || life[place].contains("name-");
-        match &replay_lines(rt.alloc(), lines.as_slice())? {
-            Err(ReplayFault::Entry { line, why: _ }) => {
-                assert!(rt;
-                    *line as usize == place + 2 && !is_without_effect,
-                    "{place}"
-                );
-            }
-            Ok(_) => assert!(rt; is_without_effect, "{place}"),
-            Err(_) => assert!(rt; false, "{place}"),
-        }
+        finds_twice(rt.alloc(), life.as_slice(), place)?;
     }
     Ok(())
 }
@@ -103,11 +130,7 @@ fn a_line_that_is_no_entry_s_is_named(rt: HostRuntime) -> Result<(), Fail> {
     let mut lines = life(rt.alloc())?;
     lines.truncate(2);
     lines.push("{")?;
-    match &replay_lines(rt.alloc(), lines.as_slice())? {
-        Err(ReplayFault::Line { line, fault }) => {
-            assert!(rt; *line == 3 && *fault == LineFault::Syntax);
-        }
-        _ => assert!(rt; false),
-    }
+    let (line, told) = stop_of(rt.alloc(), lines.as_slice())?;
+    assert!(rt; line == 3 && told == "syntax");
     Ok(())
 }

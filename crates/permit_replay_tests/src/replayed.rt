@@ -3,9 +3,11 @@
 use crate::life::{life, replay_lines, text};
 use permit_base::values::{Digest, FileId, PaperNumber, ParcelId, PartyId};
 use permit_base::words::{Edition, Kind, PaperSort, Role, Stage};
+use permit_core::state::FileState;
 use permit_replay::fault::ReplayFault;
 use permit_replay::replay;
 use permit_store::plain::PlainStore;
+use permit_store::rows::Paper;
 use permit_store::store::Store;
 use std::alloc::Global;
 use std::test::*;
@@ -25,85 +27,136 @@ fn first(alloc: Global, count: usize) -> Result<Vec<&'static str>, Fail> {
     Ok(lines)
 }
 
+/// The store that the whole life leaves.
+fn whole(alloc: Global) -> Result<PlainStore, Fail> {
+    let lines = life(alloc)?;
+    store_of(alloc, lines.as_slice())
+}
+
+/// Fails where it isn't so.
+fn want(is_so: bool, what: &'static str) -> Result<(), Fail> {
+    if is_so { Ok(()) } else { Err(what.into()) }
+}
+
 /// A party's number.
 fn party(number: u32) -> Result<PartyId, Fail> {
     Ok(PartyId::new(number).ok_or("a party")?)
 }
 
+/// The digest of 64 of a digit.
+fn digest(digits: &str) -> Result<Digest, Fail> {
+    Ok(Digest::read(digits).ok_or("a digest")?)
+}
+
+const FIVES: &str = "5555555555555555555555555555555555555555555555555555555555555555";
+
+const SEVENS: &str = "7777777777777777777777777777777777777777777777777777777777777777";
+
+/// Fails where the desk has another last day or other counts.
+fn has_desk(
+    store: &mut PlainStore,
+    last: u32,
+    parties: u32,
+    parcels: u32,
+    files: u32,
+) -> Result<(), Fail> {
+    let desk = store.desk()?;
+    want(desk.edition == Edition::Second, "the second edition")?;
+    want(desk.last.get() == last, "the last day")?;
+    want(desk.parties == parties, "the parties")?;
+    want(desk.parcels == parcels, "the parcels")?;
+    want(desk.files == files, "the files")
+}
+
 #[test]
 fn the_founding_and_the_upgrade_make_an_office(rt: HostRuntime) -> Result<(), Fail> {
-    let mut store = store_of(rt.alloc(), first(rt.alloc(), 2)?.as_slice())?;
-    let desk = store.desk().ok().ok_or("a desk")?;
-    assert!(rt; desk.edition == Edition::Second && desk.last.get() == 19700);
-    assert!(rt; desk.parties == 1 && desk.parcels == 0 && desk.files == 0);
-    let role = store.role(party(1)?).ok().ok_or("an answer")?;
-    assert!(rt; role == Some(Role::Official));
-    Ok(())
+    let lines = first(rt.alloc(), 2)?;
+    let mut store = store_of(rt.alloc(), lines.as_slice())?;
+    has_desk(&mut store, 19700, 1, 0, 0)?;
+    let role = store.role(party(1)?)?;
+    want(role == Some(Role::Official), "an official")
+}
+
+/// Fails where it isn't the state of the house that is certified.
+fn is_certified(state: &FileState) -> Result<(), Fail> {
+    want(state.stored_stage() == Stage::Certified, "the stage")?;
+    want(state.kind() == Kind::Move, "the kind")?;
+    want(state.filed().get() == 19710, "the day of filing")?;
+    want(state.applicant().get() == 5, "the applicant")?;
+    want(state.reviewer() == PartyId::new(3), "the reviewer")?;
+    want(state.inspector() == PartyId::new(4), "the inspector")?;
+    want(state.contractor() == PartyId::new(6), "the contractor")?;
+    want(state.done() == 3, "the steps")?;
+    want(state.papers() == 10 && state.notices() == 0, "the papers")
 }
 
 #[test]
 fn a_whole_life_leaves_its_tables(rt: HostRuntime) -> Result<(), Fail> {
-    let mut store = store_of(rt.alloc(), life(rt.alloc())?.as_slice())?;
-    let desk = store.desk().ok().ok_or("a desk")?;
-    assert!(rt; desk.last.get() == 19732);
-    assert!(rt; desk.parties == 6 && desk.parcels == 1 && desk.files == 1);
+    let mut store = whole(rt.alloc())?;
+    has_desk(&mut store, 19732, 6, 1, 1)?;
     let house = FileId::new(1).ok_or("a file")?;
-    let state = store
-        .state(house)
-        .ok()
-        .ok_or("an answer")?
-        .ok_or("a state")?;
-    assert!(rt; state.stored_stage() == Stage::Certified && state.kind() == Kind::Move);
-    assert!(rt; state.filed().get() == 19710 && state.applicant().get() == 5);
-    assert!(rt; state.reviewer() == PartyId::new(3) && state.inspector() == PartyId::new(4));
-    assert!(rt; state.contractor() == PartyId::new(6));
-    assert!(rt; state.done() == 3 && state.papers() == 10 && state.notices() == 0);
+    is_certified(&store.state(house)?.ok_or("a state")?)
+}
+
+#[test]
+fn a_whole_life_leaves_its_parcel(rt: HostRuntime) -> Result<(), Fail> {
+    let mut store = whole(rt.alloc())?;
     let home = ParcelId::new(1).ok_or("a parcel")?;
-    assert!(rt; store.owner(home).ok().ok_or("an answer")? == PartyId::new(6));
-    assert!(rt; store.interest(home, party(6)?) == Ok(true));
-    assert!(rt; store.interest(home, party(5)?) == Ok(false));
-    Ok(())
+    want(store.owner(home)? == PartyId::new(6), "the owner")?;
+    want(store.interest(home, party(6)?)?, "an interest")?;
+    want(!store.interest(home, party(5)?)?, "no interest")
+}
+
+/// Fails where these aren't the papers of the house.
+fn are_its_papers(papers: &[Paper]) -> Result<(), Fail> {
+    want(papers.len() == 10, "ten papers")?;
+    let stop = papers.get(5).ok_or("a paper")?;
+    want(stop.number.get() == 6 && stop.day.get() == 19720, "a stop")?;
+    want(stop.author.get() == 4, "its author")?;
+    want(stop.sort == PaperSort::Stop, "its sort")?;
+    want(stop.terms.as_str() == "A rail all round", "its terms")?;
+    let certificate = papers.get(9).ok_or("a paper")?;
+    want(certificate.sort == PaperSort::Certificate, "a certificate")?;
+    want(certificate.day.get() == 19731, "its day")
 }
 
 #[test]
 fn a_whole_life_leaves_its_papers(rt: HostRuntime) -> Result<(), Fail> {
-    let mut store = store_of(rt.alloc(), life(rt.alloc())?.as_slice())?;
+    let mut store = whole(rt.alloc())?;
     let house = FileId::new(1).ok_or("a file")?;
-    let papers = store.papers(house).ok().ok_or("papers")?;
-    assert!(rt; papers.len() == 10);
-    let stop = &papers[5];
-    assert!(rt; stop.number.get() == 6 && stop.day.get() == 19720 && stop.author.get() == 4);
-    assert!(rt; stop.sort == PaperSort::Stop && stop.terms.as_str() == "A rail all round");
-    let certificate = &papers[9];
-    assert!(rt; certificate.sort == PaperSort::Certificate && certificate.day.get() == 19731);
     let notice = PaperNumber::new(8).ok_or("a paper")?;
-    assert!(rt; store.has_open_notice(house, notice) == Ok(false));
-    Ok(())
+    want(!store.has_open_notice(house, notice)?, "no open notice")?;
+    are_its_papers(store.papers(house)?.as_slice())
+}
+
+/// Fails where the digest isn't that of the party.
+fn is_digest_of(store: &mut PlainStore, digits: &str, number: u32) -> Result<(), Fail> {
+    let party = store.party_by_token(&digest(digits)?)?.ok_or("a party")?;
+    want(party.id.get() == number, "the party of the digest")
 }
 
 #[test]
 fn a_party_is_found_by_the_digest_of_its_line(rt: HostRuntime) -> Result<(), Fail> {
-    let mut store = store_of(rt.alloc(), life(rt.alloc())?.as_slice())?;
-    let fives = "5555555555555555555555555555555555555555555555555555555555555555";
-    let digest = Digest::read(fives).ok_or("a digest")?;
-    let sam = store
-        .party_by_token(&digest)
-        .ok()
-        .ok_or("an answer")?
-        .ok_or("a party")?;
-    assert!(rt; sam.id.get() == 5 && sam.name.as_str() == "Sam" && sam.role == Role::Public);
-    Ok(())
+    let mut store = whole(rt.alloc())?;
+    is_digest_of(&mut store, FIVES, 5)
+}
+
+/// Fails where the first lines, so many, leave another last day than the last of them has.
+fn leaves_its_day(alloc: Global, life: &[&'static str], count: usize) -> Result<(), Fail> {
+    let lines = life.get(..count).ok_or("so many lines")?;
+    let last = lines.last().ok_or("a line")?;
+    let (_, rest) = last.split_once("\"day\":").ok_or("a day")?;
+    let (day, _) = rest.split_once(',').ok_or("a comma")?;
+    let day: u32 = day.parse()?;
+    let mut store = store_of(alloc, lines)?;
+    want(store.desk()?.last.get() == day, "the last day")
 }
 
 #[test]
 fn each_beginning_is_replayed_to_its_last_day(rt: HostRuntime) -> Result<(), Fail> {
     let life = life(rt.alloc())?;
     for count in 2..life.len() {
-        let mut store = store_of(rt.alloc(), life.get(..count).ok_or("so many lines")?)?;
-        let (_, rest) = life[count - 1].split_once("\"day\":").ok_or("a day")?;
-        let (day, _) = rest.split_once(',').ok_or("a comma")?;
-        let desk = store.desk().ok().ok_or("a desk")?;
-        assert!(rt; desk.last.get() == day.parse::<u32>()?, "{count}");
+        leaves_its_day(rt.alloc(), life.as_slice(), count)?;
     }
     Ok(())
 }
@@ -115,60 +168,39 @@ fn what_stands_behind_the_last_lf_is_no_line(rt: HostRuntime) -> Result<(), Fail
     bytes.extend_from_slice(b"{\"body\"")?;
     let mut source = bytes.as_slice();
     let mut store = replay(alloc, &mut source).ok().ok_or("a store")?;
-    assert!(rt; store.desk().ok().ok_or("a desk")?.parties == 2);
-    Ok(())
+    has_desk(&mut store, 19701, 2, 0, 0)
+}
+
+/// Whether a text is too short to tell of an office.
+fn is_short(alloc: Global, text: &[u8]) -> bool {
+    let mut source = text;
+    matches!(&replay(alloc, &mut source), Err(ReplayFault::Short))
 }
 
 #[test]
 fn a_text_without_its_second_line_is_short(rt: HostRuntime) -> Result<(), Fail> {
     let alloc = rt.alloc();
-    let none = first(alloc, 0)?;
-    assert!(rt;
-        matches!(
-            &replay_lines(alloc, none.as_slice())?,
-            Err(ReplayFault::Short)
-        )
-    );
-    assert!(rt;
-        matches!(
-            &replay_lines(alloc, first(alloc, 1)?.as_slice())?,
-            Err(ReplayFault::Short)
-        )
-    );
-    let mut bytes = text(alloc, first(alloc, 2)?.as_slice())?;
-    let _lf = bytes.pop();
-    let mut source = bytes.as_slice();
-    assert!(rt; matches!(&replay(alloc, &mut source), Err(ReplayFault::Short)));
+    let one = text(alloc, first(alloc, 1)?.as_slice())?;
+    let mut two = text(alloc, first(alloc, 2)?.as_slice())?;
+    let _lf = two.pop();
+    assert!(rt; is_short(alloc, b""));
+    assert!(rt; is_short(alloc, one.as_slice()));
+    assert!(rt; is_short(alloc, two.as_slice()));
     Ok(())
 }
 
 #[test]
 fn a_renewed_token_is_its_partys_and_the_old_one_nobodys(rt: HostRuntime) -> Result<(), Fail> {
     let alloc = rt.alloc();
-    let renewal =
-        r#"{"body":{"digest":"@7","party":5},"caller":0,"day":0,"done":"renew-token","id":null,"number":null}"#;
-    let again =
-        r#"{"body":{"digest":"@5","name":"Eve","role":"public"},"caller":2,"day":19732,"done":"add-party","id":null,"number":7}"#;
     let mut lines = life(alloc)?;
-    lines.push(renewal)?;
-    lines.push(again)?;
+    lines.push(
+        r#"{"body":{"digest":"@7","party":5},"caller":0,"day":0,"done":"renew-token","id":null,"number":null}"#,
+    )?;
+    lines.push(
+        r#"{"body":{"digest":"@5","name":"Eve","role":"public"},"caller":2,"day":19732,"done":"add-party","id":null,"number":7}"#,
+    )?;
     let mut store = store_of(alloc, lines.as_slice())?;
-    let sevens = "7777777777777777777777777777777777777777777777777777777777777777";
-    let sam = Digest::read(sevens).ok_or("a digest")?;
-    let found = store
-        .party_by_token(&sam)
-        .ok()
-        .ok_or("an answer")?
-        .ok_or("a party")?;
-    assert!(rt; found.id.get() == 5 && found.name.as_str() == "Sam");
-    let fives = "5555555555555555555555555555555555555555555555555555555555555555";
-    let eve = Digest::read(fives).ok_or("a digest")?;
-    let found = store
-        .party_by_token(&eve)
-        .ok()
-        .ok_or("an answer")?
-        .ok_or("a party")?;
-    assert!(rt; found.id.get() == 7 && found.name.as_str() == "Eve");
-    assert!(rt; store.desk().ok().ok_or("a desk")?.last.get() == 19732);
-    Ok(())
+    has_desk(&mut store, 19732, 7, 1, 1)?;
+    is_digest_of(&mut store, SEVENS, 5)?;
+    is_digest_of(&mut store, FIVES, 7)
 }

@@ -1,0 +1,7 @@
+//! The scenarios told as texts of histories and replayed: the tables are those of the office that served them.
+#![tactic(auto)]
+
+#[cfg(test)]
+mod scenarios;
+#[cfg(test)]
+mod telling;
