@@ -10,7 +10,7 @@ use permit_office::office::Office;
 use permit_office::reply::Reply;
 use permit_samples::ask::read_ask;
 use permit_samples::exchange::request;
-use permit_samples::makers::{day, party};
+use permit_samples::makers::day;
 use permit_samples::offices::{FOUNDED, founder, over_vectors};
 use permit_samples::script::requests;
 use permit_store::plain::PlainStore;
@@ -106,20 +106,62 @@ fn read(alloc: Global, line: &str) -> Result<Option<Asked>, Fail> {
     }
 }
 
+/// The number of what a step made, if it was done: None where it wasn't, and Some None where it made nothing.
+fn made_by(office: &mut Office<PlainStore>, asked: &Asked, on: Day) -> Option<Option<u32>> {
+    match &office.step(asked, on) {
+        Reply::Done { number } => Some(*number),
+        _ => None,
+    }
+}
+
+/// Tells the request of a caller that was done on the day and made what has this number.
+fn tell_done(
+    alloc: Global,
+    text: &mut Vec<u8>,
+    on: Day,
+    caller: Option<PartyId>,
+    request: Request,
+    number: Option<u32>,
+) -> Result<(), Fail> {
+    let Some(caller) = caller else {
+        return Err("a party".into());
+    };
+    match act_of(request, number)? {
+        Some(act) => tell(alloc, text, on, Deed::Accepted { caller, act }),
+        None => Ok(()),
+    }
+}
+
+/// The number of the caller of a line, or None where it names no party.
+fn caller_of(line: &str) -> Option<PartyId> {
+    let (caller, _) = line.split_once(' ')?;
+    PartyId::new(caller.parse().ok()?)
+}
+
+/// Has the office serve the request, and tells it where it was done.
+fn serve_asked(
+    alloc: Global,
+    told: &mut Told,
+    asked: Asked,
+    on: Day,
+    caller: Option<PartyId>,
+) -> Result<(), Fail> {
+    let done = made_by(&mut told.office, &asked, on);
+    let Asked { request, token: _ } = asked;
+    match done {
+        Some(number) => tell_done(alloc, &mut told.text, on, caller, request, number),
+        None => Ok(()),
+    }
+}
+
 /// Has the office serve the request of a line, and tells it where it was done.
 fn serve(alloc: Global, told: &mut Told, line: &str) -> Result<(), Fail> {
-    let Some(asked) = read(alloc, line)? else {
-        return Ok(());
-    };
-    let (caller, _) = line.split_once(' ').ok_or("a party")?;
+    let caller = caller_of(line);
     let on = day(read_ask(line)?.day)?;
-    if let Reply::Done { number } = &told.office.step(&asked, on) {
-        let caller = party(caller.parse()?)?;
-        if let Some(act) = act_of(asked.request, *number)? {
-            tell(alloc, &mut told.text, on, Deed::Accepted { caller, act })?;
-        }
+    match read(alloc, line)? {
+        Some(asked) => serve_asked(alloc, told, asked, on, caller),
+        None => Ok(()),
     }
-    Ok(())
 }
 
 /// Has the office serve the requests of a script, and tells those that were done.
