@@ -74,6 +74,13 @@ fn register_bytes(
 }
 
 /// The body of an answer, without its head. Only a read takes memory.
+///
+/// # Examples
+///
+/// ```
+/// let large = body(alloc, &Answer::Fault(Fault::Large))?;
+/// assert!(rt; large.as_slice() == b"{\"refused\":\"large\"}".as_slice());
+/// ```
 pub fn body(alloc: Global, answer: &Answer) -> Result<Made, AllocError>
     ensures text { IfOk result (λ made. made_bytes made ≡ body_text (answer_data answer.now)) }
     ensures place { IfOk result (IsPlacedFor (answer_data answer.now)) }
@@ -132,6 +139,14 @@ pub struct Outgoing {
 
 impl Outgoing {
     /// The text of an answer. Where a read finds no memory for its own, it is that of the store's refusal, which closes.
+    ///
+    /// # Examples
+    ///
+    /// ```
+    /// let outgoing = Outgoing::new(alloc, &Answer::Fault(Fault::Caller), true);
+    /// assert!(rt; outgoing.closes());
+    /// assert!(rt; outgoing.as_bytes().starts_with(b"HTTP/1.1 401 "));
+    /// ```
     pub fn new(alloc: Global, answer: &Answer, close: bool) -> Outgoing
         ensures { GoesOut (answer_data answer.now) close (made_bytes result.text) result.closes }
     {
@@ -168,6 +183,15 @@ impl Outgoing {
 /// answer to a read is made whole first; where memory is refused, the store's refusal with `Connection: close` goes out
 /// instead. A write that fails, also one that was interrupted, and a write that takes no byte are a fault; a beginning of
 /// the text is then out.
+///
+/// # Examples
+///
+/// ```
+/// let mut written = Vec::new(alloc);
+/// let closes = write_reply(alloc, &Answer::Fault(Fault::Route), false, &mut written);
+/// assert!(rt; matches!(closes, Ok(false)));
+/// assert!(rt; written.as_slice().ends_with(b"{\"refused\":\"route\"}"));
+/// ```
 pub fn write_reply<W: Write>(
     alloc: Global,
     answer: &Answer,

@@ -1,7 +1,9 @@
 -- What is told of a plan, by what an office makes of its question.
 use Rattle.std.proofs.Common.{◌≡◌, ◌⊎◌, inl, inr, ℕ, Bool, List, Option, None, Some, Result, Ok, Err, refl, sym, subst}
-use Rattle.std.specs.Prelude.{IfOk, IfSome, IfNone, OnOk, string_bytes}
+use Rattle.std.specs.Prelude.{IfOk, IfSome, IfNone, string_bytes}
+use Rattle.jiff.specs.Placed.{IsPosixZone}
 use Rattle.jiff_core.specs.declared.timestamp.Timestamp.{Timestamp}
+use Rattle.jiff_tz.specs.declared.timezone.TimeZone.{TimeZone}
 use Rattle.permit_base.specs.declared.words.RegisterKind.{RegisterKind}
 use Rattle.permit_office.specs.Office.{OfficeView}
 use Rattle.permit_office.specs.declared.reply.Listing.{Listing}
@@ -16,20 +18,19 @@ use Rattle.permit_args.specs.declared.plan.ImportWords.{ImportWords}
 use Rattle.permit_args.specs.declared.plan.ListWords.{ListWords}
 use Rattle.permit_args.specs.declared.plan.Plan.{Plan}
 use Rattle.permit_args.specs.declared.plan.RegisterWords.{RegisterWords}
-use Rattle.permit_subcommands.specs.Days.{IsDayOnIn, zone_of}
+use Rattle.permit_subcommands.specs.Days.{IsDayAtReading, IsDayOnIn, zone_of}
 use Rattle.permit_subcommands.specs.Listings.{WritesSome}
 use Rattle.permit_subcommands.specs.Tokens.{IsTokenOf}
 use Rattle.permit_subcommands.specs.declared.failure.Failure.{Failure}
 use Rattle.permit_subcommands.specs.declared.failure.Failure.TheVariants as failure
 use Rattle.permit_subcommands.specs.Failures.{plain}
 use Rattle.permit_import.specs.declared.refused.RefusalWord.TheVariants.{Store}
-use Rattle.permit_sockets.specs.Listening.{SaysListening}
 use Rattle.sqlite_trees.specs.declared.store.Store.{Ghosts}
 use Rattle.sqlite.specs.Held.{Held}
 use Rattle.permit_model.specs.Policy.{Policy}
 use Rattle.permit_days.specs.Dates.{IsTextOf}
 use Rattle.permit_cli.specs.Opening.{IsUnopened, IsWithoutMemory}
-use Rattle.permit_cli.specs.Served.{Ending, IsServed}
+use Rattle.permit_cli.specs.Served.{Ending, IsServed, SaysWhere}
 use Rattle.permit_cli.specs.Asked.{AsksFiles, AsksImport, AsksRegister, AsksRequest}
 use Rattle.permit_cli.specs.Doing.{ActsAs, ComesTo, IsAnswerTo, IsClockDayIn, IsImported, IsListing, IsRegistered, IsRunDay, IsToldOf, IsToldOnRunDay, ListsAs, RegistersAs}
 use Rattle.permit_cli.specs.Questions.{AnswersWith, IsAnswered, TellsImport, told_as}
@@ -92,6 +93,12 @@ run_day gave clock words day dated of_clock = (
   ] of_clock,
 )
 
+-- the same, whatever is known of the reading that the clock gave
+pub run_day_read : (P : Option Timestamp → Type 0) (words : DayWords) (day : ℕ) → IfSome words.day (λ date. IsTextOf day date.now) →
+    IfNone words.day ((zone : TimeZone) × IsPosixZone (zone_of words) zone × ((now : Option Timestamp) × P now × IsDayAtReading zone now day)) →
+    IsRunDay words day
+run_day_read P words day dated of_clock = run_day (λ (_ : ℕ). P) 0 words day dated of_clock
+
 -- ---- what is told of the words
 
 pub acts_as : {R : Type 0} (words : ActWords) (token : List ℕ) (asked : Question R) (before after : Option (List ℕ)) (done : Outcome) →
@@ -143,14 +150,15 @@ comes_to known planned before after result is said = subst (λ (p : Plan). IfOk 
 
 -- ---- serving
 
--- an office that was served has the line of its address written
+-- the line of the address is written where an office was served, and with a failure it may be
 pub says_told : {S T C : Type 0} (g : Ghosts S) (view : T → StoreView) (conn_of : T → Held S) (tick : C → ℕ → C → Type 0) (c d : C) (policy : Policy)
     (HasEnded : Ending) (workers : ℕ) (conn back : Held S) (before after : Option (List ℕ)) (result : Result (Unit {0}) Failure) →
     IsServed g view conn_of tick c d HasEnded policy workers conn back before after result
-    ⊎ ((IsUnopened g conn back result ⊎ IsWithoutMemory g conn back result) × (after ≡ before)) → OnOk result (SaysListening before after)
+    ⊎ ((IsUnopened g conn back result ⊎ IsWithoutMemory g conn back result) × (after ≡ before)) → SaysWhere before after result
 says_told g view conn_of tick c d policy HasEnded workers conn back before after (Ok done) (inl served) = served.says
 says_told g view conn_of tick c d policy HasEnded workers conn back before after (Ok done) (inr other) = elim other.0 [
   | inl unopened ↦ let is : Ok done ≡ Err (failure.Database unopened.why) = unopened.told in cc
   | inr lacking ↦ let is : Ok done ≡ Err (plain Store) = lacking.told in cc
 ]
-says_told g view conn_of tick c d policy HasEnded workers conn back before after (Err why) served = tt
+says_told g view conn_of tick c d policy HasEnded workers conn back before after (Err why) (inl served) = served.says
+says_told g view conn_of tick c d policy HasEnded workers conn back before after (Err why) (inr other) = inr (inl other.1)

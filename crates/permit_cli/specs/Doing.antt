@@ -1,4 +1,4 @@
--- What a plan comes to, whatever the disk and the clock give, and how the program's run ends.
+-- What a plan that succeeds comes to, whatever the disk and the clock give.
 use Rattle.std.specs.Prelude.{◌≡◌, ◌⊎◌, ◌++◌, ℕ, Bool, List, Option, Some, Result, Ok, Err, IfSome, IfNone, IsTrue, length, string_bytes}
 use Rattle.permit_base.specs.Actions.{action_of}
 use Rattle.permit_base.specs.declared.request.Asked.{Asked}
@@ -25,19 +25,11 @@ use Rattle.permit_args.specs.declared.plan.Plan.{Plan}
 use Rattle.permit_args.specs.declared.plan.Plan.TheVariants as plan
 use Rattle.permit_args.specs.declared.plan.RegisterWords.{RegisterWords}
 use Rattle.permit_subcommands.specs.Answering.{AreReadAs}
-use Rattle.permit_args.specs.Faults.{IsNoPlan}
-use Rattle.permit_args.specs.Plans.{IsPlanOf}
-use Rattle.permit_args.specs.declared.plan.PlanFault.{PlanFault}
 use Rattle.permit_subcommands.specs.Days.{IsClockDay, zone_of}
-use Rattle.permit_subcommands.specs.Printing.{TellsNoPlan}
-use Rattle.permit_subcommands.specs.Failures.{failure_status}
 use Rattle.permit_subcommands.specs.Listings.{WritesSome}
 use Rattle.permit_subcommands.specs.Requests.{body_of, request_text}
 use Rattle.permit_subcommands.specs.Tokens.{IsTokenOf}
-use Rattle.permit_subcommands.specs.declared.failure.Failure.{Failure}
 use Rattle.permit_sockets.specs.Listening.{SaysListening}
-use Rattle.permit_cli.specs.Explained.{FailsWith}
-use Rattle.permit_cli.specs.Telling.{IsTold, SaysEnd, SaysNoPlan}
 use Rattle.permit_cli.specs.declared.outcome.Outcome.{Outcome}
 use Rattle.permit_cli.specs.declared.outcome.Outcome.TheVariants as outcome
 use Rattle.permit_cli.specs.declared.question.Question.{Question}
@@ -136,25 +128,3 @@ ComesTo (plan.Serve words) before after done = ServesAs before after done
 ComesTo (plan.Upgrade words) before after done = IsUpgrade done × (after ≡ before)
 ComesTo (plan.CheckDb words) before after done = IsCheck words.why done × (after ≡ before)
 ComesTo (plan.RenewToken words) before after done = (done ≡ outcome.Renewed words.party) × (after ≡ before)
-
--- ---- how a run ends
-
--- What a plan came to is told, and the run ends so; or there is a failure, which is explained where that is asked for, and with
--- which it ends.
-abbrev pub Performs : Plan → Option (List ℕ) → Option (List ℕ) → Result ℕ Failure → Type 0
-Performs plan before after result =
-    ((done : Outcome) × (between : Option (List ℕ)) × ComesTo plan before between done × IsTold done between after result)
-    ⊎ ((why : Failure) × (between : Option (List ℕ)) × FailsWith plan why between after result)
-
--- the status: the one that is given, or the failure's
-abbrev pub status_of : Result ℕ Failure → ℕ
-status_of (Ok status) = status
-status_of (Err why) = failure_status why
-
--- How the program ends that runs on words: they give no plan, and that is told and said; or they give one, which is performed, and
--- a failure is said. The first two are the output before and after, the next two the errors.
-abbrev pub RunsAs : List (List ℕ) → (before after said saying : Option (List ℕ)) → ℕ → Type 0
-RunsAs words before after said saying status =
-    ((fault : PlanFault) × IsNoPlan words fault × TellsNoPlan fault before after status × SaysNoPlan fault said saying status)
-    ⊎ ((planned : Plan) × (ended : Result ℕ Failure) × IsPlanOf words planned × Performs planned before after ended × SaysEnd ended said saying
-    × (status ≡ status_of ended))

@@ -2,9 +2,11 @@ pub mod Asked
 pub mod Checked
 pub mod Doing
 pub mod Explained
+pub mod Failing
 pub mod Founded
 pub mod Opening
 pub mod Questions
 pub mod Reasons
+pub mod Running
 pub mod Served
 pub mod Telling

@@ -2,6 +2,7 @@
 
 ghost use Rattle.std.specs.Prelude.{◌≡◌, ◌≤◌, ◌⊎◌, IfErr, IfOk};
 ghost use Rattle.permit_cli.specs.Doing.{IsToldOf};
+ghost use Rattle.permit_cli.specs.Failing.{FailsIn};
 ghost use Rattle.permit_cli.specs.Opening.{IsOver, IsUnopened, Opens, Refuses};
 ghost use Rattle.permit_cli.specs.Questions.{IsAnswered, IsAsked};
 
@@ -108,6 +109,7 @@ pub(crate) fn ask_in<S: Alter + Drop, R: Read + Drop, O: Write>(
         result.0 (O.contents out.old) (O.contents out.new) result.1
         ⊎ (IsUnopened S.Store conn result.0 result.1 × (O.contents out.new ≡ O.contents out.old)) }
     ensures told { IfOk result.1 (IsToldOf day question.entry (O.contents out.old) (O.contents out.new)) }
+    ensures fails { IfErr result.1 (FailsIn day question.entry (O.contents out.old) (O.contents out.new)) }
 {
     match office_in(alloc, conn, policy) {
         Ok(office) => {

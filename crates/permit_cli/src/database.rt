@@ -3,11 +3,12 @@
 //! What works on a database is generic over its store, and each function here names the file for one such: a call of a generic
 //! function at the file's store costs the prover half a minute.
 
-ghost use Rattle.std.specs.Prelude.{◌≡◌, IfErr, IfOk, IfSome, IsTrue, OnOk};
+ghost use Rattle.std.specs.Prelude.{◌≡◌, ◌⊎◌, IfErr, IfOk, IfSome, IsTrue};
 ghost use Rattle.sqlite.specs.declared.error.Error.{Error as TheError};
-ghost use Rattle.permit_sockets.specs.Listening.{SaysListening};
 ghost use Rattle.permit_cli.specs.Doing.{IsCheck, IsToldOf, IsUpgrade};
+ghost use Rattle.permit_cli.specs.Failing.{FailsIn, FailsToListen, IsUnfounded, IsUnopened, IsUnrenewed, IsUnusable};
 ghost use Rattle.permit_cli.specs.Opening.{opening_failure};
+ghost use Rattle.permit_cli.specs.Served.{SaysWhere};
 ghost use Rattle.permit_cli.specs.Reasons.{is_of_path, opening_reason, IsReasonFor};
 
 use crate::asking::ask_in;
@@ -34,7 +35,8 @@ use std::thread::Threads;
 
 /// Why a database is not opened.
 fn of_opening(error: Error) -> Failure
-    ensures { result ≡ opening_failure error }
+    ensures told { result ≡ opening_failure error }
+    ensures kind { IsUnopened result }
 {
     match error {
         Error::SqliteFailure(ErrorCode::OutOfMemory) => Failure::memory(),
@@ -46,7 +48,8 @@ fn of_opening(error: Error) -> Failure
 
 /// Opens the database at a path, which is made where there is none.
 fn opened(rt: &HostRuntime, path: &str) -> Result<Connection<FileStore<sqlite::File>>, Failure>
-    ensures { IfErr result (λ why. (error : TheError) × (why ≡ opening_failure error)) }
+    ensures told { IfErr result (λ why. (error : TheError) × (why ≡ opening_failure error)) }
+    ensures kind { IfErr result IsUnopened }
 {
     match Connection::open(rt, path) {
         Ok(conn) => Ok(conn),
@@ -62,7 +65,8 @@ fn closed(conn: Connection<FileStore<sqlite::File>>) {
 
 /// Founds an office in the database at a path.
 pub fn found_at(rt: &HostRuntime, path: &str, founder: &Founder) -> Result<Outcome, Failure>
-    ensures { IfOk result (λ done. done ≡ Outcome.Founded) }
+    ensures founds { IfOk result (λ done. done ≡ Outcome.Founded) }
+    ensures fails { IfErr result IsUnfounded }
 {
     let (conn, founded) = found_in(rt.alloc(), opened(rt, path)?, founder);
     closed(conn);
@@ -71,7 +75,8 @@ pub fn found_at(rt: &HostRuntime, path: &str, founder: &Founder) -> Result<Outco
 
 /// Makes of the database at a path, of the version before, one of this version.
 pub fn upgrade_at(rt: &HostRuntime, path: &str) -> Result<Outcome, Failure>
-    ensures { IfOk result IsUpgrade }
+    ensures upgrades { IfOk result IsUpgrade }
+    ensures fails { IfErr result IsUnusable }
 {
     let (conn, upgraded) = upgrade_in(rt.alloc(), opened(rt, path)?);
     closed(conn);
@@ -80,7 +85,8 @@ pub fn upgrade_at(rt: &HostRuntime, path: &str) -> Result<Outcome, Failure>
 
 /// Tests the tables of the database at a path, and names the first place that is wrong if that is asked for.
 pub fn check_at(rt: &HostRuntime, path: &str, why: bool) -> Result<Outcome, Failure>
-    ensures { IfOk result (IsCheck why) }
+    ensures checks { IfOk result (IsCheck why) }
+    ensures fails { IfErr result IsUnusable }
 {
     let (conn, checked) = check_in(rt.alloc(), opened(rt, path)?, why);
     closed(conn);
@@ -89,7 +95,8 @@ pub fn check_at(rt: &HostRuntime, path: &str, why: bool) -> Result<Outcome, Fail
 
 /// Gives a party of the office in the database at a path a new token.
 pub fn renew_at(rt: &HostRuntime, path: &str, party: u32, token: &Token) -> Result<Outcome, Failure>
-    ensures { IfOk result (λ done. done ≡ Outcome.Renewed party) }
+    ensures renews { IfOk result (λ done. done ≡ Outcome.Renewed party) }
+    ensures fails { IfErr result IsUnrenewed }
 {
     let (conn, renewed) = renew_in(rt.alloc(), opened(rt, path)?, party, token);
     closed(conn);
@@ -105,7 +112,8 @@ pub fn ask_at<O: Write>(
     question: Question<'_, File>,
     out: &mut O,
 ) -> Result<Outcome, Failure>
-    ensures { IfOk result (IsToldOf day question.entry (O.contents out.old) (O.contents out.new)) }
+    ensures told { IfOk result (IsToldOf day question.entry (O.contents out.old) (O.contents out.new)) }
+    ensures fails { IfErr result (FailsIn day question.entry (O.contents out.old) (O.contents out.new)) }
 {
     let conn = opened(rt, path)?;
     let (conn, came) = ask_in(rt.alloc(), conn, policy, day, question, out);
@@ -125,7 +133,8 @@ pub fn serve_at<R, O>(
 where
     R: Threads + Wait + Copy + Drop + Send + 'static,
     O: Write,
-    ensures { OnOk result (SaysListening (O.contents out.old) (O.contents out.new)) }
+    ensures fails { IfErr result (λ why. IsUnusable why ⊎ FailsToListen words.now.listen.now why) }
+    ensures says { SaysWhere (O.contents out.old) (O.contents out.new) result }
 {
     let conn = opened(rt, words.db)?;
     let (conn, served) = serve_on_days(rt, workers, conn, policy, days, words, out);

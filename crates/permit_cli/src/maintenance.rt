@@ -19,6 +19,7 @@ ghost use Rattle.permit_sql.specs.Renewing.{OverKept};
 ghost use Rattle.permit_subcommands.specs.declared.failure.Failure.TheVariants.{Database};
 ghost use Rattle.permit_cli.specs.Checked.{IsCheckedAs, IsNamedAs};
 ghost use Rattle.permit_cli.specs.Doing.{IsCheck, IsUpgrade};
+ghost use Rattle.permit_cli.specs.Failing.{IsUnfounded, IsUnrenewed, IsUnusable};
 ghost use Rattle.permit_cli.specs.Founded.{renewal_failure, IsFoundedAs, IsRenewedAs, IsUpgradedAs};
 
 use crate::outcome::Outcome;
@@ -44,6 +45,7 @@ pub(crate) fn found_in<S: Alter + Drop>(
         → Keeps (tables (founding founder.now.name founder.now.digest founder.now.day)) (state S.Store result.0).now) }
     ensures told { IsFoundedAs (state S.Store conn).now result.1 }
     ensures kind { IfOk result.1 (λ done. done ≡ Outcome.Founded) }
+    ensures fails { IfErr result.1 IsUnfounded }
     ensures exists { conn.in_transaction ≡ false → (state S.Store conn).now.schema ≢ empty_schema → result.1 ≡ Err (Database opening.Exists) }
     ensures same { OnErr result.1 (IsFine (state S.Store result.0) → (state S.Store result.0).now ≡ (state S.Store conn).now) }
 {
@@ -61,6 +63,7 @@ pub(crate) fn upgrade_in<S: Alter + Drop>(
     ensures made { OnOk result.1 (HasCleanDisk (state S.Store result.0) → (h : History) → IsHistory h
         → KeepsUnder First (tables h) (state S.Store conn).now → Keeps (tables (upgraded h)) (state S.Store result.0).now) }
     ensures kind { IfOk result.1 IsUpgrade }
+    ensures fails { IfErr result.1 IsUnusable }
     ensures told { HasCleanDisk (state S.Store result.0) → IsUpgradedAs (state S.Store conn).now (state S.Store result.0).now result.1 }
     ensures version { HasCleanDisk (state S.Store result.0) → HasOtherVersion First (state S.Store conn).now
         → (result.1 ≡ Err (Database opening.Version)) ⊎ (result.1 ≡ Err (Database opening.Store)) }
@@ -95,6 +98,7 @@ pub(crate) fn renew_in<S: Alter + Drop>(
     ensures history { HasCleanDisk (state S.Store result.0) → (h : History) → IsHistory h → Keeps (tables h) (state S.Store conn).now
         → OnOk result.1 (IsHistory (renewed party token.now h) × Keeps (tables (renewed party token.now h)) (state S.Store result.0).now) }
     ensures kind { IfOk result.1 (λ done. done ≡ Outcome.Renewed party) }
+    ensures fails { IfErr result.1 IsUnrenewed }
     ensures told { HasCleanDisk (state S.Store result.0) → IsRenewedAs party token.now (state S.Store conn).now result.1 }
     ensures version { HasCleanDisk (state S.Store result.0) → HasOtherVersion Second (state S.Store conn).now
         → (result.1 ≡ Err (Database opening.Version)) ⊎ (result.1 ≡ Err (Database opening.Store)) }
@@ -114,6 +118,7 @@ fn named_in<S: Alter + Drop>(
     conn: Connection<S>,
 ) -> (Connection<S>, Result<Outcome, Failure>)
     ensures kind { IfOk result.1 (IsCheck true) }
+    ensures fails { IfErr result.1 IsUnusable }
     ensures named { HasCleanDisk (state S.Store result.0) → IsNamedAs (state S.Store conn).now result.1 }
     ensures open { HasCleanDisk (state S.Store result.0) → OnOk result.1 (IsTrue (state S.Store result.0).is_open) }
     ensures clean { HasCleanDisk (state S.Store result.0) → HasCleanDisk (state S.Store conn) }
@@ -134,6 +139,7 @@ pub(crate) fn check_in<S: Alter + Drop>(
     why: bool,
 ) -> (Connection<S>, Result<Outcome, Failure>)
     ensures kind { IfOk result.1 (IsCheck why) }
+    ensures fails { IfErr result.1 IsUnusable }
     ensures checked { HasCleanDisk (state S.Store result.0) → IsCheckedAs why (state S.Store conn).now result.1 }
     ensures version { HasCleanDisk (state S.Store result.0) → HasOtherVersion Second (state S.Store conn).now
         → (result.1 ≡ Err (Database opening.Version)) ⊎ (result.1 ≡ Err (Database opening.Store)) }

@@ -1,6 +1,6 @@
 //! What the program does: a plan is carried out, and what it came to is told.
 
-ghost use Rattle.std.specs.Prelude.{◌≡◌, ◌≤◌, ◌⊎◌, ℕ, [], false, IfErr, IfOk, List, None, Ok, Some, map, string_bytes};
+ghost use Rattle.std.specs.Prelude.{◌≡◌, ◌≤◌, ◌⊎◌, ℕ, [], false, Err, IfErr, IfOk, List, None, Ok, OnErr, Some, map, string_bytes};
 ghost use Rattle.std.specs.Io.KnownBytes.{Appends};
 ghost use Rattle.permit_base.specs.Texts.{is_token};
 ghost use Rattle.permit_import.specs.declared.refused.RefusalWord.TheVariants.{Store, Syntax};
@@ -12,7 +12,11 @@ ghost use Rattle.permit_subcommands.specs.Lines.{name_line};
 ghost use Rattle.permit_subcommands.specs.declared.failure.Failure.TheVariants as failure;
 ghost use Rattle.permit_subcommands.specs.Printing.{TellsNoPlan};
 ghost use Rattle.permit_cli.specs.Doing.{ActsAs, ComesTo, IsCheck, IsImported, IsPolicyChecked, IsToldOnRunDay, IsUpgrade, ListsAs};
-ghost use Rattle.permit_cli.specs.Doing.{Performs, RegistersAs, RunsAs, ServesAs};
+ghost use Rattle.permit_cli.specs.Doing.{RegistersAs, ServesAs};
+ghost use Rattle.permit_cli.specs.Failing.{FailsAs, FailsOnRunDay, FailsToAct, FailsToCheck, FailsToFound, FailsToImport, FailsToList};
+ghost use Rattle.permit_cli.specs.Failing.{FailsToRegister, FailsToRenew, FailsToServe, IsPolicyFailure, IsUnusable};
+ghost use Rattle.permit_cli.specs.Running.{Performs, RunsAs};
+ghost use Rattle.permit_cli.specs.Served.{SaysWhere};
 ghost use Rattle.permit_cli.specs.Telling.{PrintsThen, SaysNoPlan};
 
 use crate::complaining::complain;
@@ -45,7 +49,9 @@ use std::sync::Wait;
 use std::thread::Threads;
 
 /// Reads the policy at a path.
-fn policy_at(rt: &HostRuntime, path: &str) -> Result<Policy, Failure> {
+fn policy_at(rt: &HostRuntime, path: &str) -> Result<Policy, Failure>
+    ensures { IfErr result (IsPolicyFailure path.now) }
+{
     match fs::read_to_string(rt, path) {
         Ok(text) => match read_policy(rt.alloc(), text.as_str()) {
             Ok(policy) => Ok(policy),
@@ -68,7 +74,8 @@ fn facts_of(alloc: Global, text: &str) -> Result<Facts, Failure>
 
 /// Reads the policy at a path, and says of it what is asked. The facts are read first.
 fn check_policy(rt: &HostRuntime, words: &CheckPolicyWords<'_>) -> Result<Outcome, Failure>
-    ensures { IfOk result (IsPolicyChecked words.now.check) }
+    ensures says { IfOk result (IsPolicyChecked words.now.check) }
+    ensures fails { IfErr result (FailsToCheck words.now) }
 {
     let alloc = rt.alloc();
     match words.check {
@@ -90,7 +97,8 @@ fn check_policy(rt: &HostRuntime, words: &CheckPolicyWords<'_>) -> Result<Outcom
 
 /// Founds an office.
 fn init(rt: &HostRuntime, words: &InitWords<'_>) -> Result<Outcome, Failure>
-    ensures { IfOk result (λ done. done ≡ Outcome.Founded) }
+    ensures founds { IfOk result (λ done. done ≡ Outcome.Founded) }
+    ensures fails { IfErr result (FailsToFound words.now) }
 {
     let day = day_of_run(rt, &words.days)?;
     let token = token_of(rt, &words.token)?;
@@ -99,7 +107,9 @@ fn init(rt: &HostRuntime, words: &InitWords<'_>) -> Result<Outcome, Failure>
 }
 
 /// That there is a database at a path: none is made there.
-fn has_database(rt: &HostRuntime, path: &str) -> Result<(), Failure> {
+fn has_database(rt: &HostRuntime, path: &str) -> Result<(), Failure>
+    ensures { IfErr result IsUnusable }
+{
     match fs::exists(rt, path) {
         Ok(false) => Err(Failure::Database(OpenError::Store)),
         _ => Ok(()),
@@ -113,7 +123,8 @@ fn ask_office<O: Write>(
     question: Question<'_, File>,
     out: &mut O,
 ) -> Result<Outcome, Failure>
-    ensures { IfOk result (IsToldOnRunDay words.now.days question.entry (O.contents out.old) (O.contents out.new)) }
+    ensures told { IfOk result (IsToldOnRunDay words.now.days question.entry (O.contents out.old) (O.contents out.new)) }
+    ensures fails { IfErr result (FailsOnRunDay words.now question.entry (O.contents out.old) (O.contents out.new)) }
 {
     let day = day_of_run(rt, &words.days)?;
     let policy = policy_at(rt, words.policy)?;
@@ -123,7 +134,9 @@ fn ask_office<O: Write>(
 
 /// Has the office serve one request.
 fn act<O: Write>(rt: &HostRuntime, words: &ActWords<'_>, out: &mut O) -> Result<Outcome, Failure>
-    ensures { IfOk result (ActsAs words.now (O.contents out.old) (O.contents out.new)) }
+    ensures acts { IfOk result (ActsAs words.now (O.contents out.old) (O.contents out.new)) }
+    ensures fails { IfErr result (FailsToAct words.now) }
+    ensures unwritten { OnErr result (O.contents out.new ≡ O.contents out.old) }
 {
     let token = token_of(rt, &words.office.token)?;
     let question = Question::of_act(rt.alloc(), words, token.as_str())?;
@@ -132,7 +145,9 @@ fn act<O: Write>(rt: &HostRuntime, words: &ActWords<'_>, out: &mut O) -> Result<
 
 /// Lists files.
 fn list<O: Write>(rt: &HostRuntime, words: &ListWords<'_>, out: &mut O) -> Result<Outcome, Failure>
-    ensures { IfOk result (ListsAs (O.contents out.old) (O.contents out.new)) }
+    ensures lists { IfOk result (ListsAs (O.contents out.old) (O.contents out.new)) }
+    ensures fails { IfErr result (FailsToList words.now.office) }
+    ensures unwritten { OnErr result (O.contents out.new ≡ O.contents out.old) }
 {
     let token = token_of(rt, &words.office.token)?;
     let question = Question::of_list(rt.alloc(), words, token.as_str())?;
@@ -145,7 +160,8 @@ fn register<O: Write>(
     words: &RegisterWords<'_>,
     out: &mut O,
 ) -> Result<Outcome, Failure>
-    ensures { IfOk result (RegistersAs words.now (O.contents out.old) (O.contents out.new)) }
+    ensures registers { IfOk result (RegistersAs words.now (O.contents out.old) (O.contents out.new)) }
+    ensures fails { IfErr result (FailsToRegister words.now (O.contents out.old) (O.contents out.new)) }
 {
     let token = token_of(rt, &words.office.token)?;
     let question = Question::of_register(rt.alloc(), words, token.as_str())?;
@@ -158,7 +174,8 @@ fn import<O: Write>(
     words: &ImportWords<'_>,
     out: &mut O,
 ) -> Result<Outcome, Failure>
-    ensures { IfOk result (IsImported words.now.office.why (O.contents out.old) (O.contents out.new)) }
+    ensures imports { IfOk result (IsImported words.now.office.why (O.contents out.old) (O.contents out.new)) }
+    ensures fails { IfErr result (FailsToImport words.now (O.contents out.old) (O.contents out.new)) }
 {
     let token = token_of(rt, &words.office.token)?;
     let token = caller(rt.alloc(), token.as_str())?;
@@ -180,7 +197,9 @@ fn serve<R, O>(
 where
     R: Threads + Wait + Copy + Drop + Send + 'static,
     O: Write,
-    ensures { IfOk result (ServesAs (O.contents out.old) (O.contents out.new)) }
+    ensures serves { IfOk result (ServesAs (O.contents out.old) (O.contents out.new)) }
+    ensures fails { IfErr result (FailsToServe words.now) }
+    ensures says { IfErr result (λ why. SaysWhere (O.contents out.old) (O.contents out.new) (Err why)) }
 {
     let days = days_of_run(&words.days)?;
     let policy = policy_at(rt, words.policy)?;
@@ -191,7 +210,8 @@ where
 
 /// Makes of a database one of this version. None is made where there is none.
 fn upgrade(rt: &HostRuntime, words: &DatabaseWords<'_>) -> Result<Outcome, Failure>
-    ensures { IfOk result IsUpgrade }
+    ensures upgrades { IfOk result IsUpgrade }
+    ensures fails { IfErr result IsUnusable }
 {
     has_database(rt, words.db)?;
     upgrade_at(rt, words.db)
@@ -199,7 +219,8 @@ fn upgrade(rt: &HostRuntime, words: &DatabaseWords<'_>) -> Result<Outcome, Failu
 
 /// Tests the tables of a database. None is made where there is none.
 fn check_db(rt: &HostRuntime, words: &DatabaseWords<'_>) -> Result<Outcome, Failure>
-    ensures { IfOk result (IsCheck words.now.why) }
+    ensures checks { IfOk result (IsCheck words.now.why) }
+    ensures fails { IfErr result IsUnusable }
 {
     has_database(rt, words.db)?;
     check_at(rt, words.db, words.why)
@@ -218,7 +239,8 @@ fn new_token(text: String) -> Result<Token, Failure>
 
 /// Replaces the token of a party. No database is made where there is none.
 fn renew_token(rt: &HostRuntime, words: &RenewTokenWords<'_>) -> Result<Outcome, Failure>
-    ensures { IfOk result (λ done. done ≡ Outcome.Renewed words.now.party) }
+    ensures renews { IfOk result (λ done. done ≡ Outcome.Renewed words.now.party) }
+    ensures fails { IfErr result (FailsToRenew words.now) }
 {
     let token = new_token(token_of(rt, &words.token)?)?;
     has_database(rt, words.db)?;
@@ -237,6 +259,7 @@ where
     R: Threads + Wait + Copy + Drop + Send + 'static,
     O: Write,
     ensures comes { IfOk result (ComesTo plan.now (O.contents out.old) (O.contents out.new)) }
+    ensures fails { IfErr result (FailsAs plan.now (O.contents out.old) (O.contents out.new)) }
     ensures name { plan.now ≡ Plan.Name → (result ≡ Ok Outcome.Name) × (O.contents out.new ≡ O.contents out.old) }
 {
     match plan {

@@ -1,6 +1,6 @@
 //! An office in a database that is served over TCP, with its tables in memory.
 
-ghost use Rattle.std.specs.Prelude.{◌≡◌, ◌≤◌, ◌⊎◌, IfErr, IfOk, List, OnOk};
+ghost use Rattle.std.specs.Prelude.{◌≡◌, ◌≤◌, ◌⊎◌, IfErr, IfOk, List};
 ghost use Rattle.permit_base.specs.declared.request.Asked.{Asked};
 ghost use Rattle.permit_model.specs.Sound.{IsSoundTables};
 ghost use Rattle.permit_model.specs.Tables.{Tables};
@@ -8,7 +8,7 @@ ghost use Rattle.permit_store.specs.Frames.{HasOneDesk};
 ghost use Rattle.permit_wire.specs.declared.service.Dated.{Dated};
 ghost use Rattle.permit_hall.specs.OneHistory.{OneHistory};
 ghost use Rattle.permit_hall.specs.Runs.{Entry};
-ghost use Rattle.permit_sockets.specs.Listening.{SaysListening};
+ghost use Rattle.permit_cli.specs.Failing.{FailsToListen, IsOfStore, IsUnusable};
 ghost use Rattle.permit_cli.specs.Opening.{IsUnopened, IsWithoutMemory};
 ghost use Rattle.permit_cli.specs.Served.{HasEndedAs, IsDayOfRun, IsServed, IsServedOnDays, IsUnserved, SaysWhere};
 
@@ -83,6 +83,7 @@ where
         × (HasEndedAs (⟦<RequestReader<HostRuntime> as Read>⟧.remaining) (⟦<AnswerWriter<HostRuntime> as Write>⟧.contents)
         (⟦<Connections<HostRuntime, R> as Door>⟧.gave) (⟦<Connections<HostRuntime, R> as Door>⟧.spent) words.now.workers words.now.connections
         (O.contents out.old) (O.contents out.new) served result.1 ⊎ (IsUnserved office result.0 result.1 × (today.new ≡ today.old))) }
+    ensures fails { IfErr result.1 (λ why. IsOfStore why ⊎ FailsToListen words.now.listen.now why) }
     ensures says { SaysWhere (O.contents out.old) (O.contents out.new) result.1 }
 {
     let (office, served) = serve(rt, workers, office, words, today, shut, out);
@@ -120,6 +121,7 @@ where
         (O.contents out.old) (O.contents out.new)) policy words.now.workers conn result.0 (O.contents out.old) (O.contents out.new) result.1
         ⊎ ((IsUnopened S.Store conn result.0 result.1 ⊎ IsWithoutMemory S.Store conn result.0 result.1)
         × (O.contents out.new ≡ O.contents out.old)) }
+    ensures fails { IfErr result.1 (λ why. IsUnusable why ⊎ FailsToListen words.now.listen.now why) }
 {
     let Ok((set, shut)) = flag(rt.alloc()) else {
         return (conn, Err(Failure::memory()));
@@ -156,7 +158,8 @@ where
         (O.contents out.old) (O.contents out.new)) policy words.now.workers conn result.0 (O.contents out.old) (O.contents out.new) result.1
         ⊎ ((IsUnopened S.Store conn result.0 result.1 ⊎ IsWithoutMemory S.Store conn result.0 result.1)
         × (O.contents out.new ≡ O.contents out.old)) }
-    ensures says { OnOk result.1 (SaysListening (O.contents out.old) (O.contents out.new)) }
+    ensures fails { IfErr result.1 (λ why. IsUnusable why ⊎ FailsToListen words.now.listen.now why) }
+    ensures says { SaysWhere (O.contents out.old) (O.contents out.new) result.1 }
 {
     let mut today = ||
         ensures { IsDayOfRun days.entry.now result }

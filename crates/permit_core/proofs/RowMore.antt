@@ -1,19 +1,16 @@
 -- The row of a file after one more command is what the command makes of its row.
 use Rattle.std.proofs.Common.{◌≡◌, ◌≤◌, ℕ, ◌+◌, ◌-◌, Bool, true, false, not, cond, List, [], ◌∷◌, length, refl, sym, ◌∙◌, ap, arith, length-append}
-use Rattle.std.specs.Prelude.{Option, None, Some, unwrap_or, option_map, filter, ◌==◌, ◌&&◌, ◌||◌, if◌then◌else◌}
-use Rattle.std.specs.List.{cons_option}
+use Rattle.std.specs.Prelude.{Option, None, Some, unwrap_or, option_map, filter, ◌&&◌, ◌||◌, if◌then◌else◌}
 use Rattle.std.proofs.lemmas.Bool.{eq-eqb}
 use Rattle.permit_base.specs.declared.words.Kind.{Kind}
 use Rattle.permit_base.specs.declared.words.Step.{Step}
-use Rattle.permit_base.specs.declared.words.Step.TheVariants.{Final}
 use Rattle.permit_base.specs.declared.request.Command.{Command}
-use Rattle.permit_base.specs.declared.request.Command.TheVariants.{Reject, Issue, AskExtension, GrantExtension, RefuseExtension, BeginWork, RequestInspection}
-use Rattle.permit_base.specs.declared.request.Command.TheVariants.{ApproveStep, Notice, ClearNotice, Stop, Lift, Revoke, Certify}
+use Rattle.permit_base.specs.declared.request.Command.TheVariants.{Notice, ClearNotice, Stop, Lift}
 use Rattle.permit_base.specs.declared.request.Request.TheVariants.{File, OnFile}
 use Rattle.permit_model.specs.Search.{add_last, has_number}
 use Rattle.permit_model.specs.Effects.{effects}
-use Rattle.permit_model.specs.History.{Entry, History, last_day, edition}
-use Rattle.permit_model.specs.Files.{Filing, Act, CaseFile, act_of, acts_on, filings, case_file, case_numbered}
+use Rattle.permit_model.specs.History.{History, last_day, edition}
+use Rattle.permit_model.specs.Files.{Filing, Act, CaseFile, filings, case_file, case_numbered}
 use Rattle.permit_model.specs.Work.{approved_steps, pending_step, requested_day, pending_ask, open_notices, is_stopped, makes_paper, paper_count}
 use Rattle.permit_model.specs.Deadline.{deadline}
 use Rattle.permit_model.specs.Admission.{first_failing, file_tests, tests_on, reason_against}
@@ -34,45 +31,24 @@ use Rattle.permit_core.specs.RowAfter.{deadline_after, done_after, requested_aft
 
 same_deadline : (command : Command) (day : ℕ) (ask old : Option ℕ) → deadlines.deadline_after command day ask old
     ≡ deadline_after (effects command).grants (effects command).stage (effects command).anchor day ask old
-same_deadline Issue day ask old = refl
-same_deadline BeginWork day ask old = refl
-same_deadline (RequestInspection step) day ask old = refl
-same_deadline (ApproveStep Final) day ask old = refl
-same_deadline (ApproveStep step) day ask old = refl
-same_deadline (Notice text) day ask old = refl
-same_deadline GrantExtension day ask old = refl
-same_deadline (Reject text) day ask old = refl
-same_deadline (Revoke text) day ask old = refl
-same_deadline Certify day ask old = refl
-same_deadline _ day ask old = refl
+same_deadline command day ask old = grind arith
 
 -- ---- steps, requests and asks
 
 done_more : (command : Command) (steps : List Step) → length (add_last steps (effects command).step) ≡ done_after (effects command).step (length steps)
-done_more (ApproveStep step) steps = length-append steps (step ∷ [])
-done_more _ steps = refl
+done_more command steps = grind (arith, length-append)
 
 request_more : (caller day : ℕ) (command : Command) (number : Option ℕ) (before : List Act) →
     pending_step (act_by caller day command number ∷ before) ≡ unwrap_or (effects command).request (pending_step before)
-request_more caller day (RequestInspection step) number before = refl
-request_more caller day (ApproveStep step) number before = refl
-request_more caller day (Notice text) number before = refl
-request_more caller day _ number before = refl
+request_more caller day command number before = grind arith
 
 requested_more : (caller day : ℕ) (command : Command) (number : Option ℕ) (before : List Act) →
     requested_day (act_by caller day command number ∷ before) ≡ requested_after day (effects command).request (requested_day before)
-requested_more caller day (RequestInspection step) number before = refl
-requested_more caller day (ApproveStep step) number before = refl
-requested_more caller day (Notice text) number before = refl
-requested_more caller day _ number before = refl
+requested_more caller day command number before = grind arith
 
 ask_more : (caller day : ℕ) (command : Command) (number : Option ℕ) (before : List Act) →
     pending_ask (act_by caller day command number ∷ before) ≡ unwrap_or (effects command).ask (pending_ask before)
-ask_more caller day (AskExtension days text) number before = refl
-ask_more caller day GrantExtension number before = refl
-ask_more caller day (RefuseExtension text) number before = refl
-ask_more caller day Issue number before = refl
-ask_more caller day _ number before = refl
+ask_more caller day command number before = grind arith
 
 -- ---- stop work orders
 
@@ -85,12 +61,10 @@ stopped_more filing caller day _ number before all = refl
 -- ---- papers and notices
 
 not_false : (b : Bool) → not b ≡ false → b ≡ true
-not_false true e = refl
-not_false false e = cc
+not_false b e = grind arith
 
 counted_more : {A : Type 0} (x : A) (xs : List A) (b : Bool) → length (cond b (x ∷ xs) xs) ≡ (if b then length xs + 1 else length xs)
-counted_more x xs true = omega arith
-counted_more x xs false = refl
+counted_more x xs b = grind arith
 
 papers_more : (act : Act) (before : List Act) → paper_count (act ∷ before) ≡ papers_after act.command (paper_count before)
 papers_more act before = counted_more act (filter (λ a. makes_paper a.command) before) (makes_paper act.command)
@@ -128,27 +102,7 @@ same_row : (a b : State) → a.parcel ≡ b.parcel → a.applicant ≡ b.applica
     a.kind ≡ b.kind → a.edition ≡ b.edition → a.filed ≡ b.filed → a.stage ≡ b.stage → a.deadline ≡ b.deadline →
     a.done ≡ b.done → a.request ≡ b.request → a.requested ≡ b.requested → a.ask ≡ b.ask → a.stopped ≡ b.stopped → a.notices ≡ b.notices → a.papers ≡ b.papers →
     a.temporary ≡ b.temporary → a ≡ b
-same_row a b e0 e1 e2 e3 e4 e5 e6 e7 e8 e9 e10 e11 e12 e13 e14 e15 e16 e17 =
-    λ i. record {
-      parcel = e0 i;
-      applicant = e1 i;
-      contractor = e2 i;
-      reviewer = e3 i;
-      inspector = e4 i;
-      kind = e5 i;
-      edition = e6 i;
-      filed = e7 i;
-      stage = e8 i;
-      deadline = e9 i;
-      done = e10 i;
-      request = e11 i;
-      requested = e12 i;
-      ask = e13 i;
-      stopped = e14 i;
-      notices = e15 i;
-      papers = e16 i;
-      temporary = e17 i;
-    }
+same_row a b e0 e1 e2 e3 e4 e5 e6 e7 e8 e9 e10 e11 e12 e13 e14 e15 e16 e17 = grind arith
 
 row_of_act : (filing : Filing) (caller day : ℕ) (command : Command) (number : Option ℕ) (before : List Act) →
     WasAdmitted filing (act_by caller day command number) before → WereAdmitted filing before →
@@ -185,18 +139,9 @@ notices_within h id file is there = notices_few file.filing file.acts (done_to h
 
 -- ---- the file of the history with the entry added
 
--- the entry's act is on the file of its number
-act_added : (h : History) (entry : Entry) (command : Command) (filing : Filing) (b : Bool) → b ≡ true →
-    case_of filing (cons_option (option_map (act_of entry) (if b then Some command else None)) (acts_on filing.id h))
-    ≡ case_of filing (act_of entry command ∷ acts_on filing.id h)
-act_added h entry command filing true e = refl
-act_added h entry command filing false e = cc
-
 file_recorded : (h : History) (id day caller : ℕ) (command : Command) (filing : Filing) → filing.id ≡ id → case_numbered h id ≡ Some (case_file h filing) →
     case_file (entry_of h day caller (OnFile id command) ∷ h) filing ≡ file_after day command caller (case_file h filing)
-file_recorded h id day caller command filing named there =
-    act_added h (entry_of h day caller (OnFile id command)) command filing (id == filing.id) (eq-eqb id filing.id (sym named))
-    ∙ ap (λ (o : Option CaseFile). case_of filing (act_by caller day command (paper_number command o) ∷ acts_on filing.id h)) there
+file_recorded h id day caller command filing named there = grind arith
 
 recorded_by : (h : History) (id day caller : ℕ) (file after : CaseFile) (command : Command) (o : Option Filing) → filing_numbered (filings h) id ≡ o →
     case_numbered h id ≡ Some file → option_map (case_file h) o ≡ Some file →
@@ -219,10 +164,4 @@ recorded h id day caller file after command there is = recorded_by h id day call
 pub filing_recorded : (h : History) (day caller parcel : ℕ) (kind : Kind) (valuation : ℕ) (description : List ℕ) → IsHistory h →
     case_numbered (entry_of h day caller (File parcel kind valuation description) ∷ h) (length (filings h) + 1)
     ≡ Some (filed_by caller parcel kind (edition h) day (length (filings h) + 1) valuation description)
-filing_recorded h day caller parcel kind valuation description is =
-    let n : ℕ = length (filings h) + 1 in
-    let new : Filing = (filed_by caller parcel kind (edition h) day n valuation description).filing in
-    let none : filing_numbered (filings h) n ≡ None = files_below h is n (omega arith) in
-    ap (option_map (case_file (entry_of h day caller (File parcel kind valuation description) ∷ h)))
-    (find_last (filings h) new n None none ∙ ap (λ (b : Bool). if b then Some new else None) (eq-eqb n n refl))
-    ∙ ap (λ acts. Some (case_of new acts)) (no_acts h n is none)
+filing_recorded h day caller parcel kind valuation description is = grind (arith, filing_numbered, files_below, find_last, eq-eqb, case_of, no_acts)

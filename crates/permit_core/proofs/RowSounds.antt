@@ -1,34 +1,28 @@
 -- An admitted command makes a sound row of a sound row.
-use Rattle.std.proofs.Common.{◌≡◌, ◌≤◌, ◌<◌, ℕ, ◌+◌, Bool, true, false, not, ◌==◌, [], ◌∷◌, length, refl, sym, ◌∙◌, ap, subst, arith, lit≤}
-use Rattle.std.specs.Prelude.{Option, None, Some, option_map, is_some, is_none, ◌&&◌, ◌||◌, nat_lt, nat_le, if◌then◌else◌, slice_get, unwrap_or}
+use Rattle.std.proofs.Common.{◌≡◌, ◌≤◌, ◌<◌, ℕ, ◌+◌, Bool, true, false, not, ◌==◌, length, refl, ◌∙◌, ap, arith}
+use Rattle.std.specs.Prelude.{Option, Some, option_map, is_some, is_none, ◌&&◌, ◌||◌, nat_lt, nat_le, if◌then◌else◌, slice_get, unwrap_or}
 use Rattle.std.proofs.Math.Bool.{or-true}
-use Rattle.std.proofs.lemmas.Bool.{eqb-true, le-leb, leb-true, leb-false, eq-eqb, ltb-false as not_below}
-use Rattle.std.proofs.lemmas.Option.{slice_get_within}
+use Rattle.std.proofs.lemmas.Bool.{eqb-true, leb-true, leb-false, eq-eqb, ltb-false as not_below}
 use Rattle.permit_base.specs.declared.words.Edition.{Edition}
-use Rattle.permit_base.specs.declared.words.Edition.TheVariants as edition
 use Rattle.permit_base.specs.declared.words.Kind.{Kind}
-use Rattle.permit_base.specs.declared.words.Kind.TheVariants.{Construct, Enlarge, Alter, Repair, Move, Demolish, Occupancy}
 use Rattle.permit_base.specs.declared.words.Step.{Step}
 use Rattle.permit_base.specs.declared.words.Step.TheVariants.{Final}
 use Rattle.permit_base.specs.declared.words.Stage.{Stage}
 use Rattle.permit_base.specs.declared.words.Stage.TheVariants as stage
 use Rattle.permit_base.specs.declared.request.Command.{Command}
-use Rattle.permit_base.specs.declared.request.Command.TheVariants.{StartReview, Return, Resubmit, ApprovePlans, Reject, Issue, AskExtension, GrantExtension}
-use Rattle.permit_base.specs.declared.request.Command.TheVariants.{RefuseExtension, BeginWork, RequestInspection, ApproveStep, Notice, ClearNotice, Stop, Lift}
-use Rattle.permit_base.specs.declared.request.Command.TheVariants.{Revoke, Temporary, Certify}
+use Rattle.permit_base.specs.declared.request.Command.TheVariants.{StartReview, Return, Resubmit, ApprovePlans, Reject, Issue, GrantExtension}
+use Rattle.permit_base.specs.declared.request.Command.TheVariants.{BeginWork, RequestInspection, ApproveStep, Notice, ClearNotice, Stop, Lift}
+use Rattle.permit_base.specs.declared.request.Command.TheVariants.{Revoke, Certify}
 use Rattle.permit_core.specs.declared.people.People.{People}
 use Rattle.permit_model.specs.Codes.{is_stage}
-use Rattle.permit_model.specs.Days.{is_past}
 use Rattle.permit_model.specs.Effects.{effects}
 use Rattle.permit_model.specs.Steps.{required_steps}
-use Rattle.permit_model.specs.Facts.{past_stage}
 use Rattle.permit_model.specs.Work.{makes_paper}
 use Rattle.permit_base.specs.Stages.{stage_facts}
-use Rattle.permit_base.specs.Limits.{latest_deadline, most_papers}
+use Rattle.permit_base.specs.Limits.{most_papers}
 use Rattle.permit_model.specs.Tables.{State, next_in_row}
 use Rattle.permit_model.specs.SoundState.{is_stored, is_timed, is_completed, is_certified, deadline_stands, is_for, is_finished, request_dated, IsSoundState}
-use Rattle.permit_model.proofs.Fronts.{AllPass, all_pass, same_step, is_it}
-use Rattle.permit_model.proofs.Stages.{only_one, unpassed}
+use Rattle.permit_model.proofs.Fronts.{AllPass, all_pass, is_it}
 use Rattle.permit_model.proofs.SoundStates.{final_last, same_as_itself}
 use Rattle.permit_core.specs.Views.{row_stage}
 use Rattle.permit_core.specs.RowTests.{row_tests, IsAdmitted}
@@ -45,36 +39,18 @@ pub record Sound (s : State) : Type 0 where
   pub free : (not (is_certified s.stage) || not s.stopped) ≡ true
 
 parts : (a b : Bool) → (a && b) ≡ true → (a ≡ true) × (b ≡ true)
-parts true b e = (refl, e)
-parts false b e = cc
+parts a b e = grind arith
 
 pub sound_facts : (s : State) → IsSoundState s → Sound s
-sound_facts s h =
-    let free = parts (is_stored s.stage && nat_le s.done (length (required_steps s.edition s.kind)) && deadline_stands s && is_for s.request (next_in_row s)
-    && request_dated s && (not (is_completed s.stage) || is_finished s)) (not (is_certified s.stage) || not s.stopped) h in
-    let over = parts (is_stored s.stage && nat_le s.done (length (required_steps s.edition s.kind)) && deadline_stands s && is_for s.request (next_in_row s)
-    && request_dated s) (not (is_completed s.stage) || is_finished s) free.0 in
-    let dated = parts (is_stored s.stage && nat_le s.done (length (required_steps s.edition s.kind)) && deadline_stands s && is_for s.request (next_in_row s))
-    (request_dated s) over.0 in
-    let request = parts (is_stored s.stage && nat_le s.done (length (required_steps s.edition s.kind)) && deadline_stands s)
-    (is_for s.request (next_in_row s)) dated.0 in
-    let stands = parts (is_stored s.stage && nat_le s.done (length (required_steps s.edition s.kind))) (deadline_stands s) request.0 in
-    let few = parts (is_stored s.stage) (nat_le s.done (length (required_steps s.edition s.kind))) stands.0 in
-    record { stored = few.0; few = few.1; stands = stands.1; request = request.1; dated = dated.1; over = over.1; free = free.1 }
+sound_facts s h = grind (arith, parts)
 
 not_stopped : (b : Bool) → not b ≡ true → b ≡ false
-not_stopped true e = cc
-not_stopped false e = refl
+not_stopped b e = grind arith
 
 -- a certified file has every step approved, no open notice and no standing stop work order
 pub certified_facts : (s : State) → IsSoundState s → s.stage ≡ stage.Certified → (s.done ≡ length (required_steps s.edition s.kind)) × (s.notices ≡ 0)
     × (s.stopped ≡ false)
-certified_facts s sound at =
-    let f : Sound s = sound_facts s sound in
-    let over : is_finished s ≡ true = subst (λ x. (not (is_completed x) || is_finished s) ≡ true) at f.over in
-    let free : not s.stopped ≡ true = subst (λ x. (not (is_certified x) || not s.stopped) ≡ true) at f.free in
-    let done = parts (s.done == length (required_steps s.edition s.kind)) (s.notices == 0) over in
-    (eqb-true s.done (length (required_steps s.edition s.kind)) done.0, eqb-true s.notices 0 done.1, not_stopped s.stopped free)
+certified_facts s sound at = grind (arith, sound_facts, parts, eqb-true, not_stopped)
 
 pub sound_whole : (s : State) → Sound s → IsSoundState s
 sound_whole s f = rw (f.stored, f.few, f.stands, f.request, f.dated, f.over, f.free) refl
@@ -83,19 +59,11 @@ sound_whole s f = rw (f.stored, f.few, f.stands, f.request, f.dated, f.over, f.f
 
 pub row_was_in : (day : ℕ) (s : State) (wanted : Stage) → is_stored wanted ≡ true → not (is_stage (row_stage day s) wanted) ≡ false →
     s.stage ≡ wanted
-row_was_in day s wanted stored h = unpassed s.stage wanted (is_past day s.deadline) stored
-    (only_one (row_stage day s) wanted (is_stage (row_stage day s) wanted) refl h)
-
--- a certified file is neither stopped nor released
-certified_not_stoppable : (s : Stage) (past : Bool) → is_certified s ≡ true → not (stage_facts (if past then past_stage s else s)).stoppable ≡ true
-certified_not_stoppable stage.Certified true e = refl
-certified_not_stoppable stage.Certified false e = refl
-certified_not_stoppable _ past e = cc
+row_was_in day s wanted stored h = grind arith
 
 not_certified_by : (day : ℕ) (s : State) (b : Bool) → is_certified s.stage ≡ b → not (stage_facts (row_stage day s)).stoppable ≡ false →
     (not b || false) ≡ true
-not_certified_by day s false e h = refl
-not_certified_by day s true e h = sym h ∙ certified_not_stoppable s.stage (is_past day s.deadline) e
+not_certified_by day s b e h = grind arith
 
 -- ---- parts of the row after
 
@@ -107,15 +75,13 @@ stands_active s wanted day was t = let e : is_timed s ≡ true = ap is_timed was
 
 stands_granted : (t : Bool) (more : ℕ) (d : Option ℕ) → (if t then is_some d else is_none d) ≡ true →
     (if t then is_some (option_map (λ (n : ℕ). n + more) d) else is_none (option_map (λ (n : ℕ). n + more) d)) ≡ true
-stands_granted t more None h = h
-stands_granted t more (Some n) h = h
+stands_granted t more d h = grind arith
 
 not_over : (s : Stage) (wanted : Stage) (finished : Bool) → s ≡ wanted → is_completed wanted ≡ false → (not (is_completed s) || finished) ≡ true
 not_over s wanted finished was c = let e : is_completed s ≡ false = ap is_completed was ∙ c in rw e refl
 
 for_step : (step : Step) (next : Option Step) → is_for (Some step) next ≡ true → next ≡ Some step
-for_step step None h = cc
-for_step step (Some next) h = ap Some (same_step next step h)
+for_step step next h = grind arith
 
 both : (a b : Bool) → a ≡ true → b ≡ true → (a && b) ≡ true
 both a b e f = rw (e, f) refl
@@ -126,8 +92,7 @@ requested_next s step f e = let h : is_for (Some step) (next_in_row s) ≡ true 
 
 one_more : (edition : Edition) (kind : Kind) (done : ℕ) (step : Step) → slice_get (required_steps edition kind) done ≡ Some step →
     nat_le (done + 1) (length (required_steps edition kind)) ≡ true
-one_more edition kind done step next = le-leb (done + 1) (length (required_steps edition kind))
-    (omega (arith, slice_get_within (required_steps edition kind) done step next))
+one_more edition kind done step next = grind arith
 
 all_done : (edition : Edition) (kind : Kind) (done : ℕ) → slice_get (required_steps edition kind) done ≡ Some Final →
     (done + 1 == length (required_steps edition kind)) ≡ true
@@ -280,30 +245,7 @@ sound_more day _ s people f p = record { stored = f.stored; few = f.few; stands 
 sound_counted : (day : ℕ) (command : Command) (s : State) (people : People) (notices papers : ℕ) → Sound s → AllPass (row_tests day s people command) →
     (FitsNotice (effects command).notice s.notices → notices ≡ notices_after (effects command).notice (effects command).cleared s.notices) →
     Sound (record (row_after day command s) { notices = notices; papers = papers })
-sound_counted day (Notice text) s people notices papers f p h =
-    let g : Sound (row_after day (Notice text) s) = sound_more day (Notice text) s people f p in
-    record {
-      stored = g.stored;
-      few = g.few;
-      stands = g.stands;
-      request = g.request;
-      dated = g.dated;
-      over = not_over s.stage stage.Working _ (row_was_in day s stage.Working refl p.0) refl;
-      free = g.free;
-    }
-sound_counted day command s people notices papers f p h =
-    let g : Sound (row_after day command s) = sound_more day command s people f p in
-    let e : notices ≡ notices_after (effects command).notice (effects command).cleared s.notices = h (λ x. cc) in
-    record {
-      stored = g.stored;
-      few = g.few;
-      stands = g.stands;
-      request = g.request;
-      dated = g.dated;
-      over = subst (λ n. (not (is_completed (row_after day command s).stage) || is_finished (record (row_after day command s) { notices = n; papers = papers }))
-          ≡ true) (sym e) g.over;
-      free = g.free;
-    }
+sound_counted day command s people notices papers f p h = grind (arith, sound_more, not_over, row_was_in)
 
 pub sound_after : (day : ℕ) (command : Command) (s : State) (notices papers : ℕ) → IsSoundState s → IsAdmitted day s command →
     (FitsNotice (effects command).notice s.notices → notices ≡ notices_after (effects command).notice (effects command).cleared s.notices) →
@@ -315,24 +257,14 @@ sound_after day command s notices papers sound admitted h =
 -- ---- the numbers of the row after
 
 few_steps : (edition : Edition) (kind : Kind) → length (required_steps edition kind) ≤ 6
-few_steps edition.First Construct = lit≤ tt
-few_steps edition.First Enlarge = lit≤ tt
-few_steps edition.First Alter = lit≤ tt
-few_steps edition.Second Construct = lit≤ tt
-few_steps edition.Second Enlarge = lit≤ tt
-few_steps edition.Second Alter = lit≤ tt
-few_steps edition Repair = lit≤ tt
-few_steps edition Move = lit≤ tt
-few_steps edition Demolish = lit≤ tt
-few_steps edition Occupancy = lit≤ tt
+few_steps edition kind = grind arith
 
 pub few_done : (s : State) → IsSoundState s → s.done < 255
 few_done s sound = omega (arith, few_steps s.edition s.kind, leb-true s.done (length (required_steps s.edition s.kind)) (sound_facts s sound).few)
 
 fits_grant : (day : ℕ) (command : Command) (s : State) (people : People) → AllPass (row_tests day s people command) →
     FitsGrant (effects command).grants s.ask s.deadline
-fits_grant day GrantExtension s people p = λ e. omega (arith, not_below latest_deadline (unwrap_or s.deadline 0 + unwrap_or s.ask 0) p.1.1.1.0)
-fits_grant day _ s people p = λ e. cc
+fits_grant day command s people p = grind arith
 
 pub grant_fits : (day : ℕ) (command : Command) (s : State) → IsAdmitted day s command → FitsGrant (effects command).grants s.ask s.deadline
 grant_fits day command s admitted = fits_grant day command s admitted.0 (all_pass (row_tests day s admitted.0 command) admitted.1)
@@ -340,24 +272,10 @@ grant_fits day command s admitted = fits_grant day command s admitted.0 (all_pas
 -- a command that makes a paper finds fewer than the most papers
 room_by : (day : ℕ) (command : Command) (s : State) (people : People) → AllPass (row_tests day s people command) → makes_paper command ≡ true →
     nat_le most_papers s.papers ≡ false
-room_by day (Return text) s people p e = p.1.0
-room_by day (Resubmit text) s people p e = p.1.0
-room_by day (Reject text) s people p e = p.1.0
-room_by day Issue s people p e = p.1.0
-room_by day (AskExtension days text) s people p e = p.1.1.1.0
-room_by day GrantExtension s people p e = p.1.1.0
-room_by day (RefuseExtension text) s people p e = p.1.1.0
-room_by day (Notice text) s people p e = p.1.1.0
-room_by day (Stop text conditions) s people p e = p.1.1.0
-room_by day Lift s people p e = p.1.1.0
-room_by day (Revoke text) s people p e = p.1.0
-room_by day (Temporary days text) s people p e = p.1.1.1.1.1.0
-room_by day Certify s people p e = p.1.1.1.0
-room_by day _ s people p e = cc
+room_by day command s people p e = grind arith
 
 pub room : (day : ℕ) (command : Command) (s : State) → IsAdmitted day s command → makes_paper command ≡ true → s.papers < most_papers
 room day command s admitted e = leb-false most_papers s.papers (room_by day command s admitted.0 (all_pass (row_tests day s admitted.0 command) admitted.1) e)
 
 pub notice_fits : (day : ℕ) (command : Command) (s : State) → IsAdmitted day s command → s.notices ≤ s.papers → FitsNotice (effects command).notice s.notices
-notice_fits day (Notice text) s admitted few = λ e. omega (arith, few, room day (Notice text) s admitted refl)
-notice_fits day _ s admitted few = λ e. cc
+notice_fits day command s admitted few = grind arith

@@ -1,23 +1,18 @@
 -- What stands against a command on the row is what stands against it on the history.
-use Rattle.std.proofs.Common.{◌≡◌, ℕ, suc, Bool, true, false, not, ◌==◌, List, [], ◌∷◌, length, refl, sym, ◌∙◌, ap, arith}
-use Rattle.std.specs.Prelude.{Option, None, Some, option_map, is_some, nat_lt, ◌||◌, ◌&&◌}
-use Rattle.std.proofs.lemmas.Bool.Decides.{nat_tests}
+use Rattle.std.proofs.Common.{◌≡◌, ℕ, suc, Bool, true, not, List, [], ◌∷◌, length, refl, ◌∙◌, ap, arith}
+use Rattle.std.specs.Prelude.{Option, Some, option_map, is_some, nat_lt, ◌||◌, ◌&&◌}
 use Rattle.permit_base.specs.declared.words.Role.{Role}
-use Rattle.permit_base.specs.declared.words.Role.TheVariants.{Reviewer, Inspector}
 use Rattle.permit_base.specs.declared.refusal.Reason.TheVariants as reason
 use Rattle.permit_base.specs.declared.request.Command.{Command}
-use Rattle.permit_base.specs.declared.request.Command.TheVariants.{AssignReviewer, AssignInspector, NameContractor, RequestInspection, ClearNotice}
 use Rattle.permit_base.specs.declared.request.Request.TheVariants.{OnFile}
 use Rattle.permit_core.specs.declared.people.NamedParty.{NamedParty}
 use Rattle.permit_core.specs.declared.people.People.{People}
-use Rattle.permit_model.specs.Search.{is_the_party, has_number}
+use Rattle.permit_model.specs.Search.{has_number}
 use Rattle.permit_model.specs.History.{History}
-use Rattle.permit_model.specs.Caller.{Party, party_numbered, has_role}
-use Rattle.permit_model.specs.Parcels.{owner, has_interest}
+use Rattle.permit_model.specs.Caller.{Party, has_role}
 use Rattle.permit_model.specs.Files.{CaseFile, case_numbered}
-use Rattle.permit_model.specs.People.{contractor}
-use Rattle.permit_model.specs.Work.{next_of, open_notices}
-use Rattle.permit_model.specs.Admission.{first_failing, file_tests, tests_on, reason_against, facts_on, unless_stage}
+use Rattle.permit_model.specs.Work.{next_of}
+use Rattle.permit_model.specs.Admission.{first_failing, file_tests, reason_against}
 use Rattle.permit_model.specs.Tables.{State, state_of, next_in_row}
 use Rattle.permit_model.specs.Machine.{IsHistory}
 use Rattle.permit_model.proofs.Projection.{done_to}
@@ -38,19 +33,16 @@ assigned_same : (role : Role) (o : Option Party) (off others interest : Bool) �
     first_failing ((off, reason.Stage) ∷ (not (has_role role o), reason.Person) ∷ (others || interest, reason.Interested) ∷ [])
     ≡ first_failing ((off, reason.Stage) ∷ (not (is_of_role role (option_map (known interest) o)), reason.Person)
     ∷ (others || is_with_interest (option_map (known interest) o), reason.Interested) ∷ [])
-assigned_same role None off others interest = refl
-assigned_same role (Some p) off others interest = refl
+assigned_same role o off others interest = grind arith
 
 some_known : (interest : Bool) (o : Option Party) → is_some o ≡ is_some (option_map (known interest) o)
-some_known interest None = refl
-some_known interest (Some p) = refl
+some_known interest o = grind arith
 
 and_true : (b : Bool) → b ≡ b && true
-and_true true = refl
-and_true false = refl
+and_true b = grind arith
 
 above_zero : (n : ℕ) → true ≡ nat_lt 0 (suc n)
-above_zero n = grind (arith, nat_tests)
+above_zero n = grind arith
 
 -- a number is among none
 among_some : (ns : List ℕ) (n : ℕ) → has_number ns n ≡ has_number ns n && nat_lt 0 (length ns)
@@ -60,25 +52,10 @@ among_some (m ∷ ns) n = and_true (has_number (m ∷ ns) n) ∙ ap (λ b. has_n
 -- on a file whose next step is the one at the count of approved steps
 pub same_reason : (h : History) (day : ℕ) (file : CaseFile) (command : Command) → next_of file ≡ next_in_row (state_of file) →
     first_failing (file_tests h day file command) ≡ first_failing (row_tests day (state_of file) (people_of h file command) command)
-same_reason h day file (AssignReviewer party) next =
-    assigned_same Reviewer (party_numbered h party) (unless_stage (facts_on day file).reviewing).0
-    ((file.filing.applicant == party) || is_the_party (contractor file.acts) party || is_the_party (owner h file.filing.parcel) party)
-    (has_interest h file.filing.parcel party)
-same_reason h day file (AssignInspector party) next =
-    assigned_same Inspector (party_numbered h party) (unless_stage (facts_on day file).inspecting).0
-    ((file.filing.applicant == party) || is_the_party (contractor file.acts) party || is_the_party (owner h file.filing.parcel) party)
-    (has_interest h file.filing.parcel party)
-same_reason h day file (NameContractor party) next = rw (some_known (has_interest h file.filing.parcel party) (party_numbered h party)) refl
-same_reason h day file (RequestInspection step) next = rw next refl
-same_reason h day file (ClearNotice paper) next = rw (← among_some (open_notices file.acts) paper) refl
-same_reason h day file _ next = refl
+same_reason h day file command next = grind (arith, assigned_same, some_known, among_some)
 
 -- what stands against a command on a file of a history is read off its row and the people
 pub reason_on_row : (h : History) (id day caller : ℕ) (file : CaseFile) (command : Command) (s : State) (people : People) → IsHistory h →
     case_numbered h id ≡ Some file → s ≡ state_of file → people ≡ people_of h file command →
     first_failing (row_tests day s people command) ≡ reason_against h day caller (OnFile id command)
-reason_on_row h id day caller file command s people is there row known =
-    ap (λ (r : State). first_failing (row_tests day r people command)) row
-    ∙ ap (λ (p : People). first_failing (row_tests day (state_of file) p command)) known
-    ∙ sym (same_reason h day file command (next_is h id file is there))
-    ∙ sym (ap (λ (o : Option CaseFile). first_failing (tests_on h day o command)) there)
+reason_on_row h id day caller file command s people is there row known = grind (arith, same_reason, next_is)

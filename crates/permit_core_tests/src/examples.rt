@@ -18,8 +18,8 @@ use permit_policy::decide::decide;
 use permit_policy::facts::Facts;
 use permit_policy::read_policy;
 use permit_routes::bearer::read_token;
-use permit_routes::requests::read_body;
-use permit_routes::routing::{Target, route};
+use permit_routes::fault::RequestFault;
+use permit_routes::routing::Routes;
 use permit_samples::ask::TOKENS;
 use permit_samples::makers::{day, digest_of, parcel, party, text, token};
 use permit_samples::offices::over_vectors;
@@ -110,15 +110,19 @@ fn offices(rt: &impl Abort, alloc: Global) -> Result<(), Fail> {
     Ok(())
 }
 
+fn routed(rt: &impl Abort, alloc: Global) {
+    let mut routes = Routes::new(alloc);
+    let request = routes.request(b"POST", b"/parcels/2/transfer", b"{\"to\":5}");
+    assert!(rt; matches!(request, Ok(Request::Transfer { .. })));
+    let request = routes.request(b"GET", b"/files/0", b"");
+    assert!(rt; matches!(request, Err(RequestFault::Route)));
+}
+
 fn connections(rt: &impl Abort, alloc: Global) -> Result<(), Fail> {
-    let (parcel, day) = (parcel(1)?, day(19700)?);
+    let day = day(19700)?;
     let office = &mut over_vectors(alloc)?;
-    let target = route(alloc, b"GET", b"/files")?;
-    assert!(rt; target == Some(Target::ListFiles(Filter::All)));
     let token = read_token(alloc, b"Bearer abcdefghijklmnopqrstuvwxyz")?;
     assert!(rt; token.is_some());
-    let request = read_body(alloc, Target::Transfer(parcel), b"{\"to\":5}");
-    assert!(rt; matches!(request, Ok(Request::Transfer { .. })));
     let mut inbox = Inbox::new();
     assert!(rt; !inbox.is_closed());
     let mut reader: &[u8] = b"GET /files HTTP/1.1\r\nHost: office\r\n\r\n";
@@ -148,6 +152,7 @@ fn examples_hold(rt: HostRuntime) -> Result<(), Fail> {
     states(&rt)?;
     policies(&rt, alloc)?;
     offices(&rt, alloc)?;
+    routed(&rt, alloc);
     connections(&rt, alloc)?;
     Ok(())
 }

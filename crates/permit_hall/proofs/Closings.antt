@@ -1,18 +1,15 @@
 -- One session more is closed.
-use Rattle.std.proofs.Common.{◌≡◌, ◌≢◌, true, false, ℕ, ◌+◌, ◌<◌, ◌≤◌, List, [], ◌∷◌, ◌++◌, length, get_or, sym, refl, ap, ◌∙◌, subst, arith}
-use Rattle.std.specs.Prelude.{slice_index_or, Option, Some, None, MatchOption}
+use Rattle.std.proofs.Common.{◌≡◌, true, false, ℕ, ◌+◌, List, [], ◌∷◌, ◌++◌, length, get_or, sym, ap, ◌∙◌, subst, arith}
+use Rattle.std.specs.Prelude.{Option, Some, None, MatchOption}
 use Rattle.std.proofs.lemmas.List.{get_or_append_left, length-append}
 use Rattle.std.proofs.Math.Seq.{get_or-append_seam}
-use Rattle.crossbeam_channel.specs.Claims.{view}
 use Rattle.permit_hall.specs.declared.intake.IntakeNote.{IntakeNote}
 use Rattle.permit_hall.specs.declared.owner.Outlet.{Outlet}
 use Rattle.permit_hall.specs.declared.session.Session.{Session}
 use Rattle.permit_hall.specs.declared.worker.Worker.{Worker}
-use Rattle.permit_hall.specs.declared.worker.Done.{Done}
 use Rattle.permit_hall.specs.Intake.{owner, session}
 use Rattle.permit_hall.specs.Lane.{lane_note}
 use Rattle.permit_hall.specs.Session.{Has, IsSession, put_by, got_by}
-use Rattle.permit_hall.specs.Worker.{IsDone}
 use Rattle.permit_hall.specs.Closing.{sent_by, Closed, AreClosed}
 use Rattle.permit_hall.proofs.Cases.{by_number}
 

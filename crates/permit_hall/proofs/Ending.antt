@@ -1,10 +1,9 @@
 -- A hall from its opening to its end.
-use Rattle.std.proofs.Common.{◌≡◌, ◌≢◌, true, false, ℕ, zero, suc, ◌+◌, ◌<◌, ◌≤◌, List, [], ◌∷◌, ◌++◌, length, map, get_or, sym, refl, ap, ◌∙◌, subst, arith}
-use Rattle.std.specs.Prelude.{slice_index_or, Option, Some, None, MatchOption, All, filter, ◌==◌}
+use Rattle.std.proofs.Common.{◌≡◌, ℕ, ◌<◌, ◌≤◌, List, [], ◌∷◌, ◌++◌, length, map, get_or, sym, ap, ◌∙◌, subst, arith}
+use Rattle.std.specs.Prelude.{slice_index_or, Option, Some, None, All, filter, ◌==◌}
 use Rattle.std.proofs.lemmas.List.{get_or-map, length-map, length-append, append-nil}
-use Rattle.crossbeam_channel.specs.Claims.{view, IsSeatAt}
 use Rattle.crossbeam_channel.specs.Ends.{sends_on, receives_on}
-use Rattle.permit_hall.specs.Runs.{Entry, Runs, requests_of, replies_of}
+use Rattle.permit_hall.specs.Runs.{Entry, requests_of, replies_of}
 use Rattle.permit_hall.specs.declared.hall.Hall.{Hall}
 use Rattle.permit_hall.specs.declared.intake.Envelope.{Envelope}
 use Rattle.permit_hall.specs.declared.owner.Outlet.{Outlet}

@@ -1,23 +1,21 @@
 -- The queues and the counts say the same, and each event keeps that.
 use Rattle.std.proofs.Common.{◌≡◌, ◌≢◌, ℕ, zero, suc, ◌+◌, ◌<◌, ◌≤◌, Bool, true, false, true≢false, List, [], ◌∷◌, ◌++◌, length, map, take, drop, get_or, sym}
-use Rattle.std.proofs.Common.{refl, ap, ◌∙◌, subst, arith, append_assoc, add-one, eqb, ◌⊎◌, inl, inr, ⊎_elim}
+use Rattle.std.proofs.Common.{refl, ap, ◌∙◌, subst, arith, append_assoc, add-one, ◌⊎◌, inl, inr, ⊎_elim}
 use Rattle.std.specs.Prelude.{Option, Some, None, MatchOption, is_some, if◌then◌else◌, filter, ◌==◌, ◌&&◌, nat_lt}
-use Rattle.std.specs.List.{remove}
-use Rattle.std.proofs.lemmas.Bool.{eq-eqb, eqb-true}
+use Rattle.std.proofs.lemmas.Bool.{eq-eqb}
 use Rattle.std.proofs.lemmas.Bool.Decides.{nat_tests}
-use Rattle.std.proofs.lemmas.List.{append-nil, map-append, length-map, length-append, take-append-drop, take-append-le, drop-append-le, length-take}
+use Rattle.std.proofs.lemmas.List.{append-nil, map-append, length-append, take-append-drop, take-append-le, drop-append-le}
 use Rattle.std.proofs.lemmas.List.{length-drop}
 use Rattle.std.proofs.lemmas.List.Elements.{filter-append}
 use Rattle.std.proofs.Math.Seq.{take-append_seam, take-suc, drop-cons}
-use Rattle.permit_hall.specs.Runs.{Entry, requests_of, replies_of}
+use Rattle.permit_hall.specs.Runs.{Entry, replies_of}
 use Rattle.permit_hall.proofs.Entries.{replies_here, replies_away}
-use Rattle.permit_hall.specs.Runs.{Runs}
 use Rattle.permit_hall.proofs.Entries.{runs_more}
 use Rattle.permit_model.specs.HallRun.{Put, Take, Collect}
 use Rattle.permit_hall.proofs.Cases.{by_test, by_number, not_eqb}
 use Rattle.permit_hall.specs.Queues.{Keeps, IsAt}
 use Rattle.permit_model.specs.HallRun.{Event, count_of}
-use Rattle.permit_hall.specs.Counts.{after, acted, acted_from, Acted, sessions, served_puts, puts_now, takes_now, collects_now, given_to, AreTaken, AreGiven}
+use Rattle.permit_hall.specs.Counts.{after, acted, acted_from, Acted, sessions, served_puts, puts_now, takes_now, collects_now, given_to, AreGiven}
 
 and_false : (b : Bool) → (b && false) ≡ false
 and_false true = refl

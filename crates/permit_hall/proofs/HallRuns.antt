@@ -2,13 +2,12 @@
 use Rattle.std.proofs.Common.{◌≡◌, ◌≢◌, ℕ, zero, suc, ◌+◌, Bool, true, false, List, [], ◌∷◌, ◌++◌, length, map, take, drop, get_or, sym, refl, ap, ◌∙◌, subst}
 use Rattle.std.proofs.Common.{arith}
 use Rattle.std.specs.Prelude.{if◌then◌else◌, filter, ◌==◌, ◌&&◌, nat_lt, zip, Option, Some, None, option_to_list, slice_get}
-use Rattle.std.specs.List.{filter_map}
 use Rattle.std.proofs.lemmas.Bool.{eq-eqb, eqb-true}
 use Rattle.std.proofs.lemmas.List.{append-nil, length-map}
 use Rattle.std.proofs.lemmas.List.Elements.{filter_map-append}
 use Rattle.permit_base.specs.declared.request.Asked.{Asked}
 use Rattle.permit_model.specs.HallRun.{Event, Put, Take, Collect, put_of, day_of, collect_of, puts, takes, collects, of_session, count_of, acts, acting}
-use Rattle.permit_model.specs.HallRun.{acting_after, served_by, served, collected, collected_after}
+use Rattle.permit_model.specs.HallRun.{acting_after, served, collected, collected_after}
 use Rattle.permit_store.specs.Frames.{StoreView}
 use Rattle.permit_office.specs.declared.reply.Reply.{Reply}
 use Rattle.permit_office.specs.Office.{OfficeView}

@@ -1,21 +1,22 @@
 -- What tasks that were served are, over the office: one history.
 use Rattle.std.proofs.Common.{◌≡◌, ℕ, List, [], map, length, subst, get_or}
-use Rattle.std.specs.Prelude.{Option, None, Some, MatchOption, All, Vec, slice_get}
+use Rattle.std.specs.Prelude.{Option, Some, MatchOption, Vec, slice_get}
 use Rattle.std.specs.Global.{Global}
 use Rattle.std.proofs.lemmas.Option.{slice_get_within, get_or_from_slice_get}
 use Rattle.permit_base.specs.declared.request.Asked.{Asked}
 use Rattle.permit_store.specs.Frames.{StoreView}
 use Rattle.permit_office.specs.declared.reply.Reply.{Reply}
 use Rattle.permit_office.specs.Office.{OfficeView}
+use Rattle.permit_wire.specs.Serving.{StepsOn}
 use Rattle.permit_wire.specs.declared.service.Dated.{Dated}
 use Rattle.permit_hall.specs.declared.lists.ListTask.{ListTask}
 use Rattle.permit_hall.specs.declared.doors.DoorTask.{DoorTask}
 use Rattle.permit_hall.specs.declared.doors.DoorEnd.{DoorEnd}
 use Rattle.permit_hall.specs.Runs.{Entry, requests_of, replies_of}
-use Rattle.permit_hall.specs.Answers.{AreServed, AreAnswers}
-use Rattle.permit_hall.specs.OneHistory.{StepOn, OneHistory, IsListServed, AreListsServed}
+use Rattle.permit_hall.specs.Answers.{AreServed}
+use Rattle.permit_hall.specs.OneHistory.{OneHistory, IsListServed, AreListsServed}
 use Rattle.permit_hall.proofs.OfficeRuns.{is_run}
-use Rattle.permit_hall.proofs.Ending.{served_as, element_of}
+use Rattle.permit_hall.proofs.Ending.{served_as}
 
 -- the list was put whole, and the answers are the replies that were got
 abbrev list_done : Vec Asked Global → List Asked → List Dated → Vec Reply Global → Type 0
@@ -25,19 +26,19 @@ module _ {S C : Type 0} (view : S → StoreView) (tick : C → ℕ → C → Typ
   -- the entries are a run of the office
   one_history : {O T : Type 0} (did : T → List Asked → List Dated → O → Type 0) (tasks : List T) (outs : List (Option O)) (old new : OfficeView S) (c d : C)
       (served : List (Entry Asked Dated))
-      → AreServed (StepOn view) tick did tasks outs old new c d served → OneHistory view tick (length tasks) old new c d served
+      → AreServed (StepsOn view) tick did tasks outs old new c d served → OneHistory view tick (length tasks) old new c d served
   one_history did tasks outs old new c d served h = record {
-    run = is_run view (λ d. d.reply) (StepOn view) (λ o a d y p s. s.0) old served new h.runs;
+    run = is_run view (λ d. d.reply) (StepsOn view) (λ o a d y p s. s.0) old served new h.runs;
     days = h.days;
     each = h.each;
   }
 
   pub lists_served : (tasks : List ListTask) (lists : List (Vec Asked Global)) (outs : List (Option (Vec Reply Global))) (old new : OfficeView S) (c d : C)
       (served : List (Entry Asked Dated))
-      → map (λ t. t.list) tasks ≡ lists → AreServed (StepOn view) tick (λ t put got answers. list_done t.list put got answers) tasks outs old new c d served
+      → map (λ t. t.list) tasks ≡ lists → AreServed (StepsOn view) tick (λ t put got answers. list_done t.list put got answers) tasks outs old new c d served
       → OneHistory view tick (length lists) old new c d served × AreListsServed lists outs served
   lists_served tasks lists outs old new c d served same h =
-      let by_list = served_as (StepOn view) tick (λ (t : ListTask) put got answers. list_done t.list put got answers) list_done (λ t. t.list)
+      let by_list = served_as (StepsOn view) tick (λ (t : ListTask) put got answers. list_done t.list put got answers) list_done (λ t. t.list)
       (λ t put got x d. d) tasks lists outs old new c d served same h in (
         one_history list_done lists outs old new c d served by_list,
         record {
@@ -52,12 +53,12 @@ module _ {S C : Type 0} (view : S → StoreView) (tick : C → ℕ → C → Typ
   -- what the workers of doors have done
   pub doors_served : {D : Type 0} (done : D → List Asked → List Dated → DoorEnd D → Type 0) (tasks : List (DoorTask D)) (doors : List D)
       (ends : List (Option (DoorEnd D))) (old new : OfficeView S) (c d : C) (served : List (Entry Asked Dated))
-      → map (λ t. t.door) tasks ≡ doors → AreServed (StepOn view) tick (λ (t : DoorTask D) put got end. done t.door put got end) tasks ends old new c d served
+      → map (λ t. t.door) tasks ≡ doors → AreServed (StepsOn view) tick (λ (t : DoorTask D) put got end. done t.door put got end) tasks ends old new c d served
       → OneHistory view tick (length doors) old new c d served × (length ends ≡ length doors)
       × ((k : ℕ) (door : D) (end : Option (DoorEnd D)) → slice_get doors k ≡ Some door → slice_get ends k ≡ Some end
       → MatchOption end (requests_of k served ≡ []) (λ e. done door (requests_of k served) (replies_of k served) e))
   doors_served {D} done tasks doors ends old new c d served same h =
-      let by_door = served_as (StepOn view) tick (λ (t : DoorTask D) put got end. done t.door put got end) done (λ t. t.door)
+      let by_door = served_as (StepsOn view) tick (λ (t : DoorTask D) put got end. done t.door put got end) done (λ t. t.door)
       (λ t put got x d. d) tasks doors ends old new c d served same h in (
         one_history done doors ends old new c d served by_door,
         by_door.len,

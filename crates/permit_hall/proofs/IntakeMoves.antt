@@ -1,5 +1,5 @@
 -- Each move keeps the rule of the intake.
-use Rattle.std.proofs.Common.{◌≡◌, ◌≢◌, ℕ, zero, suc, ◌+◌, ◌<◌, ◌≤◌, ◌==◌, Bool, true, false, true≢false, List, [], ◌∷◌, ◌++◌, length, set, get_or, sym, refl}
+use Rattle.std.proofs.Common.{◌≡◌, ◌≢◌, ℕ, ◌+◌, ◌<◌, ◌==◌, Bool, true, false, true≢false, List, [], ◌∷◌, ◌++◌, length, set, sym, refl}
 use Rattle.std.proofs.Common.{ap, ◌∙◌, subst, ⊎_elim, append_assoc, arith}
 use Rattle.std.specs.Prelude.{if◌then◌else◌, slice_index_or}
 use Rattle.std.proofs.lemmas.Bool.{eq-eqb}
@@ -11,7 +11,7 @@ use Rattle.crossbeam_channel.specs.Fifo.{Pushes, Pops, Forks, Merges, Learns}
 use Rattle.atomic_table.proofs.Lists.{at_set}
 use Rattle.permit_hall.specs.declared.intake.Envelope.{Envelope}
 use Rattle.permit_hall.specs.declared.intake.IntakeNote.{IntakeNote}
-use Rattle.permit_hall.specs.Intake.{said, requests_in, owner, session, nobody, FitsSender, FitsOwner, Fits, Taken, PutsOne, TakesOne, Compares}
+use Rattle.permit_hall.specs.Intake.{said, requests_in, owner, session, nobody, Fits, Taken, PutsOne, TakesOne, Compares}
 use Rattle.permit_hall.proofs.Cases.{by_number, not_eqb, put_at, put_here, put_else, at_end, at_snoc_or_end, EachView, all_set}
 
 module _ {A : Type 0} where

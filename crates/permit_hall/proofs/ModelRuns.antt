@@ -1,7 +1,6 @@
 -- Where the store refuses nothing, a run over events is the model's hall run.
 use Rattle.std.proofs.Common.{◌≡◌, ℕ, Bool, true, false, true≢false, List, [], ◌∷◌, ◌++◌, length, map, sym, refl, ap, ◌∙◌, subst, arith}
 use Rattle.std.specs.Prelude.{if◌then◌else◌, filter, ◌==◌, ◌&&◌, not, zip, Option, Some, None, option_to_list, option_map, slice_get}
-use Rattle.std.specs.List.{list_all}
 use Rattle.std.proofs.lemmas.List.{map-append}
 use Rattle.std.proofs.lemmas.Option.{slice_get-map}
 use Rattle.permit_base.specs.declared.request.Asked.{Asked}
@@ -9,10 +8,10 @@ use Rattle.permit_model.specs.History.{History}
 use Rattle.permit_model.specs.Policy.{Policy}
 use Rattle.permit_model.specs.Tables.{Tables, tables}
 use Rattle.permit_model.specs.Machine.{replies_to, history_after}
-use Rattle.permit_model.specs.HallRun.{Event, puts, collects, of_session, count_of, acting, served, collected, collected_after, hall_run}
+use Rattle.permit_model.specs.HallRun.{Event, puts, collects, of_session, count_of, acting, served, collected, collected_after}
 use Rattle.permit_office.specs.declared.reply.Reply.{Reply}
 use Rattle.permit_office.specs.Answers.{reply_of, is_store_refusal}
-use Rattle.permit_office.specs.Runs.{answered, own_replies, Ran}
+use Rattle.permit_office.specs.Runs.{answered, Ran}
 use Rattle.permit_hall.specs.Events.{IsHallRun, is_never_refused}
 
 -- ---- the answers of other replies

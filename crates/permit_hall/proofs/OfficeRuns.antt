@@ -25,18 +25,18 @@ module _ {S Y : Type 0} (view : S → StoreView) (told : Y → Reply) (makes : O
   -- no doubt goes
   doubt_along : (s : OfficeView S) (es : List (Entry Asked Y)) (t : OfficeView S) → Runs makes s es t → (view s.store).doubt ≤ (view t.store).doubt
   doubt_along s [] t r = let e = ap (λ (o : OfficeView S). (view o.store).doubt) r in omega arith
-  doubt_along s (e ∷ es) t r = let a = (as_step s e.request e.day e.reply r.0 r.1).made.doubt in let b = doubt_along r.0 es t r.2 in omega arith
+  doubt_along s (e ∷ es) t r = let a = (as_step s e.request e.day e.reply r.0 r.1).step.doubt in let b = doubt_along r.0 es t r.2 in omega arith
 
   -- the policy stays
   policy_along : (s : OfficeView S) (es : List (Entry Asked Y)) (t : OfficeView S) → Runs makes s es t → t.policy ≡ s.policy
   policy_along s [] t r = ap (λ (o : OfficeView S). o.policy) (sym r)
-  policy_along s (e ∷ es) t r = policy_along r.0 es t r.2 ∙ (as_step s e.request e.day e.reply r.0 r.1).made.policy
+  policy_along s (e ∷ es) t r = policy_along r.0 es t r.2 ∙ (as_step s e.request e.day e.reply r.0 r.1).step.policy
 
   -- one step a request
   steps_along : (s : OfficeView S) (es : List (Entry Asked Y)) (t : OfficeView S) → Runs makes s es t →
       Steps view (map (λ e. (e.request, e.day)) es) (map (λ e. told e.reply) es) s t
   steps_along s [] t r = sym r
-  steps_along s (e ∷ es) t r = (r.0, (as_step s e.request e.day e.reply r.0 r.1).made, steps_along r.0 es t r.2)
+  steps_along s (e ∷ es) t r = (r.0, (as_step s e.request e.day e.reply r.0 r.1).step, steps_along r.0 es t r.2)
 
   -- what ran before, and then these
   ran_along : (policy : Policy) (h : History) → IsHistory h → (s : OfficeView S) (rs : List (Asked × ℕ)) (ys : List Reply) (es : List (Entry Asked Y))
@@ -55,11 +55,11 @@ module _ {S Y : Type 0} (view : S → StoreView) (told : Y → Reply) (makes : O
       (λ now his held. tells (rows_opened policy now (digest_of e.request.token) e.request.request e.day) (told e.reply) (view s.store).handed
       (view (r.0).store).handed
       (subst (λ (p : Policy). Opens (rows_opened p now (digest_of e.request.token) e.request.request e.day) (told e.reply) (view s.store).handed
-      (view (r.0).store).handed) same (one.made.opened none now his held))) in
+      (view (r.0).store).handed) same (one.step.opened none now his held))) in
       both_as (λ rs ys. Ran (view t.store).holds policy rs ys h) _ _ _ _
       (append_assoc rs ((e.request, e.day) ∷ []) (map (λ (e : Entry Asked Y). (e.request, e.day)) es))
       (append_assoc ys (told e.reply ∷ []) (map (λ (e : Entry Asked Y). told e.reply) es))
-      (ran_along policy h is r.0 (rs ++ (e.request, e.day) ∷ []) (ys ++ told e.reply ∷ []) es t (one.made.policy ∙ same) more r.2 sure)
+      (ran_along policy h is r.0 (rs ++ (e.request, e.day) ∷ []) (ys ++ told e.reply ∷ []) es t (one.step.policy ∙ same) more r.2 sure)
 
   pub is_run : (s : OfficeView S) (es : List (Entry Asked Y)) (t : OfficeView S) → Runs makes s es t →
       IsRun view (map (λ e. (e.request, e.day)) es) (map (λ e. told e.reply) es) s t

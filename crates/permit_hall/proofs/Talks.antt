@@ -1,10 +1,10 @@
 -- A session that serves the connections of a door, one after the other.
-use Rattle.std.proofs.Common.{◌≡◌, ◌+◌, ◌-◌, ◌^◌, min, ℕ, Bool, true, false, List, [], ◌∷◌, ◌++◌, length, Option, Some, None, refl, sym, ap, ◌∙◌, subst, arith, append_assoc, length-append}
+use Rattle.std.proofs.Common.{◌≡◌, ◌+◌, ◌-◌, ◌^◌, min, ℕ, Bool, true, false, List, [], ◌∷◌, ◌++◌, length, Option, Some, refl, sym, ap, ◌∙◌, subst, arith, append_assoc, length-append}
 use Rattle.std.proofs.lemmas.List.{append-nil}
 use Rattle.std.specs.Int.{from_bool}
 use Rattle.permit_base.specs.declared.request.Asked.{Asked}
 use Rattle.crossbeam_channel.specs.Ends.{sends_on, receives_on}
-use Rattle.permit_wire.specs.Conversation.{Exchanges, none}
+use Rattle.permit_wire.specs.Conversation.{Exchanges}
 use Rattle.permit_wire.specs.Serving.{AsksOnce}
 use Rattle.permit_wire.specs.declared.service.Dated.{Dated}
 use Rattle.permit_hall.specs.declared.session.Session.{Session}

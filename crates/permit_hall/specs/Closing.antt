@@ -2,14 +2,10 @@
 use Rattle.std.specs.Prelude.{◌≡◌, ◌<◌, ℕ, List, [], ◌++◌, length, slice_index_or, Option, MatchOption}
 use Rattle.crossbeam_channel.specs.Claims.{view}
 use Rattle.crossbeam_channel.specs.Ends.{sends_on, receives_on}
-use Rattle.permit_hall.specs.declared.intake.Envelope.{Envelope}
-use Rattle.permit_hall.specs.declared.intake.IntakeNote.{IntakeNote}
 use Rattle.permit_hall.specs.declared.owner.Outlet.{Outlet}
 use Rattle.permit_hall.specs.declared.session.Session.{Session}
 use Rattle.permit_hall.specs.declared.worker.Worker.{Worker}
 use Rattle.permit_hall.specs.Owner.{HasSent}
-use Rattle.permit_hall.specs.Intake.{requests_in}
-use Rattle.permit_hall.specs.Worker.{WillBe}
 
 -- what was sent through the owner's end of a lane, by its note
 abbrev pub sent_by : {Y : Type 0} → Outlet Y → List Y

@@ -4,7 +4,7 @@
 -- that channel. What it knows is its note, an `IntakeNote` here; v is the note before a call, and w the one after it. Passes
 -- have numbers. A pass has its seat at a channel (`IsSeatAt`) where it is one of that channel's. m is an envelope, the log
 -- all envelopes that were ever put, and the items are those that are queued.
-use Rattle.std.specs.Prelude.{◌≡◌, ℕ, ◌+◌, ◌<◌, ◌≤◌, ◌==◌, Bool, true, false, List, [], ◌∷◌, ◌++◌, length, slice_index_or}
+use Rattle.std.specs.Prelude.{◌≡◌, ℕ, ◌+◌, ◌<◌, ◌≤◌, ◌==◌, true, false, List, [], ◌∷◌, ◌++◌, length, slice_index_or}
 use Rattle.std.specs.Prelude.{if◌then◌else◌, Option, Some, None}
 use mathlib.Core.Option.{some}
 use lib.ListN.{get_elem?}

@@ -1,6 +1,6 @@
 -- The rule of a lane: what the owner sent is what was collected, and then what is queued. Pass, note, log and items are those
 -- of the intake (`Intake.antt`), here of replies.
-use Rattle.std.specs.Prelude.{◌≡◌, ℕ, Bool, true, false, List, [], ◌∷◌, ◌++◌}
+use Rattle.std.specs.Prelude.{◌≡◌, ℕ, Bool, true, List, ◌++◌}
 use mathlib.Core.Option.{some}
 use lib.ListN.{get_elem?}
 use Rattle.permit_hall.specs.declared.lane.LaneNote.{LaneNote}

@@ -1,19 +1,16 @@
 -- The office's steps, and what whole runs of them are.
 use Rattle.std.specs.Prelude.{◌≡◌, ◌≤◌, ℕ, List}
-use Rattle.permit_base.specs.Digests.{digest_of}
 use Rattle.permit_base.specs.declared.request.Asked.{Asked}
-use Rattle.permit_model.specs.Machine.{step}
 use Rattle.permit_store.specs.Frames.{StoreView, OverHistory}
 use Rattle.permit_office.specs.declared.reply.Reply.{Reply}
-use Rattle.permit_office.specs.Answers.{Answers}
-use Rattle.permit_office.specs.Frames.{IsStep, Steps}
+use Rattle.permit_office.specs.Frames.{Steps}
 use Rattle.permit_office.specs.Office.{OfficeView}
 use Rattle.permit_office.specs.Runs.{Ran}
+use Rattle.permit_wire.specs.Serving.{Steps as StepOf}
 
--- the office made one step for a request on a day, and its reply and its tables are the machine's, or the store's refusal
-pub record StepFor {S : Type 0} (view : S → StoreView) (old : OfficeView S) (asked : Asked) (day : ℕ) (reply : Reply) (new : OfficeView S) : Type 0 where
-  pub made : IsStep view (digest_of asked.token) asked.request day old new reply
-  pub model : OverHistory (view old.store) (view new.store) (λ h. Answers (view new.store).holds reply (step old.policy h asked day) h)
+-- the office made one step for a request on a day
+abbrev pub StepFor : {S : Type 0} → (S → StoreView) → OfficeView S → Asked → ℕ → Reply → OfficeView S → Type 0
+StepFor view old asked day reply new = StepOf view day asked reply old new
 
 -- The office served the requests on their days, one step each. Where the store held a history's tables, and is without
 -- doubt, the replies and the tables are the machine's over the requests that the store didn't refuse.

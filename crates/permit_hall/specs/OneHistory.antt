@@ -6,12 +6,8 @@ use Rattle.permit_store.specs.Frames.{StoreView}
 use Rattle.permit_office.specs.declared.reply.Reply.{Reply}
 use Rattle.permit_office.specs.Office.{OfficeView}
 use Rattle.permit_wire.specs.declared.service.Dated.{Dated}
-use Rattle.permit_hall.specs.OfficeSteps.{StepFor, IsRun}
+use Rattle.permit_hall.specs.OfficeSteps.{IsRun}
 use Rattle.permit_hall.specs.Runs.{Entry, Gives, days_of, requests_of, replies_of}
-
--- the office made one step, and the reply has the day of it
-abbrev pub StepOn : {S : Type 0} → (S → StoreView) → OfficeView S → Asked → ℕ → Dated → OfficeView S → Type 0
-StepOn view old asked day dated new = StepFor view old asked day dated.reply new × (dated.day ≡ day)
 
 -- the requests served, each with its day
 abbrev pub requests_on : List (Entry Asked Dated) → List (Asked × ℕ)

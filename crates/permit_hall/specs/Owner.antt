@@ -1,14 +1,14 @@
 -- What the owner served.
-use Rattle.std.specs.Prelude.{◌≡◌, ℕ, ◌<◌, true, false, List, [], ◌∷◌, ◌++◌, length, slice_index_or, All}
+use Rattle.std.specs.Prelude.{◌≡◌, ℕ, ◌<◌, true, false, List, [], length, slice_index_or, All}
 use Rattle.crossbeam_channel.specs.Claims.{view, IsSeatAt}
-use Rattle.crossbeam_channel.specs.Ends.{sends_on, receives_on}
+use Rattle.crossbeam_channel.specs.Ends.{sends_on}
 use Rattle.permit_hall.specs.Runs.{Entry, Runs, Gives, days_of, requests_of, replies_of}
 use Rattle.permit_hall.specs.declared.intake.Envelope.{Envelope}
 use Rattle.permit_hall.specs.declared.owner.Outlet.{Outlet}
 use Rattle.permit_hall.specs.Intake.{requests_in}
 use Rattle.permit_hall.specs.Lane.{lane_note}
 
--- The entries take the machine from s to t. The clock is asked once for each, and goes from c to d. Each entry is of one of n
+-- The entries take the service from s to t. The clock is asked once for each, and goes from c to d. Each entry is of one of n
 -- sessions, and the entries of a session have the requests that were taken of it.
 pub record Serves {S A Y C : Type 0} (step : S → A → ℕ → Y → S → Type 0) (tick : C → ℕ → C → Type 0) (n : ℕ)
     (got : List (Envelope A)) (s t : S) (c d : C) (served : List (Entry A Y)) : Type 0 where

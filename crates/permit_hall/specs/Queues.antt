@@ -1,5 +1,5 @@
 -- What the queues of a hall hold, after what acted.
-use Rattle.std.specs.Prelude.{◌≡◌, ℕ, ◌+◌, ◌≤◌, Vec, vec_capacity, List, [], ◌∷◌, ◌++◌, length, map, drop}
+use Rattle.std.specs.Prelude.{◌≡◌, ℕ, ◌+◌, ◌≤◌, Vec, vec_capacity, List, ◌++◌, length, map, drop}
 use Rattle.std.specs.Global.{Global}
 use Rattle.permit_hall.specs.Runs.{Entry, Runs, replies_of}
 use Rattle.permit_hall.specs.Counts.{Acted, AreTaken, given_to}
@@ -13,7 +13,7 @@ module _ {A Y : Type 0} where
     pub collected : map (λ g. g.0) given ≡ h.collects
     pub replies : (s : ℕ) → replies_of s served ≡ given_to s given ++ given_to s ready
 
--- The machine went from s to t by serving some requests, and the queues are as what acted leaves them.
+-- The service went from s to t by serving some requests, and the queues are as what acted leaves them.
 abbrev pub IsAt : {S A Y : Type 0} → (S → A → ℕ → Y → S → Type 0) → S → S → Acted A → List (ℕ × A) → List (ℕ × Y) → List (ℕ × Y) → Type 0
 IsAt {A = A} {Y = Y} step s t h queue ready given =
     (served : List (Entry A Y)) × Runs step s served t × Keeps h served queue ready given

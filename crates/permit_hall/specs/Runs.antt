@@ -1,4 +1,4 @@
--- A run of a machine that serves one request after the other.
+-- A run of a service, which serves one request after the other.
 use Rattle.std.specs.Prelude.{◌≡◌, ℕ, List, [], ◌∷◌, map, filter, ◌==◌}
 
 -- a request that was served: of which session, on which day, and the reply
@@ -9,7 +9,7 @@ pub record Entry (A Y : Type 0) : Type 0 where
   pub reply : Y
 
 module _ {S A Y : Type 0} (step : S → A → ℕ → Y → S → Type 0) where
-  -- the entries, one after the other, take the machine from s to t
+  -- the entries, one after the other, take the service from s to t
   abbrev pub Runs : S → List (Entry A Y) → S → Type 0
   Runs s [] t = s ≡ t
   Runs s (e ∷ es) t = (u : S) × step s e.request e.day e.reply u × Runs u es t

@@ -1,5 +1,5 @@
 -- What a worker does in its session.
-use Rattle.std.specs.Prelude.{◌≡◌, ℕ, List, [], length, MatchOption}
+use Rattle.std.specs.Prelude.{◌≡◌, List, [], length, MatchOption}
 use Rattle.permit_hall.specs.declared.session.Session.{Session}
 use Rattle.permit_hall.specs.declared.worker.Done.{Done}
 use Rattle.permit_hall.specs.declared.worker.State.{State}

@@ -55,7 +55,7 @@ impl<R: Wait> Service<R> for Session<Asked, Dated> {
 
     ghost ready = { λ session. IsSession session };
 
-    ghost did = { λ _ old asked dated new. Asks old asked dated new };
+    ghost did = { λ old asked _ dated new. Asks old asked dated new };
 
     fn serve(&mut self, rt: &R, asked: Asked) -> Dated {
         self.ask(rt, asked)
@@ -187,7 +187,7 @@ where
     };
     match run_tasks(rt, alloc, office, tasks, clock) {
         Ok(end) => Ok(HallEnd {
-            office: end.machine,
+            office: end.service,
             doors: end.outs,
         }),
         Err(error) => Err(error),

@@ -1,4 +1,7 @@
 //! The intake: a channel under a rule, into which the sessions put and from which the owner takes.
+//!
+//! In the rules v is the note of a pass before a call, and w the note after it. Where two passes are joined they are the
+//! notes of the two. The items are what is queued.
 
 ghost use Rattle.std.specs.Prelude.{[], ◌∷◌, ◌++◌, ◌+◌};
 ghost use Rattle.permit_hall.specs.Intake.{Taken, owner, session, nobody, PutsOne, TakesOne, Compares};

@@ -1,4 +1,5 @@
-//! A lane: a channel under a rule, by which the owner sends a session its answers.
+//! A lane: a channel under a rule, by which the owner sends a session its answers. Its rules name v, w and the items as
+//! those of the intake do; x is the answer that is sent or collected.
 
 ghost use Rattle.std.specs.Prelude.{◌≡◌, true, false, [], ◌∷◌, ◌++◌};
 ghost use Rattle.permit_hall.specs.Lane.{Carried, lane_note};

@@ -6,8 +6,13 @@
 //! So there is one history for all threads (`specs/OneHistory.antt`). `events::hall_run` is the same without threads,
 //! over a list of puts, takes and collects; what it does is the model's hall run.
 //!
-//! Within, nothing but `machine` speaks of the office: the intake and the lanes are channels under rules
-//! (`specs/Intake.antt`, `specs/Lane.antt`), which carry messages of any type, and `tasks` runs workers of any kind.
+//! Within, the owner serves by any `Service` of permit_wire, of which the office is one, and a session is another: it
+//! serves a connection by what it is answered. The intake and the lanes are channels under rules (`specs/Intake.antt`,
+//! `specs/Lane.antt`), which carry messages of any type.
+//!
+//! Who holds an end of such a channel has a pass: a value that goes with each of its calls, and carries nothing when the
+//! program runs. What the holder knows of the channel is the pass's note. A pass has its seat at a channel where it is one
+//! of that channel's passes, and only then may it go with a call on it.
 #![tactic(auto)]
 
 pub mod doors;
@@ -17,7 +22,6 @@ mod hall;
 mod intake;
 mod lane;
 pub mod lists;
-mod machine;
 mod owner;
 mod queues;
 mod session;

@@ -103,7 +103,7 @@ pub fn run_lists<
     };
     match run_tasks(rt, alloc, office, tasks, clock) {
         Ok(end) => Ok(ListsEnd {
-            office: end.machine,
+            office: end.service,
             answers: end.outs,
         }),
         Err(error) => Err(error),

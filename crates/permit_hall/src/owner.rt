@@ -2,6 +2,8 @@
 ghost use Rattle.std.specs.Prelude.{◌≡◌, ℕ, ◌++◌, ◌∷◌, [], ◌<◌, true, false, Some, None, List, length};
 ghost use Rattle.crossbeam_channel.specs.Claims.{view, IsSeatAt};
 ghost use Rattle.crossbeam_channel.specs.Ends.{sends_on, receives_on};
+ghost use Rattle.permit_base.specs.declared.request.Asked.{Asked};
+ghost use Rattle.permit_wire.specs.declared.service.Dated.{Dated};
 ghost use Rattle.permit_hall.specs.Runs.{Entry};
 ghost use Rattle.permit_hall.specs.declared.intake.Envelope.{Envelope};
 ghost use Rattle.permit_hall.specs.Intake.{owner};
@@ -10,8 +12,9 @@ ghost use Rattle.permit_hall.specs.Owner.{Serves, Sent, SameLanes, HasSent};
 
 use crate::intake::{Envelope, IntakePass, IntakeReceiver, Takes};
 use crate::lane::{LanePass, LaneSender, Sends};
-use crate::machine::Machine;
+use permit_base::request::Asked;
 use permit_base::values::Day;
+use permit_wire::{Dated, Service};
 use std::sync::Wait;
 use std::thread;
 
@@ -46,45 +49,49 @@ impl<Y: Drop> Outlet<Y> {
 }
 
 // Serves a request of one of the sessions.
-fn answer<M: Machine, C: FnMut() -> Day, R: Wait>(
+fn answer<M: Service<Day>, C: FnMut() -> Day, R: Wait>(
     rt: &R,
-    machine: &mut M,
-    outlets: &mut Vec<Outlet<M::Reply>>,
+    service: &mut M,
+    outlets: &mut Vec<Outlet<Dated>>,
     clock: &mut C,
     from: usize,
-    request: M::Request,
+    request: Asked,
 )
+    requires ready { M.ready service.old }
     requires clock { C.IsAlwaysCallable clock.old }
     requires from { from < length outlets.old.items }
-    requires sent { (served : List (Entry M.Request M.Reply)) × Sent served outlets.old.items }
+    requires sent { (served : List (Entry Asked Dated)) × Sent served outlets.old.items }
+    ensures ready { M.ready service.new }
     ensures clock { C.IsAlwaysCallable clock.new }
     ensures lanes { SameLanes outlets.old.items outlets.new.items }
-    ensures served { (served : List (Entry M.Request M.Reply)) → Sent served outlets.old.items
-        → (day : ℕ) × (reply : M.Reply) × C.step clock.old day clock.new × M.step machine.old request day reply machine.new
+    ensures served { (served : List (Entry Asked Dated)) → Sent served outlets.old.items
+        → (day : ℕ) × (reply : Dated) × C.step clock.old day clock.new × M.did service.old request day reply service.new
         × Sent (served ++ record { from = from; request = request; day = day; reply = reply } ∷ []) outlets.new.items }
 {
     let day = clock();
-    let reply = machine.serve(&request, day);
+    let reply = service.serve(&day, request);
     outlets[from].send(rt, reply);
 }
 
 // Takes an envelope, and says whether it was an end mark.
-fn take_one<M: Machine, C: FnMut() -> Day, R: Wait>(
+fn take_one<M: Service<Day>, C: FnMut() -> Day, R: Wait>(
     rt: &R,
-    machine: &mut M,
-    outlets: &mut Vec<Outlet<M::Reply>>,
+    service: &mut M,
+    outlets: &mut Vec<Outlet<Dated>>,
     clock: &mut C,
-    envelope: Envelope<M::Request>,
+    envelope: Envelope<Asked>,
 ) -> bool
+    requires ready { M.ready service.old }
     requires clock { C.IsAlwaysCallable clock.old }
-    requires sent { (served : List (Entry M.Request M.Reply)) × Sent served outlets.old.items }
+    requires sent { (served : List (Entry Asked Dated)) × Sent served outlets.old.items }
+    ensures ready { M.ready service.new }
     ensures clock { C.IsAlwaysCallable clock.new }
     ensures lanes { SameLanes outlets.old.items outlets.new.items }
-    ensures served { (n : ℕ) (got : List (Envelope M.Request)) (start : M) (first : C) (served : List (Entry M.Request M.Reply))
+    ensures served { (n : ℕ) (got : List (Envelope Asked)) (start : M) (first : C) (served : List (Entry Asked Dated))
         → n ≡ length outlets.old.items
-        → Serves M.step C.step n got start machine.old first clock.old served → Sent served outlets.old.items
-        → (next : List (Entry M.Request M.Reply))
-        × Serves M.step C.step n (got ++ envelope ∷ []) start machine.new first clock.new next × Sent next outlets.new.items }
+        → Serves M.did C.step n got start service.old first clock.old served → Sent served outlets.old.items
+        → (next : List (Entry Asked Dated))
+        × Serves M.did C.step n (got ++ envelope ∷ []) start service.new first clock.new next × Sent next outlets.new.items }
 {
     let Envelope { from, request } = envelope;
     let Some(request) = request else {
@@ -93,27 +100,29 @@ fn take_one<M: Machine, C: FnMut() -> Day, R: Wait>(
     if from >= outlets.len() {
         return false;
     }
-    answer(rt, machine, outlets, clock, from, request);
+    answer(rt, service, outlets, clock, from, request);
     false
 }
 
 /// Serves what is put, until as many end marks were taken.
-pub fn serve_all<M: Machine, C: FnMut() -> Day, R: Wait>(
+pub fn serve_all<M: Service<Day>, C: FnMut() -> Day, R: Wait>(
     rt: &R,
-    machine: &mut M,
-    intake: &IntakeReceiver<M::Request>,
-    pass: &mut IntakePass<M::Request>,
-    outlets: &mut Vec<Outlet<M::Reply>>,
+    service: &mut M,
+    intake: &IntakeReceiver<Asked>,
+    pass: &mut IntakePass<Asked>,
+    outlets: &mut Vec<Outlet<Dated>>,
     clock: &mut C,
     marks: usize,
 )
+    requires ready { M.ready service.old }
     requires clock { C.IsAlwaysCallable clock.old }
     requires pass { IsSeatAt (receives_on intake.now) pass.old × (view pass.old ≡ owner (view pass.old).made [] []) }
-    requires sent { Sent {A = M.Request} [] outlets.old.items }
+    requires sent { Sent {A = Asked} [] outlets.old.items }
+    ensures ready { M.ready service.new }
     ensures pass { IsSeatAt (receives_on intake.now) pass.new × (view pass.new ≡ owner (view pass.old).made (view pass.new).got []) }
     ensures lanes { SameLanes outlets.old.items outlets.new.items }
-    ensures served { (served : List (Entry M.Request M.Reply))
-        × Serves M.step C.step (length outlets.old.items) (view pass.new).got machine.old machine.new clock.old clock.new served
+    ensures served { (served : List (Entry Asked Dated))
+        × Serves M.did C.step (length outlets.old.items) (view pass.new).got service.old service.new clock.old clock.new served
         × Sent served outlets.new.items }
 {
     let mut left = marks;
@@ -123,9 +132,8 @@ pub fn serve_all<M: Machine, C: FnMut() -> Day, R: Wait>(
         }
         match intake.recv_as::<Takes, R>(rt, pass) {
             Ok(envelope) => {
-                if take_one(rt, machine, outlets, clock, envelope) {
-                    left -= 1;
-                }
+                let ended = take_one(rt, service, outlets, clock, envelope);
+                left = left.saturating_sub(usize::from(ended));
             }
             Err(_) => thread::yield_now(),
         }

@@ -6,6 +6,8 @@ ghost use Rattle.permit_hall.specs.Intake.{owner, session};
 ghost use Rattle.permit_hall.specs.Lane.{lane_note};
 ghost use Rattle.permit_hall.specs.Owner.{HasSent};
 ghost use Rattle.permit_hall.specs.Closing.{IsPlaced, AreClosed};
+ghost use Rattle.permit_base.specs.declared.request.Asked.{Asked};
+ghost use Rattle.permit_wire.specs.declared.service.Dated.{Dated};
 ghost use Rattle.permit_hall.specs.Runs.{Entry};
 ghost use Rattle.permit_hall.specs.Answers.{AreServed};
 ghost use Rattle.permit_hall.specs.Errors.{FitsCount};
@@ -17,11 +19,12 @@ use crate::error::HallError;
 use crate::hall::{Hall, open};
 use crate::intake::{Compared, IntakePass, IntakeSender, Sessions};
 use crate::lane::{Ends, Total};
-use crate::machine::Machine;
 use crate::owner::{Outlet, serve_all};
 use crate::session::Session;
 use crate::worker::{Prepared, State, Task, Worker, join, prepare, start};
+use permit_base::request::Asked;
 use permit_base::values::Day;
+use permit_wire::{Dated, Service};
 use std::alloc::{AllocError, Global};
 use std::sync::Wait;
 use std::thread::Threads;
@@ -162,14 +165,14 @@ fn running<A: Drop, Y: Drop, O: Drop, T: Task<A, Y, O>>(
     count
 }
 
-/// What the tasks leave: the machine, and what each task gave back, or `None` where its worker could not be started.
+/// What the tasks leave: the service, and what each task gave back, or `None` where its worker could not be started.
 #[derive(Drop)]
-pub struct TasksEnd<M: Machine, O: Drop> {
-    pub machine: M,
+pub struct TasksEnd<M: Drop, O: Drop> {
+    pub service: M,
     pub outs: Vec<Option<O>>,
 }
 
-/// Runs the tasks, one worker a task, while the calling thread owns the machine. All memory is made before the first
+/// Runs the tasks, one worker a task, while the calling thread owns the service. All memory is made before the first
 /// worker starts. The owner serves until it has the end mark of each worker that was started.
 pub fn run_tasks<
     M,
@@ -180,24 +183,23 @@ pub fn run_tasks<
 >(
     rt: R,
     alloc: Global,
-    machine: M,
+    service: M,
     tasks: Vec<T>,
     clock: &mut C,
 ) -> Result<TasksEnd<M, O>, (M, HallError)>
 where
-    M: Machine,
-    M::Request: Send + 'static,
-    M::Reply: Send + 'static,
-    T: Task<M::Request, M::Reply, O> + Send + 'static,
-    requires { C.IsAlwaysCallable clock.old }
-    ensures served { IfOk result (λ end. (served : List (Entry M.Request M.Reply))
-        × AreServed M.step C.step T.did tasks.items end.outs.items machine end.machine clock.old clock.new served) }
-    ensures back { IfErr result (λ back. back.0 ≡ machine) }
+    M: Service<Day> + Drop,
+    T: Task<Asked, Dated, O> + Send + 'static,
+    requires ready { M.ready service }
+    requires clock { C.IsAlwaysCallable clock.old }
+    ensures served { IfOk result (λ end. (served : List (Entry Asked Dated))
+        × AreServed M.did C.step T.did tasks.items end.outs.items service end.service clock.old clock.new served) }
+    ensures back { IfErr result (λ back. back.0 ≡ service) }
     ensures error { IfErr result (λ back. FitsCount back.1 true) }
     ensures unasked { OnErr result (clock.new ≡ clock.old) }
 {
     let Ok(setup) = set_up(alloc, tasks) else {
-        return Err((machine, HallError::Memory));
+        return Err((service, HallError::Memory));
     };
     let Setup {
         hall,
@@ -214,12 +216,12 @@ where
     let workers = start_all(rt, jobs, workers);
     let marks = running(&workers);
     if marks == 0 {
-        return Err((machine, HallError::NoWorker));
+        return Err((service, HallError::NoWorker));
     }
-    let mut machine = machine;
+    let mut service = service;
     serve_all(
         &rt,
-        &mut machine,
+        &mut service,
         &intake,
         &mut pass,
         &mut outlets,
@@ -228,5 +230,5 @@ where
     );
     let outs = close(&rt, &sender, &mut pass, &mut outlets, workers, outs);
     sender.learn_as::<Compared>(&mut pass);
-    Ok(TasksEnd { machine, outs })
+    Ok(TasksEnd { service, outs })
 }

@@ -1,5 +1,5 @@
 -- What a line consists of: UTF-8 without a byte below 32, and not too long.
-use Rattle.std.proofs.Common.{◌≡◌, inl, inr, refl, sym, ap, ◌∙◌, subst, ℕ, zero, suc, ◌+◌, ◌*◌, ◌^◌, ◌<◌, ◌≤◌, ◌&&◌, nat_le, Bool, true, false, List}
+use Rattle.std.proofs.Common.{◌≡◌, refl, ◌∙◌, ℕ, zero, suc, ◌+◌, ◌*◌, ◌^◌, ◌<◌, ◌≤◌, ◌&&◌, nat_le, Bool, true, false, List}
 use Rattle.std.proofs.Common.{[], ◌∷◌, ◌++◌, length, get_or, decimal, arith, length-append, lit<, lit≤, le-leb, IsUtf8}
 use Rattle.std.specs.Prelude.{⊤, IsTrue}
 use Rattle.std.specs.List.{list_all}
@@ -48,18 +48,12 @@ abbrev mutual
   MembersFine (member k d ms) = IsTrue (is_word k) × AllFine d × MembersFine ms
 
 pub word_fine : (text : List ℕ) → IsTrue (is_word text) → IsFine text
-word_fine text h =
-    let parts = and_parts (is_mild text) _ h in
-    let rest = and_parts (are_ascii text) _ parts.1 in
-    record { clean = record { mild = parts.0; utf8 = IsUtf8-are_ascii text rest.0 }; short = leb-true _ _ rest.1 }
+word_fine text h = grind (arith, and_parts, are_ascii, IsUtf8-are_ascii, leb-true)
 
 -- ---- what is joined is clean
 
 clean-append : (a b : List ℕ) → IsClean a → IsClean b → IsClean (a ++ b)
-clean-append a b h k = record {
-  mild = list_all-append (nat_le 32) a b ∙ and_from _ _ h.mild k.mild;
-  utf8 = IsUtf8-append a b h.utf8 k.utf8;
-}
+clean-append a b h k = grind (arith, list_all-append, and_from, IsUtf8-append)
 
 clean_nothing : IsClean []
 clean_nothing = record { mild = refl; utf8 = IsUtf8-nil }
@@ -82,15 +76,7 @@ unfolding escape_byte
 escapes_backslash = record { mild = refl; short = lit≤ tt }
 
 escapes_well : (x : ℕ) → 32 ≤ x → EscapesWell x
-escapes_well x high = elim (cases_eq x 34) [
-  | inl quote ↦ subst EscapesWell (sym quote) escapes_quote
-  | inr unquoted ↦ elim (cases_eq x 92) [
-    | inl backslash ↦ subst EscapesWell (sym backslash) escapes_backslash
-    | inr other ↦
-        let same = escape_byte_plain x unquoted other high in
-        record { mild = ap is_mild same ∙ rw (le-leb 32 x high) refl; short = rw same (lit≤ tt) }
-  ]
-]
+escapes_well x high = grind (arith, cases_eq, escapes_quote, escapes_backslash, escape_byte_plain, le-leb)
 
 escape_mild : (s : List ℕ) → is_mild s ≡ true → is_mild (escape s) ≡ true
 escape_mild [] h = refl
@@ -107,10 +93,7 @@ escape_short (x ∷ s) h =
     omega (arith, length-append (escape_byte x) (escape s), first.short, escape_short s parts.1)
 
 quoted_clean : (s : List ℕ) → IsClean s → IsClean (quoted s)
-quoted_clean s h = record {
-  mild = list_all-append (nat_le 32) (escape s) (34 ∷ []) ∙ and_from _ _ (escape_mild s h.mild) refl;
-  utf8 = IsUtf8-quoted s h.utf8;
-}
+quoted_clean s h = grind (arith, list_all-append, and_from, escape_mild, IsUtf8-quoted)
 
 pub quoted_short : (s : List ℕ) → IsFine s → length (quoted s) ≤ 4002
 quoted_short s h = omega (arith, length-append (escape s) (34 ∷ []), escape_short s h.clean.mild, h.short)
@@ -124,10 +107,7 @@ digits_mild (d ∷ ds) h =
     and_from _ _ (le-leb 32 d (omega arith)) (digits_mild ds (λ i lt. h (suc i) (omega arith)))
 
 decimal_clean : (n : ℕ) → n < 2 ^ 64 → IsClean (decimal n)
-decimal_clean n h = record {
-  mild = digits_mild (decimal n) (λ i lt. (digit_at _ i (decimal_is_IsNumeral n h).0.1 lt).0);
-  utf8 = IsUtf8-from_ascii _ (IsAscii-decimal n h);
-}
+decimal_clean n h = grind (arith, digits_mild, digit_at, decimal_is_IsNumeral, IsUtf8-from_ascii, IsAscii-decimal)
 
 decimal_short : (n : ℕ) → n < 2 ^ 64 → length (decimal n) ≤ 20
 decimal_short n h = length-decimal-le 20 n (lit< tt) (omega arith) h
@@ -177,8 +157,7 @@ abbrev mutual
   members_room (member k d ms) = 1 + length (quoted k) + 1 + room d + members_room ms
 
 comma_short : (later : Bool) → length (comma_if later) ≤ 1
-comma_short true = lit≤ tt
-comma_short false = lit≤ tt
+comma_short later = grind arith
 
 mutual
   pub value_short : (depth : ℕ) (d : Data) → IsPlain depth d → AllFine d → length (compact_text d) ≤ room d

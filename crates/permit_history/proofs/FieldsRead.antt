@@ -1,21 +1,18 @@
 -- What the value of an entry's line says is the entry.
-use Rattle.std.proofs.Common.{◌≡◌, ◌∙◌, ap, refl, ℕ, List, Bool, false, ◌&&◌, if◌then◌else◌, Option, None, Some, codes, option_map, bytes_eq, rules}
+use Rattle.std.proofs.Common.{arith, ◌≡◌, ◌∙◌, refl, ℕ, List, Bool, false, ◌&&◌, if◌then◌else◌, Option, None, Some, codes, bytes_eq, rules}
 use Rattle.std.specs.Prelude.{IsTrue}
 use Rattle.std.specs.Str.{is_utf8}
-use Rattle.serde_json.specs.Data.{Data, null, string, object, no_members, member}
+use Rattle.serde_json.specs.Data.{Data, null, object, no_members, member}
 use Rattle.permit_base.specs.declared.words.Role.{Role}
-use Rattle.permit_base.specs.declared.words.Role.TheVariants as role
 use Rattle.permit_base.specs.declared.words.Action.{Action}
 use Rattle.permit_base.specs.declared.request.Command.{Command}
-use Rattle.permit_base.specs.declared.request.Command.TheVariants as command
 use Rattle.permit_base.specs.Actions.{adding_action, command_action}
-use Rattle.permit_base.specs.Limits.{only_if, is_object_number, is_paper_number, is_day, is_days, is_cents}
+use Rattle.permit_base.specs.Limits.{only_if, is_object_number, is_paper_number, is_cents}
 use Rattle.permit_base.specs.Texts.{is_printable, is_lot, is_digest}
 use Rattle.permit_base.specs.Words.{IsReadBack, role_word, all_roles, kind_word, all_kinds, step_word, all_steps, action_word, all_actions}
 use Rattle.permit_history.specs.declared.entry.Act.{Act}
 use Rattle.permit_history.specs.declared.entry.Act.TheVariants as act
 use Rattle.permit_history.specs.declared.entry.Deed.{Deed}
-use Rattle.permit_history.specs.declared.entry.Deed.TheVariants as deed
 use Rattle.permit_history.specs.declared.entry.Entry.{Entry}
 use Rattle.permit_history.specs.Fields.{number_or_null_at}
 use Rattle.permit_history.specs.LineData.{count, count_or_null, command_body, act_body, act_action, act_id, act_number, deed_body, done_word}
@@ -52,66 +49,17 @@ actions_read = search rules
 -- ---- the command on a file
 
 pub command_read : (c : Command) → IsTrue (is_command_within c) → command_in (command_action c) (object (command_body c)) ≡ Some c
-command_read (command.AssignReviewer party) h = ap (option_map command.AssignReviewer) (number_taken is_object_number party h)
-command_read (command.AssignInspector party) h = ap (option_map command.AssignInspector) (number_taken is_object_number party h)
-command_read (command.NameContractor party) h = ap (option_map command.NameContractor) (number_taken is_object_number party h)
-command_read command.StartReview h = refl
-command_read (command.Return text) h = ap (option_map command.Return) (printable_taken text h)
-command_read (command.Resubmit text) h = ap (option_map command.Resubmit) (printable_taken text h)
-command_read command.ApprovePlans h = refl
-command_read (command.Reject text) h = ap (option_map command.Reject) (printable_taken text h)
-command_read command.Issue h = refl
-command_read (command.AskExtension days text) h =
-    rw (number_taken is_days days (left (is_days days) (is_text text) h), printable_taken text (right (is_days days) (is_text text) h)) refl
-command_read command.GrantExtension h = refl
-command_read (command.RefuseExtension text) h = ap (option_map command.RefuseExtension) (printable_taken text h)
-command_read command.BeginWork h = refl
-command_read (command.RequestInspection step) h = ap (option_map command.RequestInspection) (steps_read step)
-command_read (command.ApproveStep step) h = ap (option_map command.ApproveStep) (steps_read step)
-command_read (command.Notice text) h = ap (option_map command.Notice) (printable_taken text h)
-command_read (command.ClearNotice paper) h = ap (option_map command.ClearNotice) (number_taken is_paper_number paper h)
-command_read (command.Stop text conditions) h =
-    rw (printable_taken text (left (is_text text) (is_text conditions) h), printable_taken conditions (right (is_text text) (is_text conditions) h)) refl
-command_read command.Lift h = refl
-command_read (command.Revoke text) h = ap (option_map command.Revoke) (printable_taken text h)
-command_read (command.Temporary days text) h =
-    rw (number_taken is_days days (left (is_days days) (is_text text) h), printable_taken text (right (is_days days) (is_text text) h)) refl
-command_read command.Certify h = refl
+command_read c h = grind (arith, number_taken, printable_taken, left, right, steps_read)
 
 -- ---- the accepted command
 
 -- a command on a file is read as one
 on_file_read : (c : Command) (line body : Data) → act_in (command_action c) line body ≡ on_file_in (command_action c) line body
-on_file_read (command.AssignReviewer party) line body = refl
-on_file_read (command.AssignInspector party) line body = refl
-on_file_read (command.NameContractor party) line body = refl
-on_file_read command.StartReview line body = refl
-on_file_read (command.Return text) line body = refl
-on_file_read (command.Resubmit text) line body = refl
-on_file_read command.ApprovePlans line body = refl
-on_file_read (command.Reject text) line body = refl
-on_file_read command.Issue line body = refl
-on_file_read (command.AskExtension days text) line body = refl
-on_file_read command.GrantExtension line body = refl
-on_file_read (command.RefuseExtension text) line body = refl
-on_file_read command.BeginWork line body = refl
-on_file_read (command.RequestInspection step) line body = refl
-on_file_read (command.ApproveStep step) line body = refl
-on_file_read (command.Notice text) line body = refl
-on_file_read (command.ClearNotice paper) line body = refl
-on_file_read (command.Stop text conditions) line body = refl
-on_file_read command.Lift line body = refl
-on_file_read (command.Revoke text) line body = refl
-on_file_read (command.Temporary days text) line body = refl
-on_file_read command.Certify line body = refl
+on_file_read c line body = grind arith
 
 -- a party is read by either word of adding one
 party_read : (r : Role) (line body : Data) → act_in (adding_action r) line body ≡ party_in line body
-party_read role.Public line body = refl
-party_read role.Clerk line body = refl
-party_read role.Reviewer line body = refl
-party_read role.Inspector line body = refl
-party_read role.Official line body = refl
+party_read r line body = grind arith
 
 -- the value of a line with these members
 abbrev line_with : Data → Data → Data → Data → Data → Data → Data
@@ -121,8 +69,7 @@ line_with body caller day done id made =
 
 paper_read : (made : Option ℕ) → IsTrue (is_paper_or_none made) → (body caller day done id : Data)
     → number_or_null_at is_paper_number (codes "number") (line_with body caller day done id (count_or_null made)) ≡ Some made
-paper_read None h body caller day done id = refl
-paper_read (Some paper) h body caller day done id = ap (option_map Some) (number_taken is_paper_number paper h)
+paper_read made h body caller day done id = grind (arith, number_taken)
 
 act_read : (a : Act) → IsTrue (is_act_within a) → (caller day done : Data)
     → act_in (act_action a) (line_with (object (act_body a)) caller day done (count_or_null (act_id a)) (count_or_null (act_number a)))
@@ -182,25 +129,7 @@ commands_apart a = search rules
 deed_read : (d : Deed) → IsTrue (is_deed_within d) → (day done : Data)
     → deed_in (done_word d) (line_with (object (deed_body d)) (count (caller_in d)) day done (count_or_null (id_in d)) (count_or_null (number_in d)))
     (object (deed_body d)) ≡ Some d
-deed_read (deed.Found name digest) h day done =
-    rw (printable_taken name (left (is_text name) _ h), text_taken is_digest digest (right (is_text name) _ h)) refl
-deed_read deed.Upgrade h day done = refl
-deed_read (deed.RenewToken party digest) h day done =
-    rw (number_taken is_object_number party (left (is_object_number party) _ h), text_taken is_digest digest (right (is_object_number party) _ h)) refl
-deed_read (deed.Accepted caller act) h day done =
-    let apart = commands_apart (act_action act) in
-    rw (
-      apart.0,
-      apart.1,
-      apart.2,
-      actions_read (act_action act),
-      number_taken is_object_number caller (left (is_object_number caller) (is_act_within act) h),
-      act_read act (right (is_object_number caller) (is_act_within act) h) (count caller) day done,
-    ) refl
+deed_read d h day done = grind (arith, printable_taken, left, text_taken, right, number_taken, commands_apart, actions_read, act_read)
 
 pub entry_read : (e : Entry) → IsTrue (is_within e) → entry_in (line_data e) ≡ Some e
-entry_read e h =
-    rw (
-      number_taken is_day e.day (left (is_day e.day) (is_deed_within e.deed) h),
-      deed_read e.deed (right (is_day e.day) (is_deed_within e.deed) h) (count e.day) (string (done_word e.deed)),
-    ) refl
+entry_read e h = grind (arith, number_taken, left, deed_read, right)

@@ -1,6 +1,6 @@
 -- A text is read line by line.
-use Rattle.std.proofs.Common.{◌≡◌, ◌↔◌, refl, sym, ap, ◌∙◌, ℕ, suc, ◌-◌, ◌&&◌, ◌==◌, not, nat_le, nat_lt, Bool, true, false, List, [], ◌∷◌, ◌++◌}
-use Rattle.std.proofs.Common.{length, take, get_or, if◌then◌else◌, Option, None, Some, option_map, Ok, arith, append_assoc, ne_eqb, lt-ltb, subst}
+use Rattle.std.proofs.Common.{◌≡◌, ◌↔◌, refl, sym, ap, ◌∙◌, ℕ, ◌&&◌, ◌==◌, not, nat_le, Bool, true, false, List, [], ◌∷◌, ◌++◌}
+use Rattle.std.proofs.Common.{if◌then◌else◌, Option, None, Some, option_map, Ok, arith, append_assoc, ne_eqb, lt-ltb, subst}
 use Rattle.std.specs.Prelude.{IsTrue}
 use Rattle.std.specs.List.{list_all}
 use Rattle.std.specs.Io.BufRead.{take_through, drop_through}
@@ -19,27 +19,16 @@ use Rattle.permit_history.proofs.OneText.{line_read, read_line_written}
 -- one test decides twice
 decided : (b : Bool) (x : ℕ) (whole part : List ℕ) → (if b then Some (if b then x ∷ part else x ∷ whole) else None)
     ≡ option_map (λ line. x ∷ line) (if b then Some (if b then part else whole) else None)
-decided true x whole part = refl
-decided false x whole part = refl
+decided b x whole part = grind arith
 
 -- a byte before others that are there
 before_whole : (x y : ℕ) (ys : List ℕ) → whole_line (x ∷ y ∷ ys) ≡ option_map (λ line. x ∷ line) (whole_line (y ∷ ys))
-before_whole x y ys =
-    let place : suc (suc (length ys)) - 1 ≡ suc (suc (length ys) - 1) = omega arith in
-    let two : nat_lt 0 (suc (suc (length ys))) ≡ true = lt-ltb 0 (suc (suc (length ys))) (omega arith) in
-    let one : nat_lt 0 (suc (length ys)) ≡ true = lt-ltb 0 (suc (length ys)) (omega arith) in
-    rw (place, two, one) (decided (get_or (y ∷ ys) (suc (length ys) - 1) 0 == 10) x (y ∷ ys) (take (suc (length ys) - 1) (y ∷ ys)))
+before_whole x y ys = grind (arith, lt-ltb, decided)
 
 -- a byte before those up to the first LF
 before_line : (x : ℕ) (later : List ℕ) → (x == 10) ≡ false
     → whole_line (x ∷ take_through 10 later) ≡ option_map (λ line. x ∷ line) (whole_line (take_through 10 later))
-before_line x [] other = rw other refl
-before_line x (y ∷ later) other = by_first (y == 10)
-  where
-    by_first : (b : Bool) → whole_line (x ∷ (if b then y ∷ [] else y ∷ take_through 10 later))
-        ≡ option_map (λ line. x ∷ line) (whole_line (if b then y ∷ [] else y ∷ take_through 10 later))
-    by_first true = before_whole x y []
-    by_first false = before_whole x y (take_through 10 later)
+before_line x later other = grind (arith, before_whole)
 
 lf_alone : (x : ℕ) → (x == 10) ≡ true → whole_line (x ∷ []) ≡ Some []
 lf_alone x is = rw is refl

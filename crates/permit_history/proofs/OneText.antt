@@ -1,6 +1,6 @@
 -- The line of an entry is read as that entry, so no two entries have one line, and no two lists of entries one text.
-use Rattle.std.proofs.Common.{◌≡◌, refl, sym, ap, ◌∙◌, ℕ, nat_le, nat_lt, Bool, true, false, List, [], ◌∷◌, ◌++◌, length, bytes_eq, if◌then◌else◌}
-use Rattle.std.proofs.Common.{Option, None, Some, Result, Ok, Err, option_and_then, arith, length-append, le-ltb}
+use Rattle.std.proofs.Common.{◌≡◌, refl, sym, ap, ◌∙◌, ℕ, nat_le, nat_lt, Bool, true, List, [], ◌∷◌, ◌++◌, length, bytes_eq, if◌then◌else◌}
+use Rattle.std.proofs.Common.{Option, None, Some, Result, Ok, Err, arith, length-append, le-ltb}
 use Rattle.std.specs.Prelude.{IsTrue}
 use Rattle.std.specs.List.{list_all}
 use Rattle.std.specs.Str.{is_utf8}
@@ -14,7 +14,7 @@ use Rattle.permit_history.specs.declared.fault.LineFault.{LineFault}
 use Rattle.permit_history.specs.declared.fault.LineFault.TheVariants.{Long, Form}
 use Rattle.permit_history.specs.Fields.{said}
 use Rattle.permit_history.specs.LineData.{line_data, line_of, text_of}
-use Rattle.permit_history.specs.LineRead.{longest_line, entry_in, answer_for, answer_to, reading_of}
+use Rattle.permit_history.specs.LineRead.{longest_line, answer_for, answer_to, reading_of}
 use Rattle.permit_history.specs.Within.{is_within}
 use Rattle.permit_history.proofs.Clean.{is_mild}
 use Rattle.permit_history.proofs.FieldsRead.{entry_read}
@@ -34,34 +34,24 @@ own_line : (e : Entry) → answer_for (line_of e) (Some e) ≡ Ok e
 own_line e = rw ((bytes_eq-Decides (line_of e) (line_of e)).1 refl) refl
 
 pub line_read : (e : Entry) → IsTrue (is_within e) → reading_of (line_of e) ≡ Ok e
-line_read e h =
-    ap (λ b. if b then Err Long else answer_to (line_of e) (said (line_of e))) (le-ltb longest_line (length (line_of e)) (line_short e h))
-    ∙ ap (λ b. answer_to (line_of e) (option_and_then read (if b then Some (line_of e) else None))) (line_utf8 e h)
-    ∙ ap (answer_to (line_of e)) (line_said e h)
-    ∙ ap (answer_for (line_of e)) (entry_read e h)
-    ∙ own_line e
+line_read e h = grind (arith, le-ltb, line_short, line_utf8, line_said, entry_read, own_line)
 
 abbrev ok_or : Entry → Result Entry LineFault → Entry
 ok_or other (Ok e) = e
 ok_or other (Err fault) = other
 
 chosen : (b : Bool) (line : List ℕ) (a e : Entry) → bytes_eq (line_of a) line ≡ b → (if b then Ok a else Err Form) ≡ Ok e → line_of e ≡ line
-chosen true line a e same taken =
-    let is : a ≡ e = ap (ok_or a) taken in
-    ap line_of (sym is) ∙ (bytes_eq-Decides (line_of a) line).0 same
-chosen false line a e same taken = absurd cc
+chosen b line a e same taken = grind (arith, bytes_eq-Decides)
 
 answered : (line : List ℕ) (o : Option Entry) (e : Entry) → answer_for line o ≡ Ok e → line_of e ≡ line
 answered line None e taken = absurd cc
 answered line (Some a) e taken = chosen (bytes_eq (line_of a) line) line a e refl taken
 
 answered_to : (line : List ℕ) (o : Option Data) (e : Entry) → answer_to line o ≡ Ok e → line_of e ≡ line
-answered_to line None e taken = absurd cc
-answered_to line (Some d) e taken = answered line (entry_in d) e taken
+answered_to line o e taken = grind (arith, answered)
 
 by_length : (b : Bool) (line : List ℕ) (e : Entry) → (if b then Err Long else answer_to line (said line)) ≡ Ok e → line_of e ≡ line
-by_length true line e taken = absurd cc
-by_length false line e taken = answered_to line (said line) e taken
+by_length b line e taken = grind (arith, answered_to)
 
 pub read_line_written : (line : List ℕ) (e : Entry) → reading_of line ≡ Ok e → line_of e ≡ line
 read_line_written line e taken = by_length (nat_lt longest_line (length line)) line e taken

@@ -1,5 +1,5 @@
 -- An object of texts, of whole numbers and of such objects, with its keys in order, is read back from its compact text.
-use Rattle.std.proofs.Common.{◌≡◌, ℕ, zero, suc, ◌^◌, ◌<◌, ◌≤◌, List, [], Bool, true, false, Ordering, Less, Equal, Greater, Some, option_and_then}
+use Rattle.std.proofs.Common.{◌≡◌, ℕ, zero, suc, ◌^◌, ◌<◌, ◌≤◌, List, [], Bool, true, false, Ordering, Some, option_and_then}
 use Rattle.std.proofs.Common.{refl, sym, ap, ◌∙◌, arith, append-nil}
 use Rattle.std.specs.Prelude.{⊤, IsTrue}
 use Rattle.std.proofs.lemmas.Bool.{false≢true}
@@ -58,9 +58,7 @@ join-join (member k d a) b c = ap (member k d) (join-join a b c)
 last_by : (o : Ordering) (k l : List ℕ) (d e : Data) (found : Members) → IsTrue (match_ordering o false false (is_last k found))
     → (IsTrue (is_last k found) → put k d found ≡ join found (member k d no_members))
     → match_ordering o (member k d (member l e found)) (member l d found) (member l e (put k d found)) ≡ member l e (join found (member k d no_members))
-last_by Less k l d e found h ih = absurd (false≢true h)
-last_by Equal k l d e found h ih = absurd (false≢true h)
-last_by Greater k l d e found h ih = ap (member l e) (ih h)
+last_by o k l d e found h ih = grind (arith, false≢true)
 
 -- a key above all that were found goes last
 put_last : (k : List ℕ) (d : Data) (found : Members) → IsTrue (is_last k found) → put k d found ≡ join found (member k d no_members)

@@ -328,6 +328,17 @@ fn document(alloc: Global, line: &[u8]) -> Result<Value, LineFault>
 ///
 /// A line is taken only where it is, byte for byte, what `write_line` gives for its entry. Where memory is refused, the
 /// fault is `Memory`, whatever the line says.
+///
+/// # Examples
+///
+/// ```
+/// let line = r#"{"body":{},"caller":0,"day":19700,"done":"upgrade","id":null,"number":null}"#;
+/// let Ok(entry) = read_line(alloc, line.as_bytes()) else {
+///     return Err(Fail::new("no entry"));
+/// };
+/// assert!(rt; entry.day.get() == 19700 && matches!(entry.deed, Deed::Upgrade));
+/// assert!(rt; matches!(read_line(alloc, b"{}"), Err(LineFault::Fields)));
+/// ```
 pub fn read_line(alloc: Global, line: &[u8]) -> Result<Entry, LineFault>
     ensures exact { IsUnlessMemory result (reading_of line.now) }
     ensures line { IfOk result (λ entry. line_of entry ≡ line.now) }

@@ -49,6 +49,18 @@ fn entry_in(alloc: Global, bytes: &[u8]) -> Result<Option<Entry>, TextFault>
 /// `line` is room for the bytes of a line, and what it holds is dropped. A line is read whole before it is judged, so it takes
 /// as much memory as it has bytes. After the fault of a line the source stands behind that line. After a failure of its own the
 /// source is not to be read further.
+///
+/// # Examples
+///
+/// ```
+/// let line = r#"{"body":{},"caller":0,"day":19700,"done":"upgrade","id":null,"number":null}"#;
+/// let lines = format!(in alloc; "{line}\n")?;
+/// let (mut text, mut room) = (lines.as_bytes(), Vec::new(alloc));
+/// let entry = next_entry(alloc, &mut text, &mut room);
+/// assert!(rt; matches!(entry, Ok(Some(_))));
+/// let entry = next_entry(alloc, &mut text, &mut room);
+/// assert!(rt; matches!(entry, Ok(None)));
+/// ```
 pub fn next_entry<R: BufRead>(
     alloc: Global,
     source: &mut R,

@@ -250,6 +250,14 @@ fn text_of<T: Serialize>(alloc: Global, sent: &T) -> Result<Vec<u8>, AllocError>
 }
 
 /// The line of an entry, without its LF: at most 20000 bytes. Where memory is refused there is none, and nothing has changed.
+///
+/// # Examples
+///
+/// ```
+/// let (day, deed) = (Day::new(19700).ok_or("a day")?, Deed::Upgrade);
+/// let line = write_line(alloc, &Entry { day, deed })?;
+/// assert!(rt; line.as_slice().starts_with(b"{\"body\":{},"));
+/// ```
 pub fn write_line(alloc: Global, entry: &Entry) -> Result<Vec<u8>, AllocError>
     ensures line { IfOk result (λ text. text.items ≡ line_of entry.now) }
 

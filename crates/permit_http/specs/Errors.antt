@@ -12,7 +12,8 @@ fault_of ReadFailed = None
 fault_of Ended = None
 fault_of (Fault fault) = Some fault
 
--- where the reader failed or ended, a message was still to come: a fault of its head is reported whatever comes after it
+-- Where the reader failed or ended, no whole message stands in the bytes. A fault of a head that stands there would have
+-- been reported in place of it.
 abbrev pub StopsAt : List ℕ → WireError → Type 0
 StopsAt bytes ReadFailed = IsUnfinished bytes
 StopsAt bytes Ended = IsUnfinished bytes

@@ -95,7 +95,7 @@ body_length pairs =
 abbrev pub judged : ℕ → List Pair → Result ℕ Fault
 judged minor pairs = if is_served minor pairs then body_length pairs else Err Version
 
--- the faults of a head, which none is or one that is there has
+-- the faults of a head: that no head can stand there, and those that a head has
 abbrev pub IsHeadFault : Fault → Type 0
 IsHeadFault Head = Unit {0}
 IsHeadFault Version = Unit {0}

@@ -46,7 +46,8 @@ IsUnfinished bytes = LacksHead bytes ⊎ LacksBody bytes
 abbrev pub HasFault : List ℕ → Fault → Type 0
 HasFault bytes fault = (h : RequestHead) × (after : List ℕ) × HeadAt bytes h after × (judged h.minor (pairs_of h) ≡ Err fault)
 
--- the bytes show a fault, whatever comes after them: a head that is there has it, or none is and no more of one may come
+-- The bytes show a fault, whatever comes after them. Either a head stands there that has it. Or none does, and the bytes
+-- are as many as a head may have, so that none can come.
 abbrev pub ShowsFault : List ℕ → Fault → Type 0
 ShowsFault bytes fault = HasFault bytes fault ⊎ ((fault ≡ Head) × LacksHead bytes × (head_limit ≤ length bytes))
 
@@ -57,7 +58,8 @@ pub data Incoming : Type 0 where
   refused : Fault → Incoming
   message : MessageData → List ℕ → Incoming
 
--- what it gives; where no head can come any more, both a refusal and a cut are allowed
+-- What these bytes give, where no more come. Of bytes at whose front no head can stand, both a refusal and a cut are
+-- allowed.
 abbrev pub IsIncoming : List ℕ → Incoming → Type 0
 IsIncoming bytes nothing = bytes ≡ []
 IsIncoming bytes cut = ((0 < length bytes) × LacksHead bytes) ⊎ LacksBody bytes

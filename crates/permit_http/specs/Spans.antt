@@ -37,7 +37,7 @@ GivesHead bytes left headers sought.Refused = NeverHasHead bytes
 GivesHead bytes left headers sought.Ended = IsOpen bytes × IsAtEnd left
 GivesHead bytes left headers sought.Failed = IsOpen bytes
 
--- so many bytes are there, or the input is at its end and they aren't
+-- as many bytes as were asked for are there, or the input ended with fewer
 abbrev pub GetsTo : ℕ → Bool → List ℕ → Option (List ℕ) → Type 0
 GetsTo n true bytes left = n ≤ length bytes
 GetsTo n false bytes left = (length bytes < n) × IsAtEnd left

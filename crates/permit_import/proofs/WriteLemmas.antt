@@ -1,21 +1,9 @@
 -- What a writer was given, piece by piece.
-use Rattle.std.proofs.Common.{◌≡◌, ◌≤◌, ℕ, ◌+◌, List, ◌++◌, length, min, take, drop, ap, ◌∙◌, sym, append_assoc}
-use Rattle.std.specs.Prelude.{Option, None, Some}
+use Rattle.std.proofs.Common.{◌≡◌, ◌≤◌, ℕ, List, length, min, take, ap, ◌∙◌, Option}
 use Rattle.std.proofs.KnownBytes.{Appends-trans}
-use Rattle.std.proofs.Math.Seq.{take-add}
 use Rattle.std.proofs.lemmas.List.{take_all, take_min}
 use Rattle.std.specs.Io.KnownBytes.{Appends}
 use Rattle.permit_import.specs.Written.{WroteFront, WroteInto}
-
--- one write after another
-pub appends_more : (old mid new : Option (List ℕ)) (bs : List ℕ) (at n : ℕ)
-    → Appends old mid (take at bs) → Appends mid new (take n (drop at bs)) → Appends old new (take (at + n) bs)
-appends_more None mid new bs at n h k = tt
-appends_more (Some xs) None new bs at n h k = absurd h
-appends_more (Some xs) (Some ys) None bs at n h k = absurd k
-appends_more (Some xs) (Some ys) (Some zs) bs at n h k =
-    k ∙ ap (λ x. x ++ take n (drop at bs)) h ∙ append_assoc xs (take at bs) (take n (drop at bs))
-    ∙ ap (λ x. xs ++ x) (sym (take-add at n bs))
 
 -- a beginning of the next text behind the whole of one
 pub wrote_into : (old mid new : Option (List ℕ)) (text next : List ℕ) → Appends old mid text → WroteFront mid new next → WroteInto old new text next

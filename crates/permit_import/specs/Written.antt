@@ -1,14 +1,9 @@
 -- What a writer was given of a text.
 use Rattle.std.specs.Prelude.{◌<◌, ◌++◌, ℕ, List, length, take, Option}
 use Rattle.std.specs.Io.KnownBytes.{Appends, Keeps}
+pub use Rattle.permit_report.specs.Outgoing.{WroteFront}
 use Rattle.permit_import.specs.declared.fault.ImportFault.{ImportFault}
 use Rattle.permit_import.specs.declared.fault.ImportFault.TheVariants.{FirstRecord, Reading, Memory, Writing}
-
--- known bytes grew by a beginning of the text, which isn't the whole
-pub record WroteFront (old new : Option (List ℕ)) (text : List ℕ) : Type 0 where
-  pub count : ℕ
-  pub within : count < length text
-  pub wrote : Appends old new (take count text)
 
 -- known bytes grew by the whole of a text, and after it by a beginning of the next, which isn't the whole
 pub record WroteInto (old new : Option (List ℕ)) (text next : List ℕ) : Type 0 where

@@ -12,21 +12,17 @@ use crate::tally::Tally;
 use std::alloc::AllocError;
 use std::io::Write;
 
-/// Writes all the bytes. Where a write fails or takes no byte, a beginning of them is out.
+/// Writes all the bytes, as `write_whole` of permit_report does. Where a write fails or takes no byte, a beginning of them is
+/// out.
 pub(crate) fn write_whole<W: Write>(out: &mut W, bytes: &[u8]) -> Result<(), ImportFault>
     ensures whole { OnOk result (Appends (W.contents out.old) (W.contents out.new) bytes.now) }
     ensures front { OnErr result (WroteFront (W.contents out.old) (W.contents out.new) bytes.now) }
     ensures fault { IfErr result (λ fault. fault ≡ ImportFault.Writing) }
 {
-    let mut at = 0;
-    while at < bytes.len() {
-        match out.write(&bytes[at..]) {
-            Ok(0) => return Err(ImportFault::Writing),
-            Ok(n) => at += n,
-            Err(_) => return Err(ImportFault::Writing),
-        }
+    match permit_report::write_whole(out, bytes) {
+        Ok(()) => Ok(()),
+        Err(_) => Err(ImportFault::Writing),
     }
-    Ok(())
 }
 
 /// Appends the line that says why the record of a number is refused, where it is.

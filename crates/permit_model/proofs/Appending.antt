@@ -1,26 +1,23 @@
 -- What one more act on a file changes.
 use Rattle.std.proofs.Common.{◌≡◌, ◌≢◌, ◌≤◌, ◌<◌, ℕ, ◌+◌, max, Bool, true, false, not, cond, ◌==◌, List, [], ◌∷◌, map, length, refl, ap, arith}
-use Rattle.std.specs.Prelude.{suc, ◌-◌, ◌||◌, IsTrue, if◌then◌else◌, Option, None, Some, unwrap_or, option_map, filter}
-use Rattle.std.specs.List.{cons_option}
+use Rattle.std.specs.Prelude.{suc, ◌-◌, ◌||◌, IsTrue, if◌then◌else◌, Option, Some, unwrap_or, option_map, filter}
 use Rattle.permit_model.specs.Search.{has_number}
 use Rattle.permit_base.specs.declared.words.Stage.TheVariants as stage
 use Rattle.permit_base.specs.declared.request.Command.{Command}
-use Rattle.permit_base.specs.declared.request.Command.TheVariants.{GrantExtension, BeginWork, Notice}
 use Rattle.std.specs.Option.{option_or}
 use Rattle.permit_model.specs.Search.{latest}
-use Rattle.permit_model.specs.Days.{term, greatest}
+use Rattle.permit_model.specs.Days.{greatest}
 use Rattle.permit_model.specs.Effects.{effects}
 use Rattle.permit_model.specs.Files.{Filing, Act, CaseFile}
-use Rattle.permit_model.specs.Work.{pending_ask, notices_given, is_cleared, open_notices}
+use Rattle.permit_model.specs.Work.{notices_given, is_cleared, open_notices}
 use Rattle.permit_model.specs.BaseStage.{base_stage}
-use Rattle.permit_model.specs.Deadline.{extended, anchor_reaches, deadline}
+use Rattle.permit_model.specs.Deadline.{extended}
 use Rattle.std.proofs.lemmas.Bool.{eqb-true, ne_eqb}
 use Rattle.permit_base.specs.declared.request.Request.TheVariants.{OnFile}
 use Rattle.permit_model.specs.Search.{when}
 use Rattle.permit_model.specs.History.{Accepted, Entry, History}
-use Rattle.permit_model.specs.Files.{act_of, acts_on, filings, case_file, case_files}
+use Rattle.permit_model.specs.Files.{filings, case_file, case_files}
 use Rattle.permit_model.specs.Work.{makes_paper, paper_count}
-use Rattle.permit_model.specs.Tables.{state_of}
 
 -- the file with one more act
 abbrev pub with_act : CaseFile → Act → CaseFile
@@ -29,8 +26,7 @@ with_act file act = record { filing = file.filing; acts = act ∷ file.acts }
 -- ---- the stage
 
 unwrap_or-option_or : {A : Type 0} (a b : Option A) (d : A) → unwrap_or (option_or a b) d ≡ unwrap_or a (unwrap_or b d)
-unwrap_or-option_or None b d = refl
-unwrap_or-option_or (Some x) b d = refl
+unwrap_or-option_or a b d = grind arith
 
 -- an act gives its stage, or leaves the one before
 pub base_stage-more : (act : Act) (acts : List Act) → base_stage (act ∷ acts) ≡ unwrap_or ((effects act.command).stage) (base_stage acts)
@@ -43,36 +39,14 @@ extended-zero [] = refl
 extended-zero (x ∷ xs) = let e : x + 0 ≡ x = omega arith in rw (e, extended-zero xs)
 
 greatest_step : (days x : ℕ) (rest : Option ℕ) → max (x + days) (unwrap_or (option_map (λ r. r + days) rest) 0) ≡ max x (unwrap_or rest 0) + days
-greatest_step days x None = omega arith
-greatest_step days x (Some r) = omega arith
+greatest_step days x rest = grind arith
 
 -- granted days move the greatest reach by as many
 pub greatest-extended : (days : ℕ) (xs : List ℕ) → greatest (extended days xs) ≡ option_map (λ r. r + days) (greatest xs)
 greatest-extended days [] = refl
 greatest-extended days (x ∷ xs) = rw (greatest-extended days xs) (ap Some (greatest_step days x (greatest xs)))
 
--- beginning work makes the deadline the greater of itself and the day with the term
-pub deadline-begun : (file : CaseFile) (caller day : ℕ) (number : Option ℕ) → base_stage file.acts ≡ stage.Issued →
-    deadline (with_act file (record { caller = caller; day = day; command = BeginWork; number = number }))
-    ≡ Some (max (day + term) (unwrap_or (deadline file) 0))
-deadline-begun file caller day number issued = rw (issued, extended-zero (anchor_reaches file.acts)) refl
-
--- a grant in the stages issued and working adds the asked days
-pub deadline-granted : (file : CaseFile) (caller day : ℕ) (number : Option ℕ) → base_stage file.acts ≡ stage.Working →
-    deadline (with_act file (record { caller = caller; day = day; command = GrantExtension; number = number }))
-    ≡ option_map (λ d. d + unwrap_or (pending_ask file.acts) 0) (deadline file)
-deadline-granted file caller day number working =
-    rw (base_stage-more (record { caller = caller; day = day; command = GrantExtension; number = number }) file.acts, working)
-    (greatest-extended (unwrap_or (pending_ask file.acts) 0) (anchor_reaches file.acts))
-
 -- ---- the whole row
-
--- beginning work makes the stage working and the deadline the greater one; nothing else of the row changes
-pub state-begun : (file : CaseFile) (caller day : ℕ) (number : Option ℕ) → base_stage file.acts ≡ stage.Issued →
-    state_of (with_act file (record { caller = caller; day = day; command = BeginWork; number = number }))
-    ≡ record (state_of file) { stage = stage.Working; deadline = Some (max (day + term) (unwrap_or (deadline file) 0)) }
-state-begun file caller day number issued =
-    ap (λ d. record (state_of file) { stage = stage.Working; deadline = d }) (deadline-begun file caller day number issued)
 
 -- ---- the list of files
 
@@ -87,16 +61,7 @@ touched id act file = if id == file.filing.id then with_act file act else file
 case_touched : (caller day id : ℕ) (command : Command) (number : Option ℕ) (h : History) (filing : Filing) →
     case_file (command_entry caller day id command number ∷ h) filing
     ≡ touched id (record { caller = caller; day = day; command = command; number = number }) (case_file h filing)
-case_touched caller day id command number h filing = elim (id == filing.id) as (λ b.
-    record {
-      filing = filing;
-      acts = cons_option (option_map (act_of (command_entry caller day id command number)) (if b then Some command else None))
-          (acts_on filing.id h);
-    }
-    ≡ (if b then with_act (case_file h filing) (record { caller = caller; day = day; command = command; number = number }) else case_file h filing)) [
-      | true ↦ refl
-      | false ↦ refl
-    ]
+case_touched caller day id command number h filing = grind arith
 
 all_touched : (caller day id : ℕ) (command : Command) (number : Option ℕ) (h : History) (made : List Filing) →
     map (case_file (command_entry caller day id command number ∷ h)) made
@@ -147,11 +112,7 @@ keeps_all bound paper (n ∷ ns) f above =
 cleared_here : (paper n : ℕ) (ns : List ℕ) (b : Bool) → (n == paper) ≡ b → FallFrom (n - 1) ns → 0 < n → IsTrue (b || has_number ns paper) →
     (IsTrue (has_number ns paper) → length (filter (λ n. not (n == paper)) ns) + 1 ≡ length ns) →
     length (cond (not b) (n ∷ filter (λ n. not (n == paper)) ns) (filter (λ n. not (n == paper)) ns)) + 1 ≡ suc (length ns)
-cleared_here paper n ns true e f pos there ih =
-    let same : n ≡ paper = eqb-true n paper e in
-    let kept : length (filter (λ n. not (n == paper)) ns) ≡ length ns = keeps_all (n - 1) paper ns f (omega (arith, same, pos)) in
-    omega (arith, kept)
-cleared_here paper n ns false e f pos there ih = let h : length (filter (λ n. not (n == paper)) ns) + 1 ≡ length ns = ih there in omega (arith, h)
+cleared_here paper n ns b e f pos there ih = grind (arith, eqb-true, keeps_all)
 
 -- clearing a notice that is open leaves one fewer
 pub length-cleared : (bound paper : ℕ) (ns : List ℕ) → FallFrom bound ns → IsTrue (has_number ns paper) →
@@ -164,9 +125,7 @@ fall_more : (caller day : ℕ) (command : Command) (number : Option ℕ) (before
     FallFrom (paper_count before) (notices_given before) →
     FallFrom (paper_count (record { caller = caller; day = day; command = command; number = number } ∷ before))
     (notices_given (record { caller = caller; day = day; command = command; number = number } ∷ before))
-fall_more caller day (Notice text) number before e f =
-    rw e (omega arith, omega arith, FallFrom-more (paper_count before) (paper_count before + 1 - 1) (notices_given before) (omega arith) f)
-fall_more caller day _ number before e f = FallFrom-more (paper_count before) _ (notices_given before) (omega arith) f
+fall_more caller day command number before e f = grind (arith, FallFrom-more)
 
 -- the notices have falling numbers, up to the count of papers
 given_fall : (acts : List Act) → AreNumbered acts → FallFrom (paper_count acts) (notices_given acts)

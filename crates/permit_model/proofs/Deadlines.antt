@@ -1,13 +1,11 @@
 -- What each admitted command does to the deadline, and the bounds within which it stays.
 use Rattle.std.proofs.Common.{◌≡◌, ◌≤◌, ℕ, ◌+◌, max, Bool, true, false, List, [], ◌∷◌, refl, sym, ◌∙◌, ap, arith}
 use Rattle.std.specs.Prelude.{Option, None, Some, option_map, unwrap_or, nat_lt}
-use Rattle.std.proofs.lemmas.Bool.{ltb-false as not_below}
 use Rattle.permit_base.specs.Limits.{latest_day, latest_deadline}
 use Rattle.permit_base.specs.declared.words.Step.TheVariants.{Final}
 use Rattle.permit_base.specs.declared.words.Stage.{Stage}
 use Rattle.permit_base.specs.declared.words.Stage.TheVariants as stage
 use Rattle.permit_base.specs.declared.stages.Expiry.{Expiry}
-use Rattle.permit_base.specs.declared.stages.Expiry.TheVariants.{Never, Application, Permit}
 use Rattle.permit_base.specs.Stages.{stage_facts}
 use Rattle.permit_base.specs.declared.request.Command.{Command}
 use Rattle.permit_base.specs.declared.request.Command.TheVariants.{StartReview, Return, Resubmit, ApprovePlans, Reject, Issue, GrantExtension, BeginWork}
@@ -124,16 +122,12 @@ plus_zero n = omega arith
 -- a command that is no activity and grants nothing leaves the deadline of what expires
 deadline_by_kept : (e : Expiry) (filed : ℕ) (act : Act) (before : List Act) → (effects act.command).anchor ≡ false → days_granted act.command before ≡ 0 →
     deadline_by e filed (act ∷ before) ≡ deadline_by e filed before
-deadline_by_kept Never filed act before quiet none = refl
-deadline_by_kept Application filed act before quiet none = rw none (ap Some (plus_zero (filing_reach filed before)))
-deadline_by_kept Permit filed act before quiet none = rw (quiet, none, extended-zero (anchor_reaches before)) refl
+deadline_by_kept e filed act before quiet none = grind (arith, plus_zero, extended-zero)
 
 -- granted days are added to it
 deadline_by_granted : (e : Expiry) (filed caller day : ℕ) (number : Option ℕ) (before : List Act) →
     deadline_by e filed (act_by caller day GrantExtension number ∷ before) ≡ option_map (λ d. d + unwrap_or (pending_ask before) 0) (deadline_by e filed before)
-deadline_by_granted Never filed caller day number before = refl
-deadline_by_granted Application filed caller day number before = refl
-deadline_by_granted Permit filed caller day number before = greatest-extended (unwrap_or (pending_ask before) 0) (anchor_reaches before)
+deadline_by_granted e filed caller day number before = grind (arith, greatest-extended)
 
 -- from one stage before issuance to another the deadline stays
 deadline_early : (filing : Filing) (before : List Act) (s : Stage) → base_stage before ≡ s →
@@ -145,15 +139,13 @@ deadline_early filing before s was d = ap Some (plus_zero (filing_reach filing.f
 deadline_active : (filing : Filing) (day : ℕ) (before : List Act) (s : Stage) → base_stage before ≡ s →
     deadline_in s filing.filed before ≡ greatest (anchor_reaches before) →
     greatest ((day + term) ∷ extended 0 (anchor_reaches before)) ≡ moved_by_activity day (deadline (case_of filing before))
-deadline_active filing day before s was d =
-    rw (extended-zero (anchor_reaches before)) (ap (moved_by_activity day) (sym d ∙ ap (λ x. deadline_in x filing.filed before) (sym was)))
+deadline_active filing day before s was d = grind (arith, extended-zero)
 
 -- the same where the command leaves the stage working
 in_working : (filing : Filing) (day : ℕ) (before after : List Act) → base_stage before ≡ stage.Working →
     deadline_in stage.Working filing.filed after ≡ greatest ((day + term) ∷ extended 0 (anchor_reaches before)) →
     deadline_in (base_stage before) filing.filed after ≡ moved_by_activity day (deadline (case_of filing before))
-in_working filing day before after was active =
-    ap (λ x. deadline_in x filing.filed after) was ∙ active ∙ deadline_active filing day before stage.Working was refl
+in_working filing day before after was active = grind (arith, deadline_active)
 
 -- what an admitted command does to the deadline
 pub deadline_more : (filing : Filing) (caller day : ℕ) (command : Command) (number : Option ℕ) (before : List Act) →
@@ -210,26 +202,9 @@ IsFrom least deadline = (d : ℕ) → deadline ≡ Some d → least ≤ d
 same_number : (a b : ℕ) → Some a ≡ Some b → a ≡ b
 same_number a b e = ap (λ o. unwrap_or o a) e
 
-active_from : (filed day : ℕ) (old : Option ℕ) → filed ≤ day → IsFrom (filed + term) (moved_by_activity day old)
-active_from filed day old later d e = omega (arith, later, same_number (max (day + term) (unwrap_or old 0)) d e)
-
-granted_from : (least ask : ℕ) (old : Option ℕ) → IsFrom least old → IsFrom least (option_map (λ d. d + ask) old)
-granted_from least ask None from d e = cc
-granted_from least ask (Some r) from d e = omega (arith, from r refl, same_number (r + ask) d e)
-
 from_more : (filed day : ℕ) (command : Command) (ask old : Option ℕ) → filed ≤ day → IsFrom (filed + term) old →
     IsFrom (filed + term) (deadline_after command day ask old)
-from_more filed day GrantExtension ask old later from = granted_from (filed + term) (unwrap_or ask 0) old from
-from_more filed day Issue ask old later from = λ d e. omega (arith, later, same_number (day + term) d e)
-from_more filed day BeginWork ask old later from = active_from filed day old later
-from_more filed day (RequestInspection step) ask old later from = active_from filed day old later
-from_more filed day (ApproveStep Final) ask old later from = λ d e. cc
-from_more filed day (ApproveStep step) ask old later from = active_from filed day old later
-from_more filed day (Notice text) ask old later from = active_from filed day old later
-from_more filed day (Reject text) ask old later from = λ d e. cc
-from_more filed day (Revoke text) ask old later from = λ d e. cc
-from_more filed day Certify ask old later from = λ d e. cc
-from_more filed day _ ask old later from = from
+from_more filed day command ask old later from = grind arith
 
 -- a deadline is never earlier than the filing's term
 pub deadline_from : (filing : Filing) (acts : List Act) → WereAdmitted filing acts → IsFrom (filing.filed + term) (deadline (case_of filing acts))
@@ -244,12 +219,10 @@ abbrev pub IsWithin : Option ℕ → Type 0
 IsWithin deadline = (d : ℕ) → deadline ≡ Some d → d ≤ latest_deadline
 
 active_within : (day : ℕ) (old : Option ℕ) → day ≤ latest_day → IsWithin old → IsWithin (moved_by_activity day old)
-active_within day None early within d e = omega (arith, early, same_number (max (day + term) 0) d e)
-active_within day (Some r) early within d e = omega (arith, early, within r refl, same_number (max (day + term) r) d e)
+active_within day old early within d e = grind arith
 
 granted_within : (ask : ℕ) (old : Option ℕ) → nat_lt latest_deadline (unwrap_or old 0 + ask) ≡ false → IsWithin (option_map (λ d. d + ask) old)
-granted_within ask None near d e = cc
-granted_within ask (Some r) near d e = omega (arith, not_below latest_deadline (r + ask) near, same_number (r + ask) d e)
+granted_within ask old near d e = grind arith
 
 within_more : (filing : Filing) (caller day : ℕ) (command : Command) (number : Option ℕ) (before : List Act) →
     WasAdmitted filing (act_by caller day command number) before → day ≤ latest_day →

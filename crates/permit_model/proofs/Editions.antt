@@ -1,13 +1,13 @@
 -- The edition of a file is the one in force when it was filed, and is told by its number.
-use Rattle.std.proofs.Common.{◌≡◌, ◌≤◌, ◌+◌, ℕ, ◌==◌, Bool, true, false, List, [], ◌∷◌, ◌++◌, length, refl, sym, ◌∙◌, ap, subst, arith, length-append}
-use Rattle.std.specs.Prelude.{Option, None, Some, option_map, nat_le, unwrap_or, if◌then◌else◌}
+use Rattle.std.proofs.Common.{◌≡◌, ◌≤◌, ◌+◌, ℕ, ◌==◌, Bool, List, [], ◌∷◌, ◌++◌, length, refl, sym, ◌∙◌, ap, arith, length-append}
+use Rattle.std.specs.Prelude.{Option, None, Some, option_map, nat_le, if◌then◌else◌}
 use Rattle.std.proofs.lemmas.List.{length-map}
-use Rattle.std.proofs.lemmas.Bool.{eqb-true, le-leb, lt-leb, leb-false}
+use Rattle.std.proofs.lemmas.Bool.{eqb-true, le-leb, leb-false}
 use Rattle.permit_base.specs.declared.words.Edition.TheVariants.{First, Second}
 use Rattle.permit_base.specs.declared.request.Request.TheVariants.{File}
 use Rattle.permit_model.specs.Search.{add_last}
 use Rattle.permit_model.specs.History.{Deed, Founding, Upgrade, Accepted, History, edition, upgraded}
-use Rattle.permit_model.specs.Files.{Filing, CaseFile, filings, filing_by, case_file, case_files}
+use Rattle.permit_model.specs.Files.{Filing, CaseFile, filings, case_file, case_files}
 use Rattle.permit_model.specs.Tables.{edition_by, files_at_upgrade, edition_numbered, desk_of, tables, with_upgrade}
 use Rattle.permit_model.specs.Machine.{MayFollow, IsFounding, IsHistory}
 use Rattle.permit_model.specs.Laws.{OfEachFile}
@@ -26,16 +26,11 @@ pub record Counted (h : History) : Type 0 where
   pub now : edition h ≡ edition_by (files_at_upgrade h)
 
 within_more : (at : Option ℕ) (made : List Filing) (new : Option Filing) → IsWithin at (length made) → IsWithin at (length (add_last made new))
-within_more None made new w = tt
-within_more (Some count) made None w = w
-within_more (Some count) made (Some f) w = omega (arith, w, length-append made (f ∷ []))
+within_more at made new w = grind (arith, length-append)
 
 counted_deed : (h : History) (caller day : ℕ) (deed : Deed) (number : Option ℕ) → Counted h →
     Counted (record { caller = caller; day = day; deed = deed; number = number } ∷ h)
-counted_deed h caller day (Founding name digest) number c = record { within = c.within; now = c.now }
-counted_deed h caller day Upgrade number c = record { within = omega arith; now = refl }
-counted_deed h caller day (Accepted request) number c =
-    record { within = within_more (files_at_upgrade h) (filings h) (filing_by (edition h) (Accepted request) number caller day) c.within; now = c.now }
+counted_deed h caller day deed number c = grind (arith, within_more)
 
 -- of every list of entries: the second edition is in force where there was an upgrade, and there were no more files then
 pub counted : (h : History) → Counted h
@@ -45,46 +40,34 @@ counted (entry ∷ before) = counted_deed before entry.caller entry.day entry.de
 -- ---- the edition of a file
 
 none_at : (at : Option ℕ) → edition_by at ≡ First → at ≡ None
-none_at None e = refl
-none_at (Some count) e = cc
+none_at at e = grind arith
 
 -- the next file has the edition in force
 pub edition_next : (at : Option ℕ) (files : ℕ) → IsWithin at files → edition_by at ≡ edition_numbered at (files + 1)
-edition_next None files w = refl
-edition_next (Some count) files w = rw (lt-leb (files + 1) count (omega (arith, w))) refl
+edition_next at files w = grind arith
 
 pub first_upto : (count id : ℕ) → id ≤ count → edition_numbered (Some count) id ≡ First
 first_upto count id small = rw (le-leb id count small) refl
 
 absent : {A : Type 0} (o : Option A) (x : A) → o ≡ None → o ≡ Some x → ⊥
-absent None x none e = cc
-absent (Some y) x none e = cc
+absent o x none e = grind arith
 
 -- at the upgrade each file is numbered up to their count
 kept_first : (h : History) (id : ℕ) (filing : Filing) (b : Bool) → nat_le id (length (filings h)) ≡ b → IsHistory h →
     filing_numbered (filings h) id ≡ Some filing → edition_numbered (Some (length (filings h))) id ≡ First
-kept_first h id filing true e is found = rw e refl
-kept_first h id filing false e is found = absurd (absent (filing_numbered (filings h) id) filing
-    (files_below h is id (leb-false id (length (filings h)) e)) found)
+kept_first h id filing b e is found = grind (arith, absent, filing_numbered, files_below, leb-false)
 
 newest : (h : History) (id n : ℕ) (new filing : Filing) (b : Bool) → (new.id == id) ≡ b → new.id ≡ n → new.edition ≡ edition h →
     Some n ≡ Some (length (filings h) + 1) →
     (if b then Some new else None) ≡ Some filing → filing.edition ≡ edition_numbered (files_at_upgrade h) id
-newest h id n new filing false e named is_now next found = cc
-newest h id n new filing true e named is_now next found =
-    let same : new ≡ filing = ap (λ o. unwrap_or o new) found in
-    let place : id ≡ length (filings h) + 1 = sym (eqb-true new.id id e) ∙ named ∙ number_is n (length (filings h) + 1) next in
-    ap (λ (f : Filing). f.edition) (sym same) ∙ is_now ∙ (counted h).now ∙ edition_next (files_at_upgrade h) (length (filings h)) (counted h).within
-    ∙ ap (edition_numbered (files_at_upgrade h)) (sym place)
+newest h id n new filing b e named is_now next found = grind (arith, eqb-true, number_is, counted, edition_next)
 
 numbered_new : (h : History) (id n : ℕ) (new filing : Filing) (old : Option Filing) → new.id ≡ n → new.edition ≡ edition h →
     Some n ≡ Some (length (filings h) + 1) →
     filing_numbered (filings h) id ≡ old → filing_numbered (filings h ++ new ∷ []) id ≡ Some filing →
     (filing_numbered (filings h) id ≡ Some filing → filing.edition ≡ edition_numbered (files_at_upgrade h) id) →
     filing.edition ≡ edition_numbered (files_at_upgrade h) id
-numbered_new h id n new filing (Some f) named is_now next e found ih = ih (e ∙ sym (find_last (filings h) new id (Some f) e) ∙ found)
-numbered_new h id n new filing None named is_now next e found ih = newest h id n new filing (new.id == id) refl named is_now next
-    (sym (find_last (filings h) new id None e) ∙ found)
+numbered_new h id n new filing old named is_now next e found ih = grind (arith, find_last, newest)
 
 edition_deed : (h : History) (id caller day : ℕ) (deed : Deed) (number : Option ℕ) (filing : Filing) → IsHistory h →
     MayFollow h (record { caller = caller; day = day; deed = deed; number = number }) deed →
@@ -113,9 +96,7 @@ edition_first : (id caller day : ℕ) (deed : Deed) (number : Option ℕ) (filin
     IsFounding (record { caller = caller; day = day; deed = deed; number = number }) deed →
     filing_numbered (filings (record { caller = caller; day = day; deed = deed; number = number } ∷ [])) id ≡ Some filing →
     filing.edition ≡ edition_numbered (files_at_upgrade (record { caller = caller; day = day; deed = deed; number = number } ∷ [])) id
-edition_first id caller day (Founding name digest) number filing is found = cc
-edition_first id caller day Upgrade number filing is found = absurd is
-edition_first id caller day (Accepted request) number filing is found = absurd is
+edition_first id caller day deed number filing is found = grind arith
 
 -- a filing has the edition that its number tells
 pub edition_of_filing : (h : History) (id : ℕ) (filing : Filing) → IsHistory h → filing_numbered (filings h) id ≡ Some filing →
@@ -128,12 +109,7 @@ edition_of_filing (entry ∷ last ∷ before) id filing is found =
 edition_of_by : (h : History) (id : ℕ) (file : CaseFile) (o : Option Filing) → IsHistory h → filing_numbered (filings h) id ≡ o →
     option_map (case_file h) o ≡ Some file →
     file.filing.edition ≡ edition_numbered (files_at_upgrade h) file.filing.id
-edition_of_by h id file None is e there = cc
-edition_of_by h id file (Some filing) is e there =
-    let same : case_file h filing ≡ file = ap (λ o. unwrap_or o (case_file h filing)) there in
-    let named : filing.id ≡ id = found_has_id (filings h) id filing e in
-    subst (λ (x : CaseFile). x.filing.edition ≡ edition_numbered (files_at_upgrade h) x.filing.id) same
-    (edition_of_filing h id filing is e ∙ ap (edition_numbered (files_at_upgrade h)) (sym named))
+edition_of_by h id file o is e there = grind (arith, found_has_id, edition_of_filing)
 
 pub edition_by_number : OfEachFile (λ h file. file.filing.edition ≡ edition_numbered (files_at_upgrade h) file.filing.id)
 edition_by_number h id file is there = edition_of_by h id file (filing_numbered (filings h) id) is refl there
@@ -142,16 +118,13 @@ edition_by_number h id file is there = edition_of_by h id file (filing_numbered 
 
 -- the next file has the edition in force
 pub edition_of_next : (h : History) → edition h ≡ edition_numbered (files_at_upgrade h) (length (case_files h) + 1)
-edition_of_next h = (counted h).now ∙ edition_next (files_at_upgrade h) (length (filings h)) (counted h).within
-    ∙ ap (λ n. edition_numbered (files_at_upgrade h) (n + 1)) (sym (length-map (filings h) (case_file h)))
+edition_of_next h = grind (arith, counted, edition_next, length-map)
 
 pub upgrade_follows : (h : History) → IsHistory h → edition h ≡ First → IsHistory (upgraded h)
-upgrade_follows [] is first = absurd is
-upgrade_follows (entry ∷ before) is first = (record { nobody = refl; same_day = refl; numberless = refl; once = first }, is)
+upgrade_follows h is first = grind arith
 
 pub upgrade_once : (h : History) → IsHistory (upgraded h) → edition h ≡ First
-upgrade_once [] is = absurd is
-upgrade_once (entry ∷ before) is = is.0.once
+upgrade_once h is = grind arith
 
 pub upgrade_made : (h : History) → tables (upgraded h) ≡ with_upgrade (tables h)
 upgrade_made h = ap (λ n. record (tables h) { desk = record (desk_of h) { edition = Second }; upgrade = Some n }) (sym (length-map (filings h) (case_file h)))

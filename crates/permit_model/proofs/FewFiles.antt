@@ -1,46 +1,26 @@
 -- A history holds no more files than may be filed.
 use Rattle.std.proofs.Common.{◌≤◌, ◌<◌, ℕ, List, [], ◌∷◌, length, arith, length-append}
-use Rattle.std.specs.Prelude.{Option, None, Some}
+use Rattle.std.specs.Prelude.{Option}
 use Rattle.std.proofs.lemmas.Bool.{leb-false as not_above}
 use Rattle.std.proofs.lemmas.List.{length-map}
 use Rattle.permit_base.specs.Limits.{most_records}
-use Rattle.permit_base.specs.declared.request.Request.TheVariants.{File}
-use Rattle.permit_model.specs.History.{Deed, Founding, Upgrade, Accepted, History, edition}
+use Rattle.permit_model.specs.History.{Deed, History}
 use Rattle.permit_model.specs.Files.{Filing, filings, case_file, case_files}
-use Rattle.permit_model.specs.Admission.{tests}
 use Rattle.permit_model.specs.Machine.{MayFollow, IsFounding, IsHistory}
 use Rattle.permit_model.proofs.Fronts.{all_pass}
 use Rattle.permit_model.specs.Search.{add_last}
 
 filing_more : (before : List Filing) (new : Option Filing) → length before < most_records → length (add_last before new) ≤ most_records
-filing_more before None few = omega (arith, few)
-filing_more before (Some filing) few = omega (arith, few, length-append before (filing ∷ []))
+filing_more before new few = grind (arith, length-append)
 
 filings_deed : (h : History) (caller day : ℕ) (deed : Deed) (number : Option ℕ) →
     MayFollow h (record { caller = caller; day = day; deed = deed; number = number }) deed →
     length (filings h) ≤ most_records → length (filings (record { caller = caller; day = day; deed = deed; number = number } ∷ h)) ≤ most_records
-filings_deed h caller day (Founding name digest) number may ih = absurd may
-filings_deed h caller day Upgrade number may ih = ih
-filings_deed h caller day (Accepted (File parcel kind valuation description)) None may ih = ih
-filings_deed h caller day (Accepted (File parcel kind valuation description)) (Some n) may ih =
-    filing_more (filings h) (Some (record {
-      id = n;
-      parcel = parcel;
-      applicant = caller;
-      kind = kind;
-      edition = edition h;
-      valuation = valuation;
-      description = description;
-      filed = day;
-    }))
-    (not_above most_records (length (filings h)) (all_pass (tests h day caller (File parcel kind valuation description)) may.admitted).0)
-filings_deed h caller day (Accepted request) number may ih = ih
+filings_deed h caller day deed number may ih = grind (arith, filing_more, not_above, all_pass)
 
 filings_first : (caller day : ℕ) (deed : Deed) (number : Option ℕ) → IsFounding (record { caller = caller; day = day; deed = deed; number = number }) deed →
     length (filings (record { caller = caller; day = day; deed = deed; number = number } ∷ [])) ≤ most_records
-filings_first caller day (Founding name digest) number is = omega arith
-filings_first caller day Upgrade number is = absurd is
-filings_first caller day (Accepted request) number is = absurd is
+filings_first caller day deed number is = grind arith
 
 few_filings : (h : History) → IsHistory h → length (filings h) ≤ most_records
 few_filings [] is = absurd is

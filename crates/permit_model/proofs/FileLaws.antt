@@ -1,6 +1,6 @@
 -- What holds of each file of a history, in the words of its definitions.
 use Rattle.std.proofs.Common.{◌≡◌, ◌≤◌, ℕ, ◌+◌, Bool, true, false, List, [], ◌∷◌, length, take, refl, sym, ◌∙◌, ap, arith}
-use Rattle.std.specs.Prelude.{Option, None, Some, is_some, is_none, if◌then◌else◌}
+use Rattle.std.specs.Prelude.{Option, Some, is_some, is_none, if◌then◌else◌}
 use Rattle.std.proofs.lemmas.List.{take_all}
 use Rattle.permit_base.specs.Limits.{latest_day, latest_deadline}
 use Rattle.permit_base.specs.declared.words.Step.{Step}
@@ -68,13 +68,10 @@ certified_finished h id file is there e =
 -- ---- deadlines
 
 exactly_when : (wanted : Bool) (o : Option ℕ) → (if wanted then is_some o else is_none o) ≡ true → is_some o ≡ wanted
-exactly_when true o e = e
-exactly_when false None e = refl
-exactly_when false (Some n) e = cc
+exactly_when wanted o e = grind arith
 
 pub deadline_exactly : OfEachFile (λ h file. is_some (deadline file) ≡ is_timed (base_stage file.acts))
-deadline_exactly h id file is there = exactly_when (is_timed (base_stage file.acts)) (deadline file)
-    (stands_in (base_stage file.acts) file.filing.filed file.acts (anchored file.acts))
+deadline_exactly h id file is there = grind (arith, exactly_when, stands_in, anchored)
 
 pub deadline_least : OfEachFile (λ h file. (d : ℕ) → deadline file ≡ Some d → file.filing.filed + term ≤ d)
 deadline_least h id file is there = deadline_from file.filing file.acts (done_to h id file is there).admitted

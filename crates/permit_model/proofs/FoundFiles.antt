@@ -1,29 +1,26 @@
 -- How many of a listing's selections find the row of a file, and what they say of it.
-use Rattle.std.proofs.Common.{◌≡◌, ℕ, ◌+◌, Bool, true, false, not, ◌&&◌, cond, List, [], ◌∷◌, ◌++◌, map, refl, sym, ◌∙◌, ap}
-use Rattle.std.specs.Prelude.{Option, None, Some, is_some, is_none, if◌then◌else◌, nat_lt, nat_le, filter, ◌==◌}
+use Rattle.std.proofs.Common.{arith, ◌≡◌, ℕ, Bool, true, false, not, ◌&&◌, cond, List, [], ◌∷◌, ◌++◌, map, refl, sym, ◌∙◌, ap}
+use Rattle.std.specs.Prelude.{if◌then◌else◌, filter, ◌==◌}
 use Rattle.std.specs.List.{flat_map, list_all}
 use Rattle.permit_base.specs.declared.words.Role.{Role}
 use Rattle.permit_base.specs.declared.words.Stage.{Stage}
-use Rattle.permit_base.specs.declared.words.Stage.TheVariants as stage
 use Rattle.permit_base.specs.declared.words.Timing.{Timing}
 use Rattle.permit_base.specs.declared.words.Timing.TheVariants.{Untimed, Past, Near, Ahead}
 use Rattle.permit_base.specs.declared.words.Relation.{Relation}
 use Rattle.permit_base.specs.declared.words.Relations.{Relations}
 use Rattle.permit_base.specs.declared.words.Action.TheVariants as action
 use Rattle.permit_base.specs.declared.request.Filter.{Filter}
-use Rattle.permit_base.specs.declared.request.Filter.TheVariants.{All, InStage, Due}
 use Rattle.permit_base.specs.declared.route.By.{By}
 use Rattle.permit_base.specs.declared.route.By.TheVariants as by
 use Rattle.permit_base.specs.declared.route.Route.TheVariants as route
 use Rattle.permit_base.specs.Words.{all_relations}
 use Rattle.permit_model.specs.Codes.{is_stage, is_timing, timing_code}
 use Rattle.permit_model.specs.Search.{how_many}
-use Rattle.permit_model.specs.Days.{near_days, timing_on, is_past}
+use Rattle.permit_model.specs.Days.{timing_on, is_past}
 use Rattle.permit_model.specs.History.{History}
-use Rattle.permit_model.specs.Caller.{Party}
 use Rattle.permit_model.specs.Files.{CaseFile}
-use Rattle.permit_model.specs.Facts.{Facts, no_relations, past_stage, relations_to_file, file_facts}
-use Rattle.permit_model.specs.Tables.{State, file_row, FileView, file_view, tables}
+use Rattle.permit_model.specs.Facts.{Facts, no_relations, past_stage}
+use Rattle.permit_model.specs.Tables.{State, file_row, FileView, tables}
 use Rattle.permit_model.specs.SoundState.{is_stored, is_timed, deadline_stands}
 use Rattle.permit_model.specs.Listing.{meets}
 use Rattle.permit_model.specs.Opened.{Cell, cells, same_truth, Allowed, only, Pair, all_pairs, allowed_as_two}
@@ -67,19 +64,6 @@ found_view day found =
 abbrev pub found_file : History → ℕ → CaseFile → Found
 found_file h caller file = found_row (tables h) caller (file_row file)
 
--- it has the caller's relations to the file
-pub relations_of_found : (h : History) (caller : ℕ) (file : CaseFile) → relations_found caller (found_file h caller file) ≡ relations_to_file h caller file
-relations_of_found h caller file = refl
-
--- it has the file's facts
-pub facts_of_found : (h : History) (day : ℕ) (caller : Party) (file : CaseFile) →
-    found_facts caller.role day caller.id (found_file h caller.id file) ≡ file_facts h day caller file action.List
-facts_of_found h day caller file = refl
-
--- it is shown as the file is
-pub view_of_found : (h : History) (day caller : ℕ) (file : CaseFile) → found_view day (found_file h caller file) ≡ file_view day file
-view_of_found h day caller file = refl
-
 -- ---- the selections of one cell
 
 -- by which files are selected, for what is allowed in the cell
@@ -98,17 +82,10 @@ mapped_twice f g k same (x ∷ xs) = ap (λ y. y ∷ map k xs) (sym (same x)) �
 ways_by : (cell : Cell) (ones : List Relation) (twos : List Pair) (b : Bool) →
     (if b then route_by cell by.Whole ∷ [] else map (λ r. route_by cell (by.One r)) ones ++ map (λ (pair : Pair). route_by cell (by.Two pair.0 pair.1)) twos)
     ≡ map (route_by cell) (if b then by.Whole ∷ [] else map by.One ones ++ map (λ (pair : Pair). by.Two pair.0 pair.1) twos)
-ways_by cell ones twos true = refl
-ways_by cell ones twos false =
-    ap (λ rs. rs ++ map (λ (pair : Pair). route_by cell (by.Two pair.0 pair.1)) twos)
-    (mapped_twice (route_by cell) by.One (λ r. route_by cell (by.One r)) (λ r. refl) ones)
-    ∙ ap (λ rs. map (route_by cell) (map by.One ones) ++ rs) (mapped_twice (route_by cell) (λ (pair : Pair). by.Two pair.0 pair.1)
-    (λ (pair : Pair). route_by cell (by.Two pair.0 pair.1)) (λ pair. refl) twos)
-    ∙ sym (mapped_both (route_by cell) (map by.One ones) (map (λ (pair : Pair). by.Two pair.0 pair.1) twos))
+ways_by cell ones twos b = grind (arith, mapped_twice, mapped_both)
 
 routes_by_ways : (allowed : Allowed) (cell : Cell) → routes_in allowed cell ≡ map (route_by cell) (ways (allowed (cell_on_day cell)))
-routes_by_ways allowed cell = ways_by cell (filter (λ r. allowed (cell_on_day cell) (only r)) all_relations)
-    (filter (allowed_as_two (allowed (cell_on_day cell))) all_pairs) (allowed (cell_on_day cell) no_relations)
+routes_by_ways allowed cell = grind (arith, ways_by)
 
 -- ---- marked cells
 
@@ -121,17 +98,13 @@ abbrev pub timing_coded : ℕ → Timing
 timing_coded code = if code == 0 then Untimed else if code == 1 then Past else if code == 2 then Near else Ahead
 
 timing_back : (t : Timing) → timing_coded (timing_code t) ≡ t
-timing_back Untimed = refl
-timing_back _ = refl
+timing_back t = grind arith
 
 same_timing : (a b : Timing) → is_timing a b ≡ true → a ≡ b
 same_timing a b e = sym (timing_back a) ∙ ap timing_coded (eqb-true (timing_code a) (timing_code b) e) ∙ timing_back b
 
 same_bool : (a b : Bool) → same_truth a b ≡ true → a ≡ b
-same_bool true true e = refl
-same_bool true false e = cc
-same_bool false true e = cc
-same_bool false false e = refl
+same_bool a b e = grind arith
 
 home_of : (s : Stage) (b : Bool) (t : Timing) (cell : Cell) (x y z : Bool) → is_stage cell.stage s ≡ x → same_truth cell.stopped b ≡ y →
     is_timing cell.timing t ≡ z → (x && y && z) ≡ true →
@@ -152,22 +125,7 @@ marked_home s b t cell h = home_of s b t cell (is_stage cell.stage s) (same_trut
 
 -- each cell is there once
 pub cell_once : (s : Stage) (b : Bool) (t : Timing) → how_many (marks s b t) cells ≡ 1
-cell_once stage.Filed false Untimed = refl
-cell_once stage.Filed false Past = refl
-cell_once stage.Filed false Near = refl
-cell_once stage.Filed false Ahead = refl
-cell_once stage.Filed true Untimed = refl
-cell_once stage.Filed true Past = refl
-cell_once stage.Filed true Near = refl
-cell_once stage.Filed true Ahead = refl
-cell_once _ false Untimed = refl
-cell_once _ false Past = refl
-cell_once _ false Near = refl
-cell_once _ false Ahead = refl
-cell_once _ true Untimed = refl
-cell_once _ true Past = refl
-cell_once _ true Near = refl
-cell_once _ true Ahead = refl
+cell_once s b t = grind arith
 
 -- whether a row that is kept in the stage has such a timing
 abbrev pub fits : Stage → Timing → Bool
@@ -175,45 +133,9 @@ fits s t = if is_timed s then not (is_timing Untimed t) else is_timing Untimed t
 
 -- each kept cell is there once, and no other
 pub kept_cell_once : (s : Stage) (b : Bool) (t : Timing) → how_many (marks s b t) kept_cells ≡ bit (is_stored s && fits s t)
-kept_cell_once stage.Filed false Untimed = refl
-kept_cell_once stage.Filed false Past = refl
-kept_cell_once stage.Filed false Near = refl
-kept_cell_once stage.Filed false Ahead = refl
-kept_cell_once stage.Filed true Untimed = refl
-kept_cell_once stage.Filed true Past = refl
-kept_cell_once stage.Filed true Near = refl
-kept_cell_once stage.Filed true Ahead = refl
-kept_cell_once _ false Untimed = refl
-kept_cell_once _ false Past = refl
-kept_cell_once _ false Near = refl
-kept_cell_once _ false Ahead = refl
-kept_cell_once _ true Untimed = refl
-kept_cell_once _ true Past = refl
-kept_cell_once _ true Near = refl
-kept_cell_once _ true Ahead = refl
+kept_cell_once s b t = grind arith
 
 -- ---- the row's own cell
-
-untimed_never : (past near : Bool) → not (is_timing Untimed (if past then Past else (if near then Near else Ahead))) ≡ true
-untimed_never true near = refl
-untimed_never false true = refl
-untimed_never false false = refl
-
-fits_by : (timed : Bool) (day : ℕ) (deadline : Option ℕ) → (if timed then is_some deadline else is_none deadline) ≡ true →
-    (if timed then not (is_timing Untimed (timing_on day deadline)) else is_timing Untimed (timing_on day deadline)) ≡ true
-fits_by true day None e = cc
-fits_by true day (Some d) e = untimed_never (nat_lt d day) (nat_le d (day + near_days))
-fits_by false day None e = refl
-fits_by false day (Some d) e = cc
-
-past_only : (past near : Bool) → is_timing Past (if past then Past else (if near then Near else Ahead)) ≡ past
-past_only true near = refl
-past_only false true = refl
-past_only false false = refl
-
-past_timing : (day : ℕ) (deadline : Option ℕ) → is_timing Past (timing_on day deadline) ≡ is_past day deadline
-past_timing day None = refl
-past_timing day (Some d) = past_only (nat_lt d day) (nat_le d (day + near_days))
 
 -- the cell in which the row is kept
 abbrev pub kept_cell : ℕ → State → Cell
@@ -221,21 +143,14 @@ kept_cell day state = record { stage = state.stage; stopped = state.stopped; tim
 
 -- its cell on the day is the row's
 cell_of_day : (day : ℕ) (state : State) → cell_on_day (kept_cell day state) ≡ day_cell day state
-cell_of_day day state = ap (λ b. record {
-  stage = if b then past_stage state.stage else state.stage;
-  stopped = state.stopped;
-  timing = timing_on day state.deadline;
-}) (past_timing day state.deadline)
+cell_of_day day state = grind arith
 
 -- what a sound row keeps to that selections need: its stage is a stored one, and a deadline stands where one can
 abbrev pub IsKept : State → Type 0
 IsKept state = (is_stored state.stage ≡ true) × (deadline_stands state ≡ true)
 
 kept_once : (day : ℕ) (state : State) → IsKept state → how_many (marks state.stage state.stopped (timing_on day state.deadline)) kept_cells ≡ 1
-kept_once day state kept =
-    let fit : fits state.stage (timing_on day state.deadline) ≡ true = fits_by (is_timed state.stage) day state.deadline kept.1 in
-    kept_cell_once state.stage state.stopped (timing_on day state.deadline) ∙ ap (λ b. bit (b && fits state.stage (timing_on day state.deadline))) kept.0
-    ∙ ap bit fit
+kept_once day state kept = grind arith
 
 -- ---- how many selections find the row
 
@@ -258,17 +173,13 @@ times_in allowed wanted cell set = cond (meets wanted cell.stage cell.timing) (t
 
 by_every : (allowed : Allowed) (wanted : Filter) (cell : Cell) (set : Relations) → is_all wanted ≡ true → allowed cell no_relations ≡ true →
     1 ≡ times_in allowed wanted cell set
-by_every allowed All cell set e free = sym (times_open (allowed cell) set free)
-by_every allowed (InStage s) cell set e free = cc
-by_every allowed Due cell set e free = cc
+by_every allowed wanted cell set e free = grind arith
 
 pub left_of : (a b : Bool) → (a && b) ≡ true → a ≡ true
-left_of true b h = refl
-left_of false b h = cc
+left_of a b h = grind arith
 
 pub right_of : (a b : Bool) → (a && b) ≡ true → b ≡ true
-right_of true b h = h
-right_of false b h = cc
+right_of a b h = grind arith
 
 finders_by : (allowed : Allowed) (wanted : Filter) (caller day : ℕ) (found : Found) → IsKept found.row.state → (b : Bool) →
     (is_all wanted && list_all (is_open_to_all allowed) kept_cells) ≡ b →
@@ -294,5 +205,4 @@ finders_by allowed wanted caller day found kept false e =
 pub finders : (allowed : Allowed) (wanted : Filter) (caller day : ℕ) (found : Found) → IsKept found.row.state →
     how_many (λ r. is_found r caller day found) (routes_of allowed wanted)
     ≡ times_in allowed wanted (day_cell day found.row.state) (relations_found caller found)
-finders allowed wanted caller day found kept = finders_by allowed wanted caller day found kept
-    (is_all wanted && list_all (is_open_to_all allowed) kept_cells) refl
+finders allowed wanted caller day found kept = grind (arith, finders_by)

@@ -1,8 +1,7 @@
 -- A listing is what its selections find and the found rows' own facts allow, sorted by number, each once.
-use Rattle.std.proofs.Common.{◌≡◌, ℕ, Bool, true, ◌&&◌, List, map, refl, ◌∙◌, ap, subst}
+use Rattle.std.proofs.Common.{arith, ◌≡◌, ℕ, Bool, true, List, map, refl, ◌∙◌, ap, subst}
 use Rattle.std.specs.Prelude.{filter, IsPermutation}
-use Rattle.std.specs.List.{flat_map, Contains, dedup}
-use Rattle.std.specs.List.Sorted.{IsNonDecreasingBy}
+use Rattle.std.specs.List.{flat_map, Contains}
 use Rattle.std.proofs.lemmas.List.Sorted.{IsPermutation-sym, Contains-permutation}
 use Rattle.permit_base.specs.declared.words.Action.TheVariants as action
 use Rattle.permit_base.specs.declared.request.Filter.{Filter}
@@ -17,9 +16,9 @@ use Rattle.permit_model.specs.Listing.{meets, is_listed, listing}
 use Rattle.permit_model.specs.Opened.{allowed_by}
 use Rattle.permit_model.specs.Routes.{Found, found_row, routes_of, is_found, found_by}
 use Rattle.permit_model.specs.Machine.{IsHistory}
-use Rattle.permit_model.proofs.Members.{IsMember, all_members, member_from, contains_from, Covers, IsGiven, given_by, gives, IsMadeOf, made_of, member_made}
+use Rattle.permit_model.proofs.Members.{IsMember, member_from, contains_from, Covers, IsGiven, given_by, gives, IsMadeOf, made_of, member_made}
 use Rattle.permit_model.proofs.Members.{passed, kept, OnePasses, one_passes, any_of_member}
-use Rattle.permit_model.proofs.Rising.{IsRising, same_covered, one_number, same_number, ordered_from, thinned_rising, thinned_keeps, thinned_within}
+use Rattle.permit_model.proofs.Rising.{IsRising, same_covered}
 use Rattle.permit_model.proofs.Rising.{mapped_rising, filtered_rising, files_rising}
 use Rattle.permit_model.proofs.FoundFiles.{found_facts, found_view, found_file, right_of}
 use Rattle.permit_model.proofs.NoneMissed.{is_selected, found_meets, none_missed}
@@ -41,18 +40,12 @@ abbrev pub IsRowOf : History → ℕ → Found → Type 0
 IsRowOf h caller found = (file : CaseFile) × IsMember file (case_files h) × (found_file h caller file ≡ found)
 
 row_of : (h : History) (caller : ℕ) (found : Found) → IsMember found (map (found_row (tables h) caller) (map file_row (case_files h))) → IsRowOf h caller found
-row_of h caller found m =
-    let row : IsMadeOf (found_row (tables h) caller) found (map file_row (case_files h)) =
-    made_of (found_row (tables h) caller) found (map file_row (case_files h)) m in
-    let file : IsMadeOf file_row row.0 (case_files h) = made_of file_row row.0 (case_files h) row.1 in
-    (file.0, file.1, ap (found_row (tables h) caller) file.2 ∙ row.2)
+row_of h caller found m = grind (arith, IsMadeOf, made_of)
 
 listed_by : (policy : Policy) (h : History) (day : ℕ) (caller : Party) (wanted : Filter) (file : CaseFile) →
     is_selected policy h day caller wanted file ≡ true → allows_found policy day caller (found_file h caller.id file) ≡ true →
     is_listed policy h day caller wanted file ≡ true
-listed_by policy h day caller wanted file found allow =
-    let wants : meets wanted (stage_on day file) (timing_of day file) ≡ true = found_meets policy h day caller wanted file found in
-    ap (λ b. b && allows policy (file_facts h day caller file action.List)) wants ∙ allow
+listed_by policy h day caller wanted file found allow = grind (arith, found_meets)
 
 -- what is found and allowed is listed
 all_listed : (policy : Policy) (h : History) (day : ℕ) (caller : Party) (wanted : Filter) →
@@ -117,20 +110,3 @@ listing_from_routes policy h day caller wanted is all views moved rising there b
     listing_from_views policy h day caller wanted is views rising
     (λ v m. member_from v whole (Contains-permutation all whole v (IsPermutation-sym whole all moved) (there v (contains_from v views m))))
     (λ v m. member_from v views (back v (Contains-permutation whole all v moved (contains_from v whole m))))
-
--- What the selections find and the rows' own facts allow, sorted by number, each once, is the listing.
-pub listing_from_sorted : (policy : Policy) (h : History) (day : ℕ) (caller : Party) (wanted : Filter) → IsHistory h → (sorted : List FileView) →
-    IsPermutation (all_views policy h day caller wanted) sorted → IsNonDecreasingBy (λ (v : FileView). v.row.id) sorted →
-    dedup (same_number (λ (v : FileView). v.row.id)) sorted ≡ listing policy h day caller wanted
-listing_from_sorted policy h day caller wanted is sorted moved up =
-    let whole = all_views policy h day caller wanted in
-    let number = λ (v : FileView). v.row.id in
-    let there : Covers sorted whole = λ v m. member_from v whole (Contains-permutation sorted whole v (IsPermutation-sym whole sorted moved)
-    (contains_from v sorted m)) in
-    let back : Covers whole sorted = λ v m. member_from v sorted (Contains-permutation whole sorted v moved (contains_from v whole m)) in
-    let all = all_members (λ v. IsMember v (listing policy h day caller wanted)) sorted (λ v m. all_listed policy h day caller wanted v (there v m)) in
-    let keeps : Covers sorted (dedup (same_number number) sorted) =
-    thinned_keeps number (λ v. IsMember v (listing policy h day caller wanted))
-    (λ v w m n. one_number number (listing policy h day caller wanted) v w (listing_rising policy h day caller wanted is) m n) sorted all in
-    listing_from_views policy h day caller wanted is (dedup (same_number number) sorted) (thinned_rising number sorted (ordered_from number sorted up))
-    (λ v m. there v (thinned_within number sorted v m)) (λ v m. keeps v (back v m))

@@ -1,6 +1,6 @@
 -- Lists searched, and lists numbered.
 use Rattle.std.proofs.Common.{◌≡◌, ℕ, zero, suc, ◌+◌, ◌==◌, Bool, true, false, cond, List, [], ◌∷◌, ◌++◌, length, refl, ◌∙◌, ap, map, arith}
-use Rattle.std.specs.Prelude.{Option, Some, is_some, find, option_map, slice_get, get_or, unwrap_or, ◌||◌}
+use Rattle.std.specs.Prelude.{Option, Some, is_some, find, option_map, slice_get, get_or, ◌||◌}
 use Rattle.std.specs.List.{list_any, All}
 use Rattle.std.proofs.lemmas.Bool.{eq-eqb, ne_eqb}
 use Rattle.std.proofs.lemmas.Option.{slice_get-get_or}
@@ -8,8 +8,7 @@ use Rattle.permit_model.specs.Numbering.{IsNumberedFrom}
 
 any_found_by : {A : Type 0} (p : A → Bool) (x : A) (xs : List A) (b : Bool) → list_any p xs ≡ is_some (find p xs) →
     (b || list_any p xs) ≡ is_some (cond b (Some x) (find p xs))
-any_found_by p x xs true ih = refl
-any_found_by p x xs false ih = ih
+any_found_by p x xs b ih = grind arith
 
 -- there is one that passes the test where one is found
 pub any_found : {A : Type 0} (p : A → Bool) (xs : List A) → list_any p xs ≡ is_some (find p xs)
@@ -18,8 +17,7 @@ any_found p (x ∷ xs) = any_found_by p x xs (p x) (any_found p xs)
 
 find_mapped_by : {A B : Type 0} (f : A → B) (x : A) (rest : Option A) (other : Option B) (b : Bool) → other ≡ option_map f rest →
     cond b (Some (f x)) other ≡ option_map f (cond b (Some x) rest)
-find_mapped_by f x rest other true ih = refl
-find_mapped_by f x rest other false ih = ih
+find_mapped_by f x rest other b ih = grind arith
 
 -- what is found in a mapped list
 pub find_mapped : {A B : Type 0} (f : A → B) (p : A → Bool) (q : B → Bool) → ((x : A) → q (f x) ≡ p x) → (xs : List A) →
@@ -41,13 +39,6 @@ pub numbered_mapped : {A B : Type 0} (f : A → B) (number : A → ℕ) (named :
     IsNumberedFrom number first records → IsNumberedFrom named first (map f records)
 numbered_mapped f number named same first [] numbered = tt
 numbered_mapped f number named same first (x ∷ xs) numbered = (same x ∙ numbered.0, numbered_mapped f number named same (first + 1) xs numbered.1)
-
--- a record's number is its place behind the first
-pub number_at : {A : Type 0} (number : A → ℕ) (first : ℕ) (records : List A) (place : ℕ) (x : A) → IsNumberedFrom number first records →
-    slice_get records place ≡ Some x → number x ≡ first + place
-number_at number first [] place x numbered there = cc
-number_at number first (y ∷ ys) zero x numbered there = let same : y ≡ x = ap (λ o. unwrap_or o y) there in omega (arith, numbered.0, ap number same)
-number_at number first (y ∷ ys) (suc place) x numbered there = omega (arith, number_at number (first + 1) ys place x numbered.1 there)
 
 -- a record is found by its number at its place
 pub found_at : {A : Type 0} (number : A → ℕ) (first : ℕ) (records : List A) (place : ℕ) → IsNumberedFrom number first records →

@@ -1,5 +1,5 @@
 -- Members of lists that are mapped, filtered or joined.
-use Rattle.std.proofs.Common.{◌≡◌, ◌<◌, ◌⊎◌, inl, inr, ℕ, zero, suc, Bool, true, false, cond, List, [], ◌∷◌, ◌++◌, map, length, refl, sym, ◌∙◌, ap, subst}
+use Rattle.std.proofs.Common.{◌≡◌, ◌<◌, ◌⊎◌, inl, inr, ℕ, zero, suc, Bool, true, cond, List, [], ◌∷◌, ◌++◌, map, length, refl, ap}
 use Rattle.std.proofs.Common.{arith, get_or}
 use Rattle.std.specs.Prelude.{filter, ◌||◌}
 use Rattle.std.specs.List.{flat_map, list_any, AllByRecursion, Contains}
@@ -26,8 +26,7 @@ contains_from y [] m = absurd m
 contains_from y (x ∷ xs) m = contains_first y x xs m (contains_from y xs)
 
 of_first : {A : Type 0} (P : A → Type 0) (y x : A) (xs : List A) → P x × AllByRecursion P xs → (x ≡ y) ⊎ IsMember y xs → (IsMember y xs → P y) → P y
-of_first P y x xs all (inl e) ih = subst P e all.0
-of_first P y x xs all (inr m) ih = ih m
+of_first P y x xs all h ih = grind arith
 
 -- what holds of all holds of a member
 pub of_member : {A : Type 0} (P : A → Type 0) (y : A) (xs : List A) → AllByRecursion P xs → IsMember y xs → P y
@@ -58,14 +57,9 @@ pub in_right : {A : Type 0} (y : A) (xs ys : List A) → IsMember y ys → IsMem
 in_right y [] ys m = m
 in_right y (x ∷ xs) ys m = inr (in_right y xs ys m)
 
-split_rest : {A : Type 0} (y x : A) (xs ys : List A) → IsMember y xs ⊎ IsMember y ys → ((x ≡ y) ⊎ IsMember y xs) ⊎ IsMember y ys
-split_rest y x xs ys (inl m) = inl (inr m)
-split_rest y x xs ys (inr m) = inr m
-
 split_first : {A : Type 0} (y x : A) (xs ys : List A) → (x ≡ y) ⊎ IsMember y (xs ++ ys) → (IsMember y (xs ++ ys) → IsMember y xs ⊎ IsMember y ys) →
     ((x ≡ y) ⊎ IsMember y xs) ⊎ IsMember y ys
-split_first y x xs ys (inl e) ih = inl (inl e)
-split_first y x xs ys (inr m) ih = split_rest y x xs ys (ih m)
+split_first y x xs ys h ih = grind arith
 
 pub in_either : {A : Type 0} (y : A) (xs ys : List A) → IsMember y (xs ++ ys) → IsMember y xs ⊎ IsMember y ys
 in_either y [] ys m = inr m
@@ -77,8 +71,7 @@ IsGiven {A} f y xs = (x : A) × IsMember x xs × IsMember y (f x)
 
 given_more : {A B : Type 0} (f : A → List B) (y : B) (x : A) (xs : List A) → IsMember y (f x) ⊎ IsMember y (flat_map f xs) →
     (IsMember y (flat_map f xs) → IsGiven f y xs) → IsGiven f y (x ∷ xs)
-given_more f y x xs (inl m) ih = (x, inl refl, m)
-given_more f y x xs (inr m) ih = let found = ih m in (found.0, inr found.1, found.2)
+given_more f y x xs h ih = grind arith
 
 pub given_by : {A B : Type 0} (f : A → List B) (y : B) (xs : List A) → IsMember y (flat_map f xs) → IsGiven f y xs
 given_by f y [] m = absurd m
@@ -86,8 +79,7 @@ given_by f y (x ∷ xs) m = given_more f y x xs (in_either y (f x) (flat_map f x
 
 gives_first : {A B : Type 0} (f : A → List B) (y : B) (z x : A) (xs : List A) → (x ≡ z) ⊎ IsMember z xs → IsMember y (f z) →
     (IsMember z xs → IsMember y (flat_map f xs)) → IsMember y (f x ++ flat_map f xs)
-gives_first f y z x xs (inl e) m ih = in_left y (f x) (flat_map f xs) (subst (λ a. IsMember y (f a)) (sym e) m)
-gives_first f y z x xs (inr n) m ih = in_right y (f x) (flat_map f xs) (ih n)
+gives_first f y z x xs h m ih = grind (arith, in_left, in_right)
 
 pub gives : {A B : Type 0} (f : A → List B) (y : B) (z : A) (xs : List A) → IsMember z xs → IsMember y (f z) → IsMember y (flat_map f xs)
 gives f y z [] n m = absurd n
@@ -101,8 +93,7 @@ IsMadeOf {A} f y xs = (x : A) × IsMember x xs × (f x ≡ y)
 
 made_more : {A B : Type 0} (f : A → B) (y : B) (x : A) (xs : List A) → (f x ≡ y) ⊎ IsMember y (map f xs) → (IsMember y (map f xs) → IsMadeOf f y xs) →
     IsMadeOf f y (x ∷ xs)
-made_more f y x xs (inl e) ih = (x, inl refl, e)
-made_more f y x xs (inr m) ih = let found = ih m in (found.0, inr found.1, found.2)
+made_more f y x xs h ih = grind arith
 
 pub made_of : {A B : Type 0} (f : A → B) (y : B) (xs : List A) → IsMember y (map f xs) → IsMadeOf f y xs
 made_of f y [] m = absurd m
@@ -117,9 +108,7 @@ member_made f z (x ∷ xs) (inr m) = inr (member_made f z xs m)
 
 passed_first : {A : Type 0} (p : A → Bool) (y x : A) (kept xs : List A) (b : Bool) → p x ≡ b → IsMember y (cond b (x ∷ kept) kept) →
     (IsMember y kept → IsMember y xs × (p y ≡ true)) → IsMember y (x ∷ xs) × (p y ≡ true)
-passed_first p y x kept xs true e (inl f) ih = (inl f, ap p (sym f) ∙ e)
-passed_first p y x kept xs true e (inr m) ih = let rest = ih m in (inr rest.0, rest.1)
-passed_first p y x kept xs false e m ih = let rest = ih m in (inr rest.0, rest.1)
+passed_first p y x kept xs b e h ih = grind arith
 
 -- a member of a filtered list is one that passes
 pub passed : {A : Type 0} (p : A → Bool) (y : A) (xs : List A) → IsMember y (filter p xs) → IsMember y xs × (p y ≡ true)
@@ -128,10 +117,7 @@ passed p y (x ∷ xs) m = passed_first p y x (filter p xs) xs (p x) refl m (pass
 
 kept_first : {A : Type 0} (p : A → Bool) (y x : A) (xs kept : List A) (b : Bool) → p x ≡ b → (x ≡ y) ⊎ IsMember y xs → p y ≡ true →
     (IsMember y xs → IsMember y kept) → IsMember y (cond b (x ∷ kept) kept)
-kept_first p y x xs kept true e (inl f) h ih = inl f
-kept_first p y x xs kept true e (inr m) h ih = inr (ih m)
-kept_first p y x xs kept false e (inl f) h ih = let bad : false ≡ true = sym e ∙ ap p f ∙ h in cc
-kept_first p y x xs kept false e (inr m) h ih = ih m
+kept_first p y x xs kept b e h2 h ih = grind arith
 
 pub kept : {A : Type 0} (p : A → Bool) (y : A) (xs : List A) → IsMember y xs → p y ≡ true → IsMember y (filter p xs)
 kept p y [] m h = absurd m
@@ -145,21 +131,15 @@ OnePasses {A} p xs = (x : A) × IsMember x xs × (p x ≡ true)
 
 passes_more : {A : Type 0} (p : A → Bool) (x : A) (xs : List A) (b : Bool) → p x ≡ b → (b || list_any p xs) ≡ true → (list_any p xs ≡ true → OnePasses p xs) →
     OnePasses p (x ∷ xs)
-passes_more p x xs true e h ih = (x, inl refl, e)
-passes_more p x xs false e h ih = let found = ih h in (found.0, inr found.1, found.2)
+passes_more p x xs b e h ih = grind arith
 
 pub one_passes : {A : Type 0} (p : A → Bool) (xs : List A) → list_any p xs ≡ true → OnePasses p xs
 one_passes p [] h = cc
 one_passes p (x ∷ xs) h = passes_more p x xs (p x) refl h (one_passes p xs)
 
-or_true : (b c : Bool) → c ≡ true → (b || c) ≡ true
-or_true true c e = refl
-or_true false c e = e
-
 any_first : {A : Type 0} (p : A → Bool) (y x : A) (xs : List A) → (x ≡ y) ⊎ IsMember y xs → p y ≡ true → (IsMember y xs → list_any p xs ≡ true) →
     (p x || list_any p xs) ≡ true
-any_first p y x xs (inl e) h ih = ap (λ b. b || list_any p xs) (ap p e ∙ h)
-any_first p y x xs (inr m) h ih = or_true (p x) (list_any p xs) (ih m)
+any_first p y x xs h2 h ih = grind arith
 
 pub any_of_member : {A : Type 0} (p : A → Bool) (y : A) (xs : List A) → IsMember y xs → p y ≡ true → list_any p xs ≡ true
 any_of_member p y [] m h = absurd m

@@ -37,15 +37,13 @@ relation_coded code =
     if code == 0 then Applicant else if code == 1 then Contractor else if code == 2 then Owner else if code == 3 then AssignedReviewer else if code == 4 then AssignedInspector else Conflict
 
 relation_back : (r : Relation) → relation_coded (relation_code r) ≡ r
-relation_back Applicant = refl
-relation_back _ = refl
+relation_back r = grind arith
 
 same_relation : (a b : Relation) → is_relation a b ≡ true → a ≡ b
 same_relation a b e = sym (relation_back a) ∙ ap relation_coded (eqb-true (relation_code a) (relation_code b) e) ∙ relation_back b
 
 relation_listed : (r : Relation) → list_any (is_relation r) all_relations ≡ true
-relation_listed Applicant = refl
-relation_listed _ = refl
+relation_listed r = grind arith
 
 -- what one relation passes, one of the list passes
 one_there : (q : Relation → Bool) (r : Relation) → q r ≡ true → list_any q all_relations ≡ true
@@ -58,36 +56,13 @@ abbrev pub is_pair : Relation → Relation → Pair → Bool
 is_pair a b pair = (is_relation a pair.0 && is_relation b pair.1) || (is_relation b pair.0 && is_relation a pair.1)
 
 pair_listed : (a b : Relation) → (list_any (is_pair a b) all_pairs || is_relation a b) ≡ true
-pair_listed Applicant Applicant = refl
-pair_listed Applicant Contractor = refl
-pair_listed Applicant Owner = refl
-pair_listed Applicant AssignedReviewer = refl
-pair_listed Applicant AssignedInspector = refl
-pair_listed Applicant Conflict = refl
-pair_listed _ Applicant = refl
-pair_listed _ Contractor = refl
-pair_listed _ Owner = refl
-pair_listed _ AssignedReviewer = refl
-pair_listed _ AssignedInspector = refl
-pair_listed _ Conflict = refl
+pair_listed a b = grind arith
 
 both_same : (a : Relation) → both_of (a, a) ≡ only a
-both_same Applicant = refl
-both_same _ = refl
+both_same a = grind arith
 
 both_swap : (a b : Relation) → both_of (b, a) ≡ both_of (a, b)
-both_swap Applicant Applicant = refl
-both_swap Applicant Contractor = refl
-both_swap Applicant Owner = refl
-both_swap Applicant AssignedReviewer = refl
-both_swap Applicant AssignedInspector = refl
-both_swap Applicant Conflict = refl
-both_swap _ Applicant = refl
-both_swap _ Contractor = refl
-both_swap _ Owner = refl
-both_swap _ AssignedReviewer = refl
-both_swap _ AssignedInspector = refl
-both_swap _ Conflict = refl
+both_swap a b = grind arith
 
 -- the pair is selected, and these relations have it
 abbrev pub TwoHold : (Relations → Bool) → Relations → Pair → Type 0
@@ -98,15 +73,11 @@ two_hold : (may : Relations → Bool) (set : Relations) (a b : Relation) → may
 two_hold may set a b both first second e f = rw (both, first, second, e, f) refl
 
 pair_is : (a b : Relation) (pair : Pair) (x y : Bool) → is_relation a pair.0 ≡ x → is_relation b pair.1 ≡ y → (x && y) ≡ true → pair ≡ (a, b)
-pair_is a b pair true true e f h = sym (ap (λ r. (r, b)) (same_relation a pair.0 e) ∙ ap (λ r. (pair.0, r)) (same_relation b pair.1 f))
-pair_is a b pair true false e f h = cc
-pair_is a b pair false y e f h = cc
+pair_is a b pair x y e f h = grind arith
 
 either_pair : (a b : Relation) (pair : Pair) (P : Pair → Type 0) → P (a, b) → P (b, a) → (x y : Bool) → (is_relation a pair.0 && is_relation b pair.1) ≡ x →
     (is_relation b pair.0 && is_relation a pair.1) ≡ y → (x || y) ≡ true → P pair
-either_pair a b pair P here there true y e f h = subst P (sym (pair_is a b pair (is_relation a pair.0) (is_relation b pair.1) refl refl e)) here
-either_pair a b pair P here there false true e f h = subst P (sym (pair_is b a pair (is_relation b pair.0) (is_relation a pair.1) refl refl f)) there
-either_pair a b pair P here there false false e f h = cc
+either_pair a b pair P here there x y e f h = grind arith
 
 -- two relations that are one would be allowed alone
 pair_by : (may : Relations → Bool) (set : Relations) (a b : Relation) → may (both_of (a, b)) ≡ true → may (only a) ≡ false → may (only b) ≡ false →
@@ -217,8 +188,7 @@ is_selected policy h day caller wanted file = list_any (λ r. is_found r caller.
     (routes_of (allowed_by policy caller.role action.List) wanted)
 
 gate_opens : (b : Bool) (n : ℕ) → 0 < cond b n 0 → b ≡ true
-gate_opens true n h = refl
-gate_opens false n h = absurd (omega (arith, h))
+gate_opens b n h = grind arith
 
 -- a row that is found is one that the filter wants
 pub found_meets : (policy : Policy) (h : History) (day : ℕ) (caller : Party) (wanted : Filter) (file : CaseFile) →

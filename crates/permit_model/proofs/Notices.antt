@@ -1,7 +1,7 @@
 -- The open notices of a file after one more act.
-use Rattle.std.proofs.Common.{◌≡◌, ◌≢◌, ◌≤◌, ◌<◌, ◌-◌, ℕ, Bool, true, false, not, cond, ◌==◌, List, [], ◌∷◌, refl, ap, arith}
-use Rattle.std.specs.Prelude.{Option, None, Some, filter, ◌||◌, ◌+◌}
-use Rattle.std.proofs.lemmas.Bool.{eqb-true, ne_eqb}
+use Rattle.std.proofs.Common.{◌≡◌, ◌≢◌, ◌≤◌, ◌<◌, ◌-◌, ℕ, Bool, true, false, not, cond, ◌==◌, List, [], ◌∷◌, refl, arith}
+use Rattle.std.specs.Prelude.{Option, None, Some, filter, ◌||◌}
+use Rattle.std.proofs.lemmas.Bool.{ne_eqb}
 use Rattle.permit_base.specs.declared.request.Command.{Command}
 use Rattle.permit_base.specs.declared.request.Command.TheVariants.{Notice, ClearNotice}
 use Rattle.permit_model.specs.Search.{has_number}
@@ -29,10 +29,7 @@ taken_here : (paper n : ℕ) (cleared : ℕ → Bool) (ns : List ℕ) (a b : Boo
     filter (λ m. not ((m == paper) || cleared m)) ns ≡ filter (λ m. not (m == paper)) (filter (λ m. not (cleared m)) ns) →
     cond (not (a || b)) (n ∷ filter (λ m. not ((m == paper) || cleared m)) ns) (filter (λ m. not ((m == paper) || cleared m)) ns)
     ≡ filter (λ m. not (m == paper)) (cond (not b) (n ∷ filter (λ m. not (cleared m)) ns) (filter (λ m. not (cleared m)) ns))
-taken_here paper n cleared ns true true e ih = ih
-taken_here paper n cleared ns false true e ih = ih
-taken_here paper n cleared ns true false e ih = rw e ih
-taken_here paper n cleared ns false false e ih = rw e (ap (λ ms. n ∷ ms) ih)
+taken_here paper n cleared ns a b e ih = grind arith
 
 -- one more clearing takes its number away from those that are left
 taken_away : (paper : ℕ) (cleared : ℕ → Bool) (ns : List ℕ) → filter (λ n. not ((n == paper) || cleared n)) ns
@@ -51,13 +48,11 @@ open_more caller day _ number before fresh = refl
 -- ---- a notice has a number that no clearing named
 
 either : (b c : Bool) → (b || c) ≡ true → b ≡ false → c ≡ true
-either true c e f = cc
-either false c e f = e
+either b c e f = grind arith
 
 among_here : (bound n m : ℕ) (ns : List ℕ) (b : Bool) → (n == m) ≡ b → FallFrom bound (n ∷ ns) → (b || has_number ns m) ≡ true →
     (has_number ns m ≡ true → m ≤ n - 1) → m ≤ bound
-among_here bound n m ns true e f there ih = let same : n ≡ m = eqb-true n m e in omega (arith, f.0)
-among_here bound n m ns false e f there ih = let small : m ≤ n - 1 = ih there in omega (arith, f.0)
+among_here bound n m ns b e f there ih = grind arith
 
 -- numbers that fall from a bound are at most the bound
 among_falling : (bound m : ℕ) (ns : List ℕ) → FallFrom bound ns → has_number ns m ≡ true → m ≤ bound
@@ -65,8 +60,7 @@ among_falling bound m [] f there = cc
 among_falling bound m (n ∷ ns) f there = among_here bound n m ns (n == m) refl f there (among_falling (n - 1) m ns f.2)
 
 not_false : (b : Bool) → not b ≡ false → b ≡ true
-not_false true e = refl
-not_false false e = cc
+not_false b e = grind arith
 
 uncleared_more : (filing : Filing) (caller day : ℕ) (command : Command) (made : Option ℕ) (before : List Act) (number : ℕ) →
     WasAdmitted filing (act_by caller day command made) before → WereAdmitted filing before →
@@ -91,11 +85,4 @@ uncleared filing (act ∷ before) number w above = uncleared_more filing act.cal
 -- an admitted notice has a number that no clearing named
 pub fresh : (filing : Filing) (caller day : ℕ) (command : Command) (number : Option ℕ) (before : List Act) →
     WasAdmitted filing (act_by caller day command number) before → WereAdmitted filing before → IsFresh before command number
-fresh filing caller day (Notice text) None before w all = tt
-fresh filing caller day (Notice text) (Some n) before w all =
-    let next : n ≡ paper_count before + 1 = some_is n (paper_count before + 1) w.numbered in
-    uncleared filing before n all (omega (arith, next))
-  where
-    some_is : (n m : ℕ) → Some n ≡ Some m → n ≡ m
-    some_is n m e = cc
-fresh filing caller day _ number before w all = tt
+fresh filing caller day command number before w all = grind (arith, uncleared)

@@ -1,12 +1,11 @@
 -- Parties, parcels, files and the papers of a file are numbered by their places, and nothing is said of one that isn't there.
-use Rattle.std.proofs.Common.{◌≡◌, ◌<◌, ◌+◌, ℕ, ◌==◌, Bool, true, false, cond, List, [], ◌∷◌, ◌++◌, length, refl, sym, ◌∙◌, ap, subst, arith, length-append}
-use Rattle.std.specs.Prelude.{Option, None, Some, is_some, find, option_map, unwrap_or, slice_get, IsTrue, ◌&&◌, if◌then◌else◌}
+use Rattle.std.proofs.Common.{◌≡◌, ◌<◌, ◌+◌, ℕ, ◌==◌, Bool, false, cond, List, [], ◌∷◌, ◌++◌, length, refl, sym, ◌∙◌, ap, subst, arith, length-append}
+use Rattle.std.specs.Prelude.{Option, None, Some, is_some, find, option_map, slice_get, IsTrue, if◌then◌else◌}
 use Rattle.std.proofs.lemmas.Bool.{eqb-true}
 use Rattle.std.proofs.lemmas.List.{length-map}
-use Rattle.std.proofs.lemmas.Bool.Decides.{nat_tests}
-use Rattle.permit_base.specs.declared.request.Request.TheVariants.{AddParty, AddParcel, Transfer, File}
-use Rattle.permit_model.specs.Search.{in_order, add_last, latest, when, has_number}
-use Rattle.permit_model.specs.History.{Deed, Founding, Upgrade, Accepted, Entry, History, edition}
+use Rattle.permit_base.specs.declared.request.Request.TheVariants.{AddParcel, Transfer}
+use Rattle.permit_model.specs.Search.{in_order, add_last, latest, when}
+use Rattle.permit_model.specs.History.{Deed, Founding, Upgrade, Accepted, Entry, History}
 use Rattle.permit_model.specs.Parcels.{Parcel, parcel_added, parcel_now, parcels, parcel_numbered, receiver_by}
 use Rattle.permit_model.specs.Files.{Filing, filings}
 use Rattle.permit_model.specs.Machine.{MayFollow, IsFounding, IsHistory}
@@ -15,19 +14,17 @@ use Rattle.permit_model.specs.Numbering.{IsNumbered}
 use Rattle.permit_model.specs.Caller.{Party, parties, party_numbered}
 use Rattle.permit_model.specs.Files.{Act, CaseFile, case_file, case_files, case_numbered}
 use Rattle.permit_model.specs.Work.{open_notices, paper_sort, paper_count}
-use Rattle.permit_model.specs.Tables.{Paper, paper_days, paper_text, paper_terms, is_notice, paper_by, papers_of}
+use Rattle.permit_model.specs.Tables.{Paper, paper_by, papers_of}
 use Rattle.permit_model.proofs.Papers.{papers_from, papers_of-case}
 use Rattle.permit_model.proofs.Appending.{AreNumbered}
 use Rattle.permit_model.proofs.Projection.{done_to}
 use Rattle.permit_model.proofs.Fronts.{are_numbered}
-use Rattle.permit_base.specs.Digests.{digest_of}
 use Rattle.permit_base.specs.declared.words.PaperSort.{PaperSort}
 use Rattle.std.specs.List.{All}
 use Rattle.std.specs.Option.{option_or}
 
 find_none_by : {A : Type 0} (x : A) (rest more : Option A) (b : Bool) → cond b (Some x) rest ≡ None → (rest ≡ None → more ≡ None) → cond b (Some x) more ≡ None
-find_none_by x rest more true none ih = cc
-find_none_by x rest more false none ih = ih none
+find_none_by x rest more b none ih = grind arith
 
 pub find_none_last : {A : Type 0} (p : A → Bool) (xs : List A) (y : A) → find p xs ≡ None → p y ≡ false → find p (xs ++ y ∷ []) ≡ None
 find_none_last p [] y none e = rw e refl
@@ -38,7 +35,7 @@ find_none_front p [] ys none = refl
 find_none_front p (x ∷ xs) ys none = find_none_by x (find p (xs ++ ys)) (find p xs) (p x) none (find_none_front p xs ys)
 
 other_number : (n id : ℕ) → n < id → (n == id) ≡ false
-other_number n id below = grind (arith, nat_tests)
+other_number n id below = grind arith
 
 pub number_is : (n m : ℕ) → Some n ≡ Some m → n ≡ m
 number_is n m e = cc
@@ -49,12 +46,7 @@ below_parcel : (h : History) (id : ℕ) (number : Option ℕ) (new : ℕ → Par
     length (add_last (in_order parcel_added h) (option_map new number)) < id →
     ((k : ℕ) → length (in_order parcel_added h) < k → find (λ (p : Parcel). p.id == k) (in_order parcel_added h) ≡ None) →
     find (λ (p : Parcel). p.id == id) (add_last (in_order parcel_added h) (option_map new number)) ≡ None
-below_parcel h id None new named numbered above ih = cc
-below_parcel h id (Some n) new named numbered above ih =
-    let made = in_order parcel_added h in
-    let long : length (made ++ new n ∷ []) ≡ length made + 1 = length-append made (new n ∷ []) in
-    let count : n ≡ length made + 1 = number_is n _ numbered ∙ ap (λ k. k + 1) (length-map made (parcel_now h)) in
-    find_none_last (λ (p : Parcel). p.id == id) made (new n) (ih id (omega arith)) (ap (λ k. k == id) (named n) ∙ other_number n id (omega arith))
+below_parcel h id number new named numbered above ih = grind (arith, length-append, number_is, length-map, find_none_last, other_number)
 
 below_deed : (h : History) (id caller day : ℕ) (deed : Deed) (number : Option ℕ) →
     MayFollow h (record { caller = caller; day = day; deed = deed; number = number }) deed →
@@ -70,9 +62,7 @@ below_deed h id caller day (Accepted request) number may above ih = ih id above
 
 below_first : (id caller day : ℕ) (deed : Deed) (number : Option ℕ) → IsFounding (record { caller = caller; day = day; deed = deed; number = number }) deed →
     find (λ (p : Parcel). p.id == id) (in_order parcel_added (record { caller = caller; day = day; deed = deed; number = number } ∷ [])) ≡ None
-below_first id caller day (Founding name digest) number is = refl
-below_first id caller day Upgrade number is = absurd is
-below_first id caller day (Accepted request) number is = absurd is
+below_first id caller day deed number is = grind arith
 
 -- no parcel has a number above their count
 pub parcels_below : (h : History) → IsHistory h → (id : ℕ) → length (in_order parcel_added h) < id →
@@ -90,18 +80,12 @@ not_there h id none = find_mapped (parcel_now h) (λ (p : Parcel). p.id == id) (
 transfer_none : (h : History) (id parcel to : ℕ) (b : Bool) → (parcel == id) ≡ b → find (λ (p : Parcel). p.id == id) (in_order parcel_added h) ≡ None →
     IsTrue (is_some (parcel_numbered h parcel)) →
     latest (λ (e : Entry). receiver_by id e.deed) h ≡ None → option_or (if b then Some to else None) (latest (λ (e : Entry). receiver_by id e.deed) h) ≡ None
-transfer_none h id parcel to true e none there ih =
-    let same : parcel ≡ id = eqb-true parcel id e in
-    let bad : IsTrue (is_some (parcel_numbered h id)) = subst (λ x. IsTrue (is_some (parcel_numbered h x))) same there in
-    let worse : IsTrue (is_some {T = Parcel} None) = subst (λ (o : Option Parcel). IsTrue (is_some o)) (not_there h id none) bad in
-    cc
-transfer_none h id parcel to false e none there ih = ih
+transfer_none h id parcel to b e none there ih = grind (arith, eqb-true, not_there)
 
 none_added : (h : History) (id : ℕ) (number : Option ℕ) (new : ℕ → Parcel) →
     find (λ (p : Parcel). p.id == id) (add_last (in_order parcel_added h) (option_map new number)) ≡ None →
     find (λ (p : Parcel). p.id == id) (in_order parcel_added h) ≡ None
-none_added h id None new none = none
-none_added h id (Some n) new none = find_none_front (λ (p : Parcel). p.id == id) (in_order parcel_added h) (new n ∷ []) none
+none_added h id number new none = grind (arith, find_none_front)
 
 transfers_deed : (h : History) (id caller day : ℕ) (deed : Deed) (number : Option ℕ) →
     MayFollow h (record { caller = caller; day = day; deed = deed; number = number }) deed →
@@ -120,9 +104,7 @@ transfers_deed h id caller day (Accepted request) number may none ih = ih none
 transfers_first : (id caller day : ℕ) (deed : Deed) (number : Option ℕ) →
     IsFounding (record { caller = caller; day = day; deed = deed; number = number }) deed →
     latest (λ (e : Entry). receiver_by id e.deed) (record { caller = caller; day = day; deed = deed; number = number } ∷ []) ≡ None
-transfers_first id caller day (Founding name digest) number is = refl
-transfers_first id caller day Upgrade number is = absurd is
-transfers_first id caller day (Accepted request) number is = absurd is
+transfers_first id caller day deed number is = grind arith
 
 -- a parcel that isn't there wasn't transferred
 pub no_transfers : (h : History) → IsHistory h → (id : ℕ) → find (λ (p : Parcel). p.id == id) (in_order parcel_added h) ≡ None →
@@ -138,37 +120,18 @@ below_filing : (h : History) (id : ℕ) (n : ℕ) (new : Filing) → new.id ≡ 
     length (filings h ++ new ∷ []) < id →
     ((k : ℕ) → length (filings h) < k → find (λ (f : Filing). f.id == k) (filings h) ≡ None) →
     find (λ (f : Filing). f.id == id) (filings h ++ new ∷ []) ≡ None
-below_filing h id n new named numbered above ih =
-    let long : length (filings h ++ new ∷ []) ≡ length (filings h) + 1 = length-append (filings h) (new ∷ []) in
-    let count : n ≡ length (filings h) + 1 = number_is n _ numbered in
-    find_none_last (λ (f : Filing). f.id == id) (filings h) new (ih id (omega arith)) (ap (λ k. k == id) named ∙ other_number n id (omega arith))
+below_filing h id n new named numbered above ih = grind (arith, length-append, number_is, find_none_last, other_number)
 
 below_file : (h : History) (id caller day : ℕ) (deed : Deed) (number : Option ℕ) →
     MayFollow h (record { caller = caller; day = day; deed = deed; number = number }) deed →
     length (filings (record { caller = caller; day = day; deed = deed; number = number } ∷ h)) < id →
     ((k : ℕ) → length (filings h) < k → find (λ (f : Filing). f.id == k) (filings h) ≡ None) →
     find (λ (f : Filing). f.id == id) (filings (record { caller = caller; day = day; deed = deed; number = number } ∷ h)) ≡ None
-below_file h id caller day (Founding name digest) number may above ih = absurd may
-below_file h id caller day Upgrade number may above ih = ih id above
-below_file h id caller day (Accepted (File parcel kind valuation description)) None may above ih = ih id above
-below_file h id caller day (Accepted (File parcel kind valuation description)) (Some n) may above ih =
-    below_filing h id n (record {
-      id = n;
-      parcel = parcel;
-      applicant = caller;
-      kind = kind;
-      edition = edition h;
-      valuation = valuation;
-      description = description;
-      filed = day;
-    }) refl may.numbered above ih
-below_file h id caller day (Accepted request) number may above ih = ih id above
+below_file h id caller day deed number may above ih = grind (arith, below_filing)
 
 file_first : (id caller day : ℕ) (deed : Deed) (number : Option ℕ) → IsFounding (record { caller = caller; day = day; deed = deed; number = number }) deed →
     find (λ (f : Filing). f.id == id) (filings (record { caller = caller; day = day; deed = deed; number = number } ∷ [])) ≡ None
-file_first id caller day (Founding name digest) number is = refl
-file_first id caller day Upgrade number is = absurd is
-file_first id caller day (Accepted request) number is = absurd is
+file_first id caller day deed number is = grind arith
 
 -- no file has a number above their count
 pub files_below : (h : History) → IsHistory h → (id : ℕ) → length (filings h) < id → find (λ (f : Filing). f.id == id) (filings h) ≡ None
@@ -181,10 +144,7 @@ files_below (entry ∷ last ∷ before) is id above = below_file (last ∷ befor
 
 numbered_parcel : (h : History) (number : Option ℕ) (new : ℕ → Parcel) → ((n : ℕ) → (new n).id ≡ n) → number ≡ Some (length (parcels h) + 1) →
     IsNumbered (λ (p : Parcel). p.id) (in_order parcel_added h) → IsNumbered (λ (p : Parcel). p.id) (add_last (in_order parcel_added h) (option_map new number))
-numbered_parcel h None new named next ih = cc
-numbered_parcel h (Some n) new named next ih =
-    numbered_last (λ (p : Parcel). p.id) 1 (in_order parcel_added h) (new n) ih
-    (omega (arith, named n, number_is n (length (parcels h) + 1) next, length-map (in_order parcel_added h) (parcel_now h)))
+numbered_parcel h number new named next ih = grind (arith, numbered_last, number_is, length-map)
 
 parcels_deed : (h : History) (caller day : ℕ) (deed : Deed) (number : Option ℕ) →
     MayFollow h (record { caller = caller; day = day; deed = deed; number = number }) deed →
@@ -199,9 +159,7 @@ parcels_deed h caller day (Accepted request) number may ih = ih
 
 parcels_first : (caller day : ℕ) (deed : Deed) (number : Option ℕ) → IsFounding (record { caller = caller; day = day; deed = deed; number = number }) deed →
     IsNumbered (λ (p : Parcel). p.id) (in_order parcel_added (record { caller = caller; day = day; deed = deed; number = number } ∷ []))
-parcels_first caller day (Founding name digest) number is = tt
-parcels_first caller day Upgrade number is = absurd is
-parcels_first caller day (Accepted request) number is = absurd is
+parcels_first caller day deed number is = grind arith
 
 added_numbered : (h : History) → IsHistory h → IsNumbered (λ (p : Parcel). p.id) (in_order parcel_added h)
 added_numbered [] is = tt
@@ -211,34 +169,17 @@ added_numbered (entry ∷ last ∷ before) is = parcels_deed (last ∷ before) e
 
 -- the parcels are numbered from 1
 pub parcels_numbered : (h : History) → IsHistory h → IsNumbered (λ (p : Parcel). p.id) (parcels h)
-parcels_numbered h is = numbered_mapped (parcel_now h) (λ (p : Parcel). p.id) (λ (p : Parcel). p.id) (λ p. refl) 1 (in_order parcel_added h)
-    (added_numbered h is)
+parcels_numbered h is = grind (arith, numbered_mapped, added_numbered)
 
 filings_deed : (h : History) (caller day : ℕ) (deed : Deed) (number : Option ℕ) →
     MayFollow h (record { caller = caller; day = day; deed = deed; number = number }) deed →
     IsNumbered (λ (f : Filing). f.id) (filings h) → IsNumbered (λ (f : Filing). f.id)
     (filings (record { caller = caller; day = day; deed = deed; number = number } ∷ h))
-filings_deed h caller day (Founding name digest) number may ih = absurd may
-filings_deed h caller day Upgrade number may ih = ih
-filings_deed h caller day (Accepted (File parcel kind valuation description)) None may ih = ih
-filings_deed h caller day (Accepted (File parcel kind valuation description)) (Some n) may ih =
-    numbered_last (λ (f : Filing). f.id) 1 (filings h) (record {
-      id = n;
-      parcel = parcel;
-      applicant = caller;
-      kind = kind;
-      edition = edition h;
-      valuation = valuation;
-      description = description;
-      filed = day;
-    }) ih (omega (arith, number_is n (length (filings h) + 1) may.numbered))
-filings_deed h caller day (Accepted request) number may ih = ih
+filings_deed h caller day deed number may ih = grind (arith, numbered_last, number_is)
 
 filings_first : (caller day : ℕ) (deed : Deed) (number : Option ℕ) → IsFounding (record { caller = caller; day = day; deed = deed; number = number }) deed →
     IsNumbered (λ (f : Filing). f.id) (filings (record { caller = caller; day = day; deed = deed; number = number } ∷ []))
-filings_first caller day (Founding name digest) number is = tt
-filings_first caller day Upgrade number is = absurd is
-filings_first caller day (Accepted request) number is = absurd is
+filings_first caller day deed number is = grind arith
 
 -- the filings are numbered from 1
 pub filings_numbered : (h : History) → IsHistory h → IsNumbered (λ (f : Filing). f.id) (filings h)
@@ -249,27 +190,17 @@ filings_numbered (entry ∷ last ∷ before) is = filings_deed (last ∷ before)
 
 -- the files are numbered from 1
 pub case_files_numbered : (h : History) → IsHistory h → IsNumbered (λ (f : CaseFile). f.filing.id) (case_files h)
-case_files_numbered h is = numbered_mapped (case_file h) (λ (f : Filing). f.id) (λ (f : CaseFile). f.filing.id) (λ f. refl) 1 (filings h)
-    (filings_numbered h is)
+case_files_numbered h is = grind (arith, numbered_mapped, filings_numbered)
 
 parties_deed : (h : History) (caller day : ℕ) (deed : Deed) (number : Option ℕ) →
     MayFollow h (record { caller = caller; day = day; deed = deed; number = number }) deed →
     IsNumbered (λ (p : Party). p.id) (parties h) → IsNumbered (λ (p : Party). p.id)
     (parties (record { caller = caller; day = day; deed = deed; number = number } ∷ h))
-parties_deed h caller day (Founding name digest) number may ih = absurd may
-parties_deed h caller day Upgrade number may ih = ih
-parties_deed h caller day (Accepted (AddParty name role token)) None may ih = ih
-parties_deed h caller day (Accepted (AddParty name role token)) (Some n) may ih =
-    numbered_last (λ (p : Party). p.id) 1 (parties h) (record { id = n; name = name; role = role; digest = digest_of token }) ih
-    (omega (arith, number_is n (length (parties h) + 1) may.numbered))
-parties_deed h caller day (Accepted request) number may ih = ih
+parties_deed h caller day deed number may ih = grind (arith, numbered_last, number_is)
 
 parties_first : (caller day : ℕ) (deed : Deed) (number : Option ℕ) → IsFounding (record { caller = caller; day = day; deed = deed; number = number }) deed →
     IsNumbered (λ (p : Party). p.id) (parties (record { caller = caller; day = day; deed = deed; number = number } ∷ []))
-parties_first caller day (Founding name digest) None is = tt
-parties_first caller day Upgrade number is = absurd is
-parties_first caller day (Founding name digest) (Some n) is = (number_is n 1 is.1, tt)
-parties_first caller day (Accepted request) number is = absurd is
+parties_first caller day deed number is = grind arith
 
 -- the parties are numbered from 1
 pub parties_numbered : (h : History) → IsHistory h → IsNumbered (λ (p : Party). p.id) (parties h)
@@ -288,22 +219,7 @@ papers_more : (file : ℕ) (open_now : List ℕ) (act : Act) (before : List Act)
     act.number ≡ when (is_some s) (paper_count before + 1) →
     HasPapers (paper_count before) (papers_from file open_now before) →
     HasPapers (paper_count (act ∷ before)) (add_last (papers_from file open_now before) (paper_by file open_now act before))
-papers_more file open_now act before None e numbered ih = rw e ih
-papers_more file open_now act before (Some sort) e numbered ih =
-    let next : unwrap_or act.number 0 ≡ paper_count before + 1 = ap (λ o. unwrap_or o 0) numbered in
-    let long = length-append (papers_from file open_now before) (record {
-      file = file;
-      number = unwrap_or act.number 0;
-      day = act.day;
-      author = act.caller;
-      sort = sort;
-      days = paper_days act.command before;
-      text = paper_text act.command;
-      terms = paper_terms act.command;
-      is_open = is_notice sort
-          && has_number open_now (unwrap_or act.number 0);
-    } ∷ []) in
-    rw e (numbered_last (λ (p : Paper). p.number) 1 (papers_from file open_now before) _ ih.0 (omega (arith, next, ih.1)), omega (arith, long, ih.1))
+papers_more file open_now act before s e numbered ih = grind (arith, length-append, papers_from, numbered_last)
 
 has_papers : (file : ℕ) (open_now : List ℕ) (acts : List Act) → AreNumbered acts → HasPapers (paper_count acts) (papers_from file open_now acts)
 has_papers file open_now [] numbered = (tt, refl)

@@ -1,14 +1,13 @@
 -- The papers of the table that name a file are those that its acts make.
-use Rattle.std.proofs.Common.{◌≡◌, ℕ, Bool, true, false, cond, ◌==◌, List, [], ◌∷◌, ◌++◌, refl, ◌∙◌, ap, subst}
-use Rattle.std.specs.Prelude.{Option, None, Some, filter, option_map, unwrap_or, if◌then◌else◌}
+use Rattle.std.proofs.Common.{arith, ◌≡◌, ℕ, Bool, true, false, cond, ◌==◌, List, [], ◌∷◌, ◌++◌, refl, ◌∙◌, ap}
+use Rattle.std.specs.Prelude.{Option, None, Some, filter, option_map, if◌then◌else◌}
 use Rattle.std.specs.List.{cons_option}
 use Rattle.std.proofs.lemmas.Bool.{eqb-true}
 use Rattle.permit_base.specs.declared.words.PaperSort.{PaperSort}
 use Rattle.permit_base.specs.declared.request.Command.{Command}
-use Rattle.permit_base.specs.declared.request.Request.TheVariants.{OnFile}
 use Rattle.permit_model.specs.Search.{add_last}
-use Rattle.permit_model.specs.History.{Deed, Accepted, Entry, History}
-use Rattle.permit_model.specs.Files.{Filing, Act, act_of, acts_on, CaseFile, case_file, case_numbered, filings}
+use Rattle.permit_model.specs.History.{Deed, Entry, History}
+use Rattle.permit_model.specs.Files.{Filing, Act, act_of, acts_on, CaseFile, case_file, case_numbered}
 use Rattle.permit_model.specs.Work.{open_notices, paper_sort}
 use Rattle.permit_model.specs.Tables.{Paper, paper_by, papers_of, papers_made}
 use Rattle.permit_model.proofs.Projection.{filing_numbered}
@@ -65,9 +64,7 @@ deed_more : (file : ℕ) (now : History) (caller day : ℕ) (deed : Deed) (numbe
     of_file file (papers_made now before) ≡ papers_from file (open_notices (acts_on file now)) (acts_on file before) →
     of_file file (papers_made now (record { caller = caller; day = day; deed = deed; number = number } ∷ before))
     ≡ papers_from file (open_notices (acts_on file now)) (acts_on file (record { caller = caller; day = day; deed = deed; number = number } ∷ before))
-deed_more file now caller day (Accepted (OnFile g command)) number before ih =
-    command_more file g now (record { caller = caller; day = day; deed = Accepted (OnFile g command); number = number }) command before (g == file) refl ih
-deed_more file now caller day _ number before ih = ih
+deed_more file now caller day deed number before ih = grind (arith, command_more)
 
 papers_by_file : (file : ℕ) (now before : History) → of_file file (papers_made now before)
     ≡ papers_from file (open_notices (acts_on file now)) (acts_on file before)
@@ -75,14 +72,9 @@ papers_by_file file now [] = refl
 papers_by_file file now (entry ∷ before) = deed_more file now entry.caller entry.day entry.deed entry.number before (papers_by_file file now before)
 
 pub found_by : (h : History) (file : CaseFile) (o : Option Filing) → option_map (case_file h) o ≡ Some file → case_file h file.filing ≡ file
-found_by h file None there = cc
-found_by h file (Some filing) there =
-    let same : case_file h filing ≡ file = ap (λ o. unwrap_or o (case_file h filing)) there in
-    subst (λ (x : CaseFile). case_file h x.filing ≡ x) same refl
+found_by h file o there = grind arith
 
 -- the papers that name a file are those that its acts make
 pub papers_of-case : (h : History) (id : ℕ) (file : CaseFile) → case_numbered h id ≡ Some file →
     papers_of h file.filing.id ≡ papers_from file.filing.id (open_notices file.acts) file.acts
-papers_of-case h id file there =
-    papers_by_file file.filing.id h h
-    ∙ ap (λ (x : CaseFile). papers_from file.filing.id (open_notices x.acts) x.acts) (found_by h file (filing_numbered (filings h) id) there)
+papers_of-case h id file there = grind (arith, papers_by_file, found_by, filing_numbered)

@@ -1,5 +1,5 @@
 -- The rows that a listing's selections find are the rows that it may open, as often.
-use Rattle.std.proofs.Common.{◌≡◌, ◌≤◌, ℕ, ◌*◌, Bool, true, false, ◌&&◌, cond, List, [], ◌∷◌, ◌++◌, map, length, refl, sym, ◌∙◌, ap, subst, arith}
+use Rattle.std.proofs.Common.{◌≡◌, ◌≤◌, ℕ, ◌*◌, Bool, true, false, ◌&&◌, cond, List, [], ◌∷◌, ◌++◌, map, length, sym, ◌∙◌, ap, subst, arith}
 use Rattle.std.specs.Prelude.{if◌then◌else◌, filter, IsPermutation}
 use Rattle.std.specs.List.{flat_map, sum_by}
 use Rattle.std.proofs.lemmas.List.{append-nil, length-map}
@@ -27,7 +27,7 @@ use Rattle.permit_model.specs.Tables.{file_row, state_of, tables}
 use Rattle.permit_model.specs.Listing.{meets}
 use Rattle.permit_model.specs.Opened.{Cell, cells, is_in, Allowed, allowed_by, only, Pair, all_pairs, allowed_as_two, has_both, opened_by_one, opened_by_two}
 use Rattle.permit_model.specs.Opened.{opened_of, opened_in, opened}
-use Rattle.permit_model.specs.Routes.{Found, found_row, routes_of, is_by, is_found, found_by}
+use Rattle.permit_model.specs.Routes.{Found, routes_of, is_by, is_found, found_by}
 use Rattle.permit_model.specs.Machine.{IsHistory}
 use Rattle.permit_model.proofs.Selecting.{how_many-map, how_many-gate, counted_home, flat_filter, flat_agree, everywhere, selected, same_selected, filter_twice}
 use Rattle.permit_model.proofs.Selecting.{filter_mapped, mapped_back, flat_mapped, flat_flat, few_copies}
@@ -38,8 +38,7 @@ use Rattle.permit_model.proofs.NoneMissed.{times_most, finders_of_file}
 -- ---- what may be opened, by ways
 
 and_true : (b : Bool) → b ≡ (b && true)
-and_true true = refl
-and_true false = refl
+and_true b = grind arith
 
 -- the files of a cell that are selected in this way
 abbrev pub in_way : (CaseFile → Relations) → (CaseFile → Bool) → List CaseFile → By → List CaseFile
@@ -49,11 +48,7 @@ in_way relations here files way = filter (λ file. here file && is_by way (relat
 part_is : {A : Type 0} (may : A → Bool) (held : A → CaseFile → Bool) (here : CaseFile → Bool) (files : List CaseFile) (items : List A) →
     flat_map (λ x. cond (may x) (filter (held x) (filter here files)) []) items
     ≡ flat_map (λ x. filter (λ file. here file && held x file) files) (filter may items)
-part_is may held here files items =
-    flat_agree (λ x. cond (may x) (filter (held x) (filter here files)) []) (λ x. cond (may x) (filter (λ file. here file && held x file) files) []) items
-    (everywhere (λ x. cond (may x) (filter (held x) (filter here files)) [] ≡ cond (may x) (filter (λ file. here file && held x file) files) [])
-    (λ x. ap (λ ys. cond (may x) ys []) (filter_twice here (held x) files)) items)
-    ∙ sym (flat_filter (λ x. filter (λ file. here file && held x file) files) may items)
+part_is may held here files items = grind (arith, flat_agree, everywhere, filter_twice, flat_filter)
 
 opened_by : (may : Relations → Bool) (relations : CaseFile → Relations) (here : CaseFile → Bool) (files : List CaseFile) (b : Bool) →
     (if b then filter here files else flat_map (opened_by_one may relations (filter here files)) all_relations
@@ -142,11 +137,7 @@ files_found h day caller r = filter (λ file. is_found r caller day (found_file 
 
 rows_found : (h : History) (day caller : ℕ) (r : Route) → map (λ (f : Found). f.row) (found_by r caller day (tables h))
     ≡ map file_row (files_found h day caller r)
-rows_found h day caller r =
-    let found = found_row (tables h) caller in
-    ap (map (λ (f : Found). f.row)) (filter_mapped found (is_found r caller day) (map file_row (case_files h)))
-    ∙ mapped_back found (λ f. f.row) (λ row. refl) (filter (λ row. is_found r caller day (found row)) (map file_row (case_files h)))
-    ∙ filter_mapped file_row (λ row. is_found r caller day (found row)) (case_files h)
+rows_found h day caller r = grind (arith, filter_mapped, mapped_back)
 
 all_rows_found : (h : History) (day caller : ℕ) (routes : List Route) →
     flat_map (λ r. map (λ (f : Found). f.row) (found_by r caller day (tables h))) routes ≡ map file_row (flat_map (files_found h day caller) routes)
@@ -200,8 +191,7 @@ same_sum policy h day caller wanted =
 -- ---- how many rows may be opened
 
 few_in : (b : Bool) (n : ℕ) → n ≤ 21 → cond b n 0 ≤ 21
-few_in true n few = few
-few_in false n few = omega arith
+few_in b n few = grind arith
 
 -- each file is opened at most once for each relation and each two
 pub few_openings : (policy : Policy) (h : History) (day : ℕ) (caller : Party) (wanted : Filter) →

@@ -1,26 +1,21 @@
 -- Requests for parcels that run twice over.
-use Rattle.std.proofs.Common.{◌≡◌, ◌⊎◌, ℕ, ◌+◌, Bool, true, false, not, ◌&&◌, ◌||◌, List, [], ◌∷◌, ◌++◌, length, map, refl, sym, ◌∙◌, ap, subst, inl, inr}
+use Rattle.std.proofs.Common.{◌≡◌, ◌⊎◌, ℕ, ◌+◌, Bool, true, false, not, ◌&&◌, ◌||◌, List, [], ◌∷◌, ◌++◌, length, map, refl, ◌∙◌, ap}
 use Rattle.std.proofs.Common.{arith, length-append}
-use Rattle.std.specs.Prelude.{Option, None, Some, bytes_eq, if◌then◌else◌, nat_lt, nat_le}
+use Rattle.std.specs.Prelude.{Option, None, Some, bytes_eq, nat_lt, nat_le}
 use Rattle.std.specs.List.{list_any}
-use Rattle.std.proofs.lemmas.Bool.Decides.{nat_tests}
 use Rattle.std.proofs.lemmas.List.{length-map}
 use Rattle.std.proofs.lemmas.Slice.Eq.{bytes_eq-Decides}
 use Rattle.permit_base.specs.Digests.{digest_of}
 use Rattle.permit_base.specs.Limits.{most_records}
-use Rattle.permit_base.specs.declared.refusal.Reason.TheVariants as reason
-use Rattle.permit_base.specs.declared.refusal.Refusal.TheVariants as refusal
 use Rattle.permit_base.specs.declared.words.Action.TheVariants as action
 use Rattle.permit_base.specs.declared.request.Asked.{Asked}
-use Rattle.permit_model.specs.Search.{in_order}
 use Rattle.permit_model.specs.History.{Entry, History, last_day}
 use Rattle.permit_model.specs.Caller.{Party, who, is_party}
-use Rattle.permit_model.specs.Parcels.{Parcel, parcel_added, parcel_now, parcels}
+use Rattle.permit_model.specs.Parcels.{Parcel, parcels}
 use Rattle.permit_model.specs.Facts.{office_facts}
 use Rattle.permit_model.specs.Policy.{Policy, decision, is_allow}
-use Rattle.permit_model.specs.Admission.{first_failing}
 use Rattle.permit_model.specs.Laws.{Wanted, parcel_wanted, parcels_asked}
-use Rattle.permit_model.specs.Machine.{entry_of, outcome_by_caller, outcome_by_reason, refused, step, history_after}
+use Rattle.permit_model.specs.Machine.{entry_of, outcome_by_caller, step, history_after}
 
 -- ---- what stands against a parcel
 
@@ -70,70 +65,35 @@ abbrev parcel_of : History → Wanted → Parcel
 parcel_of h p = record { id = length (parcels h) + 1; lot = p.0; address = p.1; owner = p.2 }
 
 is_held-added : (h : History) (day caller : ℕ) (p : Wanted) (lot : List ℕ) → is_held (added h day caller p ∷ h) lot ≡ is_held h lot || bytes_eq p.0 lot
-is_held-added h day caller p lot =
-    let test = λ (q : Parcel). bytes_eq q.lot lot in
-    held_map (parcel_now (added h day caller p ∷ h)) test (λ q. refl) (in_order parcel_added h ++ parcel_of h p ∷ [])
-    ∙ held_last test (in_order parcel_added h) (parcel_of h p)
-    ∙ ap (λ b. b || bytes_eq p.0 lot) (sym (held_map (parcel_now h) test (λ q. refl) (in_order parcel_added h)))
+is_held-added h day caller p lot = grind (arith, held_map, held_last)
 
 length-added : (h : History) (day caller : ℕ) (p : Wanted) → length (parcels (added h day caller p ∷ h)) ≡ length (parcels h) + 1
-length-added h day caller p =
-    length-map (in_order parcel_added h ++ parcel_of h p ∷ []) (parcel_now (added h day caller p ∷ h))
-    ∙ length-append (in_order parcel_added h) (parcel_of h p ∷ [])
-    ∙ ap (λ n. n + 1) (sym (length-map (in_order parcel_added h) (parcel_now h)))
+length-added h day caller p = grind (arith, length-map, length-append)
 
 still_full : (n m : ℕ) → m ≡ n + 1 → nat_le most_records n ≡ true → nat_le most_records m ≡ true
-still_full n m e h = grind (arith, nat_tests)
+still_full n m e h = grind arith
 
 still_any : (a b c b' c' : Bool) → ((a || b) || c) ≡ true → (b ≡ true → b' ≡ true) → (c ≡ true → c' ≡ true) → ((a || b') || c') ≡ true
-still_any true b c b' c' h f g = refl
-still_any false true c b' c' h f g = rw (f refl) refl
-still_any false false c b' c' h f g = last b' (g h)
-  where
-    last : (x : Bool) → c' ≡ true → ((false || x) || c') ≡ true
-    last true e = refl
-    last false e = e
+still_any a b c b' c' h f g = grind arith
 
 or_left : (a b : Bool) → a ≡ true → (a || b) ≡ true
-or_left true b e = refl
-or_left false b e = cc
+or_left a b e = grind arith
 
 or_right : (a b : Bool) → b ≡ true → (a || b) ≡ true
-or_right true b e = refl
-or_right false b e = e
+or_right a b e = grind arith
 
 -- what stands against a parcel still does behind another
 still_blocked : (h : History) (day caller : ℕ) (p q : Wanted) → is_blocked h q ≡ true → is_blocked (added h day caller p ∷ h) q ≡ true
-still_blocked h day caller p q e =
-    still_any (not (is_party h q.2)) (is_held h q.0) (is_full h) (is_held (added h day caller p ∷ h) q.0) (is_full (added h day caller p ∷ h)) e
-    (λ held. is_held-added h day caller p q.0 ∙ or_left (is_held h q.0) (bytes_eq p.0 q.0) held)
-    (λ full. still_full (length (parcels h)) (length (parcels (added h day caller p ∷ h))) (length-added h day caller p) full)
+still_blocked h day caller p q e = grind (arith, still_any, is_held-added, or_left, still_full, length-added)
 
 same_bytes : (bytes : List ℕ) → bytes_eq bytes bytes ≡ true
 same_bytes bytes = (bytes_eq-Decides bytes bytes).1 refl
 
 -- behind a parcel its lot is taken
 now_blocked : (h : History) (day caller : ℕ) (p : Wanted) → is_blocked (added h day caller p ∷ h) p ≡ true
-now_blocked h day caller p =
-    let held : is_held (added h day caller p ∷ h) p.0 ≡ true = is_held-added h day caller p p.0
-    ∙ or_right (is_held h p.0) (bytes_eq p.0 p.0) (same_bytes p.0) in
-    or_left (not (is_party (added h day caller p ∷ h) p.2) || is_held (added h day caller p ∷ h) p.0) (is_full (added h day caller p ∷ h))
-    (or_right (not (is_party (added h day caller p ∷ h) p.2)) (is_held (added h day caller p ∷ h) p.0) held)
+now_blocked h day caller p = grind (arith, is_held-added, or_right, same_bytes, or_left)
 
 -- ---- a step
-
--- a step leaves the history where the caller isn't open or a reason stands, else it adds the entry
-steps_by : (h : History) (entry : Entry) (rule : List ℕ) (below allowed absent held full : Bool) →
-    let outcome = if below then refused h refusal.Clock else (if allowed then outcome_by_reason h entry
-    (first_failing ((absent, reason.Person) ∷ (held, reason.Taken) ∷ (full, reason.Full) ∷ [])) else refused h (refusal.Denied rule)) in
-    ((outcome.history ≡ h) × (((not below && allowed) ≡ false) ⊎ (((absent || held) || full) ≡ true))) ⊎
-    ((outcome.history ≡ entry ∷ h) × ((not below && allowed) ≡ true) × (((absent || held) || full) ≡ false))
-steps_by h entry rule true allowed absent held full = inl (refl, inl refl)
-steps_by h entry rule false false absent held full = inl (refl, inl refl)
-steps_by h entry rule false true true held full = inl (refl, inr refl)
-steps_by h entry rule false true false true full = inl (refl, inr refl)
-steps_by h entry rule false true false false true = inl (refl, inr refl)
-steps_by h entry rule false true false false false = inr (refl, refl, refl)
 
 -- what a step for a parcel does: nothing, and no more will, or it adds the parcel's entry
 abbrev StepsTo : Policy → ℕ → History → Wanted → Option Party → Type 0
@@ -143,48 +103,26 @@ StepsTo policy day h p caller =
     × (is_open policy day (last_day h) caller ≡ true) × (is_blocked h p ≡ false))
 
 steps_to : (policy : Policy) (day : ℕ) (h : History) (p : Wanted) (caller : Option Party) → StepsTo policy day h p caller
-steps_to policy day h p None = inl (refl, inl refl)
-steps_to policy day h p (Some caller) =
-    let made = decision policy (office_facts caller.role action.AddParcel) in
-    elim (steps_by h (added h day caller.id p) made.rule (nat_lt day (last_day h)) (is_allow made.effect) (not (is_party h p.2)) (is_held h p.0) (is_full h)) [
-      | inl stays ↦ inl stays
-      | inr grows ↦ inr (caller.id, grows.0, grows.1, grows.2)
-    ]
+steps_to policy day h p caller = grind arith
 
 abbrev after : Policy → List ℕ → ℕ → History → Wanted → History
 after policy token day h p = (step policy h (record { token = token; request = parcel_wanted p }) day).history
 
 -- a step for a parcel settles it
 settles : (policy : Policy) (token : List ℕ) (day : ℕ) (h : History) (p : Wanted) → IsSettled policy token day (after policy token day h p) p
-settles policy token day h p = elim (steps_to policy day h p (who h (digest_of token))) [
-  | inl stays ↦ subst (λ g. IsSettled policy token day g p) (sym stays.0) stays.1
-  | inr grows ↦ subst (λ g. IsSettled policy token day g p) (sym grows.1) (inr (now_blocked h day grows.0 p))
-]
+settles policy token day h p = grind (arith, steps_to, now_blocked)
 
 closed_open : {P : Type 0} (b : Bool) → b ≡ true → b ≡ false → P
-closed_open true e f = cc
-closed_open false e f = cc
+closed_open b e f = grind arith
 
 -- and leaves each other one settled
 keeps_settled : (policy : Policy) (token : List ℕ) (day : ℕ) (h : History) (p q : Wanted) → IsSettled policy token day h q →
     IsSettled policy token day (after policy token day h p) q
-keeps_settled policy token day h p q settled = elim (steps_to policy day h p (who h (digest_of token))) [
-  | inl stays ↦ subst (λ g. IsSettled policy token day g q) (sym stays.0) settled
-  | inr grows ↦ subst (λ g. IsSettled policy token day g q) (sym grows.1) (elim settled [
-    | inl closed ↦ closed_open (is_open policy day (last_day h) (who h (digest_of token))) grows.2 closed
-    | inr blocked ↦ inr (still_blocked h day grows.0 p q blocked)
-  ])
-]
+keeps_settled policy token day h p q settled = grind (arith, steps_to, closed_open, still_blocked)
 
 -- a settled one changes nothing
 stays_settled : (policy : Policy) (token : List ℕ) (day : ℕ) (h : History) (p : Wanted) → IsSettled policy token day h p → after policy token day h p ≡ h
-stays_settled policy token day h p settled = elim (steps_to policy day h p (who h (digest_of token))) [
-  | inl stays ↦ stays.0
-  | inr grows ↦ elim settled [
-    | inl closed ↦ closed_open (is_open policy day (last_day h) (who h (digest_of token))) grows.2 closed
-    | inr blocked ↦ closed_open (is_blocked h p) blocked grows.3
-  ]
-]
+stays_settled policy token day h p settled = grind arith
 
 -- ---- runs
 
@@ -228,6 +166,4 @@ run_append policy (x ∷ xs) ys h = run_append policy xs ys (step policy h x.0 x
 -- a list that runs twice over leaves the history of once
 pub ran_twice : (policy : Policy) (h : History) (token : List ℕ) (day : ℕ) (wanted : List Wanted) →
     history_after policy (parcels_asked token day wanted ++ parcels_asked token day wanted) h ≡ history_after policy (parcels_asked token day wanted) h
-ran_twice policy h token day wanted =
-    run_append policy (parcels_asked token day wanted) (parcels_asked token day wanted) h
-    ∙ settled_run policy token day wanted (ran policy token day wanted h) (run_settles policy token day wanted h)
+ran_twice policy h token day wanted = grind (arith, run_append, settled_run, run_settles)

@@ -1,7 +1,6 @@
 -- A script leads from a history to a history, and the examples begin with one.
-use Rattle.std.proofs.Common.{◌≡◌, ◌≤◌, ℕ, Bool, true, false, cond, ◌==◌, List, [], ◌∷◌, refl, ap, arith}
-use Rattle.std.specs.Prelude.{Option, Some, is_some, IsTrue, find, unwrap_or}
-use Rattle.std.proofs.lemmas.Bool.{eq-eqb}
+use Rattle.std.proofs.Common.{◌≡◌, ℕ, Bool, cond, ◌==◌, List, [], ◌∷◌, refl, arith}
+use Rattle.std.specs.Prelude.{Option, Some, is_some, IsTrue, find}
 use Rattle.hex.specs.Hex.{encode_with}
 use Rattle.sha2.specs.Sha256.{first_words, schedule, rounds, compress, hash_after, digest_bytes, sha256}
 use Rattle.permit_model.specs.History.{History}
@@ -13,13 +12,7 @@ use Rattle.permit_model.proofs.Histories.{by_caller_keeps}
 
 found_at : (q p : Party) (id : ℕ) (b c : Bool) (rest by_number : Option Party) → (q.id == p.id) ≡ c → cond b (Some q) rest ≡ Some p →
     (rest ≡ Some p → IsTrue (is_some by_number)) → IsTrue (is_some (cond c (Some q) by_number))
-found_at q p id true true rest by_number e found ih = refl
-found_at q p id true false rest by_number e found ih =
-    let same : q ≡ p = ap (λ o. unwrap_or o q) found in
-    let equal : (q.id == p.id) ≡ true = eq-eqb q.id p.id (ap (λ (x : Party). x.id) same) in
-    cc
-found_at q p id false true rest by_number e found ih = refl
-found_at q p id false false rest by_number e found ih = ih found
+found_at q p id b c rest by_number e found ih = grind arith
 
 -- a party that is found is there
 found : (ps : List Party) (id : ℕ) (p : Party) → find (λ q. q.id == id) ps ≡ Some p → IsTrue (is_some (find (λ q. q.id == p.id) ps))
@@ -35,29 +28,4 @@ script_keeps (t ∷ ts) h is = script_keeps ts (turn h t).history (by_caller_kee
 -- the opening is a history: SHA-256 and the spelling of a digest are opened, so that no digest is found twice
 pub opening_is : IsHistory opening
 unfolding sha256 digest_bytes hash_after compress rounds schedule first_words encode_with
-opening_is =
-    let day : 19700 ≤ 19700 = omega arith in (
-      record { command = refl; caller_there = refl; in_time = day; record_there = refl; admitted = refl; numbered = refl },
-      (
-        record { command = refl; caller_there = refl; in_time = day; record_there = refl; admitted = refl; numbered = refl },
-        (
-          record { command = refl; caller_there = refl; in_time = day; record_there = refl; admitted = refl; numbered = refl },
-          (
-            record { command = refl; caller_there = refl; in_time = day; record_there = refl; admitted = refl; numbered = refl },
-            (
-              record { command = refl; caller_there = refl; in_time = day; record_there = refl; admitted = refl; numbered = refl },
-              (
-                record { command = refl; caller_there = refl; in_time = day; record_there = refl; admitted = refl; numbered = refl },
-                (
-                  record { command = refl; caller_there = refl; in_time = day; record_there = refl; admitted = refl; numbered = refl },
-                  (
-                    record { command = refl; caller_there = refl; in_time = day; record_there = refl; admitted = refl; numbered = refl },
-                    (omega arith, refl),
-                  ),
-                ),
-              ),
-            ),
-          ),
-        ),
-      ),
-    )
+opening_is = grind arith

@@ -17,8 +17,7 @@ bit true = 1
 bit false = 0
 
 counted_by : {A : Type 0} (b : Bool) (x : A) (kept : List A) → length (cond b (x ∷ kept) kept) ≡ bit b + length kept
-counted_by true x kept = omega arith
-counted_by false x kept = omega arith
+counted_by b x kept = grind arith
 
 pub how_many-cons : {A : Type 0} (p : A → Bool) (x : A) (xs : List A) → how_many p (x ∷ xs) ≡ bit (p x) + how_many p xs
 how_many-cons p x xs = counted_by (p x) x (filter p xs)
@@ -41,8 +40,7 @@ how_many-gate true p xs = refl
 how_many-gate false p xs = how_many-none xs
 
 most_by : {A : Type 0} (p : A → Bool) (x : A) (xs : List A) (b : Bool) → p x ≡ b → how_many p xs ≤ length xs → how_many p (x ∷ xs) ≤ length (x ∷ xs)
-most_by p x xs true e ih = omega (arith, how_many-cons p x xs, ap bit e, ih)
-most_by p x xs false e ih = omega (arith, how_many-cons p x xs, ap bit e, ih)
+most_by p x xs b e ih = grind arith
 
 pub how_many-most : {A : Type 0} (p : A → Bool) (xs : List A) → how_many p xs ≤ length xs
 how_many-most p [] = omega arith
@@ -50,10 +48,7 @@ how_many-most p (x ∷ xs) = most_by p x xs (p x) refl (how_many-most p xs)
 
 filter_by : {A : Type 0} (q p : A → Bool) (x : A) (kept all : List A) (b : Bool) → q x ≡ b → how_many p kept ≡ how_many (λ y. q y && p y) all →
     how_many p (cond b (x ∷ kept) kept) ≡ how_many (λ y. q y && p y) (x ∷ all)
-filter_by q p x kept all true e ih =
-    how_many-cons p x kept ∙ ap (λ b. bit (b && p x) + how_many p kept) (sym e) ∙ ap (λ n. bit (q x && p x) + n) ih
-    ∙ sym (how_many-cons (λ y. q y && p y) x all)
-filter_by q p x kept all false e ih = omega (arith, ih, how_many-cons (λ y. q y && p y) x all, ap (λ b. bit (b && p x)) e)
+filter_by q p x kept all b e ih = grind arith
 
 -- how many of those that pass one test pass another
 pub how_many-filter : {A : Type 0} (q p : A → Bool) (xs : List A) → how_many p (filter q xs) ≡ how_many (λ x. q x && p x) xs
@@ -64,8 +59,7 @@ how_many-filter q p (x ∷ xs) = filter_by q p x (filter q xs) xs (q x) refl (ho
 
 some_by : {A : Type 0} (p : A → Bool) (x : A) (xs : List A) (b : Bool) → p x ≡ b → (b || list_any p xs) ≡ true → (list_any p xs ≡ true → 0 < how_many p xs) →
     0 < how_many p (x ∷ xs)
-some_by p x xs true e h ih = omega (arith, how_many-cons p x xs, ap bit e)
-some_by p x xs false e h ih = omega (arith, how_many-cons p x xs, ap bit e, ih h)
+some_by p x xs b e h ih = grind arith
 
 -- where one passes, the count isn't 0
 pub some_counted : {A : Type 0} (p : A → Bool) (xs : List A) → list_any p xs ≡ true → 0 < how_many p xs
@@ -74,8 +68,7 @@ some_counted p (x ∷ xs) h = some_by p x xs (p x) refl h (some_counted p xs)
 
 any_by : {A : Type 0} (p : A → Bool) (x : A) (xs : List A) (b : Bool) → p x ≡ b → 0 < how_many p (x ∷ xs) → (0 < how_many p xs → list_any p xs ≡ true) →
     (b || list_any p xs) ≡ true
-any_by p x xs true e h ih = refl
-any_by p x xs false e h ih = ih (omega (arith, how_many-cons p x xs, ap bit e, h))
+any_by p x xs b e h ih = grind arith
 
 -- where the count isn't 0, one passes
 pub any_counted : {A : Type 0} (p : A → Bool) (xs : List A) → 0 < how_many p xs → list_any p xs ≡ true
@@ -83,9 +76,7 @@ any_counted p [] h = absurd (omega (arith, h))
 any_counted p (x ∷ xs) h = any_by p x xs (p x) refl h (any_counted p xs)
 
 any_more_by : (a b more less : Bool) → (a ≡ true → b ≡ true) → (less ≡ true → more ≡ true) → (a || less) ≡ true → (b || more) ≡ true
-any_more_by true b more less f ih h = rw (f refl) refl
-any_more_by false true more less f ih h = refl
-any_more_by false false more less f ih h = ih h
+any_more_by a b more less f ih h = grind arith
 
 -- a weaker test
 pub any_weaker : {A : Type 0} (p q : A → Bool) → ((x : A) → p x ≡ true → q x ≡ true) → (xs : List A) → list_any p xs ≡ true → list_any q xs ≡ true
@@ -96,8 +87,7 @@ any_weaker p q f (x ∷ xs) h = any_more_by (p x) (q x) (list_any q xs) (list_an
 
 flat_filter_by : {A B : Type 0} (g : A → List B) (x : A) (rest : List A) (other : List B) (b : Bool) → flat_map g rest ≡ other →
     flat_map g (cond b (x ∷ rest) rest) ≡ cond b (g x) [] ++ other
-flat_filter_by g x rest other true ih = ap (λ ys. g x ++ ys) ih
-flat_filter_by g x rest other false ih = ih
+flat_filter_by g x rest other b ih = grind arith
 
 -- the groups of what passes a test are empty groups of what doesn't
 pub flat_filter : {A B : Type 0} (g : A → List B) (m : A → Bool) (xs : List A) → flat_map g (filter m xs) ≡ flat_map (λ x. cond (m x) (g x) []) xs
@@ -111,10 +101,7 @@ CountsBy {C} g p mark n = (c : C) → how_many p (g c) ≡ cond (mark c) n 0
 none_by : {C R : Type 0} (g : C → List R) (p : R → Bool) (mark : C → Bool) (n : ℕ) → CountsBy g p mark n → (c : C) (cs : List C) (b : Bool) → mark c ≡ b →
     how_many mark (c ∷ cs) ≡ 0 →
     (how_many mark cs ≡ 0 → how_many p (flat_map g cs) ≡ 0) → how_many p (flat_map g (c ∷ cs)) ≡ 0
-none_by g p mark n counts c cs true e h ih = absurd (omega (arith, how_many-cons mark c cs, ap bit e, h))
-none_by g p mark n counts c cs false e h ih =
-    let here : how_many p (g c) ≡ 0 = counts c ∙ ap (λ b. cond b n 0) e in
-    omega (arith, how_many-append p (g c) (flat_map g cs), here, ih (omega (arith, how_many-cons mark c cs, ap bit e, h)))
+none_by g p mark n counts c cs b e h ih = grind (arith, how_many-cons, how_many-append)
 
 counted_none : {C R : Type 0} (g : C → List R) (p : R → Bool) (mark : C → Bool) (n : ℕ) → CountsBy g p mark n → (cs : List C) → how_many mark cs ≡ 0 →
     how_many p (flat_map g cs) ≡ 0
@@ -142,19 +129,9 @@ counted_once g p mark n counts (c ∷ cs) h = once_by g p mark n counts c cs (ma
 abbrev pub CountsEach : {C R : Type 0} → (C → List R) → (R → Bool) → (C → Bool) → (C → ℕ) → Type 0
 CountsEach {C} g p mark t = (c : C) → how_many p (g c) ≡ cond (mark c) (t c) 0
 
-gate_none : {R : Type 0} (p : R → Bool) (group : List R) (b : Bool) → how_many p group ≡ 0 → how_many p (cond b group []) ≡ 0
-gate_none p group true e = e
-gate_none p group false e = refl
-
-gate_same : {R : Type 0} (p : R → Bool) (group : List R) (n : ℕ) (b : Bool) → how_many p group ≡ n → how_many p (cond b group []) ≡ cond b n 0
-gate_same p group n true e = e
-gate_same p group n false e = refl
-
 home_by : {C R : Type 0} (g : C → List R) (p : R → Bool) (mark m : C → Bool) (t : C → ℕ) (home : C) → ((c : C) → mark c ≡ true → c ≡ home) →
     CountsEach g p mark t → (c : C) (b : Bool) → mark c ≡ b → how_many p (cond (m c) (g c) []) ≡ cond b (cond (m home) (t home) 0) 0
-home_by g p mark m t home is counts c true e =
-    gate_same p (g c) (t c) (m c) (counts c ∙ ap (λ b. cond b (t c) 0) e) ∙ ap (λ d. cond (m d) (t d) 0) (is c e)
-home_by g p mark m t home is counts c false e = gate_none p (g c) (m c) (counts c ∙ ap (λ b. cond b (t c) 0) e)
+home_by g p mark m t home is counts c b e = grind arith
 
 -- Where the one marked group is that of `home`, what passes in the groups that are taken is what passes in that one, if it is taken.
 pub counted_home : {C R : Type 0} (g : C → List R) (p : R → Bool) (mark m : C → Bool) (t : C → ℕ) (home : C) → ((c : C) → mark c ≡ true → c ≡ home) →
@@ -166,9 +143,7 @@ counted_home g p mark m t home is counts cs one =
 
 all_home_by : {C : Type 0} (p mark : C → Bool) (home : C) → ((c : C) → mark c ≡ true → c ≡ home) → (c : C) (cs : List C) (a b : Bool) → p c ≡ a → mark c ≡ b →
     (a && list_all p cs) ≡ true → how_many mark (c ∷ cs) ≡ 1 → (list_all p cs ≡ true → how_many mark cs ≡ 1 → p home ≡ true) → p home ≡ true
-all_home_by p mark home is c cs false b e f all one ih = cc
-all_home_by p mark home is c cs true true e f all one ih = ap p (sym (is c f)) ∙ e
-all_home_by p mark home is c cs true false e f all one ih = ih all (omega (arith, how_many-cons mark c cs, ap bit f, one))
+all_home_by p mark home is c cs a b e f all one ih = grind arith
 
 -- what all pass, the marked one passes
 pub all_home : {C : Type 0} (p mark : C → Bool) (home : C) → ((c : C) → mark c ≡ true → c ≡ home) → (cs : List C) → list_all p cs ≡ true →
@@ -206,8 +181,7 @@ abbrev pub copies : {R A : Type 0} → (R → A → Bool) → List R → A → L
 copies p rs x = map (λ r. x) (filter (λ r. p r x) rs)
 
 copy_by : {R A : Type 0} (r : R) (x : A) (kept : List R) (b : Bool) → cond b (x ∷ map (λ _. x) kept) (map (λ _. x) kept) ≡ map (λ _. x) (cond b (r ∷ kept) kept)
-copy_by r x kept true = refl
-copy_by r x kept false = refl
+copy_by r x kept b = grind arith
 
 pub flat_agree : {A B : Type 0} (f g : A → List B) (xs : List A) → AllByRecursion (λ x. f x ≡ g x) xs → flat_map f xs ≡ flat_map g xs
 flat_agree f g [] same = refl
@@ -255,8 +229,7 @@ same_selected p q rs ss xs same =
 
 filter_twice_by : {A : Type 0} (q : A → Bool) (x : A) (kept all : List A) (b : Bool) → filter q kept ≡ all →
     filter q (cond b (x ∷ kept) kept) ≡ cond (b && q x) (x ∷ all) all
-filter_twice_by q x kept all true e = ap (λ ys. cond (q x) (x ∷ ys) ys) e
-filter_twice_by q x kept all false e = e
+filter_twice_by q x kept all b e = grind arith
 
 pub filter_twice : {A : Type 0} (p q : A → Bool) (xs : List A) → filter q (filter p xs) ≡ filter (λ x. p x && q x) xs
 filter_twice p q [] = refl
@@ -264,8 +237,7 @@ filter_twice p q (x ∷ xs) = filter_twice_by q x (filter p xs) (filter (λ y. p
 
 filter_mapped_by : {A B : Type 0} (f : A → B) (x : A) (kept : List A) (other : List B) (b : Bool) → other ≡ map f kept →
     cond b (f x ∷ other) other ≡ map f (cond b (x ∷ kept) kept)
-filter_mapped_by f x kept other true e = ap (λ ys. f x ∷ ys) e
-filter_mapped_by f x kept other false e = e
+filter_mapped_by f x kept other b e = grind arith
 
 pub filter_mapped : {A B : Type 0} (f : A → B) (p : B → Bool) (xs : List A) → filter p (map f xs) ≡ map f (filter (λ x. p (f x)) xs)
 filter_mapped f p [] = refl

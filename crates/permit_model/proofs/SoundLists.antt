@@ -1,8 +1,8 @@
 -- Tests of lists: those that stay where the list grows, and those that are told by facts of the items.
-use Rattle.std.proofs.Common.{arith, ◌≡◌, ◌≤◌, ℕ, ◌+◌, Bool, true, false, not, cond, List, [], ◌∷◌, ◌++◌, refl, ◌∙◌, ap}
-use Rattle.std.specs.Prelude.{Option, None, Some, is_some, option_map, find, nat_le}
+use Rattle.std.proofs.Common.{arith, ◌≡◌, ◌≤◌, ℕ, ◌+◌, Bool, true, false, not, cond, List, [], ◌∷◌, ◌++◌, refl}
+use Rattle.std.specs.Prelude.{Option, Some, is_some, option_map, find}
 use Rattle.std.specs.List.{list_all, All}
-use Rattle.std.proofs.lemmas.Bool.{eq-eqb, le-leb, leb-true, and_from, and_parts}
+use Rattle.std.proofs.lemmas.Bool.{eq-eqb, le-leb, and_from, and_parts}
 use Rattle.std.proofs.lemmas.List.Folds.{list_all-append}
 use Rattle.std.proofs.lemmas.List.Sums.{list_all-from_AllPass}
 use Rattle.permit_base.specs.Limits.{is_between}
@@ -16,14 +16,11 @@ pub between : (low high n : ℕ) → low ≤ n → n ≤ high → is_between low
 between low high n f g = and_from _ _ (le-leb low n f) (le-leb n high g)
 
 pub between_later : (low high higher n : ℕ) → high ≤ higher → is_between low high n ≡ true → is_between low higher n ≡ true
-between_later low high higher n more e =
-    let parts = and_parts (nat_le low n) (nat_le n high) e in
-    between low higher n (leb-true low n parts.0) (omega (arith, more, leb-true n high parts.1))
+between_later low high higher n more e = grind arith
 
 -- what a passed test denies doesn't hold
 pub passed_not : (b : Bool) → not b ≡ false → b ≡ true
-passed_not true e = refl
-passed_not false e = cc
+passed_not b e = grind arith
 
 -- what is said by a fact is said by the test
 pub numbered_test : {A : Type 0} (number : A → ℕ) (first : ℕ) (xs : List A) → IsNumberedFrom number first xs → is_numbered_from number first xs ≡ true
@@ -33,23 +30,19 @@ numbered_test number first (x ∷ xs) numbered = and_from _ _ (eq-eqb (number x)
 -- ---- a number that is there
 
 pub mapped_there : {A B : Type 0} (f : A → B) (o : Option A) → is_some (option_map f o) ≡ is_some o
-mapped_there f None = refl
-mapped_there f (Some x) = refl
+mapped_there f o = grind arith
 
 pub any_from : (test : ℕ → Bool) (o : Option ℕ) → ((n : ℕ) → o ≡ Some n → test n ≡ true) → if_any test o ≡ true
-any_from test None each = refl
-any_from test (Some n) each = each n refl
+any_from test o each = grind arith
 
 pub any_more : (test more : ℕ → Bool) (o : Option ℕ) → ((n : ℕ) → test n ≡ true → more n ≡ true) → if_any test o ≡ true → if_any more o ≡ true
-any_more test more None weaker e = refl
-any_more test more (Some n) weaker e = weaker n e
+any_more test more o weaker e = grind arith
 
 -- ---- one item more
 
 pub all_last : {A : Type 0} (test : A → Bool) (xs : List A) (new : Option A) → list_all test xs ≡ true → ((x : A) → new ≡ Some x → test x ≡ true) →
     list_all test (add_last xs new) ≡ true
-all_last test xs None all each = all
-all_last test xs (Some x) all each = list_all-append test xs (x ∷ []) ∙ and_from _ _ all (and_from _ _ (each x refl) refl)
+all_last test xs new all each = grind (arith, list_all-append, and_from)
 
 -- what passes one test passes another
 pub all_more : {A : Type 0} (test more : A → Bool) (xs : List A) → ((x : A) → test x ≡ true → more x ≡ true) → list_all test xs ≡ true → list_all more xs ≡ true
@@ -73,8 +66,7 @@ all_passing test xs all = list_all-from_AllPass test xs all
 
 stays_by : {A : Type 0} (x : A) (b : Bool) (rest more : Option A) (y : A) → cond b (Some x) rest ≡ Some y → (rest ≡ Some y → more ≡ Some y) →
     cond b (Some x) more ≡ Some y
-stays_by x true rest more y e ih = e
-stays_by x false rest more y e ih = ih e
+stays_by x b rest more y e ih = grind arith
 
 -- what is found is found in a longer list
 pub found_front : {A : Type 0} (test : A → Bool) (xs ys : List A) (y : A) → find test xs ≡ Some y → find test (xs ++ ys) ≡ Some y
@@ -82,13 +74,11 @@ found_front test [] ys y e = cc
 found_front test (x ∷ xs) ys y e = stays_by x (test x) (find test xs) (find test (xs ++ ys)) y e (found_front test xs ys y)
 
 pub found_last : {A : Type 0} (test : A → Bool) (xs : List A) (new : Option A) (y : A) → find test xs ≡ Some y → find test (add_last xs new) ≡ Some y
-found_last test xs None y e = e
-found_last test xs (Some x) y e = found_front test xs (x ∷ []) y e
+found_last test xs new y e = grind (arith, found_front)
 
 there_by : {A : Type 0} (test : A → Bool) (xs : List A) (new : Option A) (o : Option A) → find test xs ≡ o → is_some o ≡ true →
     is_some (find test (add_last xs new)) ≡ true
-there_by test xs new None e there = cc
-there_by test xs new (Some y) e there = ap is_some (found_last test xs new y e)
+there_by test xs new o e there = grind (arith, found_last)
 
 pub there_last : {A : Type 0} (test : A → Bool) (xs : List A) (new : Option A) → is_some (find test xs) ≡ true → is_some (find test (add_last xs new)) ≡ true
 there_last test xs new there = there_by test xs new (find test xs) refl there

@@ -2,35 +2,30 @@
 use Rattle.std.proofs.Common.{◌≡◌, ◌≤◌, ◌<◌, ℕ, Bool, true, false, ◌==◌, List, [], ◌∷◌, ◌++◌, map, length, refl, sym, ◌∙◌, ap, arith, length-append}
 use Rattle.std.specs.Prelude.{Option, None, Some, is_some, find, ◌&&◌, nat_le, IsTrue, unwrap_or}
 use Rattle.std.specs.List.{list_all}
-use Rattle.std.specs.Option.{option_or}
 use Rattle.std.proofs.lemmas.Bool.{eq-eqb, le-leb, leb-false, and_from, and_parts}
 use Rattle.std.proofs.lemmas.List.{length-map}
 use Rattle.std.proofs.lemmas.List.Folds.{list_all-map}
 use Rattle.permit_base.specs.Limits.{most_records, latest_day}
 use Rattle.permit_base.specs.Texts.{is_printable, is_lot}
-use Rattle.permit_base.specs.Digests.{digest_of}
 use Rattle.permit_base.proofs.DigestLetters.{is_digest-digest_of}
 use Rattle.permit_base.specs.declared.words.Role.{Role}
 use Rattle.permit_base.specs.declared.words.Role.TheVariants.{Official}
 use Rattle.permit_base.specs.declared.words.Edition.{Edition}
-use Rattle.permit_base.specs.declared.words.Edition.TheVariants.{First, Second}
-use Rattle.permit_base.specs.declared.request.Request.TheVariants.{AddParty, AddParcel, Transfer, Declare, File}
 use Rattle.permit_model.specs.Codes.{is_edition}
-use Rattle.permit_model.specs.Search.{in_order, add_last, latest, when}
-use Rattle.permit_model.specs.History.{Deed, Founding, Upgrade, Accepted, Entry, History, edition, last_day}
+use Rattle.permit_model.specs.Search.{in_order, add_last, latest}
+use Rattle.permit_model.specs.History.{Deed, Entry, History, edition, last_day}
 use Rattle.permit_model.specs.Caller.{Party, party_by, party_made, parties, party_numbered, is_party, has_role}
 use Rattle.permit_model.specs.Parcels.{Parcel, parcel_added, parcel_by, parcel_now, parcels, parcel_numbered, receiver_by, Interest, interest_by, interests}
-use Rattle.permit_model.specs.Files.{CaseFile, filings, case_file, case_files}
-use Rattle.permit_model.specs.Admission.{tests}
-use Rattle.permit_model.specs.Tables.{FileRow, file_row, tables, edition_by, files_at_upgrade}
+use Rattle.permit_model.specs.Files.{filings, case_file, case_files}
+use Rattle.permit_model.specs.Tables.{file_row, tables, edition_by, files_at_upgrade}
 use Rattle.permit_model.specs.Machine.{MayFollow, IsFounding, IsHistory}
 use Rattle.permit_model.specs.Within.{is_deed_within, AreWithinLimits}
 use Rattle.permit_model.specs.Sound.{if_any, is_sound_desk, are_numbered, is_sound_party, are_sound_parties, is_sound_parcel, are_sound_parcels}
 use Rattle.permit_model.proofs.Lists.{find_mapped, numbered_mapped}
 use Rattle.permit_model.proofs.Fronts.{all_pass}
-use Rattle.permit_model.proofs.Numbers.{number_is, parties_numbered, parcels_numbered, case_files_numbered}
+use Rattle.permit_model.proofs.Numbers.{parties_numbered, parcels_numbered, case_files_numbered}
 use Rattle.permit_model.proofs.Editions.{counted, IsWithin}
-use Rattle.permit_model.proofs.SoundLists.{between, numbered_test, all_last, all_more, found_last, there_last, passed_not, mapped_there}
+use Rattle.permit_model.proofs.SoundLists.{between, numbered_test, all_last, all_more, found_last, there_last, mapped_there}
 
 abbrev pub entry_by : (caller day : ℕ) → Deed → Option ℕ → Entry
 entry_by caller day deed number = record { caller = caller; day = day; deed = deed; number = number }
@@ -38,13 +33,11 @@ entry_by caller day deed number = record { caller = caller; day = day; deed = de
 -- ---- what is there stays
 
 role_by : (role : Role) (old new : Option Party) → ((p : Party) → old ≡ Some p → new ≡ Some p) → has_role role old ≡ true → has_role role new ≡ true
-role_by role None new stays e = cc
-role_by role (Some p) new stays e = ap (has_role role) (stays p refl) ∙ e
+role_by role old new stays e = grind arith
 
 pub role_stays : (h : History) (entry : Entry) (role : Role) (id : ℕ) → has_role role (party_numbered h id) ≡ true →
     has_role role (party_numbered (entry ∷ h) id) ≡ true
-role_stays h entry role id e = role_by role (party_numbered h id) (party_numbered (entry ∷ h) id)
-    (λ p found. found_last (λ (q : Party). q.id == id) (parties h) (party_made entry) p found) e
+role_stays h entry role id e = grind (arith, role_by, found_last)
 
 pub party_stays : (h : History) (entry : Entry) (id : ℕ) → is_party h id ≡ true → is_party (entry ∷ h) id ≡ true
 party_stays h entry id e = there_last (λ (p : Party). p.id == id) (parties h) (party_made entry) e
@@ -62,14 +55,10 @@ parcel_stays h entry id e = added_there (entry ∷ h) id
 
 -- the day of a founding is above 0, and days never fall
 begun_deed : (h : History) (caller day : ℕ) (deed : Deed) (number : Option ℕ) → MayFollow h (entry_by caller day deed number) deed → 0 < last_day h → 0 < day
-begun_deed h caller day (Founding name digest) number may ih = absurd may
-begun_deed h caller day Upgrade number may ih = omega (arith, may.same_day, ih)
-begun_deed h caller day (Accepted request) number may ih = omega (arith, may.in_time, ih)
+begun_deed h caller day deed number may ih = grind arith
 
 begun_first : (caller day : ℕ) (deed : Deed) (number : Option ℕ) → IsFounding (entry_by caller day deed number) deed → 0 < day
-begun_first caller day (Founding name digest) number is = is.0
-begun_first caller day Upgrade number is = absurd is
-begun_first caller day (Accepted request) number is = absurd is
+begun_first caller day deed number is = grind arith
 
 pub begun : (h : History) → IsHistory h → 0 < last_day h
 begun [] is = absurd is
@@ -86,21 +75,11 @@ AreSome count = (1 ≤ count) × (count ≤ most_records)
 
 parties_deed : (h : History) (caller day : ℕ) (deed : Deed) (number : Option ℕ) → MayFollow h (entry_by caller day deed number) deed →
     AreSome (length (parties h)) → AreSome (length (parties (entry_by caller day deed number ∷ h)))
-parties_deed h caller day (Founding name digest) number may ih = absurd may
-parties_deed h caller day Upgrade number may ih = ih
-parties_deed h caller day (Accepted (AddParty name role token)) None may ih = ih
-parties_deed h caller day (Accepted (AddParty name role token)) (Some n) may ih =
-    let new : Party = record { id = n; name = name; role = role; digest = digest_of token } in
-    let passed = all_pass (tests h day caller (AddParty name role token)) may.admitted in
-    (omega (arith, length-append (parties h) (new ∷ [])), few_last (parties h) new most_records passed.1.0)
-parties_deed h caller day (Accepted request) number may ih = ih
+parties_deed h caller day deed number may ih = grind (arith, all_pass, length-append, few_last)
 
 parties_first : (caller day : ℕ) (deed : Deed) (number : Option ℕ) → IsFounding (entry_by caller day deed number) deed →
     AreSome (length (parties (entry_by caller day deed number ∷ [])))
-parties_first caller day (Founding name digest) None is = cc
-parties_first caller day (Founding name digest) (Some n) is = (omega arith, omega arith)
-parties_first caller day Upgrade number is = absurd is
-parties_first caller day (Accepted request) number is = absurd is
+parties_first caller day deed number is = grind arith
 
 -- there is a party, and there are at most so many
 pub some_parties : (h : History) → IsHistory h → AreSome (length (parties h))
@@ -111,21 +90,11 @@ some_parties (entry ∷ last ∷ before) is = parties_deed (last ∷ before) ent
 
 parcels_deed : (h : History) (caller day : ℕ) (deed : Deed) (number : Option ℕ) → MayFollow h (entry_by caller day deed number) deed →
     length (in_order parcel_added h) ≤ most_records → length (in_order parcel_added (entry_by caller day deed number ∷ h)) ≤ most_records
-parcels_deed h caller day (Founding name digest) number may ih = absurd may
-parcels_deed h caller day Upgrade number may ih = ih
-parcels_deed h caller day (Accepted (AddParcel lot address owner)) None may ih = ih
-parcels_deed h caller day (Accepted (AddParcel lot address owner)) (Some n) may ih =
-    let new : Parcel = record { id = n; lot = lot; address = address; owner = owner } in
-    let passed = all_pass (tests h day caller (AddParcel lot address owner)) may.admitted in
-    let below : length (parcels h) < most_records = leb-false most_records (length (parcels h)) passed.1.1.0 in
-    omega (arith, length-append (in_order parcel_added h) (new ∷ []), below, length-map (in_order parcel_added h) (parcel_now h))
-parcels_deed h caller day (Accepted request) number may ih = ih
+parcels_deed h caller day deed number may ih = grind (arith, all_pass, leb-false, length-append, length-map)
 
 parcels_first : (caller day : ℕ) (deed : Deed) (number : Option ℕ) → IsFounding (entry_by caller day deed number) deed →
     length (in_order parcel_added (entry_by caller day deed number ∷ [])) ≤ most_records
-parcels_first caller day (Founding name digest) number is = omega arith
-parcels_first caller day Upgrade number is = absurd is
-parcels_first caller day (Accepted request) number is = absurd is
+parcels_first caller day deed number is = grind arith
 
 few_added : (h : History) → IsHistory h → length (in_order parcel_added h) ≤ most_records
 few_added [] is = absurd is
@@ -138,18 +107,11 @@ few_parcels h is = omega (arith, few_added h is, length-map (in_order parcel_add
 
 filings_deed : (h : History) (caller day : ℕ) (deed : Deed) (number : Option ℕ) → MayFollow h (entry_by caller day deed number) deed →
     length (filings h) ≤ most_records → length (filings (entry_by caller day deed number ∷ h)) ≤ most_records
-filings_deed h caller day (Founding name digest) number may ih = absurd may
-filings_deed h caller day Upgrade number may ih = ih
-filings_deed h caller day (Accepted (File parcel kind valuation description)) None may ih = ih
-filings_deed h caller day (Accepted (File parcel kind valuation description)) (Some n) may ih =
-    few_last (filings h) _ most_records (all_pass (tests h day caller (File parcel kind valuation description)) may.admitted).0
-filings_deed h caller day (Accepted request) number may ih = ih
+filings_deed h caller day deed number may ih = grind (arith, few_last, all_pass)
 
 filings_first : (caller day : ℕ) (deed : Deed) (number : Option ℕ) → IsFounding (entry_by caller day deed number) deed →
     length (filings (entry_by caller day deed number ∷ [])) ≤ most_records
-filings_first caller day (Founding name digest) number is = omega arith
-filings_first caller day Upgrade number is = absurd is
-filings_first caller day (Accepted request) number is = absurd is
+filings_first caller day deed number is = grind arith
 
 few_filings : (h : History) → IsHistory h → length (filings h) ≤ most_records
 few_filings [] is = absurd is
@@ -157,15 +119,13 @@ few_filings (entry ∷ []) is = filings_first entry.caller entry.day entry.deed 
 few_filings (entry ∷ last ∷ before) is = filings_deed (last ∷ before) entry.caller entry.day entry.deed entry.number is.0 (few_filings (last ∷ before) is.1)
 
 same_edition : (e : Edition) → is_edition e e ≡ true
-same_edition First = refl
-same_edition Second = refl
+same_edition e = grind arith
 
 pub edition_told : (e at : Edition) → e ≡ at → is_edition e at ≡ true
 edition_told e at same = ap (is_edition e) (sym same) ∙ same_edition e
 
 upto_now : (at : Option ℕ) (made files : ℕ) → IsWithin at made → files ≡ made → if_any (λ count. nat_le count files) at ≡ true
-upto_now None made files within same = refl
-upto_now (Some count) made files within same = le-leb count files (omega (arith, within, same))
+upto_now at made files within same = grind arith
 
 pub desk_sound : (h : History) → IsHistory h → last_day h ≤ latest_day → IsTrue (is_sound_desk (tables h))
 desk_sound h is early =
@@ -184,26 +144,13 @@ desk_sound h is early =
 -- ---- numbering
 
 pub numbering_sound : (h : History) → IsHistory h → IsTrue (are_numbered (tables h))
-numbering_sound h is =
-    and_from _ _ (and_from _ _ (numbered_test (λ (p : Party). p.id) 1 (parties h) (parties_numbered h is))
-    (numbered_test (λ (p : Parcel). p.id) 1 (parcels h) (parcels_numbered h is)))
-    (numbered_test (λ (f : FileRow). f.id) 1 (map file_row (case_files h))
-    (numbered_mapped file_row (λ (f : CaseFile). f.filing.id) (λ (f : FileRow). f.id) (λ f. refl) 1 (case_files h) (case_files_numbered h is)))
+numbering_sound h is = grind (arith, and_from, numbered_test, parties_numbered, parcels_numbered, numbered_mapped, case_files_numbered)
 
 -- ---- parties
 
 party_within : (h : History) (caller day : ℕ) (deed : Deed) (number : Option ℕ) → is_deed_within deed ≡ true → (p : Party) →
     party_by deed number ≡ Some p → is_sound_party p ≡ true
-party_within h caller day (Founding name digest) (Some n) within p made =
-    let same : record { id = n; name = name; role = Official; digest = digest } ≡ p = ap (λ o. unwrap_or o p) made in
-    rw (← same) within
-party_within h caller day (Accepted (AddParty name role token)) (Some n) within p made =
-    let same : record { id = n; name = name; role = role; digest = digest_of token } ≡ p = ap (λ o. unwrap_or o p) made in
-    rw (← same) (and_from _ _ within (is_digest-digest_of token))
-party_within h caller day (Founding name digest) None within p made = cc
-party_within h caller day (Accepted (AddParty name role token)) None within p made = cc
-party_within h caller day Upgrade number within p made = cc
-party_within h caller day (Accepted request) number within p made = cc
+party_within h caller day deed number within p made = grind (arith, and_from, is_digest-digest_of)
 
 all_parties : (h : History) → AreWithinLimits h → list_all is_sound_party (parties h) ≡ true
 all_parties [] within = refl
@@ -214,10 +161,7 @@ all_parties (entry ∷ before) within =
 
 official_first : (caller day : ℕ) (deed : Deed) (number : Option ℕ) → IsFounding (entry_by caller day deed number) deed →
     has_role Official (party_numbered (entry_by caller day deed number ∷ []) 1) ≡ true
-official_first caller day (Founding name digest) None is = cc
-official_first caller day (Founding name digest) (Some n) is = let first : n ≡ 1 = number_is n 1 is.1 in rw first refl
-official_first caller day Upgrade number is = absurd is
-official_first caller day (Accepted request) number is = absurd is
+official_first caller day deed number is = grind arith
 
 -- party 1 is an official
 pub official : (h : History) → IsHistory h → has_role Official (party_numbered h 1) ≡ true
@@ -235,31 +179,18 @@ abbrev pub is_added : History → Parcel → Bool
 is_added h p = is_lot p.lot && is_printable p.address && is_party h p.owner
 
 added_stays : (h : History) (entry : Entry) (p : Parcel) → is_added h p ≡ true → is_added (entry ∷ h) p ≡ true
-added_stays h entry p e =
-    let parts = and_parts (is_lot p.lot && is_printable p.address) (is_party h p.owner) e in
-    and_from _ _ parts.0 (party_stays h entry p.owner parts.1)
+added_stays h entry p e = grind (arith, and_parts, and_from, party_stays)
 
 new_added : (h : History) (caller day : ℕ) (deed : Deed) (number : Option ℕ) → MayFollow h (entry_by caller day deed number) deed → is_deed_within deed ≡ true →
     (p : Parcel) → parcel_by deed number ≡ Some p → is_added h p ≡ true
-new_added h caller day (Accepted (AddParcel lot address owner)) (Some n) may within p made =
-    let same : record { id = n; lot = lot; address = address; owner = owner } ≡ p = ap (λ o. unwrap_or o p) made in
-    rw (← same) (and_from _ _ within (passed_not (is_party h owner) (all_pass (tests h day caller (AddParcel lot address owner)) may.admitted).0))
-new_added h caller day (Accepted (AddParcel lot address owner)) None may within p made = cc
-new_added h caller day (Founding name digest) number may within p made = cc
-new_added h caller day Upgrade number may within p made = cc
-new_added h caller day (Accepted request) number may within p made = cc
+new_added h caller day deed number may within p made = grind arith
 
 added_first : (caller day : ℕ) (deed : Deed) (number : Option ℕ) → IsFounding (entry_by caller day deed number) deed → parcel_by deed number ≡ None
-added_first caller day (Founding name digest) number is = refl
-added_first caller day Upgrade number is = absurd is
-added_first caller day (Accepted request) number is = absurd is
+added_first caller day deed number is = grind arith
 
 added_more : (h : History) (entry : Entry) → MayFollow h entry entry.deed → is_deed_within entry.deed ≡ true →
     list_all (is_added h) (in_order parcel_added h) ≡ true → list_all (is_added (entry ∷ h)) (in_order parcel_added (entry ∷ h)) ≡ true
-added_more h entry may within ih =
-    all_last (is_added (entry ∷ h)) (in_order parcel_added h) (parcel_added entry)
-    (all_more (is_added h) (is_added (entry ∷ h)) (in_order parcel_added h) (added_stays h entry) ih)
-    (λ p made. added_stays h entry p (new_added h entry.caller entry.day entry.deed entry.number may within p made))
+added_more h entry may within ih = grind (arith, all_last, all_more, added_stays, new_added)
 
 all_added : (h : History) → IsHistory h → AreWithinLimits h → list_all (is_added h) (in_order parcel_added h) ≡ true
 all_added [] is within = absurd is
@@ -269,32 +200,17 @@ all_added (entry ∷ last ∷ before) is within =
     let parts = and_parts (is_deed_within entry.deed) (list_all (λ e. is_deed_within e.deed) (last ∷ before)) within in
     added_more (last ∷ before) entry is.0 parts.0 (all_added (last ∷ before) is.1 parts.1)
 
--- whoever a parcel was transferred to is there
-received : (h : History) (id caller day parcel to party : ℕ) (b : Bool) → is_party h to ≡ true →
-    option_or (when b to) (latest (λ (e : Entry). receiver_by id e.deed) h) ≡ Some party →
-    (latest (λ (e : Entry). receiver_by id e.deed) h ≡ Some party → is_party h party ≡ true) → is_party h party ≡ true
-received h id caller day parcel to party true there e ih = ap (is_party h) (ap (λ o. unwrap_or o to) (sym e)) ∙ there
-received h id caller day parcel to party false there e ih = ih e
-
 receiver_deed : (h : History) (id caller day : ℕ) (deed : Deed) (number : Option ℕ) (party : ℕ) → MayFollow h (entry_by caller day deed number) deed →
     latest (λ (e : Entry). receiver_by id e.deed) (entry_by caller day deed number ∷ h) ≡ Some party →
     (latest (λ (e : Entry). receiver_by id e.deed) h ≡ Some party → is_party h party ≡ true) → is_party h party ≡ true
-receiver_deed h id caller day (Founding name digest) number party may e ih = absurd may
-receiver_deed h id caller day Upgrade number party may e ih = ih e
-receiver_deed h id caller day (Accepted (Transfer parcel to)) number party may e ih =
-    received h id caller day parcel to party (parcel == id)
-    (passed_not (is_party h to) (all_pass (tests h day caller (Transfer parcel to)) may.admitted).0) e ih
-receiver_deed h id caller day (Accepted request) number party may e ih = ih e
+receiver_deed h id caller day deed number party may e ih = grind arith
 
 receiver_first : (id caller day : ℕ) (deed : Deed) (number : Option ℕ) → IsFounding (entry_by caller day deed number) deed →
     latest (λ (e : Entry). receiver_by id e.deed) (entry_by caller day deed number ∷ []) ≡ None
-receiver_first id caller day (Founding name digest) number is = refl
-receiver_first id caller day Upgrade number is = absurd is
-receiver_first id caller day (Accepted request) number is = absurd is
+receiver_first id caller day deed number is = grind arith
 
 nobody : (o : Option ℕ) (party : ℕ) → o ≡ None → o ≡ Some party → ⊥
-nobody None party none e = cc
-nobody (Some p) party none e = cc
+nobody o party none e = grind arith
 
 receiver_there : (h : History) (id party : ℕ) → IsHistory h → latest (λ (e : Entry). receiver_by id e.deed) h ≡ Some party → is_party h party ≡ true
 receiver_there [] id party is e = absurd is
@@ -306,8 +222,7 @@ receiver_there (entry ∷ last ∷ before) id party is e =
 
 owner_there : (h : History) (o : Option ℕ) (first : ℕ) → ((party : ℕ) → o ≡ Some party → is_party h party ≡ true) → is_party h first ≡ true →
     is_party h (unwrap_or o first) ≡ true
-owner_there h None first each there = there
-owner_there h (Some party) first each there = each party refl
+owner_there h o first each there = grind arith
 
 parcel_sound : (h : History) → IsHistory h → (p : Parcel) → is_added h p ≡ true → is_sound_parcel (tables h) (parcel_now h p) ≡ true
 parcel_sound h is p e =
@@ -321,30 +236,18 @@ abbrev pub is_declared : History → Interest → Bool
 is_declared h i = is_some (parcel_numbered h i.parcel) && is_party h i.party
 
 declared_stays : (h : History) (entry : Entry) (i : Interest) → is_declared h i ≡ true → is_declared (entry ∷ h) i ≡ true
-declared_stays h entry i e =
-    let parts = and_parts (is_some (parcel_numbered h i.parcel)) (is_party h i.party) e in
-    and_from _ _ (parcel_stays h entry i.parcel parts.0) (party_stays h entry i.party parts.1)
+declared_stays h entry i e = grind (arith, and_parts, and_from, parcel_stays, party_stays)
 
 new_declared : (h : History) (caller day : ℕ) (deed : Deed) (number : Option ℕ) → MayFollow h (entry_by caller day deed number) deed →
     (i : Interest) → interest_by deed caller ≡ Some i → is_declared h i ≡ true
-new_declared h caller day (Accepted (Declare parcel)) number may i made =
-    let same : record { parcel = parcel; party = caller } ≡ i = ap (λ o. unwrap_or o i) made in
-    rw (← same) (and_from _ _ may.record_there may.caller_there)
-new_declared h caller day (Founding name digest) number may i made = cc
-new_declared h caller day Upgrade number may i made = cc
-new_declared h caller day (Accepted request) number may i made = cc
+new_declared h caller day deed number may i made = grind arith
 
 declared_first : (caller day : ℕ) (deed : Deed) (number : Option ℕ) → IsFounding (entry_by caller day deed number) deed → interest_by deed caller ≡ None
-declared_first caller day (Founding name digest) number is = refl
-declared_first caller day Upgrade number is = absurd is
-declared_first caller day (Accepted request) number is = absurd is
+declared_first caller day deed number is = grind arith
 
 declared_more : (h : History) (entry : Entry) → MayFollow h entry entry.deed → list_all (is_declared h) (interests h) ≡ true →
     list_all (is_declared (entry ∷ h)) (interests (entry ∷ h)) ≡ true
-declared_more h entry may ih =
-    all_last (is_declared (entry ∷ h)) (interests h) (interest_by entry.deed entry.caller)
-    (all_more (is_declared h) (is_declared (entry ∷ h)) (interests h) (declared_stays h entry) ih)
-    (λ i made. declared_stays h entry i (new_declared h entry.caller entry.day entry.deed entry.number may i made))
+declared_more h entry may ih = grind (arith, all_last, all_more, declared_stays, new_declared)
 
 all_declared : (h : History) → IsHistory h → list_all (is_declared h) (interests h) ≡ true
 all_declared [] is = absurd is

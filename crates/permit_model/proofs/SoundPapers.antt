@@ -16,7 +16,7 @@ use Rattle.permit_model.specs.Days.{longest_permit_extension, longest_temporary}
 use Rattle.permit_model.specs.Search.{add_last, when}
 use Rattle.permit_model.specs.History.{Deed, Founding, Upgrade, Accepted, Entry, History, last_day}
 use Rattle.permit_model.specs.Caller.{is_party}
-use Rattle.permit_model.specs.Files.{Filing, Act, act_of, acts_on, CaseFile, filings, filing_made, case_file, case_files, case_numbered}
+use Rattle.permit_model.specs.Files.{Filing, Act, act_of, acts_on, CaseFile, filings, case_file, case_files, case_numbered}
 use Rattle.permit_model.specs.Work.{pending_ask, open_notices, paper_sort, paper_count}
 use Rattle.permit_model.specs.Facts.{stage_on}
 use Rattle.permit_model.specs.Admission.{ask_limit}
@@ -40,14 +40,11 @@ use Rattle.permit_model.proofs.SoundWork.{ActsWithin, ask_of_any, longest_of_all
 
 command_within : (id g : ℕ) (entry : Entry) (command : Command) (acts : List Act) (b : Bool) → is_command_within command ≡ true → ActsWithin acts →
     ActsWithin (cons_option (option_map (act_of entry) (when b command)) acts)
-command_within id g entry command acts true within ih = and_from _ _ within ih
-command_within id g entry command acts false within ih = ih
+command_within id g entry command acts b within ih = grind arith
 
 within_deed : (h : History) (id caller day : ℕ) (deed : Deed) (number : Option ℕ) → is_deed_within deed ≡ true → ActsWithin (acts_on id h) →
     ActsWithin (acts_on id (entry_by caller day deed number ∷ h))
-within_deed h id caller day (Accepted (OnFile g command)) number within ih =
-    command_within id g (entry_by caller day (Accepted (OnFile g command)) number) command (acts_on id h) (g == id) within ih
-within_deed h id caller day _ number within ih = ih
+within_deed h id caller day deed number within ih = grind arith
 
 pub acts_within : (h : History) (id : ℕ) → AreWithinLimits h → ActsWithin (acts_on id h)
 acts_within [] id within = refl
@@ -56,8 +53,7 @@ acts_within (entry ∷ before) id within =
     within_deed before id entry.caller entry.day entry.deed entry.number parts.0 (acts_within before id parts.1)
 
 pub case_within : (h : History) (id : ℕ) (file : CaseFile) → AreWithinLimits h → case_numbered h id ≡ Some file → ActsWithin file.acts
-case_within h id file within there =
-    subst (λ (x : CaseFile). ActsWithin x.acts) (found_by h file (filing_numbered (filings h) id) there) (acts_within h file.filing.id within)
+case_within h id file within there = grind (arith, ActsWithin, found_by, filing_numbered, acts_within)
 
 -- ---- what a paper says
 
@@ -70,12 +66,10 @@ abbrev pub says : Paper → Bool
 says p = has_sound_days p && has_sound_text p && has_sound_terms p && (not p.is_open || is_notice p.sort)
 
 or_true : (b : Bool) → (b || true) ≡ true
-or_true true = refl
-or_true false = refl
+or_true b = grind arith
 
 granted : (most : ℕ) (ask : Option ℕ) → is_none ask ≡ false → if_any (is_between 1 most) ask ≡ true → is_between 1 most (unwrap_or ask 0) ≡ true
-granted most None pending e = cc
-granted most (Some days) pending e = e
+granted most ask pending e = grind arith
 
 text_of : (b : Bool) (text : List ℕ) → (b && is_printable text) ≡ true → is_printable text ≡ true
 text_of b text e = (and_parts b (is_printable text) e).1
@@ -112,8 +106,7 @@ written filing file open_now caller day _ number before w all past within = refl
 
 passing_last : (test : Paper → Bool) (xs : List Paper) (new : Option Paper) → list_all test xs ≡ true → if_paper test new ≡ true →
     list_all test (add_last xs new) ≡ true
-passing_last test xs None all here = all
-passing_last test xs (Some p) all here = list_all-append test xs (p ∷ []) ∙ and_from _ _ all (and_from _ _ here refl)
+passing_last test xs new all here = grind (arith, list_all-append, and_from)
 
 -- the file with its acts, where it is there
 pub record OnTheFile (h : History) (g : ℕ) : Type 0 where
@@ -122,10 +115,7 @@ pub record OnTheFile (h : History) (g : ℕ) : Type 0 where
   pub there : case_numbered h g ≡ Some (case_of filing (acts_on g h))
 
 on_the_file : (h : History) (g : ℕ) (o : Option Filing) → filing_numbered (filings h) g ≡ o → is_some (option_map (case_file h) o) ≡ true → OnTheFile h g
-on_the_file h g None e there = cc
-on_the_file h g (Some filing) e there =
-    let named : filing.id ≡ g = found_has_id (filings h) g filing e in
-    record { filing = filing; found = e; there = ap (option_map (case_file h)) e ∙ ap (λ n. Some (case_of filing (acts_on n h))) named }
+on_the_file h g o e there = grind (arith, found_has_id, case_of)
 
 says_command : (now h : History) (g caller day : ℕ) (command : Command) (number : Option ℕ) → IsHistory h → AreWithinLimits h →
     IsAccepted h (entry_by caller day (Accepted (OnFile g command)) number) (OnFile g command) → is_command_within command ≡ true → OnTheFile h g →
@@ -151,9 +141,7 @@ says_deed now h caller day (Accepted request) number is past may within = refl
 
 none_first : (now : History) (caller day : ℕ) (deed : Deed) (number : Option ℕ) → IsFounding (entry_by caller day deed number) deed →
     paper_of_deed now (entry_by caller day deed number) deed [] ≡ None
-none_first now caller day (Founding name digest) number is = refl
-none_first now caller day Upgrade number is = absurd is
-none_first now caller day (Accepted request) number is = absurd is
+none_first now caller day deed number is = grind arith
 
 all_say : (now h : History) → IsHistory h → AreWithinLimits h → list_all says (papers_made now h) ≡ true
 all_say now [] is within = absurd is
@@ -167,8 +155,7 @@ all_say now (entry ∷ last ∷ before) is within =
 -- ---- whose paper it is
 
 file_stays : (h : History) (entry : Entry) (id : ℕ) → is_some (case_numbered h id) ≡ true → is_some (case_numbered (entry ∷ h) id) ≡ true
-file_stays h entry id e = mapped_there (case_file (entry ∷ h)) (filing_numbered (filings (entry ∷ h)) id)
-    ∙ there_last (λ (f : Filing). f.id == id) (filings h) (filing_made h entry) (sym (mapped_there (case_file h) (filing_numbered (filings h) id)) ∙ e)
+file_stays h entry id e = grind (arith, mapped_there, filing_numbered, there_last)
 
 -- a file that is there has a row
 row_there : (h : History) (id : ℕ) → is_some (case_numbered h id) ≡ true → has_file (tables h) id ≡ true
@@ -181,26 +168,15 @@ abbrev pub is_here : History → Paper → Bool
 is_here h p = is_some (case_numbered h p.file) && is_party h p.author && nat_le p.day (last_day h)
 
 here_stays : (h : History) (entry : Entry) → last_day h ≤ entry.day → (p : Paper) → is_here h p ≡ true → is_here (entry ∷ h) p ≡ true
-here_stays h entry later p e =
-    let days = and_parts (is_some (case_numbered h p.file) && is_party h p.author) (nat_le p.day (last_day h)) e in
-    let there = and_parts (is_some (case_numbered h p.file)) (is_party h p.author) days.0 in
-    and_from _ _ (and_from _ _ (file_stays h entry p.file there.0) (party_stays h entry p.author there.1))
-    (le-leb p.day entry.day (omega (arith, later, leb-true p.day (last_day h) days.1)))
+here_stays h entry later p e = grind (arith, and_parts, and_from, file_stays, party_stays, le-leb, leb-true)
 
 here_by : (h : History) (g : ℕ) (open_now : List ℕ) (act : Act) (before : List Act) (s : Option PaperSort) → paper_sort act.command ≡ s →
     (is_some (case_numbered h g) && is_party h act.caller && nat_le act.day (last_day h)) ≡ true → if_paper (is_here h) (paper_by g open_now act before) ≡ true
-here_by h g open_now act before None e here = rw e refl
-here_by h g open_now act before (Some s) e here = rw e here
+here_by h g open_now act before s e here = grind arith
 
 here_deed : (now h : History) (caller day : ℕ) (deed : Deed) (number : Option ℕ) → MayFollow h (entry_by caller day deed number) deed →
     if_paper (is_here (entry_by caller day deed number ∷ h)) (paper_of_deed now (entry_by caller day deed number) deed h) ≡ true
-here_deed now h caller day (Founding name digest) number may = refl
-here_deed now h caller day Upgrade number may = refl
-here_deed now h caller day (Accepted (OnFile g command)) number may =
-    let entry = entry_by caller day (Accepted (OnFile g command)) number in
-    here_by (entry ∷ h) g (open_notices (acts_on g now)) (act_by caller day command number) (acts_on g h) (paper_sort command) refl
-    (and_from _ _ (and_from _ _ (file_stays h entry g may.record_there) (party_stays h entry caller may.caller_there)) (le-leb day day (omega arith)))
-here_deed now h caller day (Accepted request) number may = refl
+here_deed now h caller day deed number may = grind (arith, entry_by, here_by, act_by, and_from, file_stays, party_stays, le-leb)
 
 here_more : (now h : History) (entry : Entry) → MayFollow h entry entry.deed → list_all (is_here h) (papers_made now h) ≡ true →
     list_all (is_here (entry ∷ h)) (papers_made now (entry ∷ h)) ≡ true
@@ -217,14 +193,7 @@ all_here now (entry ∷ []) is =
 all_here now (entry ∷ last ∷ before) is = here_more now (last ∷ before) entry is.0 (all_here now (last ∷ before) is.1)
 
 paper_sound : (h : History) (p : Paper) → is_here h p ≡ true → says p ≡ true → is_sound_paper (tables h) p ≡ true
-paper_sound h p here said =
-    let days = and_parts (is_some (case_numbered h p.file) && is_party h p.author) (nat_le p.day (last_day h)) here in
-    let there = and_parts (is_some (case_numbered h p.file)) (is_party h p.author) days.0 in
-    let closed = and_parts (has_sound_days p && has_sound_text p && has_sound_terms p) (not p.is_open || is_notice p.sort) said in
-    let terms = and_parts (has_sound_days p && has_sound_text p) (has_sound_terms p) closed.0 in
-    let text = and_parts (has_sound_days p) (has_sound_text p) terms.0 in
-    let made = and_from _ _ (and_from _ _ (row_there h p.file there.0) there.1) days.1 in
-    and_from _ _ (and_from _ _ (and_from _ _ (and_from _ _ made text.0) text.1) terms.1) closed.1
+paper_sound h p here said = grind (arith, and_parts, and_from, row_there)
 
 -- ---- the papers of a file together
 
@@ -280,8 +249,7 @@ pub record InOrder (filed until : ℕ) (papers : List Paper) : Type 0 where
 
 by_later : (until later : ℕ) (papers : List Paper) → until ≤ later → list_all (λ (p : Paper). nat_le p.day until) papers ≡ true →
     list_all (λ (p : Paper). nat_le p.day later) papers ≡ true
-by_later until later papers more all = all_more (λ (p : Paper). nat_le p.day until) (λ (p : Paper). nat_le p.day later) papers
-    (λ p e. le-leb p.day later (omega (arith, more, leb-true p.day until e))) all
+by_later until later papers more all = grind (arith, all_more, le-leb, leb-true)
 
 order_last : (filed until day : ℕ) (papers : List Paper) (new : Option Paper) → until ≤ day → filed ≤ day → InOrder filed until papers →
     if_paper (λ p. p.day == day) new ≡ true → InOrder filed day (add_last papers new)
@@ -296,8 +264,7 @@ order_last filed until day papers (Some p) later late o here =
 
 dated_by : (file : ℕ) (open_now : List ℕ) (act : Act) (before : List Act) (s : Option PaperSort) → paper_sort act.command ≡ s →
     if_paper (λ p. p.day == act.day) (paper_by file open_now act before) ≡ true
-dated_by file open_now act before None e = rw e refl
-dated_by file open_now act before (Some s) e = rw e (eq-eqb act.day act.day refl)
+dated_by file open_now act before s e = grind arith
 
 in_order : (filing : Filing) (file : ℕ) (open_now : List ℕ) (acts : List Act) → WereAdmitted filing acts →
     InOrder filing.filed (last_touched filing acts) (papers_from file open_now acts)

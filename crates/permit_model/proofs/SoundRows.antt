@@ -1,12 +1,11 @@
 -- The open notices of a file are its open papers, and the work on the files of every history is sound.
-use Rattle.std.proofs.Common.{◌≡◌, ◌<◌, inl, inr, ℕ, zero, suc, ◌+◌, Bool, true, false, not}
-use Rattle.std.proofs.Common.{cond, ◌==◌, List, [], ◌∷◌, ◌++◌, length, refl, sym, ◌∙◌, ap, subst, arith}
+use Rattle.std.proofs.Common.{◌≡◌, ◌<◌, inl, inr, ℕ, suc, ◌+◌, Bool, true, false, not}
+use Rattle.std.proofs.Common.{cond, ◌==◌, List, [], ◌∷◌, ◌++◌, length, refl, sym, ◌∙◌, ap, arith}
 use Rattle.std.specs.Prelude.{Option, None, Some, is_some, is_none, filter, ◌&&◌, ◌||◌, IsTrue, slice_get}
-use Rattle.std.proofs.lemmas.Bool.{eq-eqb, eqb-true, ne_eqb, and_from}
+use Rattle.std.proofs.lemmas.Bool.{eq-eqb, eqb-true, and_from}
 use Rattle.permit_base.specs.Limits.{is_between}
 use Rattle.permit_base.specs.declared.words.Step.{Step}
 use Rattle.permit_base.specs.declared.request.Command.{Command}
-use Rattle.permit_base.specs.declared.request.Command.TheVariants.{Notice}
 use Rattle.permit_model.specs.Search.{add_last, has_number}
 use Rattle.permit_model.specs.Days.{longest_temporary}
 use Rattle.permit_model.specs.Steps.{required_steps, has_certificates}
@@ -15,7 +14,7 @@ use Rattle.permit_model.specs.Files.{Act}
 use Rattle.permit_model.specs.Work.{approved_steps, pending_inspection, pending_step, requested_day}
 use Rattle.permit_model.specs.Work.{is_cleared, notices_given, open_notices, is_stopped, temporary_until}
 use Rattle.permit_model.specs.BaseStage.{base_stage}
-use Rattle.permit_model.specs.Tables.{file_row, state_of, Paper, paper_by, papers_of, tables}
+use Rattle.permit_model.specs.Tables.{file_row, state_of, Paper, papers_of, tables}
 use Rattle.permit_model.specs.Machine.{IsHistory}
 use Rattle.permit_model.specs.Laws.{OfEachFile}
 use Rattle.permit_model.specs.Within.{AreWithinLimits}
@@ -41,8 +40,7 @@ opened papers = filter (λ (p : Paper). p.is_open) papers
 
 opened_by : (q : Paper) (qs : List Paper) (p : Paper) (b : Bool) → q.is_open ≡ b → opened (qs ++ p ∷ []) ≡ opened qs ++ opened (p ∷ []) →
     cond b (q ∷ opened (qs ++ p ∷ [])) (opened (qs ++ p ∷ [])) ≡ cond b (q ∷ opened qs) (opened qs) ++ opened (p ∷ [])
-opened_by q qs p true e ih = ap (λ xs. q ∷ xs) ih
-opened_by q qs p false e ih = ih
+opened_by q qs p b e ih = grind arith
 
 opened_last : (papers : List Paper) (p : Paper) → opened (papers ++ p ∷ []) ≡ opened papers ++ opened (p ∷ [])
 opened_last [] p = refl
@@ -65,9 +63,7 @@ made_open (Some p) = p.is_open
 
 counted_last : (papers : List Paper) (new : Option Paper) (b : Bool) → made_open new ≡ b →
     length (opened (add_last papers new)) ≡ cond b (suc (length (opened papers))) (length (opened papers))
-counted_last papers None true e = cc
-counted_last papers None false e = refl
-counted_last papers (Some p) b e = length_last papers p b e
+counted_last papers new b e = grind (arith, length_last)
 
 -- the numbers of the notices given that are among those open now
 abbrev pub still_open : List ℕ → List ℕ → List ℕ
@@ -75,20 +71,14 @@ still_open open_now given = filter (has_number open_now) given
 
 noticed : (open_now : List ℕ) (n : ℕ) (given : List ℕ) (count : ℕ) (b : Bool) → has_number open_now n ≡ b → count ≡ length (still_open open_now given) →
     cond b (suc count) count ≡ length (still_open open_now (n ∷ given))
-noticed open_now n given count true e ih = rw e (ap suc ih)
-noticed open_now n given count false e ih = rw e ih
+noticed open_now n given count b e ih = grind arith
 
 open_more : (file : ℕ) (open_now : List ℕ) (caller day : ℕ) (command : Command) (number : Option ℕ) (before : List Act) →
     AreNumbered (act_by caller day command number ∷ before) →
     length (opened (papers_from file open_now before)) ≡ length (still_open open_now (notices_given before)) →
     length (opened (papers_from file open_now (act_by caller day command number ∷ before)))
     ≡ length (still_open open_now (notices_given (act_by caller day command number ∷ before)))
-open_more file open_now caller day (Notice text) None before numbered ih = cc
-open_more file open_now caller day (Notice text) (Some n) before numbered ih =
-    counted_last (papers_from file open_now before) (paper_by file open_now (act_by caller day (Notice text) (Some n)) before) (has_number open_now n) refl
-    ∙ noticed open_now n (notices_given before) (length (opened (papers_from file open_now before))) (has_number open_now n) refl ih
-open_more file open_now caller day command number before numbered ih =
-    counted_last (papers_from file open_now before) (paper_by file open_now (act_by caller day command number) before) false refl ∙ ih
+open_more file open_now caller day command number before numbered ih = grind (arith, counted_last, papers_from, act_by, noticed)
 
 -- the open papers are as many as the notices that are open now
 open_counted : (file : ℕ) (open_now : List ℕ) (acts : List Act) → AreNumbered acts →
@@ -107,16 +97,10 @@ same_filter p q [] same = refl
 same_filter p q (x ∷ xs) same = same_by p q x xs (same x (inl refl)) (same_filter p q xs (λ y m. same y (inr m)))
 
 passing_number : (p : ℕ → Bool) (xs : List ℕ) (n : ℕ) → has_number (filter p xs) n ≡ true → p n ≡ true
-passing_number p xs n e =
-    let found = one_passes (λ m. m == n) (filter p xs) e in
-    let same : found.0 ≡ n = eqb-true found.0 n found.2 in
-    subst (λ m. p m ≡ true) same (passed p found.0 xs found.1).1
+passing_number p xs n e = grind (arith, one_passes, eqb-true, passed)
 
 among_by : (p : ℕ → Bool) (xs : List ℕ) (n : ℕ) (a b : Bool) → has_number (filter p xs) n ≡ a → p n ≡ b → IsMember n xs → a ≡ b
-among_by p xs n true true e f m = refl
-among_by p xs n false false e f m = refl
-among_by p xs n true false e f m = sym (passing_number p xs n e) ∙ f
-among_by p xs n false true e f m = sym e ∙ any_of_member (λ m. m == n) n (filter p xs) (kept p n xs m f) (eq-eqb n n refl)
+among_by p xs n a b e f m = grind (arith, passing_number, any_of_member, kept, eq-eqb)
 
 still_those : (p : ℕ → Bool) (xs : List ℕ) → still_open (filter p xs) xs ≡ filter p xs
 still_those p xs = same_filter (has_number (filter p xs)) p xs (λ n m. among_by p xs n (has_number (filter p xs) n) (p n) refl refl m)
@@ -124,20 +108,16 @@ still_those p xs = same_filter (has_number (filter p xs)) p xs (λ n m. among_by
 -- ---- the row
 
 only_where : (n : ℕ) (b : Bool) → (0 < n → b ≡ true) → ((n == 0) || b) ≡ true
-only_where zero b e = refl
-only_where (suc n) b e = let other : (suc n == 0) ≡ false = ne_eqb (suc n) 0 (omega arith) in rw other (e (omega arith))
+only_where n b e = grind arith
 
 if_some : (o : Option Step) (b : Bool) → (is_some o ≡ true → b ≡ true) → (is_none o || b) ≡ true
-if_some None b e = refl
-if_some (Some step) b e = e refl
+if_some o b e = grind arith
 
 if_some_number : (o : Option ℕ) (b : Bool) → (is_some o ≡ true → b ≡ true) → (is_none o || b) ≡ true
-if_some_number None b e = refl
-if_some_number (Some n) b e = e refl
+if_some_number o b e = grind arith
 
 where_true : (a b : Bool) → (a ≡ true → b ≡ true) → (not a || b) ≡ true
-where_true true b e = e refl
-where_true false b e = refl
+where_true a b e = grind arith
 
 request_sound : OfEachFile (λ h file. has_sound_request (last_day h) (state_of file) ≡ true)
 request_sound h id file is there =

@@ -1,19 +1,17 @@
 -- Every file of a history has a sound row.
-use Rattle.std.proofs.Common.{◌≡◌, ◌≤◌, ℕ, zero, suc, ◌+◌, Bool, true, false, not, List, [], ◌∷◌, ◌++◌, length, take, refl, sym, ◌∙◌, ap, arith, length-append}
-use Rattle.std.specs.Prelude.{Option, None, Some, option_map, is_some, is_none, ◌==◌, ◌&&◌, ◌||◌, nat_le, if◌then◌else◌, slice_get, unwrap_or}
+use Rattle.std.proofs.Common.{◌≡◌, ◌≤◌, ℕ, suc, ◌+◌, Bool, true, false, not, List, [], ◌∷◌, ◌++◌, length, refl, sym, ◌∙◌, ap, arith}
+use Rattle.std.specs.Prelude.{Option, Some, option_map, is_some, is_none, ◌==◌, ◌&&◌, ◌||◌, nat_le, if◌then◌else◌, slice_get, unwrap_or}
 use Rattle.std.proofs.lemmas.Bool.{le-leb, eq-eqb, ltb-false as not_below}
 use Rattle.std.proofs.lemmas.List.{length-take}
 use Rattle.permit_base.specs.declared.words.Edition.{Edition}
-use Rattle.permit_base.specs.declared.words.Edition.TheVariants as edition
 use Rattle.permit_base.specs.declared.words.Kind.{Kind}
-use Rattle.permit_base.specs.declared.words.Kind.TheVariants.{Construct, Enlarge, Alter, Repair, Move, Demolish, Occupancy}
 use Rattle.permit_base.specs.declared.words.Step.{Step}
 use Rattle.permit_base.specs.declared.words.Step.TheVariants.{Final}
 use Rattle.permit_base.specs.declared.words.Stage.{Stage}
 use Rattle.permit_base.specs.declared.words.Stage.TheVariants as stage
 use Rattle.permit_base.specs.declared.request.Command.{Command}
 use Rattle.permit_base.specs.declared.request.Command.TheVariants.{StartReview, Return, Resubmit, ApprovePlans, Reject, Issue, BeginWork, RequestInspection}
-use Rattle.permit_base.specs.declared.request.Command.TheVariants.{ApproveStep, Notice, ClearNotice, Stop, Lift, Revoke, Certify}
+use Rattle.permit_base.specs.declared.request.Command.TheVariants.{ApproveStep, Notice, ClearNotice, Revoke, Certify}
 use Rattle.permit_model.specs.Codes.{step_code, is_step}
 use Rattle.permit_model.specs.Steps.{required_steps, next_step}
 use Rattle.permit_model.specs.History.{History}
@@ -22,8 +20,7 @@ use Rattle.permit_model.specs.Files.{Filing, Act, CaseFile, case_numbered}
 use Rattle.permit_model.specs.Work.{approved_steps, Inspection, pending_inspection, pending_step, open_notices, is_stopped}
 use Rattle.permit_model.specs.BaseStage.{base_stage}
 use Rattle.permit_model.specs.Days.{greatest}
-use Rattle.permit_model.specs.Deadline.{extended, anchor_reaches, deadline_by, deadline_in, days_granted}
-use Rattle.permit_model.specs.Facts.{stage_on}
+use Rattle.permit_model.specs.Deadline.{extended, anchor_reaches, deadline_by, deadline_in}
 use Rattle.permit_base.specs.declared.stages.Expiry.{Expiry}
 use Rattle.permit_base.specs.declared.stages.Expiry.TheVariants.{Never, Application, Permit}
 use Rattle.permit_base.specs.Stages.{stage_facts, is_running}
@@ -33,24 +30,13 @@ use Rattle.permit_model.specs.Machine.{IsHistory}
 use Rattle.permit_model.proofs.Appending.{base_stage-more, greatest-extended}
 use Rattle.permit_model.proofs.Projection.{WasAdmitted, WereAdmitted, done_to}
 use Rattle.permit_model.proofs.Fronts.{IsFront, Fronts, fronts, next_at_count, is_it}
-use Rattle.permit_model.proofs.Stages.{was_in, was_among}
+use Rattle.permit_model.proofs.Stages.{was_in}
 use Rattle.permit_model.proofs.Deadlines.{act_by, case_of, tests_passed}
 
 -- ---- a stored stage
 
 stored_more : (command : Command) (s : Stage) → is_stored s ≡ true → is_stored (unwrap_or ((effects command).stage) s) ≡ true
-stored_more (ApproveStep Final) s ih = refl
-stored_more (ApproveStep step) s ih = ih
-stored_more StartReview s ih = refl
-stored_more (Return text) s ih = refl
-stored_more (Resubmit text) s ih = refl
-stored_more ApprovePlans s ih = refl
-stored_more (Reject text) s ih = refl
-stored_more Issue s ih = refl
-stored_more BeginWork s ih = refl
-stored_more (Revoke text) s ih = refl
-stored_more Certify s ih = refl
-stored_more _ s ih = ih
+stored_more command s ih = grind arith
 
 -- the stage, whatever the day is, is a stored one
 pub base_stored : (acts : List Act) → is_stored (base_stage acts) ≡ true
@@ -70,27 +56,14 @@ abbrev pub IsAnchored : List Act → Type 0
 IsAnchored acts = is_permits (stage_facts (base_stage acts)).expiry ≡ true → is_some (greatest (anchor_reaches acts)) ≡ true
 
 mapped_some : (days : ℕ) (o : Option ℕ) → is_some o ≡ true → is_some (option_map (λ r. r + days) o) ≡ true
-mapped_some days None e = cc
-mapped_some days (Some r) e = refl
+mapped_some days o e = grind arith
 
 extended_some : (days : ℕ) (reaches : List ℕ) → is_some (greatest reaches) ≡ true → is_some (greatest (extended days reaches)) ≡ true
 extended_some days reaches e = rw (greatest-extended days reaches) (mapped_some days (greatest reaches) e)
 
 anchored_more : (caller day : ℕ) (command : Command) (number : Option ℕ) (before : List Act) → IsAnchored before →
     IsAnchored (act_by caller day command number ∷ before)
-anchored_more caller day StartReview number before ih = λ e. cc
-anchored_more caller day (Return text) number before ih = λ e. cc
-anchored_more caller day (Resubmit text) number before ih = λ e. cc
-anchored_more caller day ApprovePlans number before ih = λ e. cc
-anchored_more caller day (Reject text) number before ih = λ e. cc
-anchored_more caller day Issue number before ih = λ e. refl
-anchored_more caller day BeginWork number before ih = λ e. refl
-anchored_more caller day (RequestInspection step) number before ih = λ e. refl
-anchored_more caller day (ApproveStep step) number before ih = λ e. refl
-anchored_more caller day (Notice text) number before ih = λ e. refl
-anchored_more caller day (Revoke text) number before ih = λ e. cc
-anchored_more caller day Certify number before ih = λ e. cc
-anchored_more caller day command number before ih = λ e. extended_some (days_granted command before) (anchor_reaches before) (ih e)
+anchored_more caller day command number before ih = grind (arith, extended_some)
 
 pub anchored : (acts : List Act) → IsAnchored acts
 anchored [] = λ e. cc
@@ -98,9 +71,7 @@ anchored (act ∷ before) = anchored_more act.caller act.day act.command act.num
 
 stands_by : (e : Expiry) (filed : ℕ) (acts : List Act) → (is_permits e ≡ true → is_some (greatest (anchor_reaches acts)) ≡ true) →
     (if is_running e then is_some (deadline_by e filed acts) else is_none (deadline_by e filed acts)) ≡ true
-stands_by Never filed acts late = refl
-stands_by Application filed acts late = refl
-stands_by Permit filed acts late = late refl
+stands_by e filed acts late = grind arith
 
 -- a deadline stands in the six stages, and in no other
 pub stands_in : (s : Stage) (filed : ℕ) (acts : List Act) → (is_permits (stage_facts s).expiry ≡ true → is_some (greatest (anchor_reaches acts)) ≡ true) →
@@ -113,70 +84,21 @@ pub same_as_itself : (step : Step) → is_step step step ≡ true
 same_as_itself step = eq-eqb (step_code step) (step_code step) refl
 
 pub for_next : (request next : Option Step) → ((step : Step) → request ≡ Some step → next ≡ Some step) → is_for request next ≡ true
-for_next None next pending = refl
-for_next (Some step) next pending = rw (pending step refl) (same_as_itself step)
+for_next request next pending = grind arith
 
 pub dated : (o : Option Inspection) → (if is_some (option_map (λ (i : Inspection). i.step) o) then is_some (option_map (λ (i : Inspection). i.day) o)
     else is_none (option_map (λ (i : Inspection). i.day) o)) ≡ true
-dated None = refl
-dated (Some inspection) = refl
+dated o = grind arith
 
 pub front_length : (edition : Edition) (kind : Kind) (steps : List Step) → IsFront edition kind steps → length steps ≤ length (required_steps edition kind)
-front_length edition kind steps front =
-    let same : length steps ≡ length (take front.0 (required_steps edition kind)) = ap length front.1 in
-    omega (arith, same, length-take front.0 (required_steps edition kind))
+front_length edition kind steps front = grind (arith, length-take)
 
 -- ---- finaled and certified files
 
 -- the step final is the last
 pub final_last : (edition : Edition) (kind : Kind) (n : ℕ) → slice_get (required_steps edition kind) n ≡ Some Final →
     suc n ≡ length (required_steps edition kind)
-final_last edition.First Construct zero e = cc
-final_last edition.First Construct (suc zero) e = cc
-final_last edition.First Construct (suc (suc zero)) e = cc
-final_last edition.First Construct (suc (suc (suc zero))) e = cc
-final_last edition.First Construct (suc (suc (suc (suc zero)))) e = refl
-final_last edition.First Construct (suc (suc (suc (suc (suc m))))) e = cc
-final_last edition.First Enlarge zero e = cc
-final_last edition.First Enlarge (suc zero) e = cc
-final_last edition.First Enlarge (suc (suc zero)) e = cc
-final_last edition.First Enlarge (suc (suc (suc zero))) e = cc
-final_last edition.First Enlarge (suc (suc (suc (suc zero)))) e = refl
-final_last edition.First Enlarge (suc (suc (suc (suc (suc m))))) e = cc
-final_last edition.First Alter zero e = cc
-final_last edition.First Alter (suc zero) e = cc
-final_last edition.First Alter (suc (suc zero)) e = refl
-final_last edition.First Alter (suc (suc (suc m))) e = cc
-final_last edition.Second Construct zero e = cc
-final_last edition.Second Construct (suc zero) e = cc
-final_last edition.Second Construct (suc (suc zero)) e = cc
-final_last edition.Second Construct (suc (suc (suc zero))) e = cc
-final_last edition.Second Construct (suc (suc (suc (suc zero)))) e = cc
-final_last edition.Second Construct (suc (suc (suc (suc (suc zero))))) e = refl
-final_last edition.Second Construct (suc (suc (suc (suc (suc (suc m)))))) e = cc
-final_last edition.Second Enlarge zero e = cc
-final_last edition.Second Enlarge (suc zero) e = cc
-final_last edition.Second Enlarge (suc (suc zero)) e = cc
-final_last edition.Second Enlarge (suc (suc (suc zero))) e = cc
-final_last edition.Second Enlarge (suc (suc (suc (suc zero)))) e = cc
-final_last edition.Second Enlarge (suc (suc (suc (suc (suc zero))))) e = refl
-final_last edition.Second Enlarge (suc (suc (suc (suc (suc (suc m)))))) e = cc
-final_last edition.Second Alter zero e = cc
-final_last edition.Second Alter (suc zero) e = cc
-final_last edition.Second Alter (suc (suc zero)) e = cc
-final_last edition.Second Alter (suc (suc (suc zero))) e = refl
-final_last edition.Second Alter (suc (suc (suc (suc m)))) e = cc
-final_last edition Repair zero e = cc
-final_last edition Repair (suc zero) e = refl
-final_last edition Repair (suc (suc m)) e = cc
-final_last edition Move zero e = cc
-final_last edition Move (suc zero) e = cc
-final_last edition Move (suc (suc zero)) e = refl
-final_last edition Move (suc (suc (suc m))) e = cc
-final_last edition Demolish zero e = refl
-final_last edition Demolish (suc m) e = cc
-final_last edition Occupancy zero e = refl
-final_last edition Occupancy (suc m) e = cc
+final_last edition kind n e = grind arith
 
 -- every required step is approved, and no notice is open
 abbrev pub IsFinishedWork : Filing → List Act → Type 0
@@ -190,11 +112,7 @@ not_completed before was e = sym (ap is_completed was) ∙ e
 
 final_approved : (filing : Filing) (before : List Act) → Fronts filing before → pending_step before ≡ Some Final → length (open_notices before) ≤ 0 →
     (length (approved_steps before ++ Final ∷ []) ≡ length (required_steps filing.edition filing.kind)) × (length (open_notices before) ≡ 0)
-final_approved filing before f pending few =
-    let next : next_step filing.edition filing.kind (approved_steps before) ≡ Some Final = f.pending Final pending in
-    let last : suc f.front.0 ≡ length (required_steps filing.edition filing.kind) = final_last filing.edition filing.kind f.front.0 (sym f.front.2 ∙ next) in
-    let long : length (approved_steps before ++ Final ∷ []) ≡ length (approved_steps before) + 1 = length-append (approved_steps before) (Final ∷ []) in
-    (omega (arith, f.front.3, last, long), omega (arith, few))
+final_approved filing before f pending few = grind arith
 
 finished_more : (filing : Filing) (caller day : ℕ) (command : Command) (number : Option ℕ) (before : List Act) →
     WasAdmitted filing (act_by caller day command number) before → Fronts filing before → FinishedWhenCompleted filing before →
@@ -237,34 +155,10 @@ finished filing (act ∷ before) w = finished_more filing act.caller act.day act
 abbrev pub UnstoppedWhenCertified : List Act → Type 0
 UnstoppedWhenCertified acts = is_certified (base_stage acts) ≡ true → is_stopped acts ≡ false
 
-certified_is : (s : Stage) → is_certified s ≡ true → s ≡ stage.Certified
-certified_is stage.Certified e = refl
-certified_is _ e = cc
-
--- a certified file is neither stopped nor released
-no_order : (filing : Filing) (day : ℕ) (before : List Act) → is_certified (base_stage before) ≡ true →
-    not (stage_facts (stage_on day (case_of filing before))).stoppable ≡ false → true ≡ false
-no_order filing day before e h = was_among day (case_of filing before) (λ s. (stage_facts s).stoppable) stage.Certified refl (certified_is (base_stage before) e) h
-
 unstopped_more : (filing : Filing) (caller day : ℕ) (command : Command) (number : Option ℕ) (before : List Act) →
     WasAdmitted filing (act_by caller day command number) before → UnstoppedWhenCertified before →
     UnstoppedWhenCertified (act_by caller day command number ∷ before)
-unstopped_more filing caller day (Stop text conditions) number before w ih = λ e.
-    let bad : true ≡ false = no_order filing day before e (tests_passed filing (act_by caller day (Stop text conditions) number) before w).0 in cc
-unstopped_more filing caller day Lift number before w ih = λ e.
-    let bad : true ≡ false = no_order filing day before e (tests_passed filing (act_by caller day Lift number) before w).0 in cc
-unstopped_more filing caller day Certify number before w ih = λ e. (tests_passed filing (act_by caller day Certify number) before w).1.0
-unstopped_more filing caller day StartReview number before w ih = λ e. cc
-unstopped_more filing caller day (Return text) number before w ih = λ e. cc
-unstopped_more filing caller day (Resubmit text) number before w ih = λ e. cc
-unstopped_more filing caller day ApprovePlans number before w ih = λ e. cc
-unstopped_more filing caller day (Reject text) number before w ih = λ e. cc
-unstopped_more filing caller day Issue number before w ih = λ e. cc
-unstopped_more filing caller day BeginWork number before w ih = λ e. cc
-unstopped_more filing caller day (Revoke text) number before w ih = λ e. cc
-unstopped_more filing caller day (ApproveStep Final) number before w ih = λ e. cc
-unstopped_more filing caller day (ApproveStep step) number before w ih = ih
-unstopped_more filing caller day _ number before w ih = ih
+unstopped_more filing caller day command number before w ih = grind arith
 
 -- no stop work order stands on a certified file
 pub unstopped : (filing : Filing) (acts : List Act) → WereAdmitted filing acts → UnstoppedWhenCertified acts
@@ -274,8 +168,7 @@ unstopped filing (act ∷ before) w = unstopped_more filing act.caller act.day a
 -- ---- the whole row
 
 only_where : (b : Bool) (holds : Bool) → (b ≡ true → holds ≡ true) → (not b || holds) ≡ true
-only_where true holds e = e refl
-only_where false holds e = refl
+only_where b holds e = grind arith
 
 both : (a b : Bool) → a ≡ true → b ≡ true → (a && b) ≡ true
 both a b e f = rw (e, f) refl

@@ -3,20 +3,18 @@ use Rattle.std.proofs.Common.{◌≡◌, ◌≤◌, ◌<◌, ℕ, zero, suc, ◌
 use Rattle.std.proofs.Common.{◌==◌, List, [], ◌∷◌, ◌++◌, length, refl, sym, ◌∙◌, ap, arith, length-append}
 use Rattle.std.specs.Prelude.{Option, None, Some, is_some, ◌&&◌, nat_lt, nat_le, if◌then◌else◌, slice_get, unwrap_or}
 use Rattle.std.specs.List.{list_all}
-use Rattle.std.proofs.lemmas.Bool.{eq-eqb, eqb-true, leb-true, lt-ltb, ltb-false, and_from, and_parts}
+use Rattle.std.proofs.lemmas.Bool.{eq-eqb, leb-true, lt-ltb, ltb-false, and_from, and_parts}
 use Rattle.permit_base.specs.Limits.{is_between, most_days}
 use Rattle.permit_base.specs.Texts.{is_printable}
 use Rattle.permit_base.specs.declared.words.Edition.{Edition}
-use Rattle.permit_base.specs.declared.words.Edition.TheVariants as edition
 use Rattle.permit_base.specs.declared.words.Kind.{Kind}
-use Rattle.permit_base.specs.declared.words.Kind.TheVariants.{Construct, Enlarge, Alter, Repair, Move, Demolish, Occupancy}
 use Rattle.permit_base.specs.declared.words.Step.{Step}
 use Rattle.permit_base.specs.declared.words.Step.TheVariants.{Footing, Slab, Frame, Lath, Final, Energy}
 use Rattle.permit_base.specs.declared.words.Stage.{Stage}
 use Rattle.permit_base.specs.declared.words.Stage.TheVariants as stage
 use Rattle.permit_base.specs.declared.request.Command.{Command}
 use Rattle.permit_base.specs.declared.request.Command.TheVariants.{StartReview, Return, Resubmit, ApprovePlans, Reject, Issue, AskExtension, GrantExtension}
-use Rattle.permit_base.specs.declared.request.Command.TheVariants.{RefuseExtension, BeginWork, RequestInspection, ApproveStep, Notice, ClearNotice, Stop, Lift}
+use Rattle.permit_base.specs.declared.request.Command.TheVariants.{RefuseExtension, BeginWork, RequestInspection, ApproveStep, Notice, ClearNotice}
 use Rattle.permit_base.specs.declared.request.Command.TheVariants.{Revoke, Temporary, Certify}
 use Rattle.permit_model.specs.Codes.{is_step}
 use Rattle.permit_model.specs.Days.{is_past, longest_permit_extension, longest_temporary}
@@ -28,7 +26,7 @@ use Rattle.permit_model.specs.Deadline.{deadline}
 use Rattle.permit_model.specs.Facts.{past_stage, stage_on}
 use Rattle.permit_model.specs.Admission.{ask_limit}
 use Rattle.permit_base.specs.Stages.{stage_facts}
-use Rattle.permit_model.specs.SoundState.{is_stored, is_timed}
+use Rattle.permit_model.specs.SoundState.{is_stored}
 use Rattle.permit_model.specs.Within.{is_command_within}
 use Rattle.permit_model.specs.Sound.{if_any, is_begun, may_be_stopped, is_occupied, is_done_in, longest_ask}
 use Rattle.permit_model.proofs.Projection.{last_touched, WasAdmitted, WereAdmitted}
@@ -101,11 +99,7 @@ is_under_permit s = (stage_facts s).stored && (stage_facts s).revocable
 -- a permit is revoked once it was issued, before the work is over
 revocable_from : (s : Stage) (past : Bool) → is_stored s ≡ true → not (stage_facts (if past then past_stage s else s)).revocable ≡ false →
     is_under_permit s ≡ true
-revocable_from stage.Issued past stored h = refl
-revocable_from stage.Working past stored h = refl
-revocable_from stage.Lapsed past stored h = cc
-revocable_from _ true stored h = cc
-revocable_from _ false stored h = cc
+revocable_from s past stored h = grind arith
 
 -- the stage before is none of these
 nowhere : (admits : Stage → Bool) (acts : List Act) (s : Stage) → base_stage acts ≡ s → admits s ≡ false →
@@ -122,30 +116,7 @@ StoppedIn acts = is_stopped acts ≡ true → may_be_stopped (base_stage acts) �
 
 stopped_more : (filing : Filing) (caller day : ℕ) (command : Command) (number : Option ℕ) (before : List Act) →
     WasAdmitted filing (act_by caller day command number) before → StoppedIn before → StoppedIn (act_by caller day command number ∷ before)
-stopped_more filing caller day StartReview number before w ih = λ e.
-    absurd (nowhere may_be_stopped before stage.Filed (came_from filing caller day StartReview number before w stage.Filed refl) refl (ih e))
-stopped_more filing caller day (Return text) number before w ih = λ e.
-    absurd (nowhere may_be_stopped before stage.Review (came_from filing caller day (Return text) number before w stage.Review refl) refl (ih e))
-stopped_more filing caller day (Resubmit text) number before w ih = λ e.
-    absurd (nowhere may_be_stopped before stage.Returned (came_from filing caller day (Resubmit text) number before w stage.Returned refl) refl (ih e))
-stopped_more filing caller day ApprovePlans number before w ih = λ e.
-    absurd (nowhere may_be_stopped before stage.Review (came_from filing caller day ApprovePlans number before w stage.Review refl) refl (ih e))
-stopped_more filing caller day (Reject text) number before w ih = λ e.
-    absurd (nowhere may_be_stopped before stage.Review (came_from filing caller day (Reject text) number before w stage.Review refl) refl (ih e))
-stopped_more filing caller day Issue number before w ih = λ e. refl
-stopped_more filing caller day BeginWork number before w ih = λ e. refl
-stopped_more filing caller day (ApproveStep Final) number before w ih = λ e. refl
-stopped_more filing caller day (ApproveStep step) number before w ih = ih
-stopped_more filing caller day (Revoke text) number before w ih = λ e. refl
-stopped_more filing caller day Certify number before w ih = λ e.
-    let bad : true ≡ false = sym e ∙ (tests_passed filing (act_by caller day Certify number) before w).1.0 in cc
-stopped_more filing caller day (Stop text conditions) number before w ih = λ e.
-    stoppable_from (base_stage before) (is_past day (deadline (case_of filing before))) (base_stored before)
-    (tests_passed filing (act_by caller day (Stop text conditions) number) before w).0
-stopped_more filing caller day Lift number before w ih = λ e.
-    stoppable_from (base_stage before) (is_past day (deadline (case_of filing before))) (base_stored before)
-    (tests_passed filing (act_by caller day Lift number) before w).0
-stopped_more filing caller day _ number before w ih = ih
+stopped_more filing caller day command number before w ih = grind (arith, nowhere, came_from, tests_passed, act_by, stoppable_from, case_of, base_stored)
 
 pub stopped_in : (filing : Filing) (acts : List Act) → WereAdmitted filing acts → StoppedIn acts
 stopped_in filing [] w = λ e. cc
@@ -158,27 +129,7 @@ RequestIn acts = is_some (pending_step acts) ≡ true → is_begun (base_stage a
 
 request_more : (filing : Filing) (caller day : ℕ) (command : Command) (number : Option ℕ) (before : List Act) →
     WasAdmitted filing (act_by caller day command number) before → RequestIn before → RequestIn (act_by caller day command number ∷ before)
-request_more filing caller day StartReview number before w ih = λ e.
-    absurd (nowhere is_begun before stage.Filed (came_from filing caller day StartReview number before w stage.Filed refl) refl (ih e))
-request_more filing caller day (Return text) number before w ih = λ e.
-    absurd (nowhere is_begun before stage.Review (came_from filing caller day (Return text) number before w stage.Review refl) refl (ih e))
-request_more filing caller day (Resubmit text) number before w ih = λ e.
-    absurd (nowhere is_begun before stage.Returned (came_from filing caller day (Resubmit text) number before w stage.Returned refl) refl (ih e))
-request_more filing caller day ApprovePlans number before w ih = λ e.
-    absurd (nowhere is_begun before stage.Review (came_from filing caller day ApprovePlans number before w stage.Review refl) refl (ih e))
-request_more filing caller day (Reject text) number before w ih = λ e.
-    absurd (nowhere is_begun before stage.Review (came_from filing caller day (Reject text) number before w stage.Review refl) refl (ih e))
-request_more filing caller day Issue number before w ih = λ e.
-    absurd (nowhere is_begun before stage.Approved (came_from filing caller day Issue number before w stage.Approved refl) refl (ih e))
-request_more filing caller day BeginWork number before w ih = λ e. refl
-request_more filing caller day (RequestInspection step) number before w ih = λ e.
-    among is_begun before stage.Working (came_from filing caller day (RequestInspection step) number before w stage.Working refl) refl
-request_more filing caller day (ApproveStep step) number before w ih = λ e. cc
-request_more filing caller day (Notice text) number before w ih = λ e. cc
-request_more filing caller day (Revoke text) number before w ih = λ e. refl
-request_more filing caller day Certify number before w ih = λ e.
-    absurd (nowhere is_begun before stage.Finaled (came_from filing caller day Certify number before w stage.Finaled refl) refl (ih e))
-request_more filing caller day _ number before w ih = ih
+request_more filing caller day command number before w ih = grind arith
 
 pub request_in : (filing : Filing) (acts : List Act) → WereAdmitted filing acts → RequestIn acts
 request_in filing [] w = λ e. cc
@@ -207,17 +158,14 @@ abbrev pub AskIn : List Act → Type 0
 AskIn acts = if_any (is_between 1 (longest_ask (base_stage acts))) (pending_ask acts) ≡ true
 
 pub longest_of_all : (s : Stage) → longest_ask s ≤ longest_permit_extension
-longest_of_all stage.Filed = omega arith
-longest_of_all _ = omega arith
+longest_of_all s = grind arith
 
 pub limit_kept : (s : Stage) → ask_limit s ≤ longest_ask s
-limit_kept stage.Filed = omega arith
-limit_kept _ = omega arith
+limit_kept s = grind arith
 
 -- an ask may be as long after the issue as any
 ask_late : (acts : List Act) → AskIn acts → if_any (is_between 1 longest_permit_extension) (pending_ask acts) ≡ true
-ask_late acts ih = any_more (is_between 1 (longest_ask (base_stage acts))) (is_between 1 longest_permit_extension) (pending_ask acts)
-    (λ n. between_later 1 (longest_ask (base_stage acts)) longest_permit_extension n (longest_of_all (base_stage acts))) ih
+ask_late acts ih = grind arith
 
 -- from one stage to another of the same limit an ask is kept
 ask_kept : (acts : List Act) (s : Stage) → base_stage acts ≡ s → AskIn acts → if_any (is_between 1 (longest_ask s)) (pending_ask acts) ≡ true
@@ -297,8 +245,7 @@ CertificateIn filing acts = is_some (temporary_until acts) ≡ true → (is_occu
 -- from a stage in which none is kept there is none
 none_kept : (filing : Filing) (before : List Act) (s : Stage) → base_stage before ≡ s → is_occupied s ≡ false → CertificateIn filing before →
     is_some (temporary_until before) ≡ true → ⊥
-none_kept filing before s was out ih e =
-    nowhere is_occupied before s was out (and_parts (is_occupied (base_stage before)) (has_certificates filing.kind) (ih e)).0
+none_kept filing before s was out ih e = grind arith
 
 -- to a stage in which one is kept it goes on
 still_kept : (filing : Filing) (before : List Act) → CertificateIn filing before → is_some (temporary_until before) ≡ true →
@@ -381,16 +328,7 @@ ends_final (step ∷ []) = is_step step Final
 ends_final (step ∷ next ∷ later) = ends_final (next ∷ later)
 
 required_end : (e : Edition) (kind : Kind) → ends_final (required_steps e kind) ≡ true
-required_end edition.First Construct = refl
-required_end edition.Second Construct = refl
-required_end edition.First Enlarge = refl
-required_end edition.Second Enlarge = refl
-required_end edition.First Alter = refl
-required_end edition.Second Alter = refl
-required_end e Repair = refl
-required_end e Move = refl
-required_end e Demolish = refl
-required_end e Occupancy = refl
+required_end e kind = grind arith
 
 some_steps : (steps : List Step) → ends_final steps ≡ true → 0 < length steps
 some_steps [] e = cc
@@ -413,15 +351,12 @@ DoneIn filing acts = is_done_in (base_stage acts) (length (required_steps filing
 -- from one stage to another in which as many steps are done
 done_kept : (filing : Filing) (acts : List Act) (s : Stage) → base_stage acts ≡ s → DoneIn filing acts →
     is_done_in s (length (required_steps filing.edition filing.kind)) (length (approved_steps acts)) ≡ true
-done_kept filing acts s was ih =
-    ap (λ x. is_done_in x (length (required_steps filing.edition filing.kind)) (length (approved_steps acts))) (sym was) ∙ ih
+done_kept filing acts s was ih = grind arith
 
 -- while steps are left, fewer are done than required
 not_all : (s : Stage) (required done : ℕ) → is_under_permit s ≡ true → 0 < required → is_done_in s required done ≡ true →
     nat_lt done required ≡ true
-not_all stage.Issued required done left some e = lt-ltb done required (omega (arith, eqb-true done 0 e, some))
-not_all stage.Working required done left some e = e
-not_all _ required done left some e = cc
+not_all s required done left some e = grind arith
 
 -- the step that was approved was the next one
 was_next : (filing : Filing) (caller day : ℕ) (step : Step) (number : Option ℕ) (before : List Act) →
@@ -435,20 +370,11 @@ was_next filing caller day step number before w all =
 step_done : (filing : Filing) (before : List Act) (step : Step) → base_stage before ≡ stage.Working →
     slice_get (required_steps filing.edition filing.kind) (length (approved_steps before)) ≡ Some step → is_step step Final ≡ false →
     is_done_in (base_stage before) (length (required_steps filing.edition filing.kind)) (length (approved_steps before ++ step ∷ [])) ≡ true
-step_done filing before step was next other =
-    let required = length (required_steps filing.edition filing.kind) in
-    let long : length (approved_steps before ++ step ∷ []) ≡ length (approved_steps before) + 1 = length-append (approved_steps before) (step ∷ []) in
-    let more : suc (length (approved_steps before)) < length (required_steps filing.edition filing.kind) =
-    more_steps (required_steps filing.edition filing.kind) (length (approved_steps before)) step (required_end filing.edition filing.kind) next other in
-    ap (λ s. is_done_in s required (length (approved_steps before ++ step ∷ []))) was
-    ∙ lt-ltb (length (approved_steps before ++ step ∷ [])) required (omega (arith, long, more))
+step_done filing before step was next other = grind (arith, length-append, more_steps, required_end, lt-ltb)
 
 all_done : (filing : Filing) (before : List Act) → slice_get (required_steps filing.edition filing.kind) (length (approved_steps before)) ≡ Some Final →
     (length (approved_steps before ++ Final ∷ []) == length (required_steps filing.edition filing.kind)) ≡ true
-all_done filing before next =
-    let long : length (approved_steps before ++ Final ∷ []) ≡ length (approved_steps before) + 1 = length-append (approved_steps before) (Final ∷ []) in
-    eq-eqb (length (approved_steps before ++ Final ∷ [])) (length (required_steps filing.edition filing.kind))
-    (omega (arith, long, final_last filing.edition filing.kind (length (approved_steps before)) next))
+all_done filing before next = grind (arith, length-append, eq-eqb, final_last)
 
 done_more : (filing : Filing) (caller day : ℕ) (command : Command) (number : Option ℕ) (before : List Act) →
     WasAdmitted filing (act_by caller day command number) before → WereAdmitted filing before → DoneIn filing before →

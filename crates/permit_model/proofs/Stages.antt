@@ -1,17 +1,13 @@
 -- The stage that a file had when a command on it was admitted.
-use Rattle.std.proofs.Common.{◌≡◌, ℕ, Bool, true, false, not, refl, sym, ◌∙◌, ap}
+use Rattle.std.proofs.Common.{arith, ◌≡◌, ℕ, Bool, true, false, not, sym, ◌∙◌, ap}
 use Rattle.std.specs.Prelude.{◌==◌, if◌then◌else◌}
 use Rattle.std.proofs.lemmas.Bool.{eqb-true}
 use Rattle.permit_base.specs.declared.words.Stage.{Stage}
 use Rattle.permit_base.specs.declared.words.Stage.TheVariants as stage
-use Rattle.permit_base.specs.declared.stages.Expiry.{Expiry}
-use Rattle.permit_base.specs.declared.stages.Expiry.TheVariants.{Never, Application, Permit}
-use Rattle.permit_base.specs.Stages.{stage_facts, expired}
+use Rattle.permit_base.specs.Stages.{stage_facts}
 use Rattle.permit_model.specs.Codes.{stage_code, is_stage}
-use Rattle.permit_model.specs.Days.{is_past}
 use Rattle.permit_model.specs.Files.{CaseFile}
 use Rattle.permit_model.specs.BaseStage.{base_stage}
-use Rattle.permit_model.specs.Deadline.{deadline}
 use Rattle.permit_model.specs.Facts.{past_stage, stage_on}
 use Rattle.permit_model.specs.SoundState.{is_stored, is_timed}
 use Rattle.permit_model.specs.Sound.{may_be_stopped}
@@ -25,8 +21,7 @@ stage_coded code =
     else if code == 12 then stage.New else stage.Office
 
 coded_back : (s : Stage) → stage_coded (stage_code s) ≡ s
-coded_back stage.Filed = refl
-coded_back _ = refl
+coded_back s = grind arith
 
 -- stages of one code are one stage
 pub same_stage : (a b : Stage) → is_stage a b ≡ true → a ≡ b
@@ -34,54 +29,22 @@ same_stage a b e = sym (coded_back a) ∙ ap stage_coded (eqb-true (stage_code a
 
 -- the only stage that is admitted
 pub only_one : (s wanted : Stage) (b : Bool) → is_stage s wanted ≡ b → not b ≡ false → s ≡ wanted
-only_one s wanted true e h = same_stage s wanted e
-only_one s wanted false e h = cc
-
-unexpired : (e : Expiry) (s wanted : Stage) → is_stored wanted ≡ true → expired e s ≡ wanted → s ≡ wanted
-unexpired Never s wanted stored e = e
-unexpired Application s wanted stored e = let bad : false ≡ true = ap is_stored e ∙ stored in cc
-unexpired Permit s wanted stored e = let bad : false ≡ true = ap is_stored e ∙ stored in cc
+only_one s wanted b e h = grind arith
 
 -- a stored stage on the day is the stage whatever the day is
 pub unpassed : (s wanted : Stage) (past : Bool) → is_stored wanted ≡ true → (if past then past_stage s else s) ≡ wanted → s ≡ wanted
-unpassed s wanted false stored e = e
-unpassed s wanted true stored e = unexpired (stage_facts s).expiry s wanted stored e
+unpassed s wanted past stored e = grind arith
 
 -- a command of one stored stage was admitted in it
 pub was_in : (day : ℕ) (file : CaseFile) (wanted : Stage) → is_stored wanted ≡ true → not (is_stage (stage_on day file) wanted) ≡ false →
     base_stage file.acts ≡ wanted
-was_in day file wanted stored h = unpassed (base_stage file.acts) wanted (is_past day (deadline file)) stored
-    (only_one (stage_on day file) wanted (is_stage (stage_on day file) wanted) refl h)
-
-same_when_past : (s : Stage) (past : Bool) → past_stage s ≡ s → (if past then past_stage s else s) ≡ s
-same_when_past s true e = e
-same_when_past s false e = refl
-
--- where the stage can't be past, it is one that admits the command
-pub was_among : (day : ℕ) (file : CaseFile) (admits : Stage → Bool) (s : Stage) → past_stage s ≡ s → base_stage file.acts ≡ s →
-    not (admits (stage_on day file)) ≡ false → not (admits s) ≡ false
-was_among day file admits s unpast e h =
-    let here : stage_on day file ≡ s = ap (λ x. if is_past day (deadline file) then past_stage x else x) e
-    ∙ same_when_past s (is_past day (deadline file)) unpast in
-    rw here at h
+was_in day file wanted stored h = grind arith
 
 -- a stop work order and a lift come in the stages in which one may stand
 pub stoppable_from : (s : Stage) (past : Bool) → is_stored s ≡ true → not (stage_facts (if past then past_stage s else s)).stoppable ≡ false →
     may_be_stopped s ≡ true
-stoppable_from stage.Issued past stored h = refl
-stoppable_from stage.Working past stored h = refl
-stoppable_from stage.Revoked past stored h = refl
-stoppable_from stage.Finaled past stored h = refl
-stoppable_from stage.Lapsed past stored h = cc
-stoppable_from _ true stored h = cc
-stoppable_from _ false stored h = cc
-
-timed_by : (e : Expiry) (s : Stage) → not (is_timed (expired e s)) ≡ false → expired e s ≡ s
-timed_by Never s h = refl
-timed_by Application s h = cc
-timed_by Permit s h = cc
+stoppable_from s past stored h = grind arith
 
 -- in a stage with a deadline that isn't past, the stage on the day is the stored one
 pub timed_from : (s : Stage) (past : Bool) → not (is_timed (if past then past_stage s else s)) ≡ false → (if past then past_stage s else s) ≡ s
-timed_from s false h = refl
-timed_from s true h = timed_by (stage_facts s).expiry s h
+timed_from s past h = grind arith

@@ -1,7 +1,7 @@
 -- Stop work orders and lifts take turns.
-use Rattle.std.proofs.Common.{◌≡◌, ◌≤◌, ◌<◌, ℕ, suc, ◌+◌, Bool, true, false, not, List, [], ◌∷◌, refl, arith}
+use Rattle.std.proofs.Common.{◌≡◌, ◌≤◌, ℕ, ◌+◌, true, false, List, [], ◌∷◌, arith}
 use Rattle.std.specs.Prelude.{Option}
-use Rattle.std.proofs.lemmas.Bool.{ltb-false as not_below, ltb-true as below, lt-ltb, le-ltb}
+use Rattle.std.proofs.lemmas.Bool.{lt-ltb, le-ltb}
 use Rattle.permit_base.specs.declared.request.Command.{Command}
 use Rattle.permit_base.specs.declared.request.Command.TheVariants.{Stop, Lift}
 use Rattle.permit_model.specs.Search.{how_many}
@@ -9,7 +9,7 @@ use Rattle.permit_model.specs.Effects.{effects}
 use Rattle.permit_model.specs.Files.{Filing, Act}
 use Rattle.permit_model.specs.Work.{is_stopped}
 use Rattle.permit_model.proofs.Projection.{WasAdmitted, WereAdmitted}
-use Rattle.permit_model.proofs.Deadlines.{act_by, tests_passed}
+use Rattle.permit_model.proofs.Deadlines.{act_by}
 
 abbrev pub stops : List Act → ℕ
 stops acts = how_many (λ act. (effects act.command).stops) acts
@@ -21,21 +21,9 @@ lifts acts = how_many (λ act. (effects act.command).lifts) acts
 abbrev pub TakeTurns : List Act → Type 0
 TakeTurns acts = (lifts acts ≤ stops acts) × (stops acts ≤ lifts acts + 1)
 
-not_true : (b : Bool) → not b ≡ false → b ≡ true
-not_true true e = refl
-not_true false e = cc
-
 turns_more : (filing : Filing) (caller day : ℕ) (command : Command) (number : Option ℕ) (before : List Act) →
     WasAdmitted filing (act_by caller day command number) before → TakeTurns before → TakeTurns (act_by caller day command number ∷ before)
-turns_more filing caller day (Stop text conditions) number before w ih =
-    let free : stops before ≤ lifts before = not_below (lifts before) (stops before)
-    (tests_passed filing (act_by caller day (Stop text conditions) number) before w).1.0 in
-    (omega (arith, ih.0), omega (arith, free))
-turns_more filing caller day Lift number before w ih =
-    let stands : lifts before < stops before = below (lifts before) (stops before)
-    (not_true (is_stopped before) (tests_passed filing (act_by caller day Lift number) before w).1.0) in
-    (omega (arith, stands), omega (arith, ih.1))
-turns_more filing caller day _ number before w ih = ih
+turns_more filing caller day command number before w ih = grind arith
 
 -- stop work orders and lifts take turns, beginning with an order
 pub take_turns : (filing : Filing) (acts : List Act) → WereAdmitted filing acts → TakeTurns acts
@@ -45,11 +33,9 @@ take_turns filing (act ∷ before) w = turns_more filing act.caller act.day act.
 -- after an order the file is stopped
 pub stopped_by_order : (filing : Filing) (caller day : ℕ) (text conditions : List ℕ) (number : Option ℕ) (before : List Act) → WereAdmitted filing before →
     is_stopped (act_by caller day (Stop text conditions) number ∷ before) ≡ true
-stopped_by_order filing caller day text conditions number before w = let t : TakeTurns before =
-    take_turns filing before w in lt-ltb (lifts before) (suc (stops before)) (omega (arith, t.0))
+stopped_by_order filing caller day text conditions number before w = grind (arith, take_turns, lt-ltb)
 
 -- after a lift it isn't
 pub released_by_lift : (filing : Filing) (caller day : ℕ) (number : Option ℕ) (before : List Act) → WereAdmitted filing before →
     is_stopped (act_by caller day Lift number ∷ before) ≡ false
-released_by_lift filing caller day number before w = let t : TakeTurns before =
-    take_turns filing before w in le-ltb (suc (lifts before)) (stops before) (omega (arith, t.1))
+released_by_lift filing caller day number before w = grind (arith, take_turns, le-ltb)

@@ -1,7 +1,7 @@
 -- From the rows that a listing's selections find to its files.
-use Rattle.std.proofs.Common.{◌≡◌, ◌<◌, ◌≤◌, ℕ, ◌+◌, ◌*◌, ◌%◌, ◌^◌, Bool, true, false, List, [], ◌∷◌, ◌++◌, length, refl, sym, ◌∙◌, ap, subst, ⊎_elim, map}
-use Rattle.std.proofs.Common.{append_assoc, length-append, get_or, arith}
-use Rattle.std.specs.Prelude.{filter, Result, Ok, ⊤, IsPermutation}
+use Rattle.std.proofs.Common.{◌≡◌, ◌<◌, ◌≤◌, ℕ, ◌+◌, ◌*◌, ◌%◌, ◌^◌, List, [], ◌∷◌, ◌++◌, length, refl, sym, ◌∙◌, ap, subst, ⊎_elim, map}
+use Rattle.std.proofs.Common.{append_assoc, length-append, arith}
+use Rattle.std.specs.Prelude.{filter, Ok, Vec, IsPermutation}
 use Rattle.std.specs.List.{flat_map, Contains, Any}
 use Rattle.std.proofs.lemmas.List.{map-append}
 use Rattle.std.proofs.lemmas.List.Elements.{filter-append, filter_agree}
@@ -24,17 +24,21 @@ use Rattle.permit_model.proofs.Members.{IsMember, member_from, of_member, IsGive
 use Rattle.permit_model.proofs.ListingFromRoutes.{allowed_views, listing_from_routes}
 use Rattle.permit_model.proofs.ReadCount.{same_count, few_opened}
 use Rattle.permit_core.specs.Taking.{TookAll}
-use Rattle.permit_store.specs.declared.store.StoreError.{StoreError}
-use Rattle.permit_store.specs.Frames.{StoreView, Reads}
-use Rattle.permit_store.specs.Handing.{AreRising, AreHanded, AreAmong, Hands, more_handed, is_found_by_any, found_by_any}
+use Rattle.permit_store.specs.Frames.{StoreView}
+use Rattle.permit_store.specs.Handing.{AreRising, is_found_by_any, found_by_any}
 use Rattle.permit_store.proofs.Sifting.{pass_alike}
-use Rattle.permit_office.specs.declared.listing.Lister.{Lister}
+use Rattle.permit_office.specs.declared.listing.FileList.{FileList}
+use Rattle.permit_office.specs.declared.showing.RowsEnd.TheVariants as ended
 use Rattle.permit_office.specs.Reach.{HandedMore}
-use Rattle.permit_office.specs.Listings.{view_found, may_list, views_found, Listed, Takes, Gathers, AreRising as AreInOrder}
-use Rattle.permit_office.specs.Grouping.{group_of}
+use Rattle.permit_office.specs.Listings.{view_found, may_list, views_found, Adds, Gathers, selections_for, AreRising as AreInOrder}
+use Rattle.permit_policy.specs.Selections.{items_of, selections_of}
+use Rattle.permit_base.specs.declared.words.Role.{Role}
+use Rattle.std.specs.Global.{Global}
+use Rattle.std.proofs.Math.Bool.{or-false}
+use Rattle.permit_office.specs.Passing.{AreFoundBy, PassedOn}
 use Rattle.permit_office.specs.Opening.{OpensRows}
 use Rattle.permit_office.specs.declared.reply.Listing.{Listing}
-use Rattle.permit_office.proofs.Grouping.{or_false, seen, CountsGroups, counts_none, counts_seen, counts_new, groups_find}
+use Rattle.permit_office.proofs.ListingSelections.{selections_find}
 
 pub views_append : (policy : Policy) (caller : Party) (day : ℕ) (xs ys : List Found) →
     views_found policy caller day (xs ++ ys) ≡ views_found policy caller day xs ++ views_found policy caller day ys
@@ -44,39 +48,18 @@ views_append policy caller day xs ys =
 
 -- ---- rows taken one after the other
 
-small : (n m : ℕ) → n ≡ m % 2 ^ 32 → n < 2 ^ 32
-small n m e = omega arith
-
-counted : (a b c n m : ℕ) → b ≡ (a + n) % 2 ^ 32 → c ≡ (b + m) % 2 ^ 32 → c ≡ (a + (n + m)) % 2 ^ 32
-counted a b c n m e f = omega arith
-
-listed_join : (xs ys : List Found) (a b c : Lister) → Listed xs a b → Listed ys b c → Listed (xs ++ ys) a c
-listed_join xs ys a b c first second = record {
-  policy = second.policy ∙ first.policy;
-  caller = second.caller ∙ first.caller;
-  day = second.day ∙ first.day;
-  files = second.files
-      ∙ ap (λ p. b.files.items ++ views_found p.now b.caller.now b.day ys) first.policy
-      ∙ ap (λ p. b.files.items ++ views_found a.policy.now p.now b.day ys) first.caller
-      ∙ ap (λ d. b.files.items ++ views_found a.policy.now a.caller.now d ys) first.day
-      ∙ ap (λ fs. fs ++ views_found a.policy.now a.caller.now a.day ys) first.files
-      ∙ append_assoc a.files.items (views_found a.policy.now a.caller.now a.day xs) (views_found a.policy.now a.caller.now a.day ys)
-      ∙ ap (λ fs. a.files.items ++ fs) (sym (views_append a.policy.now a.caller.now a.day xs ys));
-  read = counted a.read b.read c.read (length xs) (length ys) first.read second.read ∙ ap (λ n. (a.read + n) % 2 ^ 32) (sym (length-append xs ys));
-}
+counted : (b c n m : ℕ) → b ≡ n % 2 ^ 32 → c ≡ m % 2 ^ 32 → (b + c) % 2 ^ 32 ≡ (n + m) % 2 ^ 32
+counted b c n m e f = omega arith
 
 nothing_more : {A : Type 0} (xs : List A) → xs ++ [] ≡ xs
 nothing_more [] = refl
 nothing_more (x ∷ xs) = ap (λ ys. x ∷ ys) (nothing_more xs)
 
-listed_none : (l : Lister) → l.read < 2 ^ 32 → Listed [] l l
-listed_none l few = record { policy = refl; caller = refl; day = refl; files = sym (nothing_more l.files.items); read = omega arith }
-
-took_listed : (given : List Found) (before after : Lister) → before.read < 2 ^ 32 → TookAll Takes given before after → Listed given before after
-took_listed [] before after few took = subst (λ l. Listed [] before l) (sym took) (listed_none before few)
-took_listed (found ∷ given) before after few took =
-    let one : Listed (found ∷ []) before took.0 = took.1 refl in
-    listed_join (found ∷ []) given before took.0 after one (took_listed given took.0 after (small took.0.read (before.read + 1) one.read) took.2)
+-- the files that were taken come after those of before
+added : (views : List FileView) (before after : FileList) → TookAll Adds views before after → after.files.items ≡ before.files.items ++ views
+added [] before after took = ap (λ (l : FileList). l.files.items) took ∙ sym (nothing_more before.files.items)
+added (view ∷ views) before after took =
+    added views took.0 after took.2 ∙ ap (λ fs. fs ++ views) (took.1 refl) ∙ append_assoc before.files.items (view ∷ []) views
 
 -- ---- one group after the other
 
@@ -88,150 +71,69 @@ flat_last : {A B : Type 0} (f : A → List B) (xs : List A) (x : A) → flat_map
 flat_last f [] x = nothing_more (f x)
 flat_last f (y ∷ xs) x = ap (λ zs. f y ++ zs) (flat_last f xs x) ∙ sym (append_assoc (f y) (flat_map f xs) (f x))
 
-from_none : (n : ℕ) → n % 2 ^ 32 ≡ (0 + n) % 2 ^ 32
-from_none n = omega arith
-
-handed_more : (old mid new n m : ℕ) → HandedMore n old mid → new ≡ more_handed m mid → HandedMore (n + m) old new
+handed_more : (old mid new n m : ℕ) → HandedMore n old mid → HandedMore m mid new → HandedMore (n + m) old new
 handed_more old mid new n m e f = omega arith
 
--- the rows that a group of one selection finds are that selection's
-pub among_alone : {E : Type 0} (group : List Route) (r : Route) (caller day : ℕ) (t : Tables) (result : Result Bool E) (given : List Found) → group ≡ r ∷ []
-    → AreHanded t result given (found_by r caller day t) → AreAmong result given (found_by_any group caller day t)
-among_alone group r caller day t result given e handed =
-    let same : found_by_any (r ∷ []) caller day t ≡ found_by r caller day t =
-    filter_agree (is_found_by_any (r ∷ []) caller day) (is_found r caller day) (λ x. or_false (is_found r caller day x))
-    (map (found_row t caller) t.files) in
-    (handed.0, handed.1, subst (IsPermutation (given ++ handed.0)) (sym (ap (λ (g : List Route). found_by_any g caller day t) e ∙ same)) handed.2.same)
+-- rows that are found by routes, in any order
+any_order : (routes : List Route) (caller day : ℕ) (t : Tables) (given rest : List Found) → rest ≡ [] → AreFoundBy routes caller day t (given ++ rest) →
+    IsPermutation given (found_by_any routes caller day t)
+any_order routes caller day t given rest none found =
+    by_routes routes (subst (AreFoundBy routes caller day t) (ap (λ rs. given ++ rs) none ∙ nothing_more given) found)
+  where
+    by_routes : (rs : List Route) → AreFoundBy rs caller day t given → IsPermutation given (found_by_any rs caller day t)
+    by_routes [] moved = moved
+    by_routes (r ∷ []) same =
+        let alone : found_by_any (r ∷ []) caller day t ≡ found_by r caller day t =
+        filter_agree (is_found_by_any (r ∷ []) caller day) (is_found r caller day) (λ x. or-false (is_found r caller day x))
+        (map (found_row t caller) t.files) in
+        subst (IsPermutation given) (sym (alone ∙ same)) (IsPermutation-refl given)
+    by_routes (r ∷ (q ∷ rs)) moved = moved
 
--- a list of one
-pub alone : {A : Type 0} (xs : List A) (d : A) → length xs ≡ 1 → xs ≡ get_or xs 0 d ∷ []
-alone [] d one = absurd (omega (arith, one))
-alone (x ∷ []) d one = refl
-alone (x ∷ (y ∷ xs)) d one = absurd (omega (arith, one))
-
--- Rows were handed out for a beginning of the selections, and they are those that the groups of the beginning find.
-pub record GathersOf (policy : Policy) (caller : Party) (day : ℕ) (routes earlier : List Route) (old new : StoreView) (views : List FileView)
-    (count : ℕ) : Type 0 where
-  pub given : List Found
-  pub files : views ≡ views_found policy caller day given
-  pub read : count ≡ length given % 2 ^ 32
-  pub handed : HandedMore (length given) old.handed new.handed
-  pub groups : List (List Route)
-  pub counts : CountsGroups routes earlier groups
-  pub found : new.doubt ≡ 0 → (h : History) → IsHistory h → old.holds (tables h) →
-      IsPermutation given (flat_map (λ g. found_by_any g caller.id day (tables h)) groups)
-
--- one group more
-gathers_more : (policy : Policy) (caller : Party) (day : ℕ) (routes earlier : List Route) (r : Route) (old mid new : StoreView) (before after : Lister)
-    (given : List Found) → before.policy.now ≡ policy → before.caller.now ≡ caller → before.day ≡ day →
-    seen earlier r ≡ false → GathersOf policy caller day routes earlier old mid before.files.items before.read → Listed given before after →
-    new.handed ≡ more_handed (length given) mid.handed → mid.doubt ≤ new.doubt →
-    (new.doubt ≡ 0 → (t : Tables) → old.holds t → IsPermutation given (found_by_any (group_of routes r) caller.id day t)) →
-    GathersOf policy caller day routes (earlier ++ r ∷ []) old new after.files.items after.read
-gathers_more policy caller day routes earlier r old mid new before after given ep ec ed unseen all one handed doubt found = record {
-  given = all.given ++ given;
-  files = one.files
-      ∙ ap (λ p. before.files.items ++ views_found p before.caller.now before.day given) ep
-      ∙ ap (λ p. before.files.items ++ views_found policy p before.day given) ec
-      ∙ ap (λ d. before.files.items ++ views_found policy caller d given) ed
-      ∙ ap (λ fs. fs ++ views_found policy caller day given) all.files
-      ∙ sym (views_append policy caller day all.given given);
-  read = counted 0 before.read after.read (length all.given) (length given) (all.read ∙ from_none (length all.given)) one.read
-      ∙ sym (from_none (length all.given + length given)) ∙ ap (λ n. n % 2 ^ 32) (sym (length-append all.given given));
-  handed = subst (λ n. HandedMore n old.handed new.handed) (sym (length-append all.given given))
-      (handed_more old.handed mid.handed new.handed (length all.given) (length given) all.handed handed);
-  groups = all.groups ++ group_of routes r ∷ [];
-  counts = counts_new routes earlier r all.groups unseen all.counts;
-  found = λ sure h is held.
-      let late : mid.doubt ≡ 0 = omega arith in
-      subst (IsPermutation (all.given ++ given)) (sym (flat_last (λ g. found_by_any g caller.id day (tables h)) all.groups (group_of routes r)))
-      (IsPermutation-append all.given (flat_map (λ g. found_by_any g caller.id day (tables h)) all.groups) given
-      (found_by_any (group_of routes r) caller.id day (tables h)) (all.found late h is held) (found sure (tables h) held));
-}
-
--- a selection whose group was looked up
-pub gathers_seen : (policy : Policy) (caller : Party) (day : ℕ) (routes earlier : List Route) (r : Route) (old new : StoreView) (views : List FileView)
-    (count : ℕ) → seen earlier r ≡ true →
-    GathersOf policy caller day routes earlier old new views count → GathersOf policy caller day routes (earlier ++ r ∷ []) old new views count
-gathers_seen policy caller day routes earlier r old new views count there all = record {
-  given = all.given;
-  files = all.files;
-  read = all.read;
-  handed = all.handed;
-  groups = all.groups;
-  counts = counts_seen routes earlier r all.groups there all.counts;
-  found = all.found;
-}
-
--- what a group handed to the lister, which goes on
-abbrev pub HandedTo : ℕ → ℕ → List Route → StoreView → StoreView → Lister → Lister → Result Bool StoreError → Type 0
-HandedTo caller day group mid new before after result =
-    (given : List Found) × Hands Takes given mid new before after result
-    × (new.doubt ≡ 0 → (t : Tables) → mid.holds t → AreAmong result given (found_by_any group caller day t))
-
-all_handed : (given found : List Found) → AreAmong {E = StoreError} (Ok true) given found → IsPermutation given found
-all_handed given found handed =
-    subst (λ (xs : List Found). IsPermutation xs found) (ap (λ rest. given ++ rest) handed.1 ∙ nothing_more given) handed.2
-
--- the lister after it
-pub record GoesOn (rules : Policy) (who : Party) (today : ℕ) (routes earlier : List Route) (old mid new : StoreView) (lister : Lister) : Type 0 where
-  pub policy : lister.policy.now ≡ rules
-  pub caller : lister.caller.now ≡ who
-  pub day : lister.day ≡ today
-  pub gathers : GathersOf rules who today routes earlier old new lister.files.items lister.read
-  pub read : (count : ℕ) × Reads {A = Bool} {E = StoreError} ⊤ count mid new (Ok true)
-
-pub goes_on : (policy : Policy) (caller : Party) (day : ℕ) (routes earlier : List Route) (r : Route) (old mid new : StoreView) (before after : Lister) →
-    before.policy.now ≡ policy → before.caller.now ≡ caller → before.day ≡ day →
-    seen earlier r ≡ false → GathersOf policy caller day routes earlier old mid before.files.items before.read → ((t : Tables) → old.holds t → mid.holds t) →
-    (b : Bool) → b ≡ true → (number : ℕ) → number ≡ caller.id →
-    (group : List Route) → group ≡ group_of routes r → HandedTo number day group mid new before after (Ok b) →
-    GoesOn policy caller day routes (earlier ++ r ∷ []) old mid new after
-goes_on policy caller day routes earlier r old mid new before after ep ec ed unseen all kept false on number same group is handed = cc
-goes_on policy caller day routes earlier r old mid new before after ep ec ed unseen all kept true on number same group is handed =
-    let given = handed.0 in
-    let one : Listed given before after = took_listed given before after (small before.read (length all.given) all.read) handed.1.taken in
+-- one selection more
+pub gathers_more : (policy : Policy) (caller : Party) (day : ℕ) (selections : List (List Route)) (selection : List Route) (old mid new : StoreView)
+    (before after : FileList) (count more : ℕ) → Gathers policy caller day selections old mid before.files.items count →
+    PassedOn Adds policy caller day selection mid new before after (Ok (ended.All more)) → mid.doubt ≤ new.doubt → ((t : Tables) → old.holds t → mid.holds t) →
+    Gathers policy caller day (selections ++ selection ∷ []) old new after.files.items ((count + more) % 2 ^ 32)
+gathers_more policy caller day selections selection old mid new before after count more all passed doubt kept =
+    let given = passed.given in
     record {
-      policy = ap (λ p. p.now) one.policy ∙ ep;
-      caller = ap (λ p. p.now) one.caller ∙ ec;
-      day = one.day ∙ ed;
-      gathers = gathers_more policy caller day routes earlier r old mid new before after given ep ec ed unseen all one handed.1.read.handed handed.1.read.doubt
-          (λ sure t held. subst (λ (g : List Route). IsPermutation given (found_by_any g caller.id day t)) is
-          (subst (λ (n : ℕ). IsPermutation given (found_by_any group n day t)) same
-          (all_handed given (found_by_any group number day t) (handed.2 sure t (kept t held)))));
-      read = (more_handed (length given) mid.handed, handed.1.read);
+      given = all.given ++ given;
+      files = added (views_found policy caller day given) before after passed.taken.1
+          ∙ ap (λ fs. fs ++ views_found policy caller day given) all.files
+          ∙ sym (views_append policy caller day all.given given);
+      read = counted count more (length all.given) (length given) all.read passed.taken.0 ∙ ap (λ n. n % 2 ^ 32) (sym (length-append all.given given));
+      handed = subst (λ n. HandedMore n old.handed new.handed) (sym (length-append all.given given))
+          (handed_more old.handed mid.handed new.handed (length all.given) (length given) all.handed passed.handed);
+      found = λ sure h is held.
+          let late : mid.doubt ≡ 0 = omega arith in
+          let rows = passed.found sure h is (kept (tables h) held) in
+          subst (IsPermutation (all.given ++ given)) (sym (flat_last (λ s. found_by_any s caller.id day (tables h)) selections selection))
+          (IsPermutation-append all.given (flat_map (λ s. found_by_any s caller.id day (tables h)) selections) given
+          (found_by_any selection caller.id day (tables h)) (all.found late h is held)
+          (any_order selection caller.id day (tables h) given rows.0 rows.1 rows.2));
     }
 
 -- no selection yet
-pub gathers_none : (policy : Policy) (caller : Party) (day : ℕ) (routes : List Route) (s : StoreView) (views : List FileView) → views ≡ [] →
-    GathersOf policy caller day routes [] s s views 0
-gathers_none policy caller day routes s views e =
-    record {
-      given = [];
-      files = e;
-      read = refl;
-      handed = omega arith;
-      groups = [];
-      counts = counts_none routes;
-      found = λ sure h is held. IsPermutation-refl [];
-    }
+pub gathers_none : (policy : Policy) (caller : Party) (day : ℕ) (s : StoreView) (views : List FileView) → views ≡ [] → Gathers policy caller day [] s s views 0
+gathers_none policy caller day s views e =
+    record { given = []; files = e; read = refl; handed = omega arith; found = λ sure h is held. IsPermutation-refl [] }
 
--- all selections, where they are a listing's
-pub gathers_whole : (policy : Policy) (caller : Party) (day : ℕ) (routes : List Route) (old new : StoreView) (views : List FileView) (count : ℕ) →
-    GathersOf policy caller day routes routes old new views count →
-    Gathers policy caller day routes old new views count
-gathers_whole policy caller day routes old new views count all = record {
-  given = all.given;
-  files = all.files;
-  read = all.read;
-  handed = all.handed;
-  found = λ sure h is held wanted e.
-      let allowed = allowed_by policy caller.role action.List in
-      subst (λ (rs : List Route). IsPermutation all.given (flat_map (λ r. found_by r caller.id day (tables h)) rs)) (sym e)
-      (IsPermutation-trans all.given (flat_map (λ g. found_by_any g caller.id day (tables h)) all.groups)
-      (flat_map (λ r. found_by r caller.id day (tables h)) (routes_of allowed wanted)) (all.found sure h is held)
-      (groups_find allowed wanted caller.id day (tables h) all.groups (subst (λ (rs : List Route). CountsGroups rs rs all.groups) e all.counts)));
-}
+-- the selections that were made are those of a listing for the caller
+pub named : (policy : Policy) (caller : Party) (role : Role) (wanted : Filter) (made seen : List (Vec Route Global)) → role ≡ caller.role → seen ≡ made →
+    map items_of made ≡ selections_of (allowed_by policy role action.List) wanted → map items_of seen ≡ selections_for policy caller wanted
+named policy caller role wanted made seen same is e =
+    ap (map items_of) is ∙ e ∙ ap (λ (r : Role). selections_of (allowed_by policy r action.List) wanted) same
+
+-- the rows that a listing's selections find are those that its routes find
+pub found_by_routes : (policy : Policy) (h : History) (day : ℕ) (caller : Party) (wanted : Filter) (given : List Found) (selections : List (List Route)) →
+    selections ≡ selections_for policy caller wanted → IsPermutation given (flat_map (λ s. found_by_any s caller.id day (tables h)) selections) →
+    IsPermutation given (flat_map (λ r. found_by r caller.id day (tables h)) (routes_of (allowed_by policy caller.role action.List) wanted))
+found_by_routes policy h day caller wanted given selections e found =
+    let allowed = allowed_by policy caller.role action.List in
+    let own : IsPermutation given (flat_map (λ s. found_by_any s caller.id day (tables h)) (selections_of allowed wanted)) =
+    subst (λ (ss : List (List Route)). IsPermutation given (flat_map (λ s. found_by_any s caller.id day (tables h)) ss)) e found in
+    IsPermutation-trans given (flat_map (λ s. found_by_any s caller.id day (tables h)) (selections_of allowed wanted))
+    (flat_map (λ r. found_by r caller.id day (tables h)) (routes_of allowed wanted)) own (selections_find allowed wanted caller.id day (tables h))
 
 -- ---- the files in order
 
@@ -320,10 +222,6 @@ files_gathered policy h day caller wanted is given views kept e moved up from al
     files_listed policy h day caller wanted is whole kept refl up
     (λ v there. Contains-permutation views whole v same (from v there))
     (λ v there. all v (Contains-permutation whole views v (IsPermutation-sym views whole same) there))
-
--- the rows are those that the selections find, in any order
-abbrev pub GivenBy : ℕ → ℕ → History → List Found → List Route → Type 0
-GivenBy caller day h given routes = IsPermutation given (flat_map (λ r. found_by r caller day (tables h)) routes)
 
 -- ---- the rows read
 

@@ -1,6 +1,6 @@
 -- A listing whose rows one selection finds.
 use Rattle.std.proofs.Common.{◌≡◌, ◌<◌, ◌≤◌, ℕ, Bool, List, [], ◌∷◌, ◌++◌, length, refl, sym, ◌∙◌, ap, subst, map, append_assoc, get_or, arith}
-use Rattle.std.specs.Prelude.{filter, Result, Ok, Err, Some}
+use Rattle.std.specs.Prelude.{filter, Result, Ok, Err, IsErr, Some}
 use Rattle.std.specs.List.{flat_map}
 use Rattle.permit_base.specs.declared.request.Filter.{Filter}
 use Rattle.permit_base.specs.declared.route.Route.{Route}
@@ -10,7 +10,7 @@ use Rattle.permit_model.specs.Caller.{Party}
 use Rattle.permit_model.specs.Policy.{Policy}
 use Rattle.permit_model.specs.Listing.{listing}
 use Rattle.permit_model.specs.Opened.{opened}
-use Rattle.permit_model.specs.Tables.{FileRow, FileView, tables}
+use Rattle.permit_model.specs.Tables.{FileRow, FileView, Tables, tables}
 use Rattle.permit_model.specs.Routes.{Found, found_row, is_found, found_by}
 use Rattle.permit_model.specs.Machine.{IsHistory, Listed}
 use Rattle.permit_model.proofs.Rising.{rows_rising, IsRising, mapped_rising, filtered_rising}
@@ -80,6 +80,19 @@ listed_apart : (policy : Policy) (h : History) (day : ℕ) (caller : Party) (wan
 listed_apart policy h day caller wanted is route e given rest found =
     sym (one_listed policy h day caller wanted is route e) ∙ ap (views_found policy caller day) found ∙ views_append policy caller day given rest
 
+-- the same of another route that finds the same rows
+pub own_passed : {T : Type 0} (took : T → FileView → T → Bool → Type 0) (policy : Policy) (caller : Party) (day : ℕ) (route own : Route) (old new : StoreView)
+    (before after : T) (result : Result RowsEnd StoreError) → ((number at : ℕ) (t : Tables) → found_by route number at t ≡ found_by own number at t) →
+    PassedOn took policy caller day (route ∷ []) old new before after result → PassedOn took policy caller day (own ∷ []) old new before after result
+own_passed took policy caller day route own old new before after result alike passed = record {
+  given = passed.given;
+  taken = passed.taken;
+  handed = passed.handed;
+  found = λ sure h is held.
+      let found = passed.found sure h is held in
+      (found.0, found.1, sym (alike caller.id day (tables h)) ∙ found.2);
+}
+
 module _ {T : Type 0} (took : T → FileView → T → Bool → Type 0) (policy : Policy) (h : History) (day : ℕ) (caller : Party) (wanted : Filter) (is : IsHistory h)
     (route : Route) where
   stopped_in : routes_for policy caller wanted ≡ route ∷ [] → (given rest : List Found) (old new : T) →
@@ -100,7 +113,7 @@ module _ {T : Type 0} (took : T → FileView → T → Bool → Type 0) (policy 
       (given, left ++ rest, e ∙ ap (λ vs. vs ++ rest) apart ∙ append_assoc given left rest, taken)
 
   pub shown : routes_for policy caller wanted ≡ route ∷ [] → (old new : StoreView) (before after : T) (result : Result RowsEnd StoreError) →
-      PassedOn took policy caller day route old new before after result
+      PassedOn took policy caller day (route ∷ []) old new before after result
       → new.doubt ≡ 0 → old.holds (tables h) → Shows took (Listed (listing policy h day caller wanted)) before after (end_of result)
   shown e old new before after (Ok (ended.All read)) passed sure held =
       let found = passed.found sure h is held in
@@ -118,7 +131,7 @@ module _ {T : Type 0} (took : T → FileView → T → Bool → Type 0) (policy 
       (listed_apart policy h day caller wanted is route e passed.given found.0 found.2) passed.taken
 
   pub opens : routes_for policy caller wanted ≡ route ∷ [] → (old new : StoreView) (before after : T) (result : Result RowsEnd StoreError) →
-      PassedOn took policy caller day route old new before after result
+      PassedOn took policy caller day (route ∷ []) old new before after result
       → new.doubt ≡ 0 → old.holds (tables h) → OpensAt (Some (length (opened policy h day caller wanted))) (end_of result) old.handed new.handed
   opens e old new before after (Ok (ended.All read)) passed sure held =
       let found = passed.found sure h is held in
@@ -134,7 +147,7 @@ module _ {T : Type 0} (took : T → FileView → T → Bool → Type 0) (policy 
   opens e old new before after (Err error) passed sure held = tt
 
   pub stops : routes_for policy caller wanted ≡ route ∷ [] → (old new : StoreView) (before after : T) (result : Result RowsEnd StoreError) →
-      PassedOn took policy caller day route old new before after result
+      PassedOn took policy caller day (route ∷ []) old new before after result
       → new.doubt ≡ 0 → old.holds (tables h) → StopsFor took policy h caller day wanted (end_of result) before after old.handed new.handed
   stops e old new before after (Ok (ended.All read)) passed sure held = tt
   stops e old new before after (Ok ended.Stopped) passed sure held =
@@ -147,7 +160,7 @@ module _ {T : Type 0} (took : T → FileView → T → Bool → Type 0) (policy 
 -- over any tables it is a listing of some files
 pub shown_some : {T : Type 0} (took : T → FileView → T → Bool → Type 0) (policy : Policy) (caller : Party) (day : ℕ) (route : Route) (old new : StoreView)
     (before after : T) (result : Result RowsEnd StoreError)
-    → PassedOn took policy caller day route old new before after result → (files : List FileView) × Shows took (Listed files) before after (end_of result)
+    → PassedOn took policy caller day (route ∷ []) old new before after result → (files : List FileView) × Shows took (Listed files) before after (end_of result)
 shown_some took policy caller day route old new before after (Ok (ended.All read)) passed = (views_found policy caller day passed.given, passed.taken.1)
 shown_some took policy caller day route old new before after (Ok ended.Stopped) passed =
     let stops = passed.taken in
@@ -156,9 +169,15 @@ shown_some took policy caller day route old new before after (Ok ended.Stopped) 
 shown_some took policy caller day route old new before after (Ok (ended.Refused why)) passed = absurd passed.taken
 shown_some took policy caller day route old new before after (Err error) passed = (views_found policy caller day passed.given, passed.taken)
 
+-- where a call of the store failed, nothing was taken
+pub failed_some : {T : Type 0} (took : T → FileView → T → Bool → Type 0) (t : T) (result : Result RowsEnd StoreError) → IsErr result →
+    (files : List FileView) × Shows took (Listed files) t t (end_of result)
+failed_some took t (Ok end) failed = cc
+failed_some took t (Err e) failed = ([], ([], [], refl, refl))
+
 pub handed_at : {T : Type 0} (took : T → FileView → T → Bool → Type 0) (policy : Policy) (caller : Party) (day : ℕ) (route : Route) (old new : StoreView)
     (before after : T) (result : Result RowsEnd StoreError)
-    → PassedOn took policy caller day route old new before after result → HandedAt (end_of result) old.handed new.handed
+    → PassedOn took policy caller day (route ∷ []) old new before after result → HandedAt (end_of result) old.handed new.handed
 handed_at took policy caller day route old new before after (Ok (ended.All read)) passed = (length passed.given, passed.taken.0, passed.handed)
 handed_at took policy caller day route old new before after (Ok ended.Stopped) passed = tt
 handed_at took policy caller day route old new before after (Ok (ended.Refused why)) passed = absurd passed.taken

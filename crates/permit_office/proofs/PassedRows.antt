@@ -1,7 +1,7 @@
--- The rows that one selection finds, passed on to a taker of files.
+-- The rows that routes find, passed on to a taker of files.
 use Rattle.std.proofs.Common.{◌≡◌, ◌<◌, ℕ, suc, ◌+◌, ◌%◌, ◌^◌, Bool, true, false, cond, List, [], ◌∷◌, ◌++◌, length, refl, sym, ◌∙◌, ap, subst, map}
-use Rattle.std.proofs.Common.{arith}
-use Rattle.std.specs.Prelude.{Result, Ok, Err, IsErr, IsTrue}
+use Rattle.std.proofs.Common.{arith, get_or}
+use Rattle.std.specs.Prelude.{Result, Ok, Err, IsErr, IsTrue, IsPermutation}
 use Rattle.permit_base.specs.declared.route.Route.{Route}
 use Rattle.permit_core.specs.Taking.{TookAll}
 use Rattle.permit_model.specs.Caller.{Party}
@@ -11,13 +11,13 @@ use Rattle.permit_model.specs.Routes.{Found, found_by}
 use Rattle.permit_model.proofs.Rising.{rows_rising, IsRising}
 use Rattle.permit_store.specs.declared.store.StoreError.{StoreError}
 use Rattle.permit_store.specs.Frames.{StoreView}
-use Rattle.permit_store.specs.Handing.{AreHanded, Hands, Took, IsLeft, more_handed}
+use Rattle.permit_store.specs.Handing.{AreAmong, AreHanded, Hands, Took, IsLeft, more_handed, found_by_any}
 use Rattle.permit_office.specs.declared.passing.Passer.{Passer}
 use Rattle.permit_office.specs.declared.showing.RowsEnd.{RowsEnd}
 use Rattle.permit_office.specs.declared.showing.RowsEnd.TheVariants as ended
 use Rattle.permit_office.specs.Reach.{HandedMore}
 use Rattle.permit_office.specs.Listings.{may_list, view_found, views_found}
-use Rattle.permit_office.specs.Passing.{Passes, PassedOn}
+use Rattle.permit_office.specs.Passing.{Passes, PassedOn, AreHandedBy, AreFoundBy}
 use Rattle.permit_office.specs.Stops.{StopsAtLast}
 use Rattle.permit_office.proofs.Listings.{views_append, rising_rows}
 
@@ -25,6 +25,25 @@ pub took_both : {T I : Type 0} (took : T → I → T → Bool → Type 0) (xs ys
     TookAll took (xs ++ ys) a c
 took_both took [] ys a b c e more = subst (λ x. TookAll took ys x c) e more
 took_both took (x ∷ xs) ys a b c w more = (w.0, w.1, took_both took xs ys w.0 b c w.2 more)
+
+-- ---- the rows handed out
+
+-- a list of one
+pub alone : {A : Type 0} (xs : List A) (d : A) → length xs ≡ 1 → xs ≡ get_or xs 0 d ∷ []
+alone [] d one = absurd (omega (arith, one))
+alone (x ∷ []) d one = refl
+alone (x ∷ (y ∷ xs)) d one = absurd (omega (arith, one))
+
+pub by_one : {E : Type 0} (routes : List Route) (route : Route) (caller day : ℕ) (t : Tables) (result : Result Bool E) (given : List Found) →
+    routes ≡ route ∷ [] → AreHanded t result given (found_by route caller day t) → AreHandedBy routes caller day t result given
+by_one routes route caller day t result given e handed =
+    subst (λ (rs : List Route). AreHandedBy rs caller day t result given) (sym e) handed
+
+pub by_several : {E : Type 0} (routes : List Route) (caller day : ℕ) (t : Tables) (result : Result Bool E) (given : List Found) →
+    (length routes ≡ 1 → ⊥) → AreAmong result given (found_by_any routes caller day t) → AreHandedBy routes caller day t result given
+by_several [] caller day t result given several among = among
+by_several (route ∷ []) caller day t result given several among = absurd (several refl)
+by_several (route ∷ (other ∷ routes)) caller day t result given several among = among
 
 -- ---- one row
 
@@ -94,20 +113,24 @@ module _ {T : Type 0} (took : T → FileView → T → Bool → Type 0) (policy 
       counted : (a b c n : ℕ) → b ≡ (a + 1) % 2 ^ 32 → c ≡ (b + n) % 2 ^ 32 → c ≡ (a + suc n) % 2 ^ 32
       counted a b c n e f = omega arith
 
-  -- ---- the rows of one selection
+  -- ---- the rows of routes
 
-  -- what a selection handed to a passer
-  abbrev pub HandedTo : ℕ → Route → StoreView → StoreView → Passer T → Passer T → Result Bool StoreError → Type 0
-  HandedTo number route old new before after result =
+  -- what routes handed to a passer
+  abbrev pub HandedTo : ℕ → List Route → StoreView → StoreView → Passer T → Passer T → Result Bool StoreError → Type 0
+  HandedTo number routes old new before after result =
       (given : List Found) × Hands (Passes took) given old new before after result
-      × (new.doubt ≡ 0 → (t : Tables) → old.holds t → AreHanded t result given (found_by route number day t))
+      × (new.doubt ≡ 0 → (t : Tables) → old.holds t → AreHandedBy routes number day t result given)
 
-  -- the rows taken and those left are the ones found, in their order
-  found_apart : (result : Result Bool StoreError) (number : ℕ) (route : Route) (t : Tables) (given : List Found) → number ≡ caller.id →
+  -- the rows taken and those left are the ones found
+  found_apart : (result : Result Bool StoreError) (number : ℕ) (routes : List Route) (t : Tables) (given : List Found) → number ≡ caller.id →
       IsRising (λ (row : FileRow). row.id) t.files
-      → AreHanded t result given (found_by route number day t) → (rest : List Found) × IsLeft result rest × (found_by route caller.id day t ≡ given ++ rest)
-  found_apart result number route t given same up handed =
+      → AreHandedBy routes number day t result given → (rest : List Found) × IsLeft result rest × AreFoundBy routes caller.id day t (given ++ rest)
+  found_apart result number [] t given same up handed =
+      (handed.0, handed.1, subst (λ n. IsPermutation (given ++ handed.0) (found_by_any [] n day t)) same handed.2)
+  found_apart result number (route ∷ []) t given same up handed =
       (handed.0, handed.1, ap (λ n. found_by route n day t) (sym same) ∙ sym (handed.2.order (rising_rows t.files up)))
+  found_apart result number (route ∷ (other ∷ routes)) t given same up handed =
+      (handed.0, handed.1, subst (λ n. IsPermutation (given ++ handed.0) (found_by_any (route ∷ (other ∷ routes)) n day t)) same handed.2)
 
   more : (n old new : ℕ) → new ≡ more_handed n old → HandedMore n old new
   more n old new e = omega arith
@@ -123,17 +146,17 @@ module _ {T : Type 0} (took : T → FileView → T → Bool → Type 0) (policy 
   few n z = omega arith
 
   -- each row was taken
-  pub all_passed : (number : ℕ) (route : Route) (old new : StoreView) (before after : Passer T) → number ≡ caller.id → IsFor policy caller day before →
+  pub all_passed : (number : ℕ) (routes : List Route) (old new : StoreView) (before after : Passer T) → number ≡ caller.id → IsFor policy caller day before →
       before.read ≡ 0
-      → HandedTo number route old new before after (Ok true) → PassedOn took policy caller day route old new before.taker.now after.taker.now
+      → HandedTo number routes old new before after (Ok true) → PassedOn took policy caller day routes old new before.taker.now after.taker.now
       (Ok (ended.All after.read))
-  all_passed number route old new before after same was zero handed =
+  all_passed number routes old new before after same was zero handed =
       let on = went_on handed.0 before after (few before.read zero) was handed.1.taken in
       record {
         given = handed.0;
         taken = (from_none before.read (length handed.0) after.read zero on.read, on.taken);
         handed = more (length handed.0) old.handed new.handed handed.1.read.handed;
-        found = λ sure h is held. found_apart (Ok true) number route (tables h) handed.0 same (rows_rising h is) (handed.2 sure (tables h) held);
+        found = λ sure h is held. found_apart (Ok true) number routes (tables h) handed.0 same (rows_rising h is) (handed.2 sure (tables h) held);
       }
 
   -- the taker stopped at the last row's file
@@ -151,82 +174,82 @@ module _ {T : Type 0} (took : T → FileView → T → Bool → Type 0) (policy 
         stopped = subst (λ d. took mid.taker.now (view_found d last) after.taker.now false) on.own.2 one.went.1;
       }
 
-  pub stop_passed : (number : ℕ) (route : Route) (old new : StoreView) (before after : Passer T) → number ≡ caller.id → IsFor policy caller day before →
-      before.read ≡ 0 → HandedTo number route old new before after (Ok false) →
-      PassedOn took policy caller day route old new before.taker.now after.taker.now (Ok ended.Stopped)
-  stop_passed number route old new before after same was zero handed = record {
+  pub stop_passed : (number : ℕ) (routes : List Route) (old new : StoreView) (before after : Passer T) → number ≡ caller.id → IsFor policy caller day before →
+      before.read ≡ 0 → HandedTo number routes old new before after (Ok false) →
+      PassedOn took policy caller day routes old new before.taker.now after.taker.now (Ok ended.Stopped)
+  stop_passed number routes old new before after same was zero handed = record {
     given = handed.0;
     taken = stopped_at handed.0 before after was zero handed.1.taken;
     handed = more (length handed.0) old.handed new.handed handed.1.read.handed;
     found = λ sure h is held.
-        let apart = found_apart (Ok false) number route (tables h) handed.0 same (rows_rising h is) (handed.2 sure (tables h) held) in
+        let apart = found_apart (Ok false) number routes (tables h) handed.0 same (rows_rising h is) (handed.2 sure (tables h) held) in
         (apart.0, tt, apart.2);
   }
 
   -- a call of the store failed
-  pub failed_passed : (number : ℕ) (route : Route) (old new : StoreView) (before after : Passer T) → number ≡ caller.id → IsFor policy caller day before →
+  pub failed_passed : (number : ℕ) (routes : List Route) (old new : StoreView) (before after : Passer T) → number ≡ caller.id → IsFor policy caller day before →
       before.read ≡ 0
-      → (e error : StoreError) → HandedTo number route old new before after (Err e) →
-      PassedOn took policy caller day route old new before.taker.now after.taker.now (Err error)
-  failed_passed number route old new before after same was zero e error handed =
+      → (e error : StoreError) → HandedTo number routes old new before after (Err e) →
+      PassedOn took policy caller day routes old new before.taker.now after.taker.now (Err error)
+  failed_passed number routes old new before after same was zero e error handed =
       let on = went_on handed.0 before after (few before.read zero) was handed.1.taken in
       record {
         given = handed.0;
         taken = (views_found policy caller day handed.0, [], nothing_more (views_found policy caller day handed.0), on.taken);
         handed = more (length handed.0) old.handed new.handed handed.1.read.handed;
         found = λ sure h is held.
-            let apart = found_apart (Err e) number route (tables h) handed.0 same (rows_rising h is) (handed.2 sure (tables h) held) in
+            let apart = found_apart (Err e) number routes (tables h) handed.0 same (rows_rising h is) (handed.2 sure (tables h) held) in
             (apart.0, tt, apart.2);
       }
 
   -- the passer passed on to the taker that it had
-  pub same_taker : (result : Result Bool StoreError) (number : ℕ) (route : Route) (old new : StoreView) (before after : Passer T) →
+  pub same_taker : (result : Result Bool StoreError) (number : ℕ) (routes : List Route) (old new : StoreView) (before after : Passer T) →
       IsFor policy caller day before → before.read ≡ 0
-      → HandedTo number route old new before after result → after.taker.ghost_name ≡ before.taker.ghost_name
-  same_taker (Ok true) number route old new before after was zero handed = (went_on handed.0 before after (few before.read zero) was handed.1.taken).same
-  same_taker (Ok false) number route old new before after was zero handed =
+      → HandedTo number routes old new before after result → after.taker.ghost_name ≡ before.taker.ghost_name
+  same_taker (Ok true) number routes old new before after was zero handed = (went_on handed.0 before after (few before.read zero) was handed.1.taken).same
+  same_taker (Ok false) number routes old new before after was zero handed =
       let took = handed.1.taken in
       took.5.same ∙ (went_on took.0 before took.3 (few before.read zero) was took.4).same
-  same_taker (Err e) number route old new before after was zero handed = (went_on handed.0 before after (few before.read zero) was handed.1.taken).same
+  same_taker (Err e) number routes old new before after was zero handed = (went_on handed.0 before after (few before.read zero) was handed.1.taken).same
 
   -- ---- what the selection's call answered, by its tests
 
-  was_true : (number : ℕ) (route : Route) (old new : StoreView) (before after : Passer T) (b : Bool) → b ≡ true →
-      HandedTo number route old new before after (Ok b) → HandedTo number route old new before after (Ok true)
-  was_true number route old new before after b e handed = subst (λ (x : Bool). HandedTo number route old new before after (Ok x)) e handed
+  was_true : (number : ℕ) (routes : List Route) (old new : StoreView) (before after : Passer T) (b : Bool) → b ≡ true →
+      HandedTo number routes old new before after (Ok b) → HandedTo number routes old new before after (Ok true)
+  was_true number routes old new before after b e handed = subst (λ (x : Bool). HandedTo number routes old new before after (Ok x)) e handed
 
-  was_false : (number : ℕ) (route : Route) (old new : StoreView) (before after : Passer T) (b : Bool) → b ≡ false →
-      HandedTo number route old new before after (Ok b) → HandedTo number route old new before after (Ok false)
-  was_false number route old new before after b e handed = subst (λ (x : Bool). HandedTo number route old new before after (Ok x)) e handed
+  was_false : (number : ℕ) (routes : List Route) (old new : StoreView) (before after : Passer T) (b : Bool) → b ≡ false →
+      HandedTo number routes old new before after (Ok b) → HandedTo number routes old new before after (Ok false)
+  was_false number routes old new before after b e handed = subst (λ (x : Bool). HandedTo number routes old new before after (Ok x)) e handed
 
-  pub passed_whole : (number : ℕ) (route : Route) (old new : StoreView) (before after : Passer T) → number ≡ caller.id → IsFor policy caller day before →
+  pub passed_whole : (number : ℕ) (routes : List Route) (old new : StoreView) (before after : Passer T) → number ≡ caller.id → IsFor policy caller day before →
       before.read ≡ 0 → (b : Bool) → b ≡ true
-      → HandedTo number route old new before after (Ok b) → (last : T) → last ≡ after.taker.now →
-      PassedOn took policy caller day route old new before.taker.now last (Ok (ended.All after.read))
-  passed_whole number route old new before after same was zero b e handed last is =
-      subst (λ (x : T). PassedOn took policy caller day route old new before.taker.now x (Ok (ended.All after.read))) (sym is)
-      (all_passed number route old new before after same was zero (was_true number route old new before after b e handed))
+      → HandedTo number routes old new before after (Ok b) → (last : T) → last ≡ after.taker.now →
+      PassedOn took policy caller day routes old new before.taker.now last (Ok (ended.All after.read))
+  passed_whole number routes old new before after same was zero b e handed last is =
+      subst (λ (x : T). PassedOn took policy caller day routes old new before.taker.now x (Ok (ended.All after.read))) (sym is)
+      (all_passed number routes old new before after same was zero (was_true number routes old new before after b e handed))
 
-  pub passed_to_stop : (number : ℕ) (route : Route) (old new : StoreView) (before after : Passer T) → number ≡ caller.id → IsFor policy caller day before →
+  pub passed_to_stop : (number : ℕ) (routes : List Route) (old new : StoreView) (before after : Passer T) → number ≡ caller.id → IsFor policy caller day before →
       before.read ≡ 0 → (b : Bool)
-      → b ≡ false → HandedTo number route old new before after (Ok b) → (last : T) → last ≡ after.taker.now
-      → PassedOn took policy caller day route old new before.taker.now last (Ok ended.Stopped)
-  passed_to_stop number route old new before after same was zero b e handed last is =
-      subst (λ (x : T). PassedOn took policy caller day route old new before.taker.now x (Ok ended.Stopped)) (sym is)
-      (stop_passed number route old new before after same was zero (was_false number route old new before after b e handed))
+      → b ≡ false → HandedTo number routes old new before after (Ok b) → (last : T) → last ≡ after.taker.now
+      → PassedOn took policy caller day routes old new before.taker.now last (Ok ended.Stopped)
+  passed_to_stop number routes old new before after same was zero b e handed last is =
+      subst (λ (x : T). PassedOn took policy caller day routes old new before.taker.now x (Ok ended.Stopped)) (sym is)
+      (stop_passed number routes old new before after same was zero (was_false number routes old new before after b e handed))
 
-  pub passed_to_failure : (number : ℕ) (route : Route) (old new : StoreView) (before after : Passer T) → number ≡ caller.id → IsFor policy caller day before →
+  pub passed_to_failure : (number : ℕ) (routes : List Route) (old new : StoreView) (before after : Passer T) → number ≡ caller.id → IsFor policy caller day before →
       before.read ≡ 0 → (e error : StoreError)
-      → HandedTo number route old new before after (Err e) → (last : T) → last ≡ after.taker.now →
-      PassedOn took policy caller day route old new before.taker.now last (Err error)
-  passed_to_failure number route old new before after same was zero e error handed last is =
-      subst (λ (x : T). PassedOn took policy caller day route old new before.taker.now x (Err error)) (sym is)
-      (failed_passed number route old new before after same was zero e error handed)
+      → HandedTo number routes old new before after (Err e) → (last : T) → last ≡ after.taker.now →
+      PassedOn took policy caller day routes old new before.taker.now last (Err error)
+  passed_to_failure number routes old new before after same was zero e error handed last is =
+      subst (λ (x : T). PassedOn took policy caller day routes old new before.taker.now x (Err error)) (sym is)
+      (failed_passed number routes old new before after same was zero e error handed)
 
-  pub passed_on_err : (number : ℕ) (route : Route) (old new : StoreView) (before after : Passer T) → number ≡ caller.id → IsFor policy caller day before →
+  pub passed_on_err : (number : ℕ) (routes : List Route) (old new : StoreView) (before after : Passer T) → number ≡ caller.id → IsFor policy caller day before →
       before.read ≡ 0 → (e : StoreError)
-      → (result : Result RowsEnd StoreError) → IsErr result → HandedTo number route old new before after (Err e) → (last : T) → last ≡ after.taker.now →
-      PassedOn took policy caller day route old new before.taker.now last result
-  passed_on_err number route old new before after same was zero e (Ok end) err handed last is = cc
-  passed_on_err number route old new before after same was zero e (Err error) err handed last is =
-      passed_to_failure number route old new before after same was zero e error handed last is
+      → (result : Result RowsEnd StoreError) → IsErr result → HandedTo number routes old new before after (Err e) → (last : T) → last ≡ after.taker.now →
+      PassedOn took policy caller day routes old new before.taker.now last result
+  passed_on_err number routes old new before after same was zero e (Ok end) err handed last is = cc
+  passed_on_err number routes old new before after same was zero e (Err error) err handed last is =
+      passed_to_failure number routes old new before after same was zero e error handed last is

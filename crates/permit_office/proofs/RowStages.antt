@@ -1,5 +1,5 @@
 -- The stage and the deadline of a file's row after an admitted command.
-use Rattle.std.proofs.Common.{◌≡◌, ◌≤◌, ◌⊎◌, inl, inr, ℕ, ◌+◌, max, Bool, true, false, not, [], ◌∷◌, refl, sym, subst, arith}
+use Rattle.std.proofs.Common.{◌≡◌, ◌≤◌, ◌⊎◌, inl, inr, ℕ, ◌+◌, max, Bool, true, false, not, refl, sym, subst, arith}
 use Rattle.std.specs.Prelude.{Option, None, Some, option_map, nat_le, nat_lt, if◌then◌else◌, unwrap_or}
 use Rattle.std.proofs.lemmas.Bool.{leb-true, ltb-false, and_parts}
 use Rattle.permit_base.specs.Limits.{is_between, latest_day, latest_deadline}

@@ -1,5 +1,5 @@
 -- How the rows that a listing's selections find become its files.
-use Rattle.std.specs.Prelude.{◌≡◌, ◌<◌, ℕ, ◌+◌, ◌%◌, ◌^◌, Bool, List, [], ◌∷◌, ◌++◌, length, map, filter, IsTrue, ⊤, IsPermutation}
+use Rattle.std.specs.Prelude.{◌≡◌, ◌<◌, ℕ, ◌%◌, ◌^◌, Bool, List, [], ◌∷◌, ◌++◌, length, map, filter, IsTrue, ⊤, IsPermutation}
 use Rattle.std.specs.List.{flat_map, AllByRecursion}
 use Rattle.permit_base.specs.declared.request.Filter.{Filter}
 use Rattle.permit_base.specs.declared.route.Route.{Route}
@@ -10,9 +10,11 @@ use Rattle.permit_model.specs.Facts.{Facts}
 use Rattle.permit_model.specs.Policy.{Policy, allows}
 use Rattle.permit_model.specs.Opened.{allowed_by}
 use Rattle.permit_model.specs.Tables.{FileView, tables}
-use Rattle.permit_model.specs.Routes.{Found, relations_found, found_by, routes_of}
+use Rattle.permit_model.specs.Routes.{Found, relations_found}
+use Rattle.permit_policy.specs.Selections.{selections_of}
 use Rattle.permit_store.specs.Frames.{StoreView, OverHistory}
-use Rattle.permit_office.specs.declared.listing.Lister.{Lister}
+use Rattle.permit_store.specs.Handing.{found_by_any}
+use Rattle.permit_office.specs.declared.listing.FileList.{FileList}
 use Rattle.permit_office.specs.Reach.{HandedMore}
 
 -- the facts on a file that is found
@@ -38,27 +40,23 @@ view_found day found = record { row = found.row; stage = row_stage day found.row
 abbrev pub views_found : Policy → Party → ℕ → List Found → List FileView
 views_found policy caller day found = map (view_found day) (filter (may_list policy caller day) found)
 
--- The rows were taken: the files among them that may be listed come after those of before, and the rows count.
-pub record Listed (given : List Found) (before after : Lister) : Type 0 where
-  pub policy : after.policy ≡ before.policy
-  pub caller : after.caller ≡ before.caller
-  pub day : after.day ≡ before.day
-  pub files : after.files.items ≡ before.files.items ++ views_found before.policy.now before.caller.now before.day given
-  pub read : after.read ≡ (before.read + length given) % 2 ^ 32
+-- a file is added to those of before, where the answer is true
+abbrev pub Adds : FileList → FileView → FileList → Bool → Type 0
+Adds before view after more = IsTrue more → after.files.items ≡ before.files.items ++ view ∷ []
 
--- one row is taken, where the answer is true
-abbrev pub Takes : Lister → Found → Lister → Bool → Type 0
-Takes before found after more = IsTrue more → Listed (found ∷ []) before after
+-- the selections of a listing for the caller
+abbrev pub selections_for : Policy → Party → Filter → List (List Route)
+selections_for policy caller wanted = selections_of (allowed_by policy caller.role action.List) wanted
 
--- Rows were handed out, these are the files among them that may be listed and so many they were; and where the selections
--- are those of a listing for the caller, the rows are those that these find, as often and in any order.
-pub record Gathers (policy : Policy) (caller : Party) (day : ℕ) (routes : List Route) (old new : StoreView) (views : List FileView) (count : ℕ) : Type 0 where
+-- Rows were handed out, these are the files among them that may be listed and so many they were; and the rows are those that
+-- the selections find, in any order.
+pub record Gathers (policy : Policy) (caller : Party) (day : ℕ) (selections : List (List Route)) (old new : StoreView) (views : List FileView)
+    (count : ℕ) : Type 0 where
   pub given : List Found
   pub files : views ≡ views_found policy caller day given
   pub read : count ≡ length given % 2 ^ 32
   pub handed : HandedMore (length given) old.handed new.handed
-  pub found : OverHistory old new (λ h. (wanted : Filter) → routes ≡ routes_of (allowed_by policy caller.role action.List) wanted
-      → IsPermutation given (flat_map (λ r. found_by r caller.id day (tables h)) routes))
+  pub found : OverHistory old new (λ h. IsPermutation given (flat_map (λ s. found_by_any s caller.id day (tables h)) selections))
 
 -- the numbers of the files rise
 abbrev pub AreRising : List FileView → Type 0

@@ -1,13 +1,14 @@
--- How the rows that one selection finds are passed on to a taker of files.
-use Rattle.std.specs.Prelude.{◌≡◌, ℕ, ◌+◌, ◌%◌, ◌^◌, Bool, true, false, IsTrue, List, [], ◌∷◌, ◌++◌, length, Result, Ok, Err, ⊤}
+-- How the rows that routes find are passed on to a taker of files.
+use Rattle.std.specs.Prelude.{◌≡◌, ℕ, ◌+◌, ◌%◌, ◌^◌, Bool, true, false, IsTrue, List, [], ◌∷◌, ◌++◌, length, Result, Ok, Err, ⊤, IsPermutation}
 use Rattle.permit_base.specs.declared.route.Route.{Route}
 use Rattle.permit_core.specs.Taking.{TookAll, BeganOf}
 use Rattle.permit_model.specs.Caller.{Party}
 use Rattle.permit_model.specs.Policy.{Policy}
-use Rattle.permit_model.specs.Tables.{FileView, tables}
+use Rattle.permit_model.specs.Tables.{FileView, Tables, tables}
 use Rattle.permit_model.specs.Routes.{Found, found_by}
 use Rattle.permit_store.specs.declared.store.StoreError.{StoreError}
 use Rattle.permit_store.specs.Frames.{StoreView, OverHistory}
+use Rattle.permit_store.specs.Handing.{AreAmong, AreHanded, found_by_any}
 use Rattle.permit_office.specs.declared.showing.RowsEnd.{RowsEnd}
 use Rattle.permit_office.specs.declared.showing.RowsEnd.TheVariants as ended
 use Rattle.permit_office.specs.declared.passing.Passer.{Passer}
@@ -45,12 +46,20 @@ abbrev pub LeftAt : Result RowsEnd StoreError → List Found → Type 0
 LeftAt (Ok (ended.All read)) rest = rest ≡ []
 LeftAt result rest = ⊤
 
--- The files that may be listed among these rows were passed on, and the rows are a beginning of those that the selection
--- finds.
-pub record PassedOn {T : Type 0} (took : T → FileView → T → Bool → Type 0) (policy : Policy) (caller : Party) (day : ℕ) (route : Route) (old new : StoreView)
-    (before after : T)
-    (result : Result RowsEnd StoreError) : Type 0 where
+-- The rows that were handed to a taker are a beginning of those that one route finds, or some of those that several find.
+abbrev pub AreHandedBy : {E : Type 0} → List Route → ℕ → ℕ → Tables → Result Bool E → List Found → Type 0
+AreHandedBy (route ∷ []) caller day t result given = AreHanded t result given (found_by route caller day t)
+AreHandedBy routes caller day t result given = AreAmong result given (found_by_any routes caller day t)
+
+-- These are the rows that the routes find: of one route in the order in which they are kept, of several in any order.
+abbrev pub AreFoundBy : List Route → ℕ → ℕ → Tables → List Found → Type 0
+AreFoundBy (route ∷ []) caller day t rows = found_by route caller day t ≡ rows
+AreFoundBy routes caller day t rows = IsPermutation rows (found_by_any routes caller day t)
+
+-- The files that may be listed among these rows were passed on, and the rows are among those that the routes find.
+pub record PassedOn {T : Type 0} (took : T → FileView → T → Bool → Type 0) (policy : Policy) (caller : Party) (day : ℕ) (routes : List Route)
+    (old new : StoreView) (before after : T) (result : Result RowsEnd StoreError) : Type 0 where
   pub given : List Found
   pub taken : TakenOf took policy caller day given before after result
   pub handed : HandedMore (length given) old.handed new.handed
-  pub found : OverHistory old new (λ h. (rest : List Found) × LeftAt result rest × (found_by route caller.id day (tables h) ≡ given ++ rest))
+  pub found : OverHistory old new (λ h. (rest : List Found) × LeftAt result rest × AreFoundBy routes caller.id day (tables h) (given ++ rest))

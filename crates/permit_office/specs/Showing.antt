@@ -1,10 +1,7 @@
 -- A listing whose files go to a taker one at a time.
-use Rattle.std.specs.Prelude.{◌≡◌, ◌⊎◌, ◌≤◌, ℕ, ◌%◌, ◌^◌, Bool, true, false, not, IsTrue, nat_lt, if◌then◌else◌, List, Option, None, Some, Result, Ok, Err, ⊤}
-use Rattle.permit_base.specs.declared.refusal.Refusal.{Refusal}
+use Rattle.std.specs.Prelude.{◌≡◌, ◌⊎◌, ◌≤◌, ℕ, ◌%◌, ◌^◌, Bool, true, false, not, IsTrue, List, Option, Some, Result, Ok, Err, ⊤}
 use Rattle.permit_base.specs.declared.refusal.Refusal.TheVariants as refusal
 use Rattle.permit_core.specs.Taking.{TookAll, StoppedIn, BeganOf}
-use Rattle.permit_model.specs.History.{History, last_day}
-use Rattle.permit_model.specs.Caller.{Party, who}
 use Rattle.permit_model.specs.Tables.{FileView, Tables}
 use Rattle.permit_model.specs.Machine.{Reply, Listed, Refused}
 use Rattle.permit_store.specs.declared.store.StoreError.{StoreError}
@@ -12,16 +9,8 @@ use Rattle.permit_store.specs.Counts.{next_count}
 use Rattle.permit_store.specs.Frames.{StoreView, HasOneDesk}
 use Rattle.permit_office.specs.declared.showing.RowsEnd.{RowsEnd}
 use Rattle.permit_office.specs.declared.showing.RowsEnd.TheVariants as ended
+use Rattle.permit_office.specs.Callers.{RefusesCaller}
 use Rattle.permit_office.specs.Reach.{HandedMore}
-
--- a known caller on a day that isn't below the last, or why a listing is refused
-abbrev pub caller_in_time : History → ℕ → Option Party → Result Party Refusal
-caller_in_time h day None = Err refusal.Caller
-caller_in_time h day (Some caller) = if nat_lt day (last_day h) then Err refusal.Clock else Ok caller
-
--- the same for the party that keeps the digest
-abbrev pub caller_on : History → List ℕ → ℕ → Result Party Refusal
-caller_on h digest day = caller_in_time h day (who h digest)
 
 -- a call of the store that failed, and want of memory, end as the store's refusal
 abbrev pub end_of : Result RowsEnd StoreError → RowsEnd
@@ -42,12 +31,6 @@ Shows took (Listed files) old new (ended.Refused refusal.Store) = BeganOf took f
 Shows took (Refused why) old new (ended.Refused refusal.Store) = new ≡ old
 Shows took (Refused why) old new (ended.Refused told) = (told ≡ why) × (new ≡ old)
 Shows took reply old new end = ⊥
-
--- a refusal of the caller or the clock
-abbrev pub RefusesCaller : Refusal → Type 0
-RefusesCaller refusal.Caller = ⊤
-RefusesCaller refusal.Clock = ⊤
-RefusesCaller why = ⊥
 
 -- a listing of some files, or why it is refused
 abbrev pub IsListing : Reply → Type 0

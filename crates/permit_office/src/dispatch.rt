@@ -13,6 +13,7 @@ ghost use Rattle.permit_office.specs.Opening.{opened_for, rows_opened, Opens};
 ghost use Rattle.permit_office.specs.Reach.{reach_of};
 ghost use Rattle.permit_office.specs.Sound.{IsSoundChange, MayAct, OnMade};
 
+use crate::callers::known_caller;
 use crate::commands::on_file;
 use crate::filing::file;
 use crate::listing::{list_files, show_register};
@@ -20,7 +21,6 @@ use crate::parcels::{add_parcel, declare, transfer};
 use crate::parties::add_party;
 use crate::reading::{read_file, read_parcel};
 use crate::reply::Reply;
-use permit_base::refusal::Refusal;
 use permit_base::request::Request;
 use permit_base::values::{Day, Digest};
 use permit_policy::Policy;
@@ -99,12 +99,8 @@ pub(crate) fn attempt<S: Store>(
     ensures one { (S.view store.new).doubt ≡ 0 → OnOk result (HasOneDesk (S.view store.new)) }
     ensures own { IfOk result IsOwn }
 {
-    let Some(caller) = store.party_by_token(digest)? else {
-        return Ok(Reply::Refused(Refusal::Caller));
-    };
-    let desk = store.desk()?;
-    if day.get() < desk.last.get() {
-        return Ok(Reply::Refused(Refusal::Clock));
+    match known_caller(store, digest, day)? {
+        Ok((caller, desk)) => serve_known(store, policy, &caller, &desk, request, day),
+        Err(refusal) => Ok(Reply::Refused(refusal)),
     }
-    serve_known(store, policy, &caller, &desk, request, day)
 }

@@ -1,18 +1,21 @@
 //! The files of a listing, passed to a taker one at a time.
 
-ghost use Rattle.std.specs.Prelude.{◌≡◌, ◌∷◌, [], IfErr, IfOk, IfSome, IsSome, length, List, Some};
+ghost use Rattle.std.specs.Prelude.{◌≡◌, ◌∷◌, [], map, IfSome, IsSome, length, List, Some};
+ghost use Rattle.permit_base.specs.declared.route.Route.{Route as TheRoute};
 ghost use Rattle.permit_base.specs.declared.request.Request.TheVariants as request;
 ghost use Rattle.permit_model.specs.Listing.{listing, register_filter};
 ghost use Rattle.permit_model.specs.Opened.{opened};
 ghost use Rattle.permit_model.specs.Tables.{FileView as TheView};
 ghost use Rattle.permit_model.specs.Machine.{Listed, step_as};
-ghost use Rattle.permit_store.specs.Frames.{IsRead, OverHistory};
+ghost use Rattle.permit_policy.specs.Selections.{items_of};
+ghost use Rattle.permit_store.specs.Frames.{OverHistory};
 ghost use Rattle.permit_office.specs.Frames.{IsMaking};
 ghost use Rattle.permit_office.specs.Opening.{rows_opened};
-ghost use Rattle.permit_office.specs.Showing.{HandedAt, IsShowing, OpensAt, RefusesCaller, Shows, ShowsSome, TakesUp, caller_on, end_of};
+ghost use Rattle.permit_office.specs.Showing.{HandedAt, IsShowing, OpensAt, Shows, ShowsSome, TakesUp, end_of};
 ghost use Rattle.permit_office.specs.Stops.{StopsAt, StopsFor};
 
-use crate::listing::{list_by_routes, listing_routes};
+use crate::callers::known_caller;
+use crate::listing::{list_selected, selections_for};
 use crate::passing::pass_on;
 use permit_base::refusal::Refusal;
 use permit_base::request::{FileStage, Filter};
@@ -52,32 +55,15 @@ pub fn register_filter(kind: RegisterKind) -> Filter
     }
 }
 
-/// The caller that has the digest, or why a listing is refused.
-fn caller_for<S: Store>(store: &mut S, digest: &Digest, day: Day) -> Got<Result<Party, Refusal>>
-    ensures known { OverHistory (S.view store.old) (S.view store.new) (λ h.
-        IfOk result (λ told. told ≡ caller_on h digest.now day)) }
-    ensures told { IfOk result (λ told. IfErr told RefusesCaller) }
-    ensures read { IsRead (S.view store.old) (S.view store.new) result }
+/// The route, where the selections have no other.
+fn only_route(selections: &[Vec<Route>]) -> Option<Route>
+    ensures one { IfSome result (λ route. map items_of selections.now ≡ (route ∷ []) ∷ []) }
+    ensures other { (route : TheRoute) → map items_of selections.now ≡ (route ∷ []) ∷ [] → IsSome result }
 {
-    let Some(caller) = store.party_by_token(digest)? else {
-        return Ok(Err(Refusal::Caller));
-    };
-    let desk = store.desk()?;
-    if day.get() < desk.last.get() {
-        return Ok(Err(Refusal::Clock));
-    }
-    Ok(Ok(caller))
-}
-
-/// The selection, where there is exactly one.
-fn only_route(routes: &[Route]) -> Option<Route>
-    ensures one { IfSome result (λ route. routes.now ≡ route ∷ []) }
-    ensures other { length routes.now ≡ 1 → IsSome result }
-{
-    if routes.len() > 1 {
+    if selections.len() != 1 || selections[0].len() != 1 {
         return None;
     }
-    routes.first().copied()
+    Some(selections[0][0])
 }
 
 /// Hands the files to the taker until it asks to stop: whether each answer was true.
@@ -93,7 +79,7 @@ fn hand_out<T: Taker<FileView>>(files: Vec<FileView>, taker: &mut T) -> bool
 }
 
 /// Hands the files wanted to the taker, in rising number and each once, as far as memory and the store's calls allow.
-/// Those of one selection come so from the store; those of several are made a list first.
+/// Those of one route come so from the store; those of several are made a list first.
 fn hand_files<S: Store, T: Taker<FileView>>(
     store: &mut S,
     policy: &Policy,
@@ -112,11 +98,11 @@ fn hand_files<S: Store, T: Taker<FileView>>(
     ensures handed { HandedAt (end_of result) (S.view store.old).handed (S.view store.new).handed }
     ensures making { IsMaking (S.view store.old) (S.view store.new) result }
 {
-    let routes = listing_routes(policy, caller.role, wanted)?;
-    if let Some(route) = only_route(&routes) {
-        return pass_on(store, policy, caller, day, &route, taker);
+    let selections = selections_for(policy, caller.role, wanted)?;
+    if let Some(route) = only_route(&selections) {
+        return pass_on(store, policy, caller, day, &[route], taker);
     }
-    let listing = list_by_routes(store, policy, caller, day, &routes)?;
+    let listing = list_selected(store, policy, caller, day, &selections)?;
     if hand_out(listing.files, taker) {
         Ok(RowsEnd::All { read: listing.read })
     } else {
@@ -142,8 +128,8 @@ pub(crate) fn show<S: Store, T: Taker<FileView>>(
         StopsAt T.took policy.now h digest.now day wanted result taker.old taker.new (S.view store.old).handed (S.view store.new).handed) }
     ensures showing { IsShowing (S.view store.old) (S.view store.new) result }
 {
-    match caller_for(store, digest, day) {
-        Ok(Ok(caller)) => match hand_files(store, policy, &caller, day, wanted, taker) {
+    match known_caller(store, digest, day) {
+        Ok(Ok((caller, _))) => match hand_files(store, policy, &caller, day, wanted, taker) {
             Ok(end) => end,
             Err(_) => RowsEnd::Refused(Refusal::Store),
         },

@@ -1,5 +1,5 @@
 -- One bit of a mask.
-use Rattle.std.proofs.Common.{◌≡◌, refl, ap, ◌∙◌, arith, Bool, true, false, not, ◌&&◌, ◌||◌, ◌==◌, ℕ, zero, suc, ◌+◌, ◌-◌, ◌^◌, ◌<◌, min, max, bit_and, bit_or}
+use Rattle.std.proofs.Common.{◌≡◌, ap, ◌∙◌, arith, Bool, true, false, not, ◌&&◌, ◌||◌, ◌==◌, ℕ, ◌+◌, ◌-◌, ◌^◌, ◌<◌, min, max, bit_and, bit_or}
 use Rattle.std.proofs.Common.{w64}
 use Rattle.std.specs.Int.{bit_at, bit_not}
 use Rattle.std.proofs.lemmas.Nat.Bits.{bit_at-lt, bit_at-zero, bit_at_and, bit_at_or, bit_at_not, bit_at_ones}
@@ -9,55 +9,29 @@ use Rattle.permit_policy.specs.Masks.{only_where, set_number, has_set}
 -- ---- numbers below 2 as truth values
 
 min_test : (x y : ℕ) → x < 2 → y < 2 → (min x y == 1) ≡ ((x == 1) && (y == 1))
-min_test zero zero h k = refl
-min_test zero (suc zero) h k = refl
-min_test (suc zero) zero h k = refl
-min_test (suc zero) (suc zero) h k = refl
-min_test (suc (suc x)) y h k = absurd (omega arith)
-min_test x (suc (suc y)) h k = absurd (omega arith)
+min_test x y h k = grind arith
 
 max_test : (x y : ℕ) → x < 2 → y < 2 → (max x y == 1) ≡ ((x == 1) || (y == 1))
-max_test zero zero h k = refl
-max_test zero (suc zero) h k = refl
-max_test (suc zero) zero h k = refl
-max_test (suc zero) (suc zero) h k = refl
-max_test (suc (suc x)) y h k = absurd (omega arith)
-max_test x (suc (suc y)) h k = absurd (omega arith)
+max_test x y h k = grind arith
 
 not_test : (x : ℕ) → x < 2 → ((1 - x) == 1) ≡ not (x == 1)
-not_test zero h = refl
-not_test (suc zero) h = refl
-not_test (suc (suc x)) h = absurd (omega arith)
+not_test x h = grind arith
 
 -- ---- the number of a set
 
 share_below : (held : Bool) (n : ℕ) → only_where held n < n + 1
-share_below true n = omega arith
-share_below false n = omega arith
+share_below held n = grind arith
 
 pub set_below : (set : Relations) → set_number set < 64
-set_below set =
-    omega (
-      arith,
-      share_below set.applicant 1,
-      share_below set.contractor 2,
-      share_below set.owner 4,
-      share_below set.assigned_reviewer 8,
-      share_below set.assigned_inspector 16,
-      share_below set.conflict 32,
-    )
+set_below set = grind (arith, share_below)
 
 -- ---- sets in masks
 
 pub set_in_and : (a b : ℕ) (set : Relations) → has_set (bit_and a b) set ≡ (has_set a set && has_set b set)
-set_in_and a b set =
-    let k = set_number set in
-    ap (λ n. n == 1) (bit_at_and a b k) ∙ min_test (bit_at a k) (bit_at b k) (bit_at-lt a k) (bit_at-lt b k)
+set_in_and a b set = grind (arith, bit_at_and, min_test, bit_at-lt)
 
 pub set_in_or : (a b : ℕ) (set : Relations) → has_set (bit_or a b) set ≡ (has_set a set || has_set b set)
-set_in_or a b set =
-    let k = set_number set in
-    ap (λ n. n == 1) (bit_at_or a b k) ∙ max_test (bit_at a k) (bit_at b k) (bit_at-lt a k) (bit_at-lt b k)
+set_in_or a b set = grind (arith, bit_at_or, max_test, bit_at-lt)
 
 pub set_in_not : (a : ℕ) (set : Relations) → a < 2 ^ 64 → has_set (bit_not w64 a) set ≡ not (has_set a set)
 set_in_not a set h =

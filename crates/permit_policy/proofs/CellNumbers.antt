@@ -1,5 +1,5 @@
 -- A cell is found by its number.
-use Rattle.std.proofs.Common.{◌≡◌, refl, ap, ◌∙◌, arith, lit<, Bool, true, false, ◌==◌, ℕ, ◌+◌, ◌*◌, ◌/◌, ◌%◌, ◌<◌, get_or}
+use Rattle.std.proofs.Common.{◌≡◌, refl, ap, ◌∙◌, arith, Bool, ◌==◌, ℕ, ◌+◌, ◌*◌, ◌/◌, ◌%◌, ◌<◌, get_or}
 use Rattle.permit_base.specs.declared.words.Stage.{Stage}
 use Rattle.permit_base.specs.declared.words.Stage.TheVariants as stage
 use Rattle.permit_base.specs.declared.words.Timing.{Timing}
@@ -10,52 +10,19 @@ use Rattle.permit_model.specs.Opened.{Cell}
 use Rattle.permit_policy.specs.Masks.{only_where, cell_number}
 
 stage_back : (s : Stage) → get_or all_stages (stage_code s) stage.Filed ≡ s
-stage_back stage.Filed = refl
-stage_back stage.Review = refl
-stage_back stage.Returned = refl
-stage_back stage.Approved = refl
-stage_back stage.Rejected = refl
-stage_back stage.Issued = refl
-stage_back stage.Working = refl
-stage_back stage.Revoked = refl
-stage_back stage.Finaled = refl
-stage_back stage.Certified = refl
-stage_back stage.Abandoned = refl
-stage_back stage.Lapsed = refl
-stage_back stage.New = refl
-stage_back stage.Office = refl
+stage_back s = grind arith
 
 timing_back : (t : Timing) → get_or all_timings (timing_code t) timing.Untimed ≡ t
-timing_back timing.Untimed = refl
-timing_back timing.Past = refl
-timing_back timing.Near = refl
-timing_back timing.Ahead = refl
+timing_back t = grind arith
 
 timing_below : (t : Timing) → timing_code t < 4
-timing_below timing.Untimed = lit< tt
-timing_below timing.Past = lit< tt
-timing_below timing.Near = lit< tt
-timing_below timing.Ahead = lit< tt
+timing_below t = grind arith
 
 stage_below : (s : Stage) → stage_code s < 14
-stage_below stage.Filed = lit< tt
-stage_below stage.Review = lit< tt
-stage_below stage.Returned = lit< tt
-stage_below stage.Approved = lit< tt
-stage_below stage.Rejected = lit< tt
-stage_below stage.Issued = lit< tt
-stage_below stage.Working = lit< tt
-stage_below stage.Revoked = lit< tt
-stage_below stage.Finaled = lit< tt
-stage_below stage.Certified = lit< tt
-stage_below stage.Abandoned = lit< tt
-stage_below stage.Lapsed = lit< tt
-stage_below stage.New = lit< tt
-stage_below stage.Office = lit< tt
+stage_below s = grind arith
 
 within : (s t : ℕ) (b : Bool) → s < 14 → t < 4 → 8 * s + only_where b 4 + t < 112
-within s t true h k = omega arith
-within s t false h k = omega arith
+within s t b h k = grind arith
 
 pub cell_below : (cell : Cell) → cell_number cell < 112
 cell_below cell = within (stage_code cell.stage) (timing_code cell.timing) cell.stopped (stage_below cell.stage) (timing_below cell.timing)
@@ -67,12 +34,7 @@ record Split (n s t : ℕ) (b : Bool) : Type 0 where
   rest : n % 4 ≡ t
 
 split : (n s t : ℕ) (b : Bool) → t < 4 → 8 * s + only_where b 4 + t ≡ n → Split n s t b
-split n s t true h e =
-    let half : n / 4 % 2 ≡ 1 = omega arith in
-    record { eighths = omega arith; half = ap (λ x. x == 1) half; rest = omega arith }
-split n s t false h e =
-    let half : n / 4 % 2 ≡ 0 = omega arith in
-    record { eighths = omega arith; half = ap (λ x. x == 1) half; rest = omega arith }
+split n s t b h e = grind arith
 
 -- the cell whose codes a number is made of
 abbrev pub cell_of : ℕ → Cell

@@ -1,5 +1,5 @@
 -- The names of the dead rules, as they are found.
-use Rattle.std.proofs.Common.{◌≡◌, ◌⊎◌, inl, inr, refl, ap, sym, ◌∙◌, subst, Bool, true, false, ℕ, zero, suc, ◌+◌, ◌<◌, ◌≤◌, List, [], ◌∷◌, ◌++◌, append_assoc}
+use Rattle.std.proofs.Common.{arith, ◌≡◌, ◌⊎◌, inl, refl, ap, sym, ◌∙◌, subst, Bool, true, false, ℕ, zero, suc, ◌+◌, ◌<◌, ◌≤◌, List, [], ◌∷◌, ◌++◌, append_assoc}
 use Rattle.std.proofs.Common.{append-nil, length, replicate, drop, get_or}
 use Rattle.std.proofs.lemmas.List.{at_drop_more, drop_all, get_or_default}
 use Rattle.permit_model.specs.Policy.{Rule, Policy}
@@ -15,8 +15,7 @@ abbrev pub AllMarks : Policy → List Bool → Type 0
 AllMarks policy marks = Marks policy (λ facts. Unit {0}) (replicate (length policy) false) marks
 
 live_by : (policy : Policy) (i : ℕ) → (is_marked (replicate (length policy) false) i ≡ true) ⊎ IsLive policy i → IsLive policy i
-live_by policy i (inl e) = let bad : false ≡ true = sym (no_mark (length policy) i) ∙ e in cc
-live_by policy i (inr l) = l
+live_by policy i h = grind (arith, no_mark)
 
 pub is_live : (policy : Policy) (marks : List Bool) (i : ℕ) → AllMarks policy marks → is_marked marks i ≡ true → IsLive policy i
 is_live policy marks i m e = live_by policy i (m.sound i e)
@@ -41,10 +40,7 @@ name_left policy i rule names h e l before = λ rest d. before rest (at_rule pol
 
 pub name_more : (policy : Policy) (i : ℕ) (rule : Rule) (names more : List (List ℕ)) (name : List ℕ) → i < length policy → rule ≡ get_or policy i rule
     → name ≡ rule.name → more ≡ names ++ name ∷ [] → IsDead policy i → Named policy i names → Named policy (i + 1) more
-name_more policy i rule names more name h e n m dead before = λ rest d.
-    let P : List (List ℕ) → Type 0 = λ ns. AreDead policy ns in
-    let same : more ++ rest ≡ names ++ name ∷ rest = ap (λ ns. ns ++ rest) m ∙ append_assoc names (name ∷ []) rest in
-    subst P (sym same) (before (name ∷ rest) (at_rule policy i rule (name ∷ rest) h e (inr (dead, (rest, ap (λ x. x ∷ rest) n, d)))))
+name_more policy i rule names more name h e n m dead before = grind (arith, append_assoc, at_rule)
 
 pub names_end : (policy : Policy) (i : ℕ) (names : List (List ℕ)) → length policy ≤ i → Named policy i names → AreDead policy names
 names_end policy i names h before =

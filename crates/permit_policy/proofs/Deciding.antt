@@ -1,16 +1,15 @@
 -- What the rules so far decide for a set of relations in a cell.
-use Rattle.std.proofs.Common.{◌≡◌, refl, ap, sym, ◌∙◌, arith, w64, Bool, true, false, not, cond, ◌&&◌, ◌||◌, ℕ, ◌+◌, ◌<◌, ◌≤◌, ◌^◌, List, ◌∷◌, ◌++◌, [], length}
-use Rattle.std.proofs.Common.{drop, get_or, bit_and, bit_or, below_more, length-append}
+use Rattle.std.proofs.Common.{rules, ◌≡◌, refl, ap, sym, ◌∙◌, arith, w64, Bool, true, false, not, cond, ◌&&◌, ◌||◌, ℕ, ◌+◌, ◌<◌, ◌≤◌, ◌^◌, List, ◌∷◌, ◌++◌, [], length}
+use Rattle.std.proofs.Common.{drop, get_or, bit_and, bit_or, length-append}
 use Rattle.std.specs.Int.{bit_not}
 use Rattle.std.proofs.Math.ListN.{get_or-append}
 use Rattle.std.proofs.Math.Seq.{get_or-append_seam}
-use Rattle.std.proofs.lemmas.List.{at_drop_more, at_drop_all, get_or_default}
+use Rattle.std.proofs.lemmas.List.{at_drop_more, get_or_default}
 use Rattle.permit_base.specs.declared.words.Role.{Role}
 use Rattle.permit_base.specs.declared.words.Action.{Action}
 use Rattle.permit_base.specs.declared.words.Relations.{Relations}
-use Rattle.permit_model.specs.Codes.{is_role, is_action, is_stage, is_timing}
 use Rattle.permit_model.specs.Facts.{Facts}
-use Rattle.permit_model.specs.Policy.{Rule, Policy, matches, matches_list, matches_relations, matches_truth, is_allow, allows}
+use Rattle.permit_model.specs.Policy.{Rule, Policy, matches, matches_relations, is_allow, allows}
 use Rattle.permit_model.specs.Opened.{Cell, cell_facts, allowed_by}
 use Rattle.permit_policy.specs.Masks.{cell_number, has_set}
 use Rattle.permit_policy.specs.Hits.{is_for, covers, IsHit, AreHits}
@@ -20,15 +19,7 @@ use Rattle.permit_policy.proofs.Bits.{set_in_and, set_in_or, set_in_not, set_in_
 
 pub one_mask_more : (P : ℕ → ℕ → Type 0) (masks more : List ℕ) (i mask : ℕ) → length masks ≡ i → P i mask → more ≡ masks ++ mask ∷ []
     → ((k : ℕ) → k < i → P k (get_or masks k 0)) → (k : ℕ) → k < i + 1 → P k (get_or more k 0)
-one_mask_more P masks more i mask n p m each =
-    let Q : ℕ → Type 0 = λ k. P k (get_or more k 0) in
-    let before : (k : ℕ) → k < i → Q k = λ k l.
-    let within : k < length masks = omega arith in
-    let same : get_or more k 0 ≡ get_or masks k 0 = ap (λ xs. get_or xs k 0) m ∙ get_or-append masks (mask ∷ []) 0 k within in
-    rw same (each k l) in
-    let last : get_or more i 0 ≡ mask = ap (λ xs. get_or xs i 0) m ∙ ap (λ j. get_or (masks ++ mask ∷ []) j 0) (sym n) ∙ get_or-append_seam masks mask [] 0 in
-    let here : Q i = rw last p in
-    below_more Q i before here
+one_mask_more P masks more i mask n p m each = grind (arith, get_or-append, get_or-append_seam)
 
 pub count_more : (masks more : List ℕ) (i mask : ℕ) → length masks ≡ i → more ≡ masks ++ mask ∷ [] → length more ≡ i + 1
 count_more masks more i mask n m = ap length m ∙ length-append masks (mask ∷ []) ∙ ap (λ k. k + 1) n
@@ -54,11 +45,6 @@ pub record Follows (rules : Policy) (place : ℕ) (facts : Facts) (undecided all
 pub follows_start : (rules : Policy) (facts : Facts) (undecided allowed : Bool) → undecided ≡ true → allowed ≡ false → Follows rules 0 facts undecided allowed
 follows_start rules facts undecided allowed u a = record { same = rw u refl; fresh = λ h. a }
 
-pub follows_end : (rules : Policy) (place : ℕ) (facts : Facts) (undecided allowed : Bool) → length rules ≤ place
-    → Follows rules place facts undecided allowed → allowed ≡ allows rules facts
-follows_end rules place facts true allowed h f = f.fresh refl ∙ sym (at_drop_all (λ rs. allows rs facts) rules place h) ∙ f.same
-follows_end rules place facts false allowed h f = f.same
-
 -- what is decided by a rule that matches or doesn't
 record Steps (matched undecided allowed allow rest : Bool) (whole : Bool) : Type 0 where
   same : cond (undecided && not (matched && undecided)) rest (allowed || (allow && (matched && undecided))) ≡ whole
@@ -66,58 +52,22 @@ record Steps (matched undecided allowed allow rest : Bool) (whole : Bool) : Type
 
 steps : (matched undecided allowed allow rest whole : Bool) → cond undecided (cond matched allow rest) allowed ≡ whole → (undecided ≡ true → allowed ≡ false)
     → Steps matched undecided allowed allow rest whole
-steps true true true allow rest whole e f = let bad : true ≡ false = f refl in cc
-steps true true false true rest whole e f = record { same = e; fresh = λ h. cc }
-steps true true false false rest whole e f = record { same = e; fresh = λ h. cc }
-steps false true true allow rest whole e f = let bad : true ≡ false = f refl in cc
-steps false true false true rest whole e f = record { same = e; fresh = λ h. refl }
-steps false true false false rest whole e f = record { same = e; fresh = λ h. refl }
-steps true false true true rest whole e f = record { same = e; fresh = λ h. cc }
-steps true false true false rest whole e f = record { same = e; fresh = λ h. cc }
-steps true false false true rest whole e f = record { same = e; fresh = λ h. cc }
-steps true false false false rest whole e f = record { same = e; fresh = λ h. cc }
-steps false false true true rest whole e f = record { same = e; fresh = λ h. cc }
-steps false false true false rest whole e f = record { same = e; fresh = λ h. cc }
-steps false false false true rest whole e f = record { same = e; fresh = λ h. cc }
-steps false false false false rest whole e f = record { same = e; fresh = λ h. cc }
+steps matched undecided allowed allow rest whole e f = grind arith
 
 allows_first : (rule : Rule) (rules : Policy) (facts : Facts) (b : Bool) → matches rule facts ≡ b
     → allows (rule ∷ rules) facts ≡ cond b (is_allow rule.effect) (allows rules facts)
-allows_first rule rules facts true e = rw e refl
-allows_first rule rules facts false e = rw e refl
+allows_first rule rules facts b e = grind arith
 
 -- a rule's conditions by the parts that are tested apart
 in_parts : (a b c d e f : Bool) → (a && b && c && d && e && f) ≡ ((d && e && f) && ((a && c) && b))
-in_parts true true true true true true = refl
-in_parts true true true true true false = refl
-in_parts true true true true false f = refl
-in_parts true true true false e f = refl
-in_parts true true false true true true = refl
-in_parts true true false true true false = refl
-in_parts true true false true false f = refl
-in_parts true true false false e f = refl
-in_parts true false true true true true = refl
-in_parts true false true true true false = refl
-in_parts true false true true false f = refl
-in_parts true false true false e f = refl
-in_parts true false false true true true = refl
-in_parts true false false true true false = refl
-in_parts true false false true false f = refl
-in_parts true false false false e f = refl
-in_parts false b c true true true = refl
-in_parts false b c true true false = refl
-in_parts false b c true false f = refl
-in_parts false b c false e f = refl
+in_parts a b c d e f = grind arith
 
 pub matches_in : (rule : Rule) (role : Role) (action : Action) (cell : Cell) (set : Relations)
     → matches rule (cell_facts role action cell set) ≡ (covers rule cell && (is_for rule role action && matches_relations rule.relation set))
-matches_in rule role action cell set =
-    in_parts (matches_list rule.role (is_role role)) (matches_relations rule.relation set) (matches_list rule.action (is_action action))
-    (matches_list rule.stage (is_stage cell.stage)) (matches_list rule.timing (is_timing cell.timing)) (matches_truth rule.stopped cell.stopped)
+matches_in rule role action cell set = grind (arith, in_parts)
 
 and_assoc : (a b c : Bool) → (a && b && c) ≡ (a && (b && c))
-and_assoc true b c = refl
-and_assoc false b c = refl
+and_assoc a b c = grind arith
 
 -- a rule more
 pub follows_next : (rules : Policy) (i : ℕ) (rule : Rule) (role : Role) (action : Action) (cell : Cell) (set : Relations)
@@ -155,14 +105,11 @@ pub decided_nowhere : (hits undecided : ℕ) (covered : Bool) (set : Relations) 
 decided_nowhere hits undecided covered set e = rw e (set_in_none set)
 
 and_false : (b : Bool) → (b && false) ≡ false
-and_false true = refl
-and_false false = refl
+and_false b = grind arith
 
 pub none_decided : (hits undecided : ℕ) (covered : Bool) (set : Relations) → bit_and hits undecided ≡ 0
     → has_set 0 set ≡ (covered && has_set hits set && has_set undecided set)
-none_decided hits undecided covered set e =
-    let none : (has_set hits set && has_set undecided set) ≡ false = sym (set_in_and hits undecided set) ∙ ap (λ mask. has_set mask set) e ∙ set_in_none set in
-    set_in_none set ∙ sym (and_assoc covered (has_set hits set) (has_set undecided set) ∙ ap (λ b. covered && b) none ∙ and_false covered)
+none_decided hits undecided covered set e = grind (arith, set_in_and, set_in_none, and_assoc, and_false)
 
 -- ---- the words of the cells
 
@@ -174,6 +121,4 @@ pub of_cell : (policy rules : Policy) (role : Role) (action : Action) (hits give
     → AreHits role action rules hits → ((cell : Cell) → cell_number cell ≡ n → here ≡ cell)
     → ((role : Role) (action : Action) → AreHits role action rules given → (set : Relations) → has_set word set ≡ allowed_by rules role action here set)
     → OfCell policy role action n word
-of_cell policy rules role action hits given n word here p g known numbered allowed = λ cell e set.
-    let those : AreHits role action rules given = rw g known in
-    allowed role action those set ∙ ap (λ at. allowed_by rules role action at set) (numbered cell e) ∙ ap (λ rs. allowed_by rs role action cell set) p
+of_cell policy rules role action hits given n word here p g known numbered allowed = grind arith

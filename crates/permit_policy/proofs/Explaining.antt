@@ -1,31 +1,19 @@
 -- A rule has no failing key exactly where it matches.
-use Rattle.std.proofs.Common.{◌≡◌, refl, ap, sym, ◌∙◌, Bool, true, false, cond, ◌&&◌, ℕ, ◌+◌, ◌<◌, ◌≤◌, List, [], ◌∷◌, ◌++◌, append_assoc, append-nil, length}
-use Rattle.std.proofs.Common.{drop, get_or, not, Option, None, Some, is_none, is_some}
-use Rattle.std.proofs.lemmas.List.{at_drop_more, at_drop_all}
-use Rattle.permit_model.specs.Codes.{is_role, is_action, is_stage, is_timing}
+use Rattle.std.proofs.Common.{rules, arith, ◌≡◌, refl, ap, sym, ◌∙◌, Bool, true, false, cond, ◌&&◌, ℕ, ◌+◌, ◌<◌, List, [], ◌∷◌, ◌++◌, append_assoc, length}
+use Rattle.std.proofs.Common.{drop, get_or, not, Option, is_none, is_some}
+use Rattle.std.proofs.lemmas.List.{at_drop_more}
 use Rattle.permit_model.specs.Facts.{Facts}
-use Rattle.permit_model.specs.Policy.{Rule, Policy, matches, matches_list, matches_relations, matches_truth}
+use Rattle.permit_model.specs.Policy.{Rule, Policy, matches}
 use Rattle.permit_policy.specs.declared.key.Key.{Key}
-use Rattle.permit_policy.specs.declared.key.Key.TheVariants as key
-use Rattle.permit_policy.specs.Explained.{relation_key, or_else, unless, failing_key, Tried, explanation}
+use Rattle.permit_policy.specs.Explained.{or_else, unless, failing_key, Tried, explanation}
 
 none_fails : (a b c d e f : Bool) (k1 k2 k3 k4 k5 k6 : Key)
     → is_none (or_else (unless a k1) (or_else (unless b k2) (or_else (unless c k3) (or_else (unless d k4) (or_else (unless e k5) (unless f k6))))))
     ≡ (a && b && c && d && e && f)
-none_fails false b c d e f k1 k2 k3 k4 k5 k6 = refl
-none_fails true false c d e f k1 k2 k3 k4 k5 k6 = refl
-none_fails true true false d e f k1 k2 k3 k4 k5 k6 = refl
-none_fails true true true false e f k1 k2 k3 k4 k5 k6 = refl
-none_fails true true true true false f k1 k2 k3 k4 k5 k6 = refl
-none_fails true true true true true false k1 k2 k3 k4 k5 k6 = refl
-none_fails true true true true true true k1 k2 k3 k4 k5 k6 = refl
+none_fails a b c d e f k1 k2 k3 k4 k5 k6 = grind arith
 
 failing_none : (rule : Rule) (facts : Facts) → is_none (failing_key rule facts) ≡ matches rule facts
-failing_none rule facts =
-    none_fails (matches_list rule.role (is_role facts.role)) (matches_relations rule.relation facts.relations)
-    (matches_list rule.action (is_action facts.action))
-    (matches_list rule.stage (is_stage facts.stage)) (matches_list rule.timing (is_timing facts.timing)) (matches_truth rule.stopped facts.stopped)
-    key.Role (relation_key rule.relation) key.Action key.Stage key.Timing key.Stopped
+failing_none rule facts = grind (arith, none_fails)
 
 -- what is said of a rule
 abbrev pub tried_on : Facts → Rule → Tried
@@ -60,14 +48,9 @@ tried_last rules facts i r t made more whole h e s n m k =
     ∙ ap (λ x. x ∷ []) (sym s) in
     m ∙ ap (λ ts. made ++ ts) (sym here) ∙ k
 
-pub tried_all : (rules : Policy) (facts : Facts) (i : ℕ) (made whole : List Tried) → length rules ≤ i → made ++ explanation (drop i rules) facts ≡ whole →
-    made ≡ whole
-tried_all rules facts i made whole h k = sym (append-nil made) ∙ ap (λ ts. made ++ ts) (sym (at_drop_all (λ rs. explanation rs facts) rules i h)) ∙ k
-
 pub tried_is : (name : List ℕ) (failing : Option Key) (r : Rule) (facts : Facts) → name ≡ r.name → failing ≡ failing_key r facts
     → (let t : Tried = record { rule = name; failing = failing } in t ≡ tried_on facts r)
 tried_is name failing r facts p q = rw (p, q) refl
 
 pub is_none_by : {A : Type 0} (o : Option A) (b : Bool) → is_some o ≡ b → is_none o ≡ not b
-is_none_by None b e = ap not e
-is_none_by (Some x) b e = ap not e
+is_none_by o b e = grind arith

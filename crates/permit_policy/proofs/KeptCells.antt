@@ -5,7 +5,6 @@ use Rattle.std.specs.List.{list_all, flat_map, range_with_len}
 use Rattle.std.proofs.lemmas.List.{at_drop_more, at_drop_all, get_or-map}
 use Rattle.std.proofs.lemmas.List.FromFn.{get_or-range_with_len}
 use Rattle.permit_model.specs.Opened.{Cell, cells}
-use Rattle.permit_model.specs.Routes.{kept_cells}
 use Rattle.permit_policy.specs.Masks.{cell_number}
 use Rattle.permit_policy.specs.Kept.{is_kept}
 
@@ -22,9 +21,6 @@ pub at_place : (n : ℕ) (here : Cell) → n < 112 → ((cell : Cell) → cell_n
 at_place n here h numbered = numbered (get_or cells n here) (nth_number n here h)
 
 -- ---- kept cells
-
-pub kept_at_start : filter is_kept (drop 0 cells) ≡ kept_cells
-kept_at_start = refl
 
 -- what a function of lists gives for the kept cells from a number on
 abbrev pub from_number : {A : Type 0} → (List Cell → A) → ℕ → A

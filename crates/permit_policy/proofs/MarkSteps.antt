@@ -1,5 +1,5 @@
 -- Marks of several passes, one after the other.
-use Rattle.std.proofs.Common.{◌≡◌, ◌≢◌, ◌⊎◌, inl, inr, refl, ap, sym, ◌∙◌, arith, lit<, Bool, true, false, ◌==◌, ℕ, ◌+◌, ◌<◌, ◌≤◌, List, ◌++◌, length, take}
+use Rattle.std.proofs.Common.{◌≡◌, ◌≢◌, ◌⊎◌, inl, inr, ap, sym, ◌∙◌, arith, Bool, true, false, ◌==◌, ℕ, ◌+◌, ◌<◌, ◌≤◌, List, ◌++◌, length, take}
 use Rattle.std.proofs.Common.{drop, get_or}
 use Rattle.std.proofs.Math.Seq.{take-append_seam}
 use Rattle.std.proofs.lemmas.Bool.Decides.{eqb_tells}
@@ -23,24 +23,17 @@ pub marks_none : (policy : Policy) (Seen : Facts → Type 0) (marks : List Bool)
 marks_none policy Seen marks none = record { kept = λ k e. e; sound = λ k e. inl e; whole = λ facts s k d. absurd (none facts s) }
 
 sound_then : (policy : Policy) (Old Mid : Type 0) (k : ℕ) → (Mid → Old ⊎ IsLive policy k) → Mid ⊎ IsLive policy k → Old ⊎ IsLive policy k
-sound_then policy Old Mid k f (inl m) = f m
-sound_then policy Old Mid k f (inr l) = inr l
+sound_then policy Old Mid k f h = grind arith
 
 whole_then : (policy : Policy) (First Second : Type 0) (facts : Facts) (mid new : List Bool) (k : ℕ) → (First → is_marked mid k ≡ true) →
     (is_marked mid k ≡ true → is_marked new k ≡ true)
     → (Second → is_marked new k ≡ true) → First ⊎ Second → is_marked new k ≡ true
-whole_then policy First Second facts mid new k f g h (inl s) = g (f s)
-whole_then policy First Second facts mid new k f g h (inr s) = h s
+whole_then policy First Second facts mid new k f g h h2 = grind arith
 
 -- one pass, and then another
 pub marks_then : (policy : Policy) (First Second Both : Facts → Type 0) (old mid new : List Bool) → Marks policy First old mid → Marks policy Second mid new
     → ((facts : Facts) → Both facts → First facts ⊎ Second facts) → Marks policy Both old new
-marks_then policy First Second Both old mid new a b split = record {
-  kept = λ k e. b.kept k (a.kept k e);
-  sound = λ k e. sound_then policy (is_marked old k ≡ true) (is_marked mid k ≡ true) k (a.sound k) (b.sound k e);
-  whole = λ facts s k d. whole_then policy (First facts) (Second facts) facts mid new k (λ f. a.whole facts f k d) (b.kept k) (λ f. b.whole facts f k d)
-      (split facts s);
-}
+marks_then policy First Second Both old mid new a b split = grind (arith, sound_then, whole_then)
 
 -- fewer facts
 pub marks_of : (policy : Policy) (Seen Fewer : Facts → Type 0) (old new : List Bool) → Marks policy Seen old new →
@@ -50,14 +43,10 @@ marks_of policy Seen Fewer old new a f = record { kept = a.kept; sound = a.sound
 -- ---- the facts of a pass
 
 pub same_facts : (r : Role) (a : Action) (cell : Cell) (facts : Facts) → IsIn r a cell facts → facts ≡ cell_facts r a cell facts.relations
-same_facts r a cell facts seen =
-    ap (λ x. cell_facts x facts.action (cell_of_facts facts) facts.relations) seen.0
-    ∙ ap (λ x. cell_facts r x (cell_of_facts facts) facts.relations) seen.1
-    ∙ ap (λ x. cell_facts r a x facts.relations) seen.2
+same_facts r a cell facts seen = grind arith
 
 before_or_at : (m n : ℕ) → m < n + 1 → (((m == n) ≡ true) × (m ≡ n)) ⊎ (((m == n) ≡ false) × (m ≢ n)) → (m < n) ⊎ (m ≡ n)
-before_or_at m n h (inl same) = inr same.1
-before_or_at m n h (inr other) = let ne : m ≢ n = other.1 in inl (omega arith)
+before_or_at m n h h2 = grind arith
 
 abbrev pub InCellsBefore : Role → Action → ℕ → Facts → Type 0
 InCellsBefore r a n facts = IsOf r a facts × (cell_number (cell_of_facts facts) < n)
@@ -77,92 +66,23 @@ pub all_cells : (r : Role) (a : Action) (n : ℕ) → 112 ≤ n → (facts : Fac
 all_cells r a n h facts s = let known = cell_below (cell_of_facts facts) in let lt : cell_number (cell_of_facts facts) < n = omega arith in (s, lt)
 
 action_back : (a : Action) → get_or all_actions (action_code a) action.AddParty ≡ a
-action_back action.AddParty = refl
-action_back action.AddStaff = refl
-action_back action.AddParcel = refl
-action_back action.Transfer = refl
-action_back action.Declare = refl
-action_back action.ReadParcel = refl
-action_back action.File = refl
-action_back action.Read = refl
-action_back action.List = refl
-action_back action.AssignReviewer = refl
-action_back action.AssignInspector = refl
-action_back action.NameContractor = refl
-action_back action.StartReview = refl
-action_back action.Return = refl
-action_back action.Resubmit = refl
-action_back action.ApprovePlans = refl
-action_back action.Reject = refl
-action_back action.Issue = refl
-action_back action.AskExtension = refl
-action_back action.GrantExtension = refl
-action_back action.RefuseExtension = refl
-action_back action.BeginWork = refl
-action_back action.RequestInspection = refl
-action_back action.ApproveStep = refl
-action_back action.Notice = refl
-action_back action.ClearNotice = refl
-action_back action.Stop = refl
-action_back action.Lift = refl
-action_back action.Revoke = refl
-action_back action.Temporary = refl
-action_back action.Certify = refl
+action_back a = grind arith
 
 action_below : (a : Action) → action_code a < 31
-action_below action.AddParty = lit< tt
-action_below action.AddStaff = lit< tt
-action_below action.AddParcel = lit< tt
-action_below action.Transfer = lit< tt
-action_below action.Declare = lit< tt
-action_below action.ReadParcel = lit< tt
-action_below action.File = lit< tt
-action_below action.Read = lit< tt
-action_below action.List = lit< tt
-action_below action.AssignReviewer = lit< tt
-action_below action.AssignInspector = lit< tt
-action_below action.NameContractor = lit< tt
-action_below action.StartReview = lit< tt
-action_below action.Return = lit< tt
-action_below action.Resubmit = lit< tt
-action_below action.ApprovePlans = lit< tt
-action_below action.Reject = lit< tt
-action_below action.Issue = lit< tt
-action_below action.AskExtension = lit< tt
-action_below action.GrantExtension = lit< tt
-action_below action.RefuseExtension = lit< tt
-action_below action.BeginWork = lit< tt
-action_below action.RequestInspection = lit< tt
-action_below action.ApproveStep = lit< tt
-action_below action.Notice = lit< tt
-action_below action.ClearNotice = lit< tt
-action_below action.Stop = lit< tt
-action_below action.Lift = lit< tt
-action_below action.Revoke = lit< tt
-action_below action.Temporary = lit< tt
-action_below action.Certify = lit< tt
+action_below a = grind arith
 
 role_back : (r : Role) → get_or all_roles (role_code r) role.Public ≡ r
-role_back role.Public = refl
-role_back role.Clerk = refl
-role_back role.Reviewer = refl
-role_back role.Inspector = refl
-role_back role.Official = refl
+role_back r = grind arith
 
 role_below : (r : Role) → role_code r < 5
-role_below role.Public = lit< tt
-role_below role.Clerk = lit< tt
-role_below role.Reviewer = lit< tt
-role_below role.Inspector = lit< tt
-role_below role.Official = lit< tt
+role_below r = grind arith
 
 abbrev pub ByActionsBefore : Role → ℕ → Facts → Type 0
 ByActionsBefore r n facts = HasRole r facts × (action_code facts.action < n)
 
 action_by : (r : Role) (n : ℕ) (here : Action) (facts : Facts) → here ≡ get_or all_actions n action.AddParty → HasRole r facts
     → (action_code facts.action < n) ⊎ (action_code facts.action ≡ n) → ByActionsBefore r n facts ⊎ IsOf r here facts
-action_by r n here facts at s (inl lt) = inl (s, lt)
-action_by r n here facts at s (inr e) = inr (s, sym (action_back facts.action) ∙ ap (λ k. get_or all_actions k action.AddParty) e ∙ sym at)
+action_by r n here facts at s h = grind (arith, action_back)
 
 pub next_action : (r : Role) (n : ℕ) (here : Action) → here ≡ get_or all_actions n action.AddParty
     → (facts : Facts) → ByActionsBefore r (n + 1) facts → ByActionsBefore r n facts ⊎ IsOf r here facts
@@ -176,8 +96,7 @@ ByRolesBefore n facts = role_code facts.role < n
 
 role_by : (n : ℕ) (here : Role) (facts : Facts) → here ≡ get_or all_roles n role.Public
     → (role_code facts.role < n) ⊎ (role_code facts.role ≡ n) → ByRolesBefore n facts ⊎ HasRole here facts
-role_by n here facts at (inl lt) = inl lt
-role_by n here facts at (inr e) = inr (sym (role_back facts.role) ∙ ap (λ k. get_or all_roles k role.Public) e ∙ sym at)
+role_by n here facts at h = grind (arith, role_back)
 
 pub next_role : (n : ℕ) (here : Role) → here ≡ get_or all_roles n role.Public → (facts : Facts) → ByRolesBefore (n + 1) facts →
     ByRolesBefore n facts ⊎ HasRole here facts

@@ -1,5 +1,5 @@
 -- Which rules a pass over the sets of relations of a cell marks.
-use Rattle.std.proofs.Common.{◌≡◌, ◌≢◌, ◌⊎◌, inl, inr, refl, ap, sym, ◌∙◌, arith, w64, Bool, true, false, not, cond, ◌&&◌, ◌||◌, ◌==◌, ℕ, zero, suc, ◌+◌, ◌<◌}
+use Rattle.std.proofs.Common.{rules, ◌≡◌, ◌≢◌, ◌⊎◌, refl, ap, sym, ◌∙◌, arith, w64, Bool, true, false, not, cond, ◌&&◌, ◌||◌, ◌==◌, ℕ, suc, ◌+◌, ◌<◌}
 use Rattle.std.proofs.Common.{◌≤◌, ◌^◌, zero-add, List, [], ◌∷◌, map, length, drop, get_or, set, Some, None, bit_and}
 use Rattle.std.specs.Int.{bit_not, trailing_zeros}
 use Rattle.std.specs.List.{position_from, flat_map, range_with_len}
@@ -56,16 +56,11 @@ some_set mask h k =
 -- ---- one mark
 
 or_none : (a : Bool) → a ≡ (a || false)
-or_none true = refl
-or_none false = refl
+or_none a = grind arith
 
 marked_by : (marks : List Bool) (i : ℕ) (b : Bool) (k : ℕ) → i < length marks → (((k == i) ≡ true) × (k ≡ i)) ⊎ (((k == i) ≡ false) × (k ≢ i))
     → is_marked (set marks i (is_marked marks i || b)) k ≡ (is_marked marks k || ((k == i) && b))
-marked_by marks i b k h (inl same) =
-    ap (λ j. is_marked (set marks i (is_marked marks i || b)) j) same.1 ∙ get_or-set_same marks i (is_marked marks i || b) false h
-    ∙ ap (λ j. is_marked marks j || b) (sym same.1) ∙ ap (λ t. is_marked marks k || (t && b)) (sym same.0)
-marked_by marks i b k h (inr other) =
-    get_or-set_other marks i k (is_marked marks i || b) false other.1 ∙ or_none (is_marked marks k) ∙ ap (λ t. is_marked marks k || (t && b)) (sym other.0)
+marked_by marks i b k h h2 = grind (arith, get_or-set_same, get_or-set_other, or_none)
 
 -- a rule is marked too where it decides
 pub marked_after : (marks : List Bool) (i : ℕ) (b : Bool) (k : ℕ) → i < length marks
@@ -95,8 +90,7 @@ or_left : (a b : Bool) → a ≡ true → (a || b) ≡ true
 or_left a b e = rw e refl
 
 or_right : (a b : Bool) → b ≡ true → (a || b) ≡ true
-or_right true b e = refl
-or_right false b e = e
+or_right a b e = grind arith
 
 -- what the rule at the place finds
 here_decides : (rules : Policy) (i : ℕ) (rule : Rule) (facts : Facts) (b : Bool) → i < length rules → rule ≡ get_or rules i rule → matches rule facts ≡ b
@@ -107,8 +101,7 @@ here_decides rules i rule facts b h e m =
     ∙ ap (λ t. cond t (Some i) (position_from (λ r. matches r facts) (i + 1) (drop (i + 1) rules))) m
 
 itself_by : (i : ℕ) → (((i == i) ≡ true) × (i ≡ i)) ⊎ (((i == i) ≡ false) × (i ≢ i)) → ((i == i) && true) ≡ true
-itself_by i (inl same) = rw same.0 refl
-itself_by i (inr other) = absurd (other.1 refl)
+itself_by i h = grind arith
 
 is_itself : (i : ℕ) → ((i == i) && true) ≡ true
 is_itself i = itself_by i (eqb_tells i i)
@@ -121,40 +114,19 @@ Next rules i facts matched undecided found marks =
 next : (rules : Policy) (i : ℕ) (facts : Facts) (matched undecided found : Bool) (marks : List Bool) → i < length marks
     → position_from (λ r. matches r facts) i (drop i rules) ≡ cond matched (Some i) (position_from (λ r. matches r facts) (i + 1) (drop (i + 1) rules))
     → ((matched && undecided) ≡ true → found ≡ true) → Passes rules i facts undecided marks → Next rules i facts matched undecided found marks
-next rules i facts true true found marks h here f p = record {
-  left = λ u. cc;
-  marked = λ u k d.
-      let at : Some i ≡ Some k = sym here ∙ p.left refl ∙ d in
-      let same : k ≡ i = cc in
-      let hit : ((k == i) && found) ≡ true = rw (same, f refl) (is_itself i) in
-      marked_after marks i found k h ∙ or_right (is_marked marks k) ((k == i) && found) hit;
-}
-next rules i facts false true found marks h here f p = record {
-  left = λ u. sym here ∙ p.left refl;
-  marked = λ u k d. cc;
-}
-next rules i facts true false found marks h here f p = record {
-  left = λ u. cc;
-  marked = λ u k d. marked_after marks i found k h ∙ or_left (is_marked marks k) ((k == i) && found) (p.marked refl k d);
-}
-next rules i facts false false found marks h here f p = record {
-  left = λ u. cc;
-  marked = λ u k d. marked_after marks i found k h ∙ or_left (is_marked marks k) ((k == i) && found) (p.marked refl k d);
-}
+next rules i facts matched undecided found marks h here f p = grind (arith, is_itself, marked_after, or_right, or_left)
 
 -- ---- a rule more
 
 nonzero : (n : ℕ) → not (n == 0) ≡ true → 0 < n
-nonzero zero e = cc
-nonzero (suc n) e = omega arith
+nonzero n e = grind arith
 
 not_zero : (n : ℕ) → not (suc n == 0) ≡ true
 not_zero n = ap not (eqb-suc-zero n)
 
 -- a mask that holds a set isn't 0
 found_by : (n : ℕ) (one : Relations) → has_set n one ≡ true → not (n == 0) ≡ true
-found_by zero one e = let bad : false ≡ true = sym (set_in_none one) ∙ e in cc
-found_by (suc n) one e = not_zero n
+found_by n one e = grind (arith, set_in_none, not_zero)
 
 -- the rule at a place, with the sets that it hits and those that it decides
 pub record Decides (rules : Policy) (i : ℕ) (rule : Rule) (role : Role) (action : Action) (cell : Cell) (hits undecided decided : ℕ) : Type 0 where
@@ -186,12 +158,10 @@ step_passes rules i rule role action cell hits undecided decided marks one d h p
     rw left (next rules i facts m u (not (decided == 0)) marks h rest found p)
 
 both_hold : (a b : Bool) → (a && b) ≡ true → (a ≡ true) × (b ≡ true)
-both_hold true b e = (refl, e)
-both_hold false b e = cc
+both_hold a b e = grind arith
 
 one_holds : (a b : Bool) → (a || b) ≡ true → (a ≡ true) ⊎ (b ≡ true)
-one_holds true b e = inl refl
-one_holds false b e = inr e
+one_holds a b e = grind arith
 
 -- a rule that decides some sets is live
 pub step_live : (rules : Policy) (i : ℕ) (rule : Rule) (role : Role) (action : Action) (cell : Cell) (hits undecided decided : ℕ) (marks : List Bool)
@@ -211,8 +181,7 @@ pub marks_kept : (marks : List Bool) (i : ℕ) (b : Bool) (k : ℕ) → i < leng
 marks_kept marks i b k h e = marked_after marks i b k h ∙ or_left (is_marked marks k) ((k == i) && b) e
 
 same_place : (k i : ℕ) → (k == i) ≡ true → (((k == i) ≡ true) × (k ≡ i)) ⊎ (((k == i) ≡ false) × (k ≢ i)) → k ≡ i
-same_place k i e (inl same) = same.1
-same_place k i e (inr other) = let bad : true ≡ false = sym e ∙ other.0 in cc
+same_place k i e h = grind arith
 
 live_at : (rules : Policy) (i k : ℕ) → k ≡ i → IsLive rules i → IsLive rules k
 live_at rules i k e l = rw e l
@@ -220,13 +189,9 @@ live_at rules i k e l = rw e l
 sound_by : (rules : Policy) (Old : Type 0) (marks : List Bool) (i : ℕ) (b : Bool) (k : ℕ) → (is_marked marks k ≡ true → Old ⊎ IsLive rules k) →
     (b ≡ true → IsLive rules i)
     → (is_marked marks k ≡ true) ⊎ (((k == i) && b) ≡ true) → Old ⊎ IsLive rules k
-sound_by rules Old marks i b k before here (inl e) = before e
-sound_by rules Old marks i b k before here (inr e) =
-    let both = both_hold (k == i) b e in
-    inr (live_at rules i k (same_place k i both.0 (eqb_tells k i)) (here both.1))
+sound_by rules Old marks i b k before here h = grind (arith, both_hold, live_at, same_place, eqb_tells)
 
 pub marks_sound : (rules : Policy) (Old : Type 0) (marks : List Bool) (i : ℕ) (b : Bool) (k : ℕ) → i < length marks
     → (is_marked marks k ≡ true → Old ⊎ IsLive rules k) → (b ≡ true → IsLive rules i)
     → is_marked (set marks i (is_marked marks i || b)) k ≡ true → Old ⊎ IsLive rules k
-marks_sound rules Old marks i b k h before here e =
-    sound_by rules Old marks i b k before here (one_holds (is_marked marks k) ((k == i) && b) (sym (marked_after marks i b k h) ∙ e))
+marks_sound rules Old marks i b k h before here e = grind (arith, sound_by, one_holds, marked_after)

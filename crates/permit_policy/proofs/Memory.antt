@@ -1,10 +1,9 @@
 -- No text means want of memory.
-use Rattle.std.proofs.Common.{◌≡◌, ap, Bool, true, false, cond, ℕ, nat_lt, List, length, Option, None, Some, option_map, unwrap_or, Ok, Err}
+use Rattle.std.proofs.Common.{arith, ◌≡◌, ap, Bool, cond, ℕ, List, Option, option_map, unwrap_or, Ok, Err}
 use Rattle.toml.specs.Data.{Data, Members}
-use Rattle.toml.specs.Parse.{parse_document}
 use Rattle.permit_policy.specs.declared.fault.PolicyFault.{PolicyFault}
 use Rattle.permit_policy.specs.declared.fault.PolicyFault.TheVariants as fault
-use Rattle.permit_policy.specs.PolicyText.{Meaning, refused_at, first_place, is_misshapen, bad_name_place, has_bad_effect, has_bad_list, tables_in}
+use Rattle.permit_policy.specs.PolicyText.{Meaning, refused_at, tables_in}
 use Rattle.permit_policy.specs.PolicyText.{meaning_of_tables, meaning_of_document, meaning}
 
 abbrev pub IsNotMemory : Meaning → Type 0
@@ -19,31 +18,21 @@ unfolding code_of
 other code k h rule e = h (ap code_of e)
 
 either : (b : Bool) (m n : Meaning) → IsNotMemory m → IsNotMemory n → IsNotMemory (cond b m n)
-either true m n p q = p
-either false m n p q = q
+either b m n p q = grind arith
 
 at_place : (code : PolicyFault) (place : Option ℕ) (m : Meaning) → (code ≡ fault.Memory → ⊥) → IsNotMemory m → IsNotMemory (refused_at code place m)
-at_place code None m h q = q
-at_place code (Some k) m h q = other code k h
+at_place code place m h q = grind (arith, other)
 
 of_part : {A : Type 0} (f : A → Meaning) (part : Option A) (m : Meaning) → ((a : A) → IsNotMemory (f a)) → IsNotMemory m →
     IsNotMemory (unwrap_or (option_map f part) m)
-of_part f None m p q = q
-of_part f (Some a) m p q = p a
+of_part f part m p q = grind arith
 
 of_tables : (tables : List Data) → IsNotMemory (meaning_of_tables tables)
-of_tables tables =
-    at_place fault.Shape (first_place is_misshapen tables) _ (λ e. cc)
-    (either (nat_lt 64 (length tables)) _ _ (other fault.TooMany 0 (λ e. cc))
-    (at_place fault.Name (bad_name_place tables) _ (λ e. cc)
-    (at_place fault.Effect (first_place has_bad_effect tables) _ (λ e. cc)
-    (at_place fault.List (first_place has_bad_list tables) _ (λ e. cc) (λ rule e. cc)))))
+of_tables tables = grind (arith, at_place, either, other)
 
 of_document : (document : Members) → IsNotMemory (meaning_of_document document)
 of_document document = of_part meaning_of_tables (tables_in document) _ of_tables (other fault.Shape 0 (λ e. cc))
 
 -- want of memory is no meaning
 pub never_memory : (text : List ℕ) → IsNotMemory (meaning text)
-never_memory text =
-    either (nat_lt 65536 (length text)) _ _ (other fault.TooLong 0 (λ e. cc))
-    (of_part meaning_of_document (parse_document text) _ of_document (other fault.Unreadable 0 (λ e. cc)))
+never_memory text = grind (arith, either, other, of_part, of_document)

@@ -1,5 +1,5 @@
 -- The two words of a list.
-use Rattle.std.proofs.Common.{◌≡◌, refl, ap, ◌∙◌, arith, true, false, not, ◌&&◌, cond, ℕ, suc, ◌==◌, length, List, [], ◌∷◌, Option, Some, None}
+use Rattle.std.proofs.Common.{◌≡◌, refl, ap, arith, true, false, not, ◌&&◌, cond, ℕ, suc, ◌==◌, length, List, [], ◌∷◌, Option, Some, None}
 use Rattle.std.proofs.lemmas.Bool.Decides.{nat_tests}
 use Rattle.permit_policy.specs.PolicyText.{are_words, is_bad_pair, pair_in, words_of}
 use Rattle.permit_policy.proofs.Passes.{none_unless}
@@ -9,11 +9,7 @@ pair_read read texts = cond (is_bad_pair read (Some texts)) None (pair_in (words
 
 two_missing : {A : Type 0} (read : List ℕ → Option A) (a b : List ℕ) (x y : Option A) → read a ≡ x → read b ≡ y
     → None ≡ pair_read read (a ∷ b ∷ []) → is_bad_pair read (Some (a ∷ b ∷ [])) ≡ true
-two_missing read a b None y p q e = rw p refl
-two_missing read a b (Some w) None p q e = grind (arith, p, q)
-two_missing read a b (Some w) (Some v) p q e =
-    let there : pair_in (words_of read (Some (a ∷ b ∷ []))) ≡ Some (w, v) = rw (p, q) refl in
-    none_unless (is_bad_pair read (Some (a ∷ b ∷ []))) (w, v) (e ∙ ap (λ o. cond (is_bad_pair read (Some (a ∷ b ∷ []))) None o) there)
+two_missing read a b x y p q e = grind (arith, none_unless)
 
 not_two : (n : ℕ) → (suc (suc (suc n)) == 2) ≡ false
 not_two n = grind (arith, nat_tests)

@@ -1,37 +1,48 @@
 //! A policy, and what it decides: the first rule that matches.
 
-ghost use Rattle.std.specs.Prelude.{◌≡◌, length};
+ghost use Rattle.std.specs.Prelude.{◌≡◌, length, IfOk};
+ghost use Rattle.permit_base.specs.declared.words.Action.TheVariants as action;
+ghost use Rattle.permit_base.specs.declared.words.Relations.{Relations as TheRelations};
+ghost use Rattle.permit_model.specs.Opened.{Cell as TheCell, allowed_by};
 ghost use Rattle.permit_model.specs.Policy.{decision, is_allow};
+ghost use Rattle.permit_policy.specs.Masks.{may};
 ghost use Rattle.permit_policy.specs.Denial.{denied};
 
 use crate::facts::Facts;
+use crate::listings::Listings;
+use crate::masks::Masks;
 use crate::rule::Rule;
 use permit_base::values::RuleName;
-use permit_base::words::Effect;
-use std::alloc::Global;
+use permit_base::words::{Effect, Role};
+use std::alloc::{AllocError, Global};
 use std::marker::Model;
 
-/// The rules in the order written.
+/// The rules in the order written, with what they let each role list.
 #[derive(Drop)]
 pub struct Policy {
     rules: Vec<Rule>,
+    listings: Listings,
 }
 
 impl Model for Policy {
     ghost use Rattle.std.specs.Prelude.{List};
     ghost use Rattle.permit_model.specs.Policy.{Rule as TheRule};
+    ghost use Rattle.permit_policy.specs.Compiled.{AreCompiled};
 
     ghost Value = { List TheRule };
 
     ghost view = { λ p. p.rules.items };
+
+    ghost invariant = { λ p. AreCompiled p.rules.items p.listings };
 }
 
 impl Policy {
-    /// The policy of these rules.
-    pub(crate) fn new(rules: Vec<Rule>) -> Policy
-        ensures { result ≡ rules.items }
+    /// The policy of these rules. It fails only where memory runs out.
+    pub(crate) fn new(alloc: Global, rules: Vec<Rule>) -> Result<Policy, AllocError>
+        ensures { IfOk result (λ policy. policy ≡ rules.items) }
     {
-        Policy { rules }
+        let listings = Listings::compile(alloc, &rules)?;
+        Ok(Policy { rules, listings })
     }
 
     /// The rules in the order written.
@@ -51,6 +62,13 @@ impl Policy {
         ensures { result ≡ length self.now }
     {
         self.rules.len()
+    }
+
+    /// What the rules let the role list in each cell, to each set of relations. It was compiled once, when the policy was made.
+    pub fn listing(&self, role: Role) -> &Masks
+        ensures { (cell : TheCell) (set : TheRelations) → may result.now cell set ≡ allowed_by self.now role action.List cell set }
+    {
+        self.listings.of_role(role)
     }
 
     /// The name of the rule that denies, or None where the policy allows.

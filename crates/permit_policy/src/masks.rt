@@ -115,6 +115,23 @@ fn allowed_in(rules: &[Rule], hits: &[u64], cell: Cell) -> u64
     allowed
 }
 
+/// What the rules allow the role by the action in each cell to each set of relations.
+pub(crate) fn compile_rules(
+    alloc: Global,
+    rules: &[Rule],
+    role: Role,
+    action: Action,
+) -> Result<Masks, AllocError>
+    ensures exact { IfOk result (λ masks. (cell : TheCell) (set : TheRelations) → may masks cell set ≡ allowed_by rules.now role action cell set) }
+{
+    let hits = hits_by_rule(alloc, rules, role, action)?;
+    let mut words = Vec::with_capacity(alloc, CELLS)?;
+    for number in 0..CELLS {
+        words.push(allowed_in(rules, &hits, Cell::numbered(number)))?;
+    }
+    Ok(Masks { words })
+}
+
 /// What the policy allows the role by the action in each cell to each set of relations. It fails only where memory runs
 /// out.
 pub fn compile(
@@ -125,11 +142,5 @@ pub fn compile(
 ) -> Result<Masks, AllocError>
     ensures exact { IfOk result (λ masks. (cell : TheCell) (set : TheRelations) → may masks cell set ≡ allowed_by policy.now role action cell set) }
 {
-    let rules = policy.in_order();
-    let hits = hits_by_rule(alloc, rules, role, action)?;
-    let mut words = Vec::with_capacity(alloc, CELLS)?;
-    for number in 0..CELLS {
-        words.push(allowed_in(rules, &hits, Cell::numbered(number)))?;
-    }
-    Ok(Masks { words })
+    compile_rules(alloc, policy.in_order(), role, action)
 }

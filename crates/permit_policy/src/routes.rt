@@ -1,52 +1,70 @@
 //! The selections by which the rows of a listing are found.
 
-ghost use Rattle.std.specs.Prelude.{◌≡◌, ◌++◌, ℕ, map, filter, IfOk, IsPermutation, slice_index};
+ghost use Rattle.std.specs.Prelude.{◌≡◌, ◌&&◌, ◌++◌, ℕ, map, IfOk, IsPermutation};
 ghost use Rattle.std.specs.List.{flat_map, list_all};
-ghost use Rattle.permit_base.specs.declared.route.By.TheVariants as by;
 ghost use Rattle.permit_base.specs.declared.words.Action.TheVariants as action;
-ghost use Rattle.permit_base.specs.Words.{all_relations};
 ghost use Rattle.permit_model.specs.Caller.{Party};
 ghost use Rattle.permit_model.specs.History.{History};
-ghost use Rattle.permit_model.specs.Opened.{only, all_pairs, allowed_as_two, allowed_by, opened};
+ghost use Rattle.permit_model.specs.Opened.{allowed_as_two, allowed_by, opened};
 ghost use Rattle.permit_model.specs.Routes.{kept_cells, route_by, routes_in, routes_of, is_open_to_all, is_all, Found, found_by};
 ghost use Rattle.permit_model.specs.Tables.{file_row, tables};
+ghost use Rattle.permit_policy.specs.Kept.{is_kept};
 ghost use Rattle.permit_policy.specs.Masks.{has_set, may};
+ghost use Rattle.permit_policy.specs.Selections.{items_of, alone, all_bys, relation_bys, opens, is_opened, selection, selections_by_cells, selections_of};
 
 use crate::cell::{CELLS, Cell};
 use crate::decide::Policy;
-use crate::masks::{Masks, compile};
+use crate::masks::Masks;
 use crate::sets::{both_of, has_set, no_relations, only};
 use permit_base::request::Filter;
 use permit_base::route::{By, Route};
-use permit_base::words::{Action, Relation, Role, Word};
+use permit_base::words::{Relation, Role};
 use std::alloc::{AllocError, Global};
 
 /// The most routes of a listing: 44 cells of kept rows, with 15 pairs of relations each.
 const MOST_ROUTES: usize = 660;
 
-static PAIRS: [(Relation, Relation); 15] = [
-    (Relation::Applicant, Relation::Contractor),
-    (Relation::Applicant, Relation::Owner),
-    (Relation::Applicant, Relation::AssignedReviewer),
-    (Relation::Applicant, Relation::AssignedInspector),
-    (Relation::Applicant, Relation::Conflict),
-    (Relation::Contractor, Relation::Owner),
-    (Relation::Contractor, Relation::AssignedReviewer),
-    (Relation::Contractor, Relation::AssignedInspector),
-    (Relation::Contractor, Relation::Conflict),
-    (Relation::Owner, Relation::AssignedReviewer),
-    (Relation::Owner, Relation::AssignedInspector),
-    (Relation::Owner, Relation::Conflict),
-    (Relation::AssignedReviewer, Relation::AssignedInspector),
-    (Relation::AssignedReviewer, Relation::Conflict),
-    (Relation::AssignedInspector, Relation::Conflict),
+/// The selection of every row.
+static EVERY: [Route; 1] = [Route::Every];
+
+/// What may be asked of the caller: nothing, one relation, or two, by their codes.
+static BYS: [By; 22] = [
+    By::Whole,
+    By::One(Relation::Applicant),
+    By::One(Relation::Contractor),
+    By::One(Relation::Owner),
+    By::One(Relation::AssignedReviewer),
+    By::One(Relation::AssignedInspector),
+    By::One(Relation::Conflict),
+    By::Two(Relation::Applicant, Relation::Contractor),
+    By::Two(Relation::Applicant, Relation::Owner),
+    By::Two(Relation::Applicant, Relation::AssignedReviewer),
+    By::Two(Relation::Applicant, Relation::AssignedInspector),
+    By::Two(Relation::Applicant, Relation::Conflict),
+    By::Two(Relation::Contractor, Relation::Owner),
+    By::Two(Relation::Contractor, Relation::AssignedReviewer),
+    By::Two(Relation::Contractor, Relation::AssignedInspector),
+    By::Two(Relation::Contractor, Relation::Conflict),
+    By::Two(Relation::Owner, Relation::AssignedReviewer),
+    By::Two(Relation::Owner, Relation::AssignedInspector),
+    By::Two(Relation::Owner, Relation::Conflict),
+    By::Two(Relation::AssignedReviewer, Relation::AssignedInspector),
+    By::Two(Relation::AssignedReviewer, Relation::Conflict),
+    By::Two(Relation::AssignedInspector, Relation::Conflict),
 ];
 
-/// Each two relations, by the lower code and then the higher.
-fn pairs() -> &'static [(Relation, Relation)]
-    ensures { result.now ≡ all_pairs }
+/// What may be asked of the caller.
+fn bys() -> &'static [By]
+    ensures { result.now ≡ all_bys }
 {
-    &PAIRS
+    &BYS
+}
+
+/// The relations and pairs of relations among it.
+fn relation_bys() -> &'static [By]
+    ensures { result.now ≡ relation_bys }
+{
+    &BYS[1..]
 }
 
 /// The selection of these files of the kept cell.
@@ -70,44 +88,31 @@ fn allowed_as_two(mask: u64, pair: (Relation, Relation)) -> bool
         && !has_set(mask, only(pair.1))
 }
 
-/// Adds a route for each relation that the mask holds alone, by their codes.
-fn push_singles(routes: &mut Vec<Route>, mask: u64, cell: Cell) -> Result<(), AllocError>
-    ensures { IfOk result (λ done. routes.new.items ≡ routes.old.items
-        ++ map (λ r. route_by cell (by.One r)) (filter (λ r. has_set mask (only r)) all_relations)) }
+/// Whether a cell with this mask is opened so: where no relation is wanted, whole; else by each relation that is allowed alone,
+/// and by each two that are allowed only as two.
+fn opens(mask: u64, by: By) -> bool
+    ensures { result ≡ opens (has_set mask) by }
 {
-    for relation in Relation::all() {
-        if has_set(mask, only(*relation)) {
-            routes.push(route_by(cell, By::One(*relation)))?;
+    match by {
+        By::Whole => has_set(mask, no_relations()),
+        By::One(relation) => !has_set(mask, no_relations()) && has_set(mask, only(relation)),
+        By::Two(first, second) => {
+            !has_set(mask, no_relations()) && allowed_as_two(mask, (first, second))
         }
     }
-    Ok(())
 }
 
-/// Adds a route for each two relations that the mask holds only as two.
-fn push_pairs(routes: &mut Vec<Route>, mask: u64, cell: Cell) -> Result<(), AllocError>
-    ensures { IfOk result (λ done. routes.new.items ≡ routes.old.items
-        ++ map (λ pair. route_by cell (by.Two pair.0 pair.1)) (filter (allowed_as_two (has_set mask)) all_pairs)) }
-{
-    for pair in pairs() {
-        if allowed_as_two(mask, *pair) {
-            routes.push(route_by(cell, By::Two(pair.0, pair.1)))?;
-        }
-    }
-    Ok(())
-}
-
-/// Adds the routes of a kept cell: one for the whole cell where no relation is wanted, else one for each relation that
-/// is allowed alone, and one for each two that are allowed only as two.
+/// Adds the routes of a kept cell, one for each way in which it is opened.
 fn push_routes(routes: &mut Vec<Route>, masks: &Masks, cell: Cell) -> Result<(), AllocError>
     ensures { IfOk result (λ done. routes.new.items ≡ routes.old.items ++ routes_in (may masks.now) cell) }
 {
     let mask = masks.word(cell.on_day());
-    if has_set(mask, no_relations()) {
-        routes.push(route_by(cell, By::Whole))?;
-        return Ok(());
+    for by in bys() {
+        if opens(mask, *by) {
+            routes.push(route_by(cell, *by))?;
+        }
     }
-    push_singles(routes, mask, cell)?;
-    push_pairs(routes, mask, cell)
+    Ok(())
 }
 
 /// Whether no relation is wanted in any cell of kept rows.
@@ -152,19 +157,91 @@ pub fn routes(alloc: Global, masks: &Masks, filter: Filter) -> Result<Vec<Route>
     Ok(routes)
 }
 
-/// The selections of a listing under the policy, for callers of the role. Of each history's tables, on each day and for each
-/// such caller, they find exactly the rows that the listing may open, each as often. It fails only where memory runs out.
-pub fn routes_by_policy(
+/// Whether a row can be kept in the cell, the cell meets the filter, and it is opened so.
+fn is_opened(masks: &Masks, filter: &Filter, by: By, cell: Cell) -> bool
+    ensures { result ≡ (is_kept cell && is_opened (may masks.now) filter.now by cell) }
+{
+    cell.is_kept() && cell.meets(*filter) && opens(masks.word(cell.on_day()), by)
+}
+
+/// The routes of the cells that are opened so, in the order of the cells' numbers.
+fn selection(
     alloc: Global,
+    masks: &Masks,
+    filter: &Filter,
+    by: By,
+) -> Result<Vec<Route>, AllocError>
+    ensures { IfOk result (λ routes. routes.items ≡ selection (may masks.now) filter.now by) }
+{
+    let mut routes = Vec::new(alloc);
+    for number in 0..CELLS {
+        let cell = Cell::numbered(number);
+        if is_opened(masks, filter, by, cell) {
+            routes.push(route_by(cell, by))?;
+        }
+    }
+    Ok(routes)
+}
+
+/// Each route by itself.
+fn each_alone(alloc: Global, routes: &[Route]) -> Result<Vec<Vec<Route>>, AllocError>
+    ensures { IfOk result (λ all. map items_of all.items ≡ map alone routes.now) }
+{
+    let mut all = Vec::with_capacity(alloc, routes.len())?;
+    for route in routes {
+        all.push(vec![in alloc; *route]?)?;
+    }
+    Ok(all)
+}
+
+/// The selections of the cells that meet the filter: each whole cell by itself, and then one for each relation or pair.
+fn selections_by_cells(
+    alloc: Global,
+    masks: &Masks,
+    filter: &Filter,
+) -> Result<Vec<Vec<Route>>, AllocError>
+    ensures { IfOk result (λ all. map items_of all.items ≡ selections_by_cells (may masks.now) filter.now) }
+{
+    let whole = selection(alloc, masks, filter, By::Whole)?;
+    let mut all = each_alone(alloc, &whole)?;
+    for by in relation_bys() {
+        let selection = selection(alloc, masks, filter, *by)?;
+        if !selection.is_empty() {
+            all.push(selection)?;
+        }
+    }
+    Ok(all)
+}
+
+/// The routes of a listing under these masks. Each whole cell is a selection by itself, since a store finds its rows by the cell.
+/// Those that ask the same relation or pair of the caller are one, 21 at most, so that a store goes over its rows once for all
+/// their cells. It fails only where memory runs out.
+pub fn selections(
+    alloc: Global,
+    masks: &Masks,
+    filter: Filter,
+) -> Result<Vec<Vec<Route>>, AllocError>
+    ensures { IfOk result (λ all. map items_of all.items ≡ selections_of (may masks.now) filter) }
+{
+    if is_all(filter) && is_open_to_all(masks) {
+        return each_alone(alloc, &EVERY);
+    }
+    selections_by_cells(alloc, masks, &filter)
+}
+
+/// The selections of a listing under the policy, for callers of the role. Of each history's tables, on each day and for each
+/// such caller, their routes find exactly the rows that the listing may open, each as often. It fails only where memory runs
+/// out.
+pub fn listing_selections(
     policy: &Policy,
     role: Role,
     wanted: Filter,
-) -> Result<Vec<Route>, AllocError>
-    ensures exact { IfOk result (λ routes. routes.items ≡ routes_of (allowed_by policy.now role action.List) wanted) }
-    ensures opens { IfOk result (λ routes. (h : History) (day : ℕ) (caller : Party) → caller.role ≡ role
-        → IsPermutation (flat_map (λ r. map (λ (f : Found). f.row) (found_by r caller.id day (tables h))) routes.items)
+) -> Result<Vec<Vec<Route>>, AllocError>
+    ensures exact { IfOk result (λ all.
+        map items_of all.items ≡ selections_of (allowed_by policy.now role action.List) wanted) }
+    ensures opens { IfOk result (λ all. (h : History) (day : ℕ) (caller : Party) → caller.role ≡ role
+        → IsPermutation (flat_map (λ r. map (λ (f : Found). f.row) (found_by r caller.id day (tables h))) (flat_map items_of all.items))
         (map file_row (opened policy.now h day caller wanted))) }
 {
-    let masks = compile(alloc, policy, role, Action::List)?;
-    Ok(routes(alloc, &masks, wanted)?)
+    selections(policy.allocator(), policy.listing(role), wanted)
 }

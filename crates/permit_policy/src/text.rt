@@ -14,7 +14,7 @@ use crate::rule::{RelationTest, Rule};
 use crate::table::{is_misshapen, items, member, text_at, truth_at};
 use permit_base::values::RuleName;
 use permit_base::words::{Effect, Relation, Word};
-use std::alloc::Global;
+use std::alloc::{AllocError, Global};
 use toml::{Table, Value};
 
 fn has_rule_alone(document: &Table) -> bool
@@ -176,7 +176,10 @@ fn read_tables(alloc: Global, tables: &[Value]) -> Result<Policy, PolicyError>
     let names = read_names(alloc, tables)?;
     let effects = read_effects(alloc, tables)?;
     let rules = read_rules(alloc, tables, &names, &effects)?;
-    Ok(Policy::new(rules))
+    match Policy::new(alloc, rules) {
+        Ok(policy) => Ok(policy),
+        Err(AllocError) => Err(PolicyFault::Memory.at(0)),
+    }
 }
 
 /// Reads a policy's text, in TOML 1.1: an array of tables `rule`, each with `name` and `effect` and, where wanted, the

@@ -3,6 +3,7 @@ use Rattle.std.proofs.Common.{◌≡◌, ℕ, ◌+◌, ◌<◌, Bool, true, List
 use Rattle.std.proofs.Common.{codes, get_or, take, drop}
 use Rattle.std.proofs.lemmas.List.{take_more, take-append-drop}
 use Rattle.std.specs.Fmt.{decimal}
+use Rattle.std.proofs.KnownBytes.{Appends-nil}
 use Rattle.std.specs.Io.KnownBytes.{Appends}
 use Rattle.permit_base.specs.declared.words.RegisterKind.{RegisterKind}
 use Rattle.permit_core.specs.Taking.{TookAll, StoppedIn, BeganOf}
@@ -14,7 +15,7 @@ use Rattle.permit_report.specs.Progress.{Progress, opening, part, ending, one_li
 use Rattle.permit_report.specs.Taken.{progress, IsSameOutput, TakesFile}
 use Rattle.permit_report.specs.Whole.{IsBegun}
 use Rattle.permit_report.proofs.Parts.{parts, later, later_none, later_more, parts-append, register_text_parts}
-use Rattle.permit_report.proofs.Writes.{appends_none, appends_both, front_of_first, front_of_both, front_of_whole}
+use Rattle.permit_report.proofs.Writes.{appends_both, front_of_first, front_of_both, front_of_whole}
 
 -- some files taken, and one more
 pub took_more : {T I : Type 0} (took : T → I → T → Bool → Type 0) (items : List I) (old mid new : T) (item : I)
@@ -57,7 +58,7 @@ module _ {W : Type 0} (contents : W → Option (List ℕ)) where
     same = ap (λ (w : RegisterWriter W). w.writer.ghost_name) is;
     at = ap progress is ∙ later_none (progress old);
     wrote = let P : RegisterWriter W → Type 0 = λ w. Appends (contents old.writer.now) (contents w.writer.now) [] in subst P (sym is)
-        (appends_none (contents old.writer.now));
+        (Appends-nil (contents old.writer.now));
   }
   holds (file ∷ files) old new (mid, first, others) =
       let rest = holds files mid new others in

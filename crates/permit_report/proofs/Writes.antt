@@ -1,6 +1,6 @@
 -- What a writer was given, one write after another.
-use Rattle.std.proofs.Common.{ℕ, ◌+◌, ◌<◌, ◌≤◌, List, [], ◌++◌, length, take, drop, Option, Some, None, sym, ap, ◌∙◌, arith, append_assoc, append-nil}
-use Rattle.std.proofs.Common.{length-append}
+use Rattle.std.proofs.Common.{ℕ, ◌+◌, ◌<◌, ◌≤◌, List, ◌++◌, length, take, drop, Option, sym, subst, arith, length-append}
+use Rattle.std.proofs.KnownBytes.{Appends-nil, Appends-trans}
 use Rattle.std.proofs.Math.Seq.{take-add, take-append-add, take-append_seam}
 use Rattle.std.proofs.lemmas.List.{take-append-le}
 use Rattle.std.specs.Io.KnownBytes.{Appends}
@@ -9,24 +9,11 @@ use Rattle.permit_report.specs.Outgoing.{WroteFront}
 -- one write after another
 pub appends_more : (old mid new : Option (List ℕ)) (bs : List ℕ) (at n : ℕ)
     → Appends old mid (take at bs) → Appends mid new (take n (drop at bs)) → Appends old new (take (at + n) bs)
-appends_more None mid new bs at n h k = tt
-appends_more (Some xs) None new bs at n h k = absurd h
-appends_more (Some xs) (Some ys) None bs at n h k = absurd k
-appends_more (Some xs) (Some ys) (Some zs) bs at n h k =
-    k ∙ ap (λ x. x ++ take n (drop at bs)) h ∙ append_assoc xs (take at bs) (take n (drop at bs))
-    ∙ ap (λ x. xs ++ x) (sym (take-add at n bs))
+appends_more old mid new bs at n h k = subst (λ t. Appends old new t) (sym (take-add at n bs)) (Appends-trans old mid new (take at bs) (take n (drop at bs)) h k)
 
 -- one text after another
 pub appends_both : (old mid new : Option (List ℕ)) (a b : List ℕ) → Appends old mid a → Appends mid new b → Appends old new (a ++ b)
-appends_both None mid new a b h k = tt
-appends_both (Some xs) None new a b h k = absurd h
-appends_both (Some xs) (Some ys) None a b h k = absurd k
-appends_both (Some xs) (Some ys) (Some zs) a b h k = k ∙ ap (λ x. x ++ b) h ∙ append_assoc xs a b
-
--- nothing
-pub appends_none : (old : Option (List ℕ)) → Appends old old []
-appends_none None = tt
-appends_none (Some xs) = sym (append-nil xs)
+appends_both = Appends-trans
 
 -- a beginning of the first text is one of both
 pub front_of_first : (old new : Option (List ℕ)) (a b : List ℕ) → WroteFront old new a → WroteFront old new (a ++ b)
@@ -47,7 +34,7 @@ front_of_both old mid new a b h k = record {
 
 -- nothing is a beginning of what isn't empty
 pub front_of_none : (old : Option (List ℕ)) (text : List ℕ) → 0 < length text → WroteFront old old text
-front_of_none old text h = record { count = 0; within = h; wrote = appends_none old }
+front_of_none old text h = record { count = 0; within = h; wrote = Appends-nil old }
 
 -- a text, and then nothing of the next
 pub front_of_whole : (old new : Option (List ℕ)) (a b : List ℕ) → 0 < length b → Appends old new a → WroteFront old new (a ++ b)

@@ -10,11 +10,12 @@ use Rattle.permit_report.specs.Progress.{Progress, part, one_line_more}
 abbrev pub progress : {W : Type 0} → RegisterWriter W → Progress
 progress writer = record { kind = writer.kind; day = writer.day; lines = writer.lines }
 
--- it writes to where it wrote
+-- the second writes to the output of the first
 abbrev pub IsSameOutput : {W : Type 0} → RegisterWriter W → RegisterWriter W → Type 0
 IsSameOutput old new = new.writer.ghost_name ≡ old.writer.ghost_name
 
--- a file taken: known bytes grew by its part, or where it is answered false by a beginning of it, which isn't the whole
+-- A file was taken. Where the answer is true, known bytes grew by the file's part. Where it is false, they grew by a
+-- beginning of that part, which isn't the whole.
 abbrev pub TakesFile : {W : Type 0} → (W → Option (List ℕ)) → RegisterWriter W → FileView → RegisterWriter W → Bool → Type 0
 TakesFile contents old file new true =
     IsSameOutput old new × (progress new ≡ one_line_more (progress old))

@@ -6,9 +6,9 @@ use Rattle.std.proofs.lemmas.Bool.{and_parts, ltb-true, lt-ltb}
 use Rattle.matchit.proofs.OnLiterals.{matchit_on_literals}
 use Rattle.matchit.specs.Seek.{first}
 use Rattle.matchit.specs.Router.{RouteOf}
-use Rattle.permit_routes.specs.declared.routing.Endpoint.{Endpoint}
+use Rattle.permit_routes.specs.declared.requests.Endpoint.{Endpoint}
 use Rattle.permit_routes.specs.Routes.{Rows, post_rows, get_rows}
-use Rattle.permit_routes.specs.Targets.{are_ascii, are_ascii_rows}
+use Rattle.permit_routes.specs.Routing.{are_ascii, are_ascii_rows}
 use Rattle.permit_routes.proofs.Rows.{AllKeys, seek-all}
 
 pub test-ascii : (bytes : List ℕ) → are_ascii bytes ≡ true → IsAscii bytes

@@ -3,6 +3,7 @@ pub mod Bodies
 pub mod Commands
 pub mod Ids
 pub mod Outcome
+pub mod Parts
 pub mod Requests
 pub mod Routes
-pub mod Targets
+pub mod Routing

@@ -5,9 +5,9 @@ use Rattle.matchit.specs.Order.{placed}
 use Rattle.matchit.specs.Route.{Scan, parse_route}
 use Rattle.matchit.specs.Router.{RouteOf, route_from}
 use Rattle.matchit.specs.declared.error.InsertError.{InsertError}
-use Rattle.permit_routes.specs.declared.routing.Endpoint.{Endpoint}
-use Rattle.permit_routes.specs.declared.routing.Endpoint.TheVariants.{Parties, Parcels, ParcelAction, Files, FileAction, Parcel, Listing}
-use Rattle.permit_routes.specs.declared.routing.Endpoint.TheVariants.{StageListing, File, Register}
+use Rattle.permit_routes.specs.declared.requests.Endpoint.{Endpoint}
+use Rattle.permit_routes.specs.declared.requests.Endpoint.TheVariants.{Parties, Parcels, ParcelAction, Files, FileAction, Parcel, Listing}
+use Rattle.permit_routes.specs.declared.requests.Endpoint.TheVariants.{StageListing, File, Register}
 
 -- a pattern, and what it stands for
 abbrev pub Entry : Type 0

@@ -6,14 +6,14 @@ ghost use Rattle.permit_routes.specs.Commands.{party_in, text_alone, step_in, pa
 ghost use Rattle.permit_routes.specs.Commands.{text_command, command_of};
 
 use crate::document::{days_at, object, paper_at, party_at, text_at, word_at};
-use crate::fault::BodyFault;
+use crate::fault::RequestFault;
 use permit_base::request::Command;
 use permit_base::values::{Days, PaperNumber, PartyId, Text};
 use permit_base::words::{Action, Step};
 use std::alloc::Global;
 
 /// A body whose only key is `party`.
-fn party_in(alloc: Global, body: &[u8]) -> Result<PartyId, BodyFault>
+fn party_in(alloc: Global, body: &[u8]) -> Result<PartyId, RequestFault>
     ensures { ReadsAs same result (party_in body.now) }
 {
     let value = object(alloc, body, 1)?;
@@ -21,7 +21,7 @@ fn party_in(alloc: Global, body: &[u8]) -> Result<PartyId, BodyFault>
 }
 
 /// A body whose only key is `text`.
-fn text_alone(alloc: Global, body: &[u8]) -> Result<Text, BodyFault>
+fn text_alone(alloc: Global, body: &[u8]) -> Result<Text, RequestFault>
     ensures { ReadsAs same result (text_alone body.now) }
 {
     let value = object(alloc, body, 1)?;
@@ -29,7 +29,7 @@ fn text_alone(alloc: Global, body: &[u8]) -> Result<Text, BodyFault>
 }
 
 /// A body whose only key is `step`.
-fn step_in(alloc: Global, body: &[u8]) -> Result<Step, BodyFault>
+fn step_in(alloc: Global, body: &[u8]) -> Result<Step, RequestFault>
     ensures { ReadsAs same result (step_in body.now) }
 {
     let value = object(alloc, body, 1)?;
@@ -37,7 +37,7 @@ fn step_in(alloc: Global, body: &[u8]) -> Result<Step, BodyFault>
 }
 
 /// A body whose only key is `paper`.
-fn paper_in(alloc: Global, body: &[u8]) -> Result<PaperNumber, BodyFault>
+fn paper_in(alloc: Global, body: &[u8]) -> Result<PaperNumber, RequestFault>
     ensures { ReadsAs same result (paper_in body.now) }
 {
     let value = object(alloc, body, 1)?;
@@ -45,7 +45,7 @@ fn paper_in(alloc: Global, body: &[u8]) -> Result<PaperNumber, BodyFault>
 }
 
 /// A body of the keys `days` and `text`.
-fn days_and_text(alloc: Global, body: &[u8]) -> Result<(Days, Text), BodyFault>
+fn days_and_text(alloc: Global, body: &[u8]) -> Result<(Days, Text), RequestFault>
     ensures { ReadsAs same result (days_and_text body.now) }
 {
     let value = object(alloc, body, 2)?;
@@ -55,7 +55,7 @@ fn days_and_text(alloc: Global, body: &[u8]) -> Result<(Days, Text), BodyFault>
 }
 
 /// A body of the keys `text` and `conditions`.
-fn text_and_conditions(alloc: Global, body: &[u8]) -> Result<(Text, Text), BodyFault>
+fn text_and_conditions(alloc: Global, body: &[u8]) -> Result<(Text, Text), RequestFault>
     ensures { ReadsAs same result (text_and_conditions body.now) }
 {
     let value = object(alloc, body, 2)?;
@@ -105,7 +105,7 @@ fn bare_command(action: Action) -> Option<Command>
 }
 
 /// The command of an action whose body has the key `text` alone, or no key.
-fn text_command(alloc: Global, action: Action, body: &[u8]) -> Result<Command, BodyFault>
+fn text_command(alloc: Global, action: Action, body: &[u8]) -> Result<Command, RequestFault>
     ensures { ReadsAs same result (text_command action body.now) }
 {
     match action {
@@ -129,13 +129,13 @@ fn text_command(alloc: Global, action: Action, body: &[u8]) -> Result<Command, B
         }),
         _ => {
             object(alloc, body, 0)?;
-            bare_command(action).ok_or(BodyFault::Refused)
+            bare_command(action).ok_or(RequestFault::Body)
         }
     }
 }
 
 /// The command that an action and a body make. An action that is no command on a file has none.
-pub fn command(alloc: Global, action: Action, body: &[u8]) -> Result<Command, BodyFault>
+pub fn command(alloc: Global, action: Action, body: &[u8]) -> Result<Command, RequestFault>
     ensures { ReadsAs same result (command_of action body.now) }
 {
     match action {

@@ -8,7 +8,7 @@ ghost use Rattle.permit_base.specs.Texts.{is_printable, is_lot, is_token};
 ghost use Rattle.permit_routes.specs.Bodies.{text_in, said, has_members, object_of, number_at, string_at, text_at, word_at};
 ghost use Rattle.permit_routes.specs.Outcome.{ReadsAs, same};
 
-use crate::fault::BodyFault;
+use crate::fault::RequestFault;
 use permit_base::limits::{MOST_CENTS, MOST_DAYS, MOST_PAPERS, MOST_RECORDS};
 use permit_base::values::{Cents, Days, Lot, PaperNumber, ParcelId, PartyId, Text, Token};
 use permit_base::words::Word;
@@ -29,28 +29,28 @@ fn body_text(body: &[u8]) -> Option<&str>
 }
 
 /// What a text says as JSON.
-fn value_of(alloc: Global, text: &str) -> Result<Value, BodyFault>
+fn value_of(alloc: Global, text: &str) -> Result<Value, RequestFault>
     ensures { ReadsAs view result (read text.now) }
 {
     match Value::from_str(alloc, text) {
         Ok(value) => Ok(value),
         Err(error) => {
             if error.is_memory() {
-                Err(BodyFault::Memory)
+                Err(RequestFault::Memory)
             } else {
-                Err(BodyFault::Refused)
+                Err(RequestFault::Body)
             }
         }
     }
 }
 
 /// What a body says as JSON.
-fn document(alloc: Global, body: &[u8]) -> Result<Value, BodyFault>
+fn document(alloc: Global, body: &[u8]) -> Result<Value, RequestFault>
     ensures { ReadsAs view result (said body.now) }
 {
     match body_text(body) {
         Some(text) => value_of(alloc, text),
-        None => Err(BodyFault::Refused),
+        None => Err(RequestFault::Body),
     }
 }
 
@@ -65,14 +65,14 @@ fn has_members(value: &Value, members: usize) -> bool
 }
 
 /// What a body says, where it is an object of so many members.
-pub fn object(alloc: Global, body: &[u8], members: usize) -> Result<Value, BodyFault>
+pub fn object(alloc: Global, body: &[u8], members: usize) -> Result<Value, RequestFault>
     ensures { ReadsAs view result (object_of members body.now) }
 {
     let value = document(alloc, body)?;
     if has_members(&value, members) {
         Ok(value)
     } else {
-        Err(BodyFault::Refused)
+        Err(RequestFault::Body)
     }
 }
 
@@ -90,43 +90,43 @@ fn number_at(value: &Value, key: &str, low: u64, high: u64) -> Option<u64>
 }
 
 /// The party whose number stands at a key.
-pub fn party_at(value: &Value, key: &str) -> Result<PartyId, BodyFault>
+pub fn party_at(value: &Value, key: &str) -> Result<PartyId, RequestFault>
     ensures { ReadsAs same result (number_at is_object_number key.now (view value.now)) }
 {
-    let number = number_at(value, key, 1, u64::from(MOST_RECORDS)).ok_or(BodyFault::Refused)?;
-    PartyId::new(number as u32).ok_or(BodyFault::Refused)
+    let number = number_at(value, key, 1, u64::from(MOST_RECORDS)).ok_or(RequestFault::Body)?;
+    PartyId::new(number as u32).ok_or(RequestFault::Body)
 }
 
 /// The parcel whose number stands at a key.
-pub fn parcel_at(value: &Value, key: &str) -> Result<ParcelId, BodyFault>
+pub fn parcel_at(value: &Value, key: &str) -> Result<ParcelId, RequestFault>
     ensures { ReadsAs same result (number_at is_object_number key.now (view value.now)) }
 {
-    let number = number_at(value, key, 1, u64::from(MOST_RECORDS)).ok_or(BodyFault::Refused)?;
-    ParcelId::new(number as u32).ok_or(BodyFault::Refused)
+    let number = number_at(value, key, 1, u64::from(MOST_RECORDS)).ok_or(RequestFault::Body)?;
+    ParcelId::new(number as u32).ok_or(RequestFault::Body)
 }
 
 /// The amount of cents at a key.
-pub fn cents_at(value: &Value, key: &str) -> Result<Cents, BodyFault>
+pub fn cents_at(value: &Value, key: &str) -> Result<Cents, RequestFault>
     ensures { ReadsAs same result (number_at is_cents key.now (view value.now)) }
 {
-    let number = number_at(value, key, 0, MOST_CENTS).ok_or(BodyFault::Refused)?;
-    Cents::new(number).ok_or(BodyFault::Refused)
+    let number = number_at(value, key, 0, MOST_CENTS).ok_or(RequestFault::Body)?;
+    Cents::new(number).ok_or(RequestFault::Body)
 }
 
 /// The count of days at a key.
-pub fn days_at(value: &Value, key: &str) -> Result<Days, BodyFault>
+pub fn days_at(value: &Value, key: &str) -> Result<Days, RequestFault>
     ensures { ReadsAs same result (number_at is_days key.now (view value.now)) }
 {
-    let number = number_at(value, key, 1, u64::from(MOST_DAYS)).ok_or(BodyFault::Refused)?;
-    Days::new(number as u32).ok_or(BodyFault::Refused)
+    let number = number_at(value, key, 1, u64::from(MOST_DAYS)).ok_or(RequestFault::Body)?;
+    Days::new(number as u32).ok_or(RequestFault::Body)
 }
 
 /// The number of a paper, at a key.
-pub fn paper_at(value: &Value, key: &str) -> Result<PaperNumber, BodyFault>
+pub fn paper_at(value: &Value, key: &str) -> Result<PaperNumber, RequestFault>
     ensures { ReadsAs same result (number_at is_paper_number key.now (view value.now)) }
 {
-    let number = number_at(value, key, 1, u64::from(MOST_PAPERS)).ok_or(BodyFault::Refused)?;
-    PaperNumber::new(number as u32).ok_or(BodyFault::Refused)
+    let number = number_at(value, key, 1, u64::from(MOST_PAPERS)).ok_or(RequestFault::Body)?;
+    PaperNumber::new(number as u32).ok_or(RequestFault::Body)
 }
 
 /// The string at a key.
@@ -140,33 +140,33 @@ fn string_at<'v>(value: &'v Value, key: &str) -> Option<&'v str>
 }
 
 /// The word at a key.
-pub fn word_at<W: Word>(value: &Value, key: &str) -> Result<W, BodyFault>
+pub fn word_at<W: Word>(value: &Value, key: &str) -> Result<W, RequestFault>
     ensures { ReadsAs same result (word_at W.spelling W.every key.now (view value.now)) }
 {
-    let word = string_at(value, key).ok_or(BodyFault::Refused)?;
-    W::read(word).ok_or(BodyFault::Refused)
+    let word = string_at(value, key).ok_or(RequestFault::Body)?;
+    W::read(word).ok_or(RequestFault::Body)
 }
 
 /// The text at a key.
-pub fn text_at(alloc: Global, value: &Value, key: &str) -> Result<Text, BodyFault>
+pub fn text_at(alloc: Global, value: &Value, key: &str) -> Result<Text, RequestFault>
     ensures { ReadsAs same result (text_at is_printable key.now (view value.now)) }
 {
-    let text = string_at(value, key).ok_or(BodyFault::Refused)?;
-    Text::new(String::from_str(alloc, text)?).ok_or(BodyFault::Refused)
+    let text = string_at(value, key).ok_or(RequestFault::Body)?;
+    Text::new(String::from_str(alloc, text)?).ok_or(RequestFault::Body)
 }
 
 /// The number of a lot, at a key.
-pub fn lot_at(alloc: Global, value: &Value, key: &str) -> Result<Lot, BodyFault>
+pub fn lot_at(alloc: Global, value: &Value, key: &str) -> Result<Lot, RequestFault>
     ensures { ReadsAs same result (text_at is_lot key.now (view value.now)) }
 {
-    let text = string_at(value, key).ok_or(BodyFault::Refused)?;
-    Lot::new(String::from_str(alloc, text)?).ok_or(BodyFault::Refused)
+    let text = string_at(value, key).ok_or(RequestFault::Body)?;
+    Lot::new(String::from_str(alloc, text)?).ok_or(RequestFault::Body)
 }
 
 /// The token at a key.
-pub fn token_at(alloc: Global, value: &Value, key: &str) -> Result<Token, BodyFault>
+pub fn token_at(alloc: Global, value: &Value, key: &str) -> Result<Token, RequestFault>
     ensures { ReadsAs same result (text_at is_token key.now (view value.now)) }
 {
-    let text = string_at(value, key).ok_or(BodyFault::Refused)?;
-    Token::new(String::from_str(alloc, text)?).ok_or(BodyFault::Refused)
+    let text = string_at(value, key).ok_or(RequestFault::Body)?;
+    Token::new(String::from_str(alloc, text)?).ok_or(RequestFault::Body)
 }

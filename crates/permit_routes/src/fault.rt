@@ -1,23 +1,25 @@
-//! Why a body is no request.
+//! Why a method, a path and a body are no request.
 
 use std::alloc::AllocError;
 
-/// Why no request was made of a body.
+/// Why no request was made of a method, a path and a body.
 #[derive(Clone, Copy, PartialEq, Eq)]
-pub enum BodyFault {
-    /// The body doesn't mean a request of its target.
-    Refused,
-    /// Memory was refused while the body was read.
+pub enum RequestFault {
+    /// The method and the path have no route.
+    Route,
+    /// They have one, and the body doesn't mean a request of it.
+    Body,
+    /// Memory was refused while the request was read.
     Memory,
 }
 
-impl From<AllocError> for BodyFault {
+impl From<AllocError> for RequestFault {
     ghost use Rattle.std.specs.Prelude.{◌≡◌};
-    ghost use Rattle.permit_routes.specs.declared.fault.BodyFault.TheVariants.{Memory};
+    ghost use Rattle.permit_routes.specs.declared.fault.RequestFault.TheVariants.{Memory};
 
     ghost from_gives = { λ _ fault. fault ≡ Memory };
 
-    fn from(_error: AllocError) -> BodyFault {
-        BodyFault::Memory
+    fn from(_error: AllocError) -> RequestFault {
+        RequestFault::Memory
     }
 }

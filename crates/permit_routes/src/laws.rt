@@ -4,46 +4,47 @@ ghost use Rattle.std.specs.Prelude.{◌≡◌, ℕ, List, IsTrue, codes, Some, N
 ghost use Rattle.std.specs.Fmt.{decimal};
 ghost use Rattle.permit_base.specs.Limits.{is_object_number};
 ghost use Rattle.permit_routes.specs.Ids.{id_in};
-ghost use Rattle.permit_routes.specs.Targets.{target_of};
+ghost use Rattle.permit_routes.specs.Requests.{party_in, parcel_in, filing_in, transfer_in, without_keys, without_body, on_file};
+ghost use Rattle.permit_routes.specs.Routing.{request_of};
 ghost use Rattle.permit_base.specs.declared.words.Action.TheVariants.{Issue};
-ghost use Rattle.permit_routes.specs.declared.routing.Target.TheVariants.{Parties, Parcels, Transfer, Declare, ReadParcel, Files, OnFile, ReadFile, ListFiles, Register};
+ghost use Rattle.permit_base.specs.declared.request.Request.TheVariants.{Declare, ReadParcel, ReadFile, ListFiles, Register};
 ghost use Rattle.permit_base.specs.declared.request.Filter.TheVariants.{All, InStage};
 ghost use Rattle.permit_base.specs.declared.words.Stage.TheVariants.{Review};
 ghost use Rattle.permit_base.specs.declared.words.RegisterKind.TheVariants.{Deadlines};
 
-/// Targets of methods and paths.
-pub fn worked_targets()
-    ensures a_party { target_of (codes "POST") (codes "/parties") ≡ Some Parties }
-    ensures a_new_parcel { target_of (codes "POST") (codes "/parcels") ≡ Some Parcels }
-    ensures a_new_file { target_of (codes "POST") (codes "/files") ≡ Some Files }
-    ensures a_transfer { target_of (codes "POST") (codes "/parcels/2/transfer") ≡ Some (Transfer 2) }
-    ensures an_interest { target_of (codes "POST") (codes "/parcels/2/declare") ≡ Some (Declare 2) }
-    ensures a_parcel { target_of (codes "GET") (codes "/parcels/2") ≡ Some (ReadParcel 2) }
-    ensures an_issue { target_of (codes "POST") (codes "/files/1/issue") ≡ Some (OnFile 1 Issue) }
-    ensures a_file { target_of (codes "GET") (codes "/files/1") ≡ Some (ReadFile 1) }
-    ensures all_files { target_of (codes "GET") (codes "/files") ≡ Some (ListFiles All) }
-    ensures files_in_review { target_of (codes "GET") (codes "/files/stage/review") ≡ Some (ListFiles (InStage Review)) }
-    ensures a_register { target_of (codes "GET") (codes "/registers/deadlines") ≡ Some (Register Deadlines) }
-    ensures the_last_file { target_of (codes "GET") (codes "/files/99999") ≡ Some (ReadFile 99999) }
+/// What methods and paths ask for, by their bodies.
+pub fn worked_routes()
+    ensures a_party { (body : List ℕ) → request_of (codes "POST") (codes "/parties") body ≡ Some (party_in body) }
+    ensures a_new_parcel { (body : List ℕ) → request_of (codes "POST") (codes "/parcels") body ≡ Some (parcel_in body) }
+    ensures a_new_file { (body : List ℕ) → request_of (codes "POST") (codes "/files") body ≡ Some (filing_in body) }
+    ensures a_transfer { (body : List ℕ) → request_of (codes "POST") (codes "/parcels/2/transfer") body ≡ Some (transfer_in 2 body) }
+    ensures an_interest { (body : List ℕ) → request_of (codes "POST") (codes "/parcels/2/declare") body ≡ Some (without_keys (Declare 2) body) }
+    ensures a_parcel { (body : List ℕ) → request_of (codes "GET") (codes "/parcels/2") body ≡ Some (without_body (ReadParcel 2) body) }
+    ensures an_issue { (body : List ℕ) → request_of (codes "POST") (codes "/files/1/issue") body ≡ on_file 1 Issue body }
+    ensures a_file { (body : List ℕ) → request_of (codes "GET") (codes "/files/1") body ≡ Some (without_body (ReadFile 1) body) }
+    ensures all_files { (body : List ℕ) → request_of (codes "GET") (codes "/files") body ≡ Some (without_body (ListFiles All) body) }
+    ensures files_in_review { (body : List ℕ) → request_of (codes "GET") (codes "/files/stage/review") body ≡ Some (without_body (ListFiles (InStage Review)) body) }
+    ensures a_register { (body : List ℕ) → request_of (codes "GET") (codes "/registers/deadlines") body ≡ Some (without_body (Register Deadlines) body) }
+    ensures the_last_file { (body : List ℕ) → request_of (codes "GET") (codes "/files/99999") body ≡ Some (without_body (ReadFile 99999) body) }
 {}
 
 /// Methods and paths that have no route.
 pub fn worked_refusals()
-    ensures too_high { target_of (codes "GET") (codes "/files/100000") ≡ None }
-    ensures leading_zero { target_of (codes "POST") (codes "/files/01/issue") ≡ None }
-    ensures no_number { target_of (codes "GET") (codes "/files/0") ≡ None }
-    ensures a_sign { target_of (codes "GET") (codes "/files/+1") ≡ None }
-    ensures a_query { target_of (codes "GET") (codes "/files?x=1") ≡ None }
-    ensures another_method { target_of (codes "BREW") (codes "/files") ≡ None }
-    ensures another_case { target_of (codes "post") (codes "/files") ≡ None }
-    ensures a_slash_more { target_of (codes "POST") (codes "/files/") ≡ None }
-    ensures another_word { target_of (codes "POST") (codes "/files/1/sleep") ≡ None }
-    ensures a_read_as_a_command { target_of (codes "POST") (codes "/files/1/read") ≡ None }
-    ensures a_command_on_a_parcel { target_of (codes "POST") (codes "/parcels/1/issue") ≡ None }
-    ensures a_stage_of_no_file { target_of (codes "GET") (codes "/files/stage/new") ≡ None }
-    ensures no_stage { target_of (codes "GET") (codes "/files/stage") ≡ None }
-    ensures another_register { target_of (codes "GET") (codes "/registers/fees") ≡ None }
-    ensures a_command_by_get { target_of (codes "GET") (codes "/files/1/issue") ≡ None }
+    ensures too_high { (body : List ℕ) → request_of (codes "GET") (codes "/files/100000") body ≡ None }
+    ensures leading_zero { (body : List ℕ) → request_of (codes "POST") (codes "/files/01/issue") body ≡ None }
+    ensures no_number { (body : List ℕ) → request_of (codes "GET") (codes "/files/0") body ≡ None }
+    ensures a_sign { (body : List ℕ) → request_of (codes "GET") (codes "/files/+1") body ≡ None }
+    ensures a_query { (body : List ℕ) → request_of (codes "GET") (codes "/files?x=1") body ≡ None }
+    ensures another_method { (body : List ℕ) → request_of (codes "BREW") (codes "/files") body ≡ None }
+    ensures another_case { (body : List ℕ) → request_of (codes "post") (codes "/files") body ≡ None }
+    ensures a_slash_more { (body : List ℕ) → request_of (codes "POST") (codes "/files/") body ≡ None }
+    ensures another_word { (body : List ℕ) → request_of (codes "POST") (codes "/files/1/sleep") body ≡ None }
+    ensures a_read_as_a_command { (body : List ℕ) → request_of (codes "POST") (codes "/files/1/read") body ≡ None }
+    ensures a_command_on_a_parcel { (body : List ℕ) → request_of (codes "POST") (codes "/parcels/1/issue") body ≡ None }
+    ensures a_stage_of_no_file { (body : List ℕ) → request_of (codes "GET") (codes "/files/stage/new") body ≡ None }
+    ensures no_stage { (body : List ℕ) → request_of (codes "GET") (codes "/files/stage") body ≡ None }
+    ensures another_register { (body : List ℕ) → request_of (codes "GET") (codes "/registers/fees") body ≡ None }
+    ensures a_command_by_get { (body : List ℕ) → request_of (codes "GET") (codes "/files/1/issue") body ≡ None }
 {}
 
 /// An id is the decimal spelling of a number from 1 to 99999, and each of these numbers has that one.

@@ -7,7 +7,7 @@ mod document;
 pub mod fault;
 pub mod laws;
 mod parts;
-pub mod requests;
+mod requests;
 pub mod routing;
 
 pub use parts::id;

@@ -7,7 +7,7 @@ ghost use Rattle.std.specs.Char.{is_ascii_digit};
 ghost use Rattle.matchit.specs.Params.{walk, named};
 ghost use Rattle.permit_base.specs.Limits.{most_records};
 ghost use Rattle.permit_routes.specs.Ids.{is_plain_number, id_in, starts_with_zero};
-ghost use Rattle.permit_routes.specs.Targets.{id_of, action_of, stage_of, register_of, is_command};
+ghost use Rattle.permit_routes.specs.Parts.{id_of, action_of, stage_of, register_of, is_command};
 
 use matchit::Params;
 use permit_base::limits::MOST_RECORDS;

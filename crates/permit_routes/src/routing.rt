@@ -1,58 +1,17 @@
-//! The routes of the office, and the target of a method and a path.
+//! The routes of the office, and the request of a method, a path and a body.
 
 ghost use Rattle.std.specs.Prelude.{◌≡◌, IfOk, option_map, IsAscii, IsTrue};
-ghost use Rattle.matchit.specs.Params.{walk};
 ghost use Rattle.permit_base.specs.Limits.{only_if};
+ghost use Rattle.permit_routes.specs.Outcome.{RoutesAs};
 ghost use Rattle.permit_routes.specs.Routes.{post_rows, get_rows};
-ghost use Rattle.permit_routes.specs.Targets.{are_ascii, are_ascii_rows, parcel_target, file_target, target_with, target_among, target_of};
+ghost use Rattle.permit_routes.specs.Routing.{are_ascii, are_ascii_rows, request_among, request_of};
 
-use crate::parts::{action_of, file_of, is_command, parcel_of, register_of, stage_of};
+use crate::fault::RequestFault;
+use crate::requests::{Endpoint, request_with};
 use http::Method;
-use matchit::{InsertError, Params, Router};
-use permit_base::request::Filter;
-use permit_base::values::{FileId, ParcelId};
-use permit_base::words::{Action, RegisterKind};
-use std::alloc::{AllocError, Global};
-
-/// What a pattern of the routes stands for.
-#[derive(Clone, Copy, PartialEq, Eq)]
-enum Endpoint {
-    Parties,
-    Parcels,
-    ParcelAction,
-    Files,
-    FileAction,
-    Parcel,
-    Listing,
-    StageListing,
-    File,
-    Register,
-}
-
-/// What a method and a path ask for, before the body is read.
-#[derive(Clone, Copy, PartialEq, Eq)]
-pub enum Target {
-    /// A new party.
-    Parties,
-    /// A new parcel.
-    Parcels,
-    /// A parcel's next owner.
-    Transfer(ParcelId),
-    /// The caller's interest in a parcel.
-    Declare(ParcelId),
-    /// A parcel, to be read.
-    ReadParcel(ParcelId),
-    /// The filing of an application.
-    Files,
-    /// A command on a file. [`route`] gives the actions of the 22 commands alone.
-    OnFile { file: FileId, action: Action },
-    /// A file, to be read.
-    ReadFile(FileId),
-    /// The files, all or those in a stage.
-    ListFiles(Filter),
-    /// A register.
-    Register(RegisterKind),
-}
+use matchit::{InsertError, Router};
+use permit_base::request::Request;
+use std::alloc::Global;
 
 fn post_router(alloc: Global) -> Result<Router<Endpoint>, InsertError>
     ensures { IfOk result (λ r. r ≡ post_rows) }
@@ -78,57 +37,20 @@ fn get_router(alloc: Global) -> Result<Router<Endpoint>, InsertError>
     Ok(router)
 }
 
-/// The target of an action on a parcel; reading one isn't among them.
-fn parcel_target(parcel: ParcelId, action: Action) -> Option<Target>
-    ensures { result ≡ parcel_target parcel action }
-{
-    match action {
-        Action::Transfer => Some(Target::Transfer(parcel)),
-        Action::Declare => Some(Target::Declare(parcel)),
-        _ => None,
-    }
-}
-
-/// The target of an action on a file; filing, reading and listing aren't among them.
-fn file_target(file: FileId, action: Action) -> Option<Target>
-    ensures { result ≡ file_target file action }
-{
-    if is_command(action) {
-        Some(Target::OnFile { file, action })
-    } else {
-        None
-    }
-}
-
-/// The target that an endpoint has with these parameters.
-fn target_with(endpoint: Endpoint, params: &Params<'_, '_>) -> Option<Target>
-    requires text { IsAscii params.now.text.now }
-    requires path { IsAscii params.now.path.now }
-    ensures { result ≡ target_with endpoint (walk params.now.pattern.now params.now.text.now params.now.path.now params.now.names.now 0 0) }
-{
-    match endpoint {
-        Endpoint::Parties => Some(Target::Parties),
-        Endpoint::Parcels => Some(Target::Parcels),
-        Endpoint::ParcelAction => parcel_target(parcel_of(params)?, action_of(params)?),
-        Endpoint::Parcel => Some(Target::ReadParcel(parcel_of(params)?)),
-        Endpoint::Files => Some(Target::Files),
-        Endpoint::FileAction => file_target(file_of(params)?, action_of(params)?),
-        Endpoint::Listing => Some(Target::ListFiles(Filter::All)),
-        Endpoint::StageListing => Some(Target::ListFiles(Filter::InStage(stage_of(params)?))),
-        Endpoint::File => Some(Target::ReadFile(file_of(params)?)),
-        Endpoint::Register => Some(Target::Register(register_of(params)?)),
-    }
-}
-
-/// The target of an ASCII path among the routes of a router.
-fn target_among(router: &Router<Endpoint>, path: &str) -> Option<Target>
+/// The request of an ASCII path and a body among the routes of a router.
+fn request_among(
+    alloc: Global,
+    router: &Router<Endpoint>,
+    path: &str,
+    body: &[u8],
+) -> Result<Request, RequestFault>
     requires rows { IsTrue (are_ascii_rows router.now) }
     requires path { IsAscii path.now }
-    ensures { result ≡ target_among router.now path.now }
+    ensures { RoutesAs result (request_among router.now path.now body.now) }
 {
     match router.at(path) {
-        Ok(found) => target_with(*found.value, &found.params),
-        Err(_) => None,
+        Ok(found) => request_with(alloc, *found.value, &found.params, body),
+        Err(_) => Err(RequestFault::Route),
     }
 }
 
@@ -176,71 +98,76 @@ impl Routes {
         self.alloc
     }
 
-    /// The target of an ASCII path among the routes of POST.
-    fn post_target(&mut self, path: &str) -> Result<Option<Target>, AllocError>
+    /// The request of an ASCII path and a body among the routes of POST.
+    fn post_request(&mut self, path: &str, body: &[u8]) -> Result<Request, RequestFault>
         requires { IsAscii path.now }
-        ensures { IfOk result (λ target. target ≡ target_among post_rows path.now) }
+        ensures { RoutesAs result (request_among post_rows path.now body.now) }
     {
         if let Some(router) = &self.post {
-            return Ok(target_among(router, path));
+            return request_among(self.alloc, router, path, body);
         }
         let Ok(router) = post_router(self.alloc) else {
-            return Err(AllocError);
+            return Err(RequestFault::Memory);
         };
-        let target = target_among(&router, path);
+        let request = request_among(self.alloc, &router, path, body);
         self.post = Some(router);
-        Ok(target)
+        request
     }
 
-    /// The target of an ASCII path among the routes of GET.
-    fn get_target(&mut self, path: &str) -> Result<Option<Target>, AllocError>
+    /// The request of an ASCII path and a body among the routes of GET.
+    fn get_request(&mut self, path: &str, body: &[u8]) -> Result<Request, RequestFault>
         requires { IsAscii path.now }
-        ensures { IfOk result (λ target. target ≡ target_among get_rows path.now) }
+        ensures { RoutesAs result (request_among get_rows path.now body.now) }
     {
         if let Some(router) = &self.get {
-            return Ok(target_among(router, path));
+            return request_among(self.alloc, router, path, body);
         }
         let Ok(router) = get_router(self.alloc) else {
-            return Err(AllocError);
+            return Err(RequestFault::Memory);
         };
-        let target = target_among(&router, path);
+        let request = request_among(self.alloc, &router, path, body);
         self.get = Some(router);
-        Ok(target)
+        request
     }
 
-    /// The target of a method and a path, or none where they have no route.
+    /// The request of a method, a path and a body, by what `matchit` finds among the routes of the method and what
+    /// `serde_json` reads the body as. That there is no route is told before what is wrong with the body.
     ///
     /// The path is compared byte by byte, and has no query. The number of a parcel or a file is 1 to 99999 without leading
     /// zeros, an action or a register is one of its words, and a stage one that a file can be in; another number or word
-    /// has no route, nor has a path with a byte that is not ASCII. Memory is taken for the method's routes alone, where they
-    /// aren't made yet, and an `Err` says that it ran out.
-    pub fn target(&mut self, method: &[u8], path: &[u8]) -> Result<Option<Target>, AllocError>
-        ensures { IfOk result (λ target. target ≡ target_of method.now path.now) }
+    /// has no route, nor has a path with a byte that is not ASCII.
+    ///
+    /// The body is an object with exactly the keys of its request; an empty body counts as `{}`. A request that only reads
+    /// has no body. Where a key stands twice, its last value counts.
+    ///
+    /// Memory is taken for the request's texts, and for the routes of its method where they aren't made yet.
+    ///
+    /// # Examples
+    ///
+    /// ```
+    /// let mut routes = Routes::new(alloc);
+    /// let request = routes.request(b"POST", b"/parcels/2/transfer", b"{\"to\":5}");
+    /// assert!(rt; matches!(request, Ok(Request::Transfer { .. })));
+    /// let request = routes.request(b"GET", b"/files/0", b"");
+    /// assert!(rt; matches!(request, Err(RequestFault::Route)));
+    /// ```
+    pub fn request(
+        &mut self,
+        method: &[u8],
+        path: &[u8],
+        body: &[u8],
+    ) -> Result<Request, RequestFault>
+        ensures { RoutesAs result (request_of method.now path.now body.now) }
     {
         let Some(path) = ascii(path) else {
-            return Ok(None)
+            return Err(RequestFault::Route);
         };
         if method == Method::POST.as_str().as_bytes() {
-            self.post_target(path)
+            self.post_request(path, body)
         } else if method == Method::GET.as_str().as_bytes() {
-            self.get_target(path)
+            self.get_request(path, body)
         } else {
-            Ok(None)
+            Err(RequestFault::Route)
         }
     }
-}
-
-/// The target of a method and a path, or none where they have no route, as `Routes::target` gives it, by routes that are
-/// made for this one request.
-///
-/// # Examples
-///
-/// ```
-/// let target = route(alloc, b"GET", b"/files")?;
-/// assert!(rt; target == Some(Target::ListFiles(Filter::All)));
-/// ```
-pub fn route(alloc: Global, method: &[u8], path: &[u8]) -> Result<Option<Target>, AllocError>
-    ensures { IfOk result (λ target. target ≡ target_of method.now path.now) }
-{
-    Routes::new(alloc).target(method, path)
 }

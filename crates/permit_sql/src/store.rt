@@ -1,6 +1,6 @@
 //! The store over SQL.
 
-ghost use Rattle.std.specs.Prelude.{◌≡◌, ◌==◌, ◌≢◌, ◌⊎◌, false, IsTrue, IfOk, IfErr, IsErrAnd, OnOk, OnErr, Err, Some, is_err, length, find, bytes_eq};
+ghost use Rattle.std.specs.Prelude.{◌≡◌, ◌==◌, ◌≢◌, ◌⊎◌, false, IsTrue, IfOk, IfErr, IsErrAnd, OnOk, OnErr, Err, Some, None, is_err, length, find, bytes_eq};
 ghost use Rattle.sqlite_trees.specs.View.{doubt};
 ghost use Rattle.sqlite.specs.State.{HasCleanDisk, Survives};
 ghost use Rattle.sqlite.specs.Held.{state};
@@ -180,6 +180,7 @@ impl<S: Alter> SqlStore<S> {
         ensures handed { IfOk result (λ s. (⟦<SqlStore<S> as Store>⟧.view s).handed ≡ 0) }
         ensures failed { IfOk result (λ s. (⟦<SqlStore<S> as Store>⟧.view s).failed ≡ 0) }
         ensures commits { IfOk result (λ s. (⟦<SqlStore<S> as Store>⟧.view s).commits ≡ 0) }
+        ensures suspect { IfOk result (λ s. (s.is_suspect ≡ false) × (s.shut ≡ None)) }
         ensures crash { IfOk result (λ s. Survives (state S.Store conn) (state S.Store s.conn)
             (λ trees. (db : _) × Keeps (tables (founding founder.now.name founder.now.digest founder.now.day)) db × (trees ≡ db.trees))) }
         ensures same { IfErr result (λ e. IsFine (state S.Store e.0) → (state S.Store e.0).now ≡ (state S.Store conn).now) }
@@ -234,6 +235,7 @@ impl<S: Alter> SqlStore<S> {
         ensures left { IfOk result (λ s. HasCleanDisk (state S.Store s.conn) → (state S.Store s.conn).now ≡ (state S.Store conn).now) }
         ensures doubt { IfOk result (λ s. (⟦<SqlStore<S> as Store>⟧.view s).doubt ≡ doubt (state S.Store s.conn).is_clean) }
         ensures counts { IfOk result (λ s. (s.handed ≡ 0) × (s.failed ≡ 0) × (s.commits ≡ 0)) }
+        ensures suspect { IfOk result (λ s. (s.is_suspect ≡ false) × (s.shut ≡ None)) }
         ensures crash { IfOk result (λ s. Survives (state S.Store conn) (state S.Store s.conn) (λ _. ⊥)) }
         ensures same { IfErr result (λ e. IsFine (state S.Store e.0) → (state S.Store e.0).now ≡ (state S.Store conn).now) }
         ensures kept { IfErr result (λ e. Survives (state S.Store conn) (state S.Store e.0) (λ _. ⊥)) }

@@ -13,6 +13,8 @@ use Rattle.permit_core.specs.Taking.{TookAll}
 use Rattle.permit_model.specs.Caller.{Party}
 use Rattle.permit_model.specs.Routes.{Found, is_found, relations_found, found_row, found_by}
 use Rattle.permit_model.specs.Tables.{State, FileRow, Tables}
+use Rattle.permit_store.specs.declared.plain.interests.Interests.{Interests}
+use Rattle.permit_store.specs.declared.plain.parcels.Parcels.{Parcels}
 use Rattle.permit_store.specs.declared.plain.select.Selection.{Selection}
 use Rattle.permit_store.specs.Counts.{next_count}
 use Rattle.permit_store.specs.Frames.{StoreView, Reads}
@@ -188,6 +190,16 @@ rows_same s t (k ∷ files) ep ei =
     ∙ ap (λ rows. found_row t s.caller k.row ∷ rows) (rows_same s t files ep ei)
 
 -- what the selections find of the files that are kept is what they find in the tables
+-- the selection over vectors, as a call makes it
+abbrev pub selection_of : List Route → ℕ → ℕ → Parcels → Interests → Selection
+selection_of routes caller day parcels interests = record {
+  routes = record { ref_ptr = (0, 0); now = routes };
+  caller = caller;
+  day = day;
+  parcels = record { ref_ptr = (0, 0); now = parcels };
+  interests = record { ref_ptr = (0, 0); now = interests };
+}
+
 pub found_in_tables : (upgrade last : ℕ) (parties : List Party) (s : Selection) (files seen : List KeptFile) (t : Tables)
     → seen ≡ files → Keeps upgrade last parties s.parcels.now.rows.items s.interests.now.rows.items files t →
     rows_found s seen ≡ found_by_any s.routes.now s.caller s.day t

@@ -1,8 +1,11 @@
 //! The examples of the doc comments of what writes streams and serves sessions, line by line as they stand there.
 
+use permit_answer::answer::Answer;
+use permit_answer::{Outgoing, body, write_reply};
 use permit_base::request::{Asked, Filter, Request};
 use permit_base::words::RegisterKind;
 use permit_hall::events::{Event, hall_run};
+use permit_http::fault::Fault;
 use permit_import::importing::import;
 use permit_office::reply::Reply;
 use permit_report::register;
@@ -19,6 +22,19 @@ fn registers(rt: &impl Abort, alloc: Global) -> Result<(), Fail> {
     let written = register(RegisterKind::Files, day, &[], &mut out);
     assert!(rt; written.is_ok());
     assert!(rt; out.as_slice().ends_with(b"CENTS\nfiles 0\n"));
+    Ok(())
+}
+
+fn answers(rt: &impl Abort, alloc: Global) -> Result<(), Fail> {
+    let large = body(alloc, &Answer::Fault(Fault::Large))?;
+    assert!(rt; large.as_slice() == b"{\"refused\":\"large\"}".as_slice());
+    let outgoing = Outgoing::new(alloc, &Answer::Fault(Fault::Caller), true);
+    assert!(rt; outgoing.closes());
+    assert!(rt; outgoing.as_bytes().starts_with(b"HTTP/1.1 401 "));
+    let mut written = Vec::new(alloc);
+    let closes = write_reply(alloc, &Answer::Fault(Fault::Route), false, &mut written);
+    assert!(rt; matches!(closes, Ok(false)));
+    assert!(rt; written.as_slice().ends_with(b"{\"refused\":\"route\"}"));
     Ok(())
 }
 
@@ -53,6 +69,7 @@ fn halls(rt: &impl Abort, alloc: Global) -> Result<(), Fail> {
 fn examples_hold(rt: HostRuntime) -> Result<(), Fail> {
     let alloc = rt.alloc();
     registers(&rt, alloc)?;
+    answers(&rt, alloc)?;
     imports(&rt, alloc)?;
     halls(&rt, alloc)?;
     Ok(())

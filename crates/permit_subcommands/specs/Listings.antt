@@ -15,7 +15,7 @@ use Rattle.permit_office.specs.declared.reply.Reply.{Reply}
 use Rattle.permit_office.specs.declared.reply.Reply.TheVariants.{Done, Parcel, File, Listed, Register, Refused}
 use Rattle.permit_office.specs.declared.showing.RowsEnd.{RowsEnd}
 use Rattle.permit_office.specs.declared.showing.RowsEnd.TheVariants as ended
-use Rattle.permit_office.specs.Showing.{RefusesCaller}
+use Rattle.permit_office.specs.Callers.{RefusesCaller}
 use Rattle.permit_import.specs.Refusals.{refused_by}
 use Rattle.permit_import.specs.declared.refused.RefusalWord.TheVariants.{Store}
 use Rattle.permit_subcommands.specs.Failures.{plain}

@@ -1,11 +1,11 @@
 -- What an office that was asked once, or not at all, is.
-use Rattle.std.proofs.Common.{◌≡◌, ◌≤◌, ℕ, Bool, true, false, inl, inr, refl, ap, subst, arith}
+use Rattle.std.proofs.Common.{◌≡◌, ◌≤◌, ℕ, Bool, true, false, inl, inr, ap, arith}
 use Rattle.permit_store.specs.Frames.{StoreView}
 use Rattle.permit_office.specs.Office.{OfficeView}
 use Rattle.permit_wire.specs.Serving.{AsksOnce, Moves, StepsOn}
 
 module _ {S : Type 0} (view : S → StoreView) (day : ℕ) (office office' : OfficeView S) where
-  pub moves : (asked : Bool) → AsksOnce (StepsOn view day) office office' asked → Moves view day office office'
+  pub moves : (asked : Bool) → AsksOnce (λ o a reply o'. StepsOn view o a day reply o') office office' asked → Moves view day office office'
   moves true h = inr (h.0, h.1.reply, h.2.0)
   moves false same = inl same
 

@@ -1,5 +1,5 @@
 -- A connection's servings, one after the other.
-use Rattle.std.proofs.Common.{◌≡◌, ◌⊎◌, ℕ, Bool, true, false, List, [], ◌∷◌, ◌++◌, Option, None, Some, Ok, inl, inr, refl, sym, ap, ◌∙◌, subst, append_assoc}
+use Rattle.std.proofs.Common.{◌≡◌, ◌⊎◌, ℕ, Bool, true, false, List, [], ◌∷◌, ◌++◌, Option, None, Some, inl, inr, refl, sym, ap, ◌∙◌, subst, append_assoc}
 use Rattle.std.proofs.lemmas.List.{append-nil, append_cancel_left}
 use Rattle.std.specs.Io.KnownBytes.{Keeps}
 use Rattle.permit_base.specs.declared.request.Asked.{Asked}
@@ -9,7 +9,8 @@ use Rattle.permit_http.specs.declared.fault.Fault.{Fault}
 use Rattle.permit_http.specs.declared.fault.Fault.TheVariants.{Head, Version, Length, Large, Route, Caller, Body, Memory}
 use Rattle.permit_answer.specs.AnswerText.{AnswerData, Faulted}
 use Rattle.permit_answer.specs.Outgoing.{WroteAnswer}
-use Rattle.permit_wire.specs.Reading.{FaultRead, is_kept}
+use Rattle.permit_wire.specs.Reading as reading
+use Rattle.permit_wire.specs.Reading.{AskedFrom, FaultRead, LetGo, is_kept}
 use Rattle.permit_wire.specs.Serving.{ServesBy, ServesRequest, ServesFault, is_shut, is_silent}
 use Rattle.permit_wire.specs.Conversation.{Exchanges, Takes, none, IsLeft, Conversation, Goes, Ends}
 use Rattle.permit_wire.specs.declared.service.Dated.{Dated}
@@ -37,18 +38,25 @@ pub closes : (answer : AnswerData) (close : Bool) (before after : Option (List �
 closes answer close before after shut (text, inl own, appends) = false_true (own.1 ∙ shut)
 closes answer close before after shut (text, inr other, appends) = false_true other.2
 
--- the bytes behind a fault that was answered, where the connection stays open
-behind_fault : (bytes : List ℕ) (old between : InboxData) (left before after : Option (List ℕ)) (fault : Fault)
-    → FaultRead bytes old between left fault → (is_kept fault ≡ false → between.closed ≡ true)
-    → WroteAnswer (Faulted fault) between.closed before after false → (rest : List ℕ) × (stream between left ≡ Some rest)
-behind_fault bytes old between left before after Route read shut wrote = (read.1, read.3.behind)
-behind_fault bytes old between left before after Caller read shut wrote = (read.1, read.3.behind)
-behind_fault bytes old between left before after Body read shut wrote = (read.1, read.3.behind)
-behind_fault bytes old between left before after Head read shut wrote = absurd (closes (Faulted Head) between.closed before after (shut refl) wrote)
-behind_fault bytes old between left before after Version read shut wrote = absurd (closes (Faulted Version) between.closed before after (shut refl) wrote)
-behind_fault bytes old between left before after Length read shut wrote = absurd (closes (Faulted Length) between.closed before after (shut refl) wrote)
-behind_fault bytes old between left before after Large read shut wrote = absurd (closes (Faulted Large) between.closed before after (shut refl) wrote)
-behind_fault bytes old between left before after Memory read shut wrote = absurd (closes (Faulted Memory) between.closed before after (shut refl) wrote)
+module _ (bytes : List ℕ) (old between : InboxData) (left : Option (List ℕ)) where
+  -- a whole message with this fault was read, and its bytes were let go
+  abbrev KeptRead : Fault → Type 0
+  KeptRead fault = (closes : Bool) × (rest : List ℕ) × AskedFrom old.closed bytes (reading.Kept fault closes rest) × LetGo old between left closes rest
+
+  kept_unless : (fault : Fault) → FaultRead bytes old between left fault → (is_kept fault ≡ false → ⊥) → KeptRead fault
+  kept_unless Route read unkept = read
+  kept_unless Caller read unkept = read
+  kept_unless Body read unkept = read
+  kept_unless Head read unkept = absurd (unkept refl)
+  kept_unless Version read unkept = absurd (unkept refl)
+  kept_unless Length read unkept = absurd (unkept refl)
+  kept_unless Large read unkept = absurd (unkept refl)
+  kept_unless Memory read unkept = absurd (unkept refl)
+
+  -- a fault whose answer kept the connection is one of a whole message
+  pub kept_read : (fault : Fault) (before after : Option (List ℕ)) → FaultRead bytes old between left fault → (is_kept fault ≡ false → between.closed ≡ true)
+      → WroteAnswer (Faulted fault) between.closed before after false → KeptRead fault
+  kept_read fault before after read shut wrote = kept_unless fault read (λ e. closes (Faulted fault) between.closed before after (shut e) wrote)
 
 module _ {T : Type 0} (serves : T → Asked → Dated → T → Type 0) (service service' : T) (bytes : List ℕ) (old new : InboxData)
     (left before after : Option (List ℕ)) where
@@ -56,8 +64,8 @@ module _ {T : Type 0} (serves : T → Asked → Dated → T → Type 0) (service
   pub behind : ServesBy serves service service' bytes old new left before after Kept → (rest : List ℕ) × (stream new left ≡ Some rest)
   behind (inl request) = (request.comes_in.1, ap (λ i. stream i left) request.shut ∙ request.comes_in.3.behind)
   behind (inr fault) =
-      let rest = behind_fault bytes old fault.0.between left before after fault.0.fault fault.0.comes_in fault.0.closes fault.0.goes_out in
-      (rest.0, ap (λ i. stream i left) fault.0.shut ∙ rest.1)
+      let read = kept_read bytes old fault.0.between left fault.0.fault before after fault.0.comes_in fault.0.closes fault.0.goes_out in
+      (read.1, ap (λ i. stream i left) fault.0.shut ∙ read.3.behind)
 
 module _ {T : Type 0} (put : T → List Asked) (got : T → List Dated) (first : T) (all : List ℕ) (begun : Option (List ℕ)) where
   -- a conversation from here is one from the beginning, with what was put till here before it

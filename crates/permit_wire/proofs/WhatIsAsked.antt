@@ -1,19 +1,14 @@
 -- The requests that a conversation puts are those that its bytes ask.
-use Rattle.std.proofs.Common.{◌≡◌, ◌⊎◌, ℕ, suc, Bool, true, false, List, [], ◌∷◌, length, Option, Some, Result, Ok, Err, inl, inr, refl, sym, ap, ◌∙◌, subst}
+use Rattle.std.proofs.Common.{◌≡◌, ℕ, suc, Bool, true, false, List, [], ◌∷◌, length, Option, Some, Ok, Err, inl, inr, refl, sym, ap, ◌∙◌, subst}
 use Rattle.std.specs.Prelude.{unwrap_or}
-use Rattle.permit_base.specs.declared.request.Asked.{Asked}
 use Rattle.permit_http.specs.Stream.{InboxData, fresh, stream}
-use Rattle.permit_http.specs.declared.fault.Fault.{Fault}
-use Rattle.permit_http.specs.declared.fault.Fault.TheVariants.{Head, Version, Length, Large, Route, Caller, Body, Memory}
-use Rattle.permit_answer.specs.AnswerText.{Faulted}
-use Rattle.permit_answer.specs.Outgoing.{WroteAnswer}
 use Rattle.permit_wire.specs.Conversation.{Exchanges, Takes, none, IsLeft, Conversation, Goes, Ends}
-use Rattle.permit_wire.specs.Reading.{Reading, Nothing, Request, Kept, Asks, AskedFrom, FaultRead, is_kept}
+use Rattle.permit_wire.specs.Reading.{Reading, Nothing, Request, Kept, Asks, AskedFrom}
 use Rattle.permit_wire.specs.Requests.{ServesWhatIsAsked}
 use Rattle.permit_wire.specs.Serving.{ServesBy, ServesRequest, ServesFault, is_shut}
 use Rattle.permit_wire.specs.declared.serve.Served.{Served}
 use Rattle.permit_wire.specs.declared.serve.Served.TheVariants as served
-use Rattle.permit_wire.proofs.Conversing.{closes, false_true}
+use Rattle.permit_wire.proofs.Conversing.{kept_read, false_true}
 
 -- on an open connection bytes ask what they ask
 opened : (closed : Bool) (bytes : List ℕ) (reading : Reading) → closed ≡ false → AskedFrom closed bytes reading → AskedFrom false bytes reading
@@ -36,19 +31,6 @@ nothing_put bytes exchanges how is all = record {
 }
 
 module _ (bytes : List ℕ) (old new : InboxData) (left before after : Option (List ℕ)) (is_open : old.closed ≡ false) where
-  -- the message of a fault that keeps the connection
-  kept_fault : (between : InboxData) (fault : Fault) → FaultRead bytes old between left fault → (is_kept fault ≡ false → between.closed ≡ true)
-      → WroteAnswer (Faulted fault) between.closed before after false
-      → (closes : Bool) × (rest : List ℕ) × Asks bytes (Err fault) closes rest × (stream between left ≡ Some rest)
-  kept_fault between Route read shut wrote = (read.0, read.1, opened old.closed bytes (Kept Route read.0 read.1) is_open read.2, read.3.behind)
-  kept_fault between Caller read shut wrote = (read.0, read.1, opened old.closed bytes (Kept Caller read.0 read.1) is_open read.2, read.3.behind)
-  kept_fault between Body read shut wrote = (read.0, read.1, opened old.closed bytes (Kept Body read.0 read.1) is_open read.2, read.3.behind)
-  kept_fault between Head read shut wrote = absurd (closes (Faulted Head) between.closed before after (shut refl) wrote)
-  kept_fault between Version read shut wrote = absurd (closes (Faulted Version) between.closed before after (shut refl) wrote)
-  kept_fault between Length read shut wrote = absurd (closes (Faulted Length) between.closed before after (shut refl) wrote)
-  kept_fault between Large read shut wrote = absurd (closes (Faulted Large) between.closed before after (shut refl) wrote)
-  kept_fault between Memory read shut wrote = absurd (closes (Faulted Memory) between.closed before after (shut refl) wrote)
-
   module _ (ended : Served) (exchanges : Exchanges) where
     -- a request in front of what follows
     request_first : (how : Served) (behind : Exchanges) (rest : List ℕ) (h : ServesRequest Takes exchanges behind bytes old new left before after how)
@@ -71,12 +53,13 @@ module _ (bytes : List ℕ) (old new : InboxData) (left before after : Option (L
     fault_first : (behind : Exchanges) (rest : List ℕ) → stream new left ≡ Some rest → ServesFault bytes old new left before after served.Kept
         → behind ≡ exchanges → ServesWhatIsAsked rest behind ended → ServesWhatIsAsked bytes exchanges ended
     fault_first behind rest known h same others =
-        let fault = kept_fault h.between h.fault h.comes_in h.closes h.goes_out in
-        let as_known = same_rest fault.1 rest (stream h.between left) (stream new left) (sym (ap (λ i. stream i left) h.shut)) fault.3 known in
+        let read = kept_read bytes old h.between left h.fault before after h.comes_in h.closes h.goes_out in
+        let asked = opened old.closed bytes (Kept h.fault read.0 read.1) is_open read.2 in
+        let as_known = same_rest read.1 rest (stream h.between left) (stream new left) (sym (ap (λ i. stream i left) h.shut)) read.3.behind known in
         record {
           meanings = Err h.fault ∷ others.meanings;
           rest = others.rest;
-          asked = (fault.0, rest, subst (λ r. Asks bytes (Err h.fault) fault.0 r) as_known fault.2, others.asked);
+          asked = (read.0, rest, subst (λ r. Asks bytes (Err h.fault) read.0 r) as_known asked, others.asked);
           put = ap (λ x. x.put) (sym same) ∙ others.put;
           answered = ap (λ x. length x.got) (sym same) ∙ others.answered ∙ ap (λ x. length x.put) same;
           all = others.all;

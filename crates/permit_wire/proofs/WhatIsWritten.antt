@@ -1,5 +1,5 @@
 -- What a conversation writes is the texts of its answers.
-use Rattle.std.proofs.Common.{◌≡◌, ◌⊎◌, ℕ, true, false, List, [], ◌∷◌, Option, inl, inr, refl, sym, ap, ◌∙◌}
+use Rattle.std.proofs.Common.{◌≡◌, ℕ, true, false, List, [], ◌∷◌, Option, inl, inr, refl, sym, ap, ◌∙◌}
 use Rattle.permit_http.specs.Stream.{InboxData}
 use Rattle.permit_wire.specs.Conversation.{Exchanges, Takes, none, IsLeft, Conversation, Goes, Ends}
 use Rattle.permit_wire.specs.Serving.{ServesBy, is_shut}

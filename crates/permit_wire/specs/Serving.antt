@@ -37,8 +37,8 @@ pub record Steps {S : Type 0} (view : S → StoreView) (day : ℕ) (asked : Aske
   pub model : OverHistory (view office.store) (view office'.store) (λ h. Answers (view office'.store).holds reply (machine_step office.policy h asked day) h)
 
 -- the office made that step on the day, which its reply has
-abbrev pub StepsOn : {S : Type 0} → (S → StoreView) → ℕ → OfficeView S → Asked → Dated → OfficeView S → Type 0
-StepsOn view day office asked dated office' = Steps view day asked dated.reply office office' × (dated.day ≡ day)
+abbrev pub StepsOn : {S : Type 0} → (S → StoreView) → OfficeView S → Asked → ℕ → Dated → OfficeView S → Type 0
+StepsOn view office asked day dated office' = Steps view day asked dated.reply office office' × (dated.day ≡ day)
 
 -- a request was read, the service served it, and its reply's text went out
 pub record ServesRequest {T : Type 0} (serves : T → Asked → Dated → T → Type 0) (service service' : T) (bytes : List ℕ) (old new : InboxData)
@@ -79,7 +79,7 @@ ServesBy serves service service' bytes old new left before after served =
 abbrev pub Serves : {S : Type 0} → (S → StoreView) → ℕ → OfficeView S → OfficeView S → List ℕ → InboxData → InboxData
     → Option (List ℕ) → Option (List ℕ) → Option (List ℕ) → Served → Type 0
 Serves view day office office' bytes old new left before after served =
-    ServesBy (StepsOn view day) office office' bytes old new left before after served
+    ServesBy (λ o asked reply o'. StepsOn view o asked day reply o') office office' bytes old new left before after served
 
 -- whatever the reader gave, the service was asked once, or is as it was
 abbrev pub AsksOnce : {T : Type 0} → (T → Asked → Dated → T → Type 0) → T → T → Bool → Type 0

@@ -1,44 +1,49 @@
 //! Reading a request.
 
-ghost use Rattle.std.specs.Prelude.{◌≡◌, ℕ, List, ◌++◌, true, false, Ok, None, IfErr};
+ghost use Rattle.std.specs.Prelude.{◌≡◌, ℕ, List, ◌++◌, true, false, Ok, None, IfErr, IfOk, option_and_then};
 ghost use Rattle.std.specs.Io.KnownBytes.{Keeps};
 ghost use Rattle.permit_http.specs.Errors.{StopsAt, fault_of};
 ghost use Rattle.permit_http.specs.Needed.{ReadsNeeded};
 ghost use Rattle.permit_http.specs.Stream.{stream};
 ghost use Rattle.permit_http.specs.Spans.{Holds, message_at, view_of};
+ghost use Rattle.permit_routes.specs.Bearer.{token_of};
 ghost use Rattle.permit_wire.specs.Asked.{asked_in};
 ghost use Rattle.permit_wire.specs.Reading.{MeansAsked, ReadsOut, ReadsRequest, stays_open};
 
 use permit_base::request::Asked;
+use permit_base::values::Token;
 use permit_http::error::WireError;
 use permit_http::fault::Fault;
 use permit_http::inbox::Inbox;
 use permit_http::message::{Message, MessageSpans};
 use permit_http::source::Source;
 use permit_routes::bearer::read_token;
-use permit_routes::fault::BodyFault;
-use permit_routes::requests::read_body;
+use permit_routes::fault::RequestFault;
 use permit_routes::routing::Routes;
-use std::alloc::Global;
+use std::alloc::{AllocError, Global};
 
-/// What a whole message asks: its route, then its token, then its body.
+/// The token of a message, where it has one field for it and that is of its form.
+fn token_in(alloc: Global, message: &Message<'_>) -> Result<Option<Token>, AllocError>
+    ensures { IfOk result (λ token. token ≡ option_and_then token_of (view_of message.now).authorization) }
+{
+    match message.authorization {
+        Some(value) => read_token(alloc, value),
+        None => Ok(None),
+    }
+}
+
+/// What a whole message asks. Of its faults it is told the first: its route, then its token, then its body.
 fn asked_by(routes: &mut Routes, message: &Message<'_>) -> Result<Asked, Fault>
     ensures { MeansAsked result (asked_in (view_of message.now)) }
 {
-    let alloc = routes.allocator();
-    let Some(target) = routes.target(message.method, message.path)? else {
-        return Err(Fault::Route);
-    };
-    let Some(value) = message.authorization else {
-        return Err(Fault::Caller);
-    };
-    let Some(token) = read_token(alloc, value)? else {
-        return Err(Fault::Caller);
-    };
-    match read_body(alloc, target, message.body) {
-        Ok(request) => Ok(Asked { token, request }),
-        Err(BodyFault::Refused) => Err(Fault::Body),
-        Err(BodyFault::Memory) => Err(Fault::Memory),
+    let token = token_in(routes.allocator(), message)?;
+    let request = routes.request(message.method, message.path, message.body);
+    match (request, token) {
+        (Err(RequestFault::Memory), _) => Err(Fault::Memory),
+        (Err(RequestFault::Route), _) => Err(Fault::Route),
+        (_, None) => Err(Fault::Caller),
+        (Err(RequestFault::Body), Some(_)) => Err(Fault::Body),
+        (Ok(request), Some(token)) => Ok(Asked { token, request }),
     }
 }
 

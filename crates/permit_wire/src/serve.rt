@@ -101,8 +101,8 @@ pub fn serve_by<C, T: Service<C>, R: Source, W: Write>(
     requires { T.ready service.old }
     ensures ready { T.ready service.new }
     ensures serves { (bytes : List ℕ) → stream inbox.old (R.remaining reader.old) ≡ Some bytes
-        → ServesBy (T.did by.now) service.old service.new bytes inbox.old inbox.new (R.remaining reader.new) (W.contents writer.old) (W.contents writer.new) result.served }
-    ensures asks { AsksOnce (T.did by.now) service.old service.new result.asked }
+        → ServesBy (λ s asked reply t. T.did s asked by.now reply t) service.old service.new bytes inbox.old inbox.new (R.remaining reader.new) (W.contents writer.old) (W.contents writer.new) result.served }
+    ensures asks { AsksOnce (λ s asked reply t. T.did s asked by.now reply t) service.old service.new result.asked }
     ensures silent { is_silent result.served ≡ true → (service.new ≡ service.old) × (W.contents writer.new ≡ W.contents writer.old) }
     ensures unread { result.served ≡ Served.ReadFailed
         → IsUnfinished inbox.new.bytes × Keeps (stream inbox.old (R.remaining reader.old)) (stream inbox.new (R.remaining reader.new)) }

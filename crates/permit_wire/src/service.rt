@@ -1,4 +1,4 @@
-//! What serves the requests of connections.
+//! What serves requests: those of connections, and those that several sessions put.
 
 use permit_base::request::Asked;
 use permit_base::values::Day;
@@ -14,7 +14,7 @@ pub struct Dated {
 }
 
 /// What serves requests, one after the other. Each call is given a `C`, which the service needs for it: an office needs the
-/// day.
+/// day, and a session that asks an office from another thread needs the handle by which it waits.
 pub trait Service<C> {
     ghost use Rattle.permit_base.specs.declared.request.Asked.{Asked};
     ghost use Rattle.permit_wire.specs.declared.service.Dated.{Dated};
@@ -22,15 +22,15 @@ pub trait Service<C> {
     /// When it may be asked.
     ghost ready: { Self → Type 0 };
 
-    /// What serving a request does. It relates what the call is given, the service before it, the request, the reply, and
+    /// What serving a request does. It relates the service before it, the request, what the call is given, the reply, and
     /// the service after it.
-    ghost did: { C → Self → Asked → Dated → Self → Type 0 };
+    ghost did: { Self → Asked → C → Dated → Self → Type 0 };
 
     /// Serves a request.
     fn serve(&mut self, by: &C, asked: Asked) -> Dated
         requires { ready self.old }
         ensures ready { ready self.new }
-        ensures did { did by.now self.old asked result self.new };
+        ensures did { did self.old asked by.now result self.new };
 }
 
 impl<S: Store + Drop> Service<Day> for Office<S> {

@@ -1,5 +1,6 @@
 use Rattle.std.proofs.Common.{inl, ap, ◌∙◌}
 use Rattle.permit_cli.proofs.Doings.{told_of}
+use Rattle.permit_cli.proofs.Failings.{fails_in}
 use Rattle.permit_cli.proofs.asking.ask_in.Goals as goal
 
 pub returns-in-Ok : goal.returns-in-Ok
@@ -13,4 +14,5 @@ returns-in-Ok g c = record {
     back_is = c.into_connection.ensures.conn ∙ ap (λ s. s.conn) c.into_store.ensures;
   };
   told = told_of _ _ _ _ _ _ _ _ _ c.ask_of-done.ensures.answered;
+  fails = fails_in _ _ _ _ _ _ _ _ _ c.ask_of-done.ensures.answered;
 }

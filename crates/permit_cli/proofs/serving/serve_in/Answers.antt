@@ -1,4 +1,5 @@
 use Rattle.std.proofs.Common.{inl, inr, ap, ◌∙◌, refl, Err}
+use Rattle.permit_cli.proofs.Failings.{once_opened, without_memory}
 use Rattle.permit_cli.proofs.Openings.{opens_in_memory, still_shows}
 use Rattle.permit_cli.proofs.serving.serve_in.Goals as goal
 
@@ -19,6 +20,7 @@ returns-in-Ok-beside_memory g c =
         says = over.ensures.says;
         back_is = c.into_connection.ensures.conn ∙ ap (λ s. s.conn) (c.into_kept.ensures.kept ∙ ap (λ s. s.kept) c.into_store.ensures);
       };
+      fails = once_opened c.args.words.now.listen.now _ over.ensures.fails;
     }
 
 pub returns-in-Ok-store_in : goal.returns-in-Ok-store_in
@@ -34,4 +36,5 @@ returns-in-Ok-store_in g c =
         }),
         refl,
       );
+      fails = inl (without_memory _ c.memory-in-Err-beside_memory.ensures);
     }

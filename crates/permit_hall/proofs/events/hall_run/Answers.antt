@@ -1,4 +1,4 @@
-use Rattle.std.proofs.Common.{rules, arith, ◌≡◌, sym, ap, ◌∙◌, map, subst, length, take}
+use Rattle.std.proofs.Common.{rules, sym, ap, map}
 use Rattle.std.proofs.lemmas.List.{take_all}
 use Rattle.permit_hall.specs.Counts.{acted}
 use Rattle.permit_hall.specs.Events.{event_of}

@@ -1,4 +1,4 @@
-use Rattle.std.proofs.Common.{◌≡◌, ◌≤◌, ◌+◌, length, map, take}
+use Rattle.std.proofs.Common.{◌≤◌, length, map, take}
 use Rattle.std.specs.Prelude.{vec_capacity}
 use Rattle.permit_hall.specs.Counts.{acted}
 use Rattle.permit_hall.specs.Queues.{IsAt}

@@ -1,4 +1,4 @@
-use Rattle.std.proofs.Common.{rules, arith, ap, ◌∙◌, ◌≡◌, sym, refl, ◌+◌, ◌++◌, ◌∷◌, [], length, map, append_assoc}
+use Rattle.std.proofs.Common.{rules, ap, ◌∙◌, ◌≡◌, refl, ◌+◌, [], length, map}
 use Rattle.std.proofs.lemmas.List.{length-map}
 use Rattle.permit_hall.specs.Intake.{owner}
 use Rattle.permit_hall.proofs.IntakeMoves.{forks}

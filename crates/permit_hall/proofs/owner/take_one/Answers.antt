@@ -1,4 +1,4 @@
-use Rattle.std.proofs.Common.{rules, arith, length, ◌≡◌, vec_len, ◌≤◌, subst, sym, ◌<◌, None, Some}
+use Rattle.std.proofs.Common.{rules}
 use Rattle.permit_hall.proofs.Owning.{serves_skip, serves_ask, mark_says_nothing, outsider_says_nothing}
 use Rattle.permit_hall.proofs.owner.take_one.Goals as goal
 

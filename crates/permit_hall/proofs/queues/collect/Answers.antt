@@ -1,5 +1,5 @@
 use Rattle.permit_hall.specs.OfficeSteps.{StepFor}
-use Rattle.std.proofs.Common.{rules, arith, ◌≡◌, ◌<◌, ◌++◌, ◌∷◌, [], sym, ap, ◌∙◌, map, subst, length, take, drop, suc, get_or}
+use Rattle.std.proofs.Common.{◌≡◌, ◌<◌, ◌++◌, ◌∷◌, [], sym, ap, ◌∙◌, map, subst, length, take, drop, suc, get_or}
 use Rattle.permit_hall.specs.Counts.{after}
 use Rattle.permit_model.specs.HallRun.{count_of}
 use Rattle.permit_hall.specs.Queues.{IsAt}

@@ -1,5 +1,5 @@
 use Rattle.permit_hall.specs.OfficeSteps.{StepFor}
-use Rattle.std.proofs.Common.{rules, arith, ◌≡◌, ◌<◌, ◌++◌, ◌∷◌, [], sym, ap, ◌∙◌, inl, inr, map, subst, length}
+use Rattle.std.proofs.Common.{rules, ◌<◌, ◌∷◌, [], sym, ap, ◌∙◌, inl, inr, map, subst, length}
 use Rattle.std.proofs.lemmas.List.{length-map, map-append}
 use Rattle.permit_hall.specs.Counts.{after}
 use Rattle.permit_model.specs.HallRun.{count_of}

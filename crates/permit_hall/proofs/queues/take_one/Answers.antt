@@ -1,5 +1,5 @@
 use Rattle.permit_hall.specs.OfficeSteps.{StepFor}
-use Rattle.std.proofs.Common.{rules, arith, ◌≡◌, ◌<◌, ◌++◌, ◌∷◌, [], sym, ap, ◌∙◌, map, subst, length}
+use Rattle.std.proofs.Common.{rules, ◌<◌, ◌∷◌, sym, ap, ◌∙◌, map, subst, length}
 use Rattle.permit_hall.specs.Counts.{after}
 use Rattle.permit_hall.specs.Queues.{IsAt}
 use Rattle.permit_model.specs.HallRun.{Take}
@@ -14,4 +14,4 @@ returns-clause-at g c start h given k =
     (map (λ q. (q.0, q.1.now)) c.remove-session.new.self.items) l given) (sym c.push_reserved.ensures.items)
     (take_goes _ start c.args.office.now h
     (map (λ q. (q.0, q.1.now)) c.args.queue.now.items) c.args.ready.now.items given c.args.day r.0 r.1.now c.step-reply.result _ c.step-reply.new.self
-    (ap (λ l. map (λ q. (q.0, q.1.now)) l) cut) (record { made = c.step-reply.ensures.step; model = c.step-reply.ensures.model }) k)
+    (ap (λ l. map (λ q. (q.0, q.1.now)) l) cut) (record { step = c.step-reply.ensures.step; model = c.step-reply.ensures.model }) k)

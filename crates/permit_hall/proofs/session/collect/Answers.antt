@@ -1,4 +1,4 @@
-use Rattle.std.proofs.Common.{rules, ap, ◌∙◌, refl}
+use Rattle.std.proofs.Common.{ap, ◌∙◌}
 use Rattle.permit_hall.proofs.LaneMoves.{collects, nothing}
 use Rattle.permit_hall.proofs.session.collect.Goals as goal
 

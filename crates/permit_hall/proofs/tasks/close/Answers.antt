@@ -1,11 +1,11 @@
-use Rattle.std.proofs.Common.{rules, arith, ap, ◌∙◌, ◌≡◌, ◌≤◌, ◌<◌, ◌∷◌, ◌++◌, ◌+◌, sym, subst, [], length, get_or, drop}
+use Rattle.std.proofs.Common.{rules, arith, ap, ◌∙◌, ◌≡◌, ◌≤◌, ◌<◌, ◌∷◌, ◌+◌, sym, subst, [], length, get_or, drop}
 use Rattle.std.specs.Vec.Iter.{into_iter_items}
 use Rattle.crossbeam_channel.specs.Claims.{view}
 use Rattle.crossbeam_channel.specs.Ends.{sends_on, receives_on}
 use Rattle.std.proofs.lemmas.List.{get_or-set_other, length-set, length-append, get_or_default}
 use Rattle.permit_hall.specs.Session.{put_by}
 use Rattle.permit_hall.specs.Owner.{HasSent}
-use Rattle.permit_hall.specs.Closing.{sent_by, Closed}
+use Rattle.permit_hall.specs.Closing.{sent_by}
 use Rattle.permit_hall.proofs.Moving.{first_of_rest}
 use Rattle.permit_hall.proofs.Closings.{grown_view, done_is, closes, closed_more, at_place}
 use Rattle.permit_hall.proofs.tasks.close.Goals as goal

@@ -1,4 +1,4 @@
-use Rattle.std.proofs.Common.{rules, arith, ap, ◌∙◌, sym, ◌++◌}
+use Rattle.std.proofs.Common.{ap, ◌∙◌, ◌++◌}
 use Rattle.permit_hall.specs.Intake.{requests_in}
 use Rattle.permit_hall.proofs.IntakeMoves.{compares}
 use Rattle.permit_hall.proofs.Ending.{room_as, as_listed, all_have, none_sent, as_many, stand, all_served}

@@ -1,4 +1,4 @@
-use Rattle.std.proofs.Common.{rules, arith, ap, ◌∙◌, ◌≡◌, ◌∷◌, ◌++◌, sym, subst, [], map}
+use Rattle.std.proofs.Common.{rules, ◌∙◌, ◌≡◌, ◌∷◌, sym, subst, [], map}
 use Rattle.std.specs.Prelude.{All}
 use Rattle.std.specs.Vec.Iter.{into_iter_items}
 use Rattle.permit_hall.specs.Session.{Has}

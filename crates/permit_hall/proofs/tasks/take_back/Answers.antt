@@ -1,4 +1,4 @@
-use Rattle.std.proofs.Common.{rules, ap, sym, ◌∙◌}
+use Rattle.std.proofs.Common.{rules, ap, ◌∙◌}
 use Rattle.permit_hall.proofs.IntakeMoves as intake
 use Rattle.permit_hall.proofs.LaneMoves as lane
 use Rattle.permit_hall.proofs.tasks.take_back.Goals as goal

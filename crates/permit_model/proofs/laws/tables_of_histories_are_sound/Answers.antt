@@ -1,4 +1,5 @@
 -- The laws are lemmas by induction on the history, and on what was done to a file.
+use Rattle.std.proofs.Common.{arith}
 use Rattle.permit_model.proofs.SoundOffice.{desk_sound, numbering_sound, parties_sound, parcels_sound}
 use Rattle.permit_model.proofs.SoundFilings.{filings_sound, stages_sound}
 use Rattle.permit_model.proofs.SoundPapers.{papers_sound}
@@ -30,13 +31,4 @@ pub returns-clause-papers : goal.returns-clause-papers
 returns-clause-papers c = papers_sound
 
 pub returns-clause-sound : goal.returns-clause-sound
-returns-clause-sound c = λ h is early within. record {
-  desk = desk_sound h is early;
-  numbering = numbering_sound h is;
-  parties = parties_sound h is within;
-  parcels = parcels_sound h is within;
-  filings = filings_sound h is within;
-  stages = stages_sound h is early;
-  work = work_sound h is within;
-  papers = papers_sound h is within;
-}
+returns-clause-sound c = grind (arith, desk_sound, numbering_sound, parties_sound, parcels_sound, filings_sound, stages_sound, work_sound, papers_sound)

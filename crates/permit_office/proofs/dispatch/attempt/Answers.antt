@@ -1,39 +1,38 @@
-use Rattle.std.proofs.Common.{◌≡◌, ap, ◌∙◌, sym, arith}
-use Rattle.permit_model.specs.Tables.{Desk, tables}
+use Rattle.std.proofs.Common.{◌≡◌, ◌∙◌, sym, inl, refl, arith}
+use Rattle.permit_model.specs.Tables.{tables}
 use Rattle.permit_model.proofs.Histories.{found_by_number}
+use Rattle.permit_office.proofs.KnownCallers.{known_in, refused_as}
 use Rattle.permit_office.proofs.Stepping.{stepped, caller_there, opened_known}
 use Rattle.permit_office.proofs.dispatch.attempt.Goals as goal
 
-pub returns-clause-model : goal.returns-clause-model
-returns-clause-model g c = λ doubt h is held.
-    let late : (g.S.Store.view c.party_by_token.new.self).doubt ≡ 0 = omega arith in
-    let later : (g.S.Store.view c.desk.new.self).doubt ≡ 0 = omega arith in
+pub returns-in-Ok-clause-model : goal.returns-in-Ok-clause-model
+returns-in-Ok-clause-model g c = λ doubt h is held.
     let a = c.args in
-    let found = sym c.in-Some.is ∙ c.in_ok-caller.ensures.found late (tables h) held in
-    let kept = c.party_by_token.ensures.read.kept (tables h) held in
-    let desk = c.in_ok-desk.ensures.found later (tables h) kept in
-    let last = ap (λ (d : Desk). d.last) (c.desk-2.view_is ∙ desk) in
-    rw (stepped a.policy.now h a.digest.now a.request.now a.day c.in-Some.caller found (omega arith))
-    (c.serve_known.ensures.model doubt h is (c.desk.ensures.read.kept (tables h) kept) desk (omega arith) (caller_there h a.digest.now c.in-Some.caller found))
+    let late : (g.S.Store.view c.known_caller.new.store).doubt ≡ 0 = omega arith in
+    let known = known_in (tables h) a.digest.now a.day c.in-Ok.caller c.in-Ok.desk (sym c.in-Ok.is ∙ c.in_ok-caller.ensures.known late (tables h) held) in
+    rw (stepped a.policy.now h a.digest.now a.request.now a.day c.in-Ok.caller known.is known.time)
+    (c.serve_known.ensures.model doubt h is (c.known_caller.ensures.read.kept (tables h) held) known.same known.time
+    (caller_there h a.digest.now c.in-Ok.caller known.is))
 
-pub returns-clause-sound : goal.returns-clause-sound
-returns-clause-sound g c = λ doubt t held sound.
-    let late : (g.S.Store.view c.party_by_token.new.self).doubt ≡ 0 = omega arith in
-    let later : (g.S.Store.view c.desk.new.self).doubt ≡ 0 = omega arith in
+pub returns-in-Ok-clause-sound : goal.returns-in-Ok-clause-sound
+returns-in-Ok-clause-sound g c = λ doubt t held sound.
     let a = c.args in
-    let found = sym c.in-Some.is ∙ c.in_ok-caller.ensures.found late t held in
-    let kept = c.party_by_token.ensures.read.kept t held in
-    let desk = c.in_ok-desk.ensures.found later t kept in
-    let last = ap (λ (d : Desk). d.last) (c.desk-2.view_is ∙ desk) in
-    c.serve_known.ensures.sound doubt t (c.desk.ensures.read.kept t kept) sound desk
-    (record { there = found_by_number t.parties a.digest.now c.in-Some.caller (sym found); in_time = omega arith; early = omega arith })
+    let late : (g.S.Store.view c.known_caller.new.store).doubt ≡ 0 = omega arith in
+    let known = known_in t a.digest.now a.day c.in-Ok.caller c.in-Ok.desk (sym c.in-Ok.is ∙ c.in_ok-caller.ensures.known late t held) in
+    c.serve_known.ensures.sound doubt t (c.known_caller.ensures.read.kept t held) sound known.same
+    (record { there = found_by_number t.parties a.digest.now c.in-Ok.caller (sym known.is); in_time = known.time; early = omega arith })
 
-pub returns-clause-opened : goal.returns-clause-opened
-returns-clause-opened g c = λ doubt h is held.
-    let late : (g.S.Store.view c.party_by_token.new.self).doubt ≡ 0 = omega arith in
+pub returns-in-Ok-clause-opened : goal.returns-in-Ok-clause-opened
+returns-in-Ok-clause-opened g c = λ doubt h is held.
     let a = c.args in
-    let found = sym c.in-Some.is ∙ c.in_ok-caller.ensures.found late (tables h) held in
-    let kept = c.party_by_token.ensures.read.kept (tables h) held in
-    opened_known a.policy.now h a.digest.now a.request.now a.day c.in-Some.caller found c.serve_known.result (g.S.Store.view c.desk.new.self).handed
-    (g.S.Store.view a.store.now).handed (g.S.Store.view c.serve_known.new.store).handed
-    (c.desk.ensures.read.handed ∙ c.party_by_token.ensures.read.handed) (c.serve_known.ensures.opened doubt h is (c.desk.ensures.read.kept (tables h) kept))
+    let late : (g.S.Store.view c.known_caller.new.store).doubt ≡ 0 = omega arith in
+    let known = known_in (tables h) a.digest.now a.day c.in-Ok.caller c.in-Ok.desk (sym c.in-Ok.is ∙ c.in_ok-caller.ensures.known late (tables h) held) in
+    opened_known a.policy.now h a.digest.now a.request.now a.day c.in-Ok.caller known.is c.serve_known.result (g.S.Store.view c.known_caller.new.store).handed
+    (g.S.Store.view a.store.now).handed (g.S.Store.view c.serve_known.new.store).handed c.known_caller.ensures.read.handed
+    (c.serve_known.ensures.opened doubt h is (c.known_caller.ensures.read.kept (tables h) held))
+
+pub returns-in-Err-clause-model : goal.returns-in-Err-clause-model
+returns-in-Err-clause-model g c = λ doubt h is held.
+    let a = c.args in
+    rw (refused_as a.policy.now h a.request.now a.day c.in-Err.refusal a.digest.now (sym c.in-Err.is ∙ c.in_ok-caller.ensures.known doubt (tables h) held))
+    (inl (refl, c.known_caller.ensures.read.kept (tables h) held))

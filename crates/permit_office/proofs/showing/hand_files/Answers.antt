@@ -1,26 +1,24 @@
-use Rattle.std.proofs.Common.{◌≡◌, ◌∙◌, List, ◌∷◌, [], ap, sym, subst, length}
-use Rattle.permit_base.specs.declared.route.Route.{Route}
-use Rattle.permit_base.specs.declared.words.Role.{Role}
+use Rattle.std.proofs.Common.{◌∙◌, List, ap, sym, subst}
 use Rattle.permit_base.specs.declared.words.Action.TheVariants as action
-use Rattle.permit_core.specs.Taking.{TookAll}
+use Rattle.permit_core.specs.Taking.{TookAll, StoppedIn}
 use Rattle.permit_model.specs.Caller.{Party}
-use Rattle.permit_model.specs.Tables.{FileView}
 use Rattle.permit_model.specs.Opened.{allowed_by}
-use Rattle.permit_model.specs.Routes.{routes_of}
+use Rattle.permit_model.specs.Tables.{FileView}
 use Rattle.permit_office.specs.Stops.{routes_for}
-use Rattle.permit_office.proofs.OneRoute.{shown, shown_some, opens, stops, handed_at, stops_behind}
+use Rattle.permit_office.proofs.ListingSelections.{one_route, one_selection}
+use Rattle.permit_office.proofs.Listings.{named}
+use Rattle.permit_office.proofs.OneRoute.{own_passed, shown, shown_some, failed_some, opens, stops, handed_at, stops_behind}
 use Rattle.permit_office.proofs.showing.hand_files.Goals as goal
 
 pub returns-in-Some-clause-shown : goal.returns-in-Some-clause-shown
 returns-in-Some-clause-shown g c = λ doubt h is held.
     let a = c.args in
     let s = g.S.Store.view in
-    let route : Route = c.in-Some.route in
-    let named : c.in_ok-routes.routes.items ≡ routes_for a.policy.now a.caller.now a.wanted = c.in_ok-routes.ensures
-    ∙ ap (λ (r : Role). routes_of (allowed_by a.policy.now r action.List) a.wanted) (ap (λ (p : Party). p.role) c.caller.view_is) in
-    let one : routes_for a.policy.now a.caller.now a.wanted ≡ route ∷ [] = sym (c.deref.ensures.value ∙ named) ∙ c.in-Some.ensures.one in
-    shown g.T.Taker.took a.policy.now h a.day a.caller.now a.wanted is route one (s a.store.now)
-    (s c.pass_on.new.store) a.taker.now c.pass_on.new.taker c.pass_on.result c.pass_on.ensures.passed doubt held
+    let made = named a.policy.now a.caller.now _ a.wanted _ _ (ap (λ (p : Party). p.role) c.caller.view_is) c.deref.ensures.value c.in_ok-selections.ensures in
+    let own = one_route (allowed_by a.policy.now a.caller.now.role action.List) a.wanted c.in-Some.route (sym made ∙ c.in-Some.ensures.one) in
+    shown g.T.Taker.took a.policy.now h a.day a.caller.now a.wanted is own.own own.alone (s a.store.now)
+    (s c.pass_on.new.store) a.taker.now c.pass_on.new.taker c.pass_on.result
+    (own_passed g.T.Taker.took a.policy.now a.caller.now a.day c.in-Some.route own.own _ _ _ _ _ own.alike c.pass_on.ensures.passed) doubt held
 
 pub returns-in-Some-clause-some : goal.returns-in-Some-clause-some
 returns-in-Some-clause-some g c =
@@ -33,23 +31,21 @@ pub returns-in-Some-clause-opened : goal.returns-in-Some-clause-opened
 returns-in-Some-clause-opened g c = λ doubt h is held.
     let a = c.args in
     let s = g.S.Store.view in
-    let route : Route = c.in-Some.route in
-    let named : c.in_ok-routes.routes.items ≡ routes_for a.policy.now a.caller.now a.wanted = c.in_ok-routes.ensures
-    ∙ ap (λ (r : Role). routes_of (allowed_by a.policy.now r action.List) a.wanted) (ap (λ (p : Party). p.role) c.caller.view_is) in
-    let one : routes_for a.policy.now a.caller.now a.wanted ≡ route ∷ [] = sym (c.deref.ensures.value ∙ named) ∙ c.in-Some.ensures.one in
-    opens g.T.Taker.took a.policy.now h a.day a.caller.now a.wanted is route one (s a.store.now)
-    (s c.pass_on.new.store) a.taker.now c.pass_on.new.taker c.pass_on.result c.pass_on.ensures.passed doubt held
+    let made = named a.policy.now a.caller.now _ a.wanted _ _ (ap (λ (p : Party). p.role) c.caller.view_is) c.deref.ensures.value c.in_ok-selections.ensures in
+    let own = one_route (allowed_by a.policy.now a.caller.now.role action.List) a.wanted c.in-Some.route (sym made ∙ c.in-Some.ensures.one) in
+    opens g.T.Taker.took a.policy.now h a.day a.caller.now a.wanted is own.own own.alone (s a.store.now)
+    (s c.pass_on.new.store) a.taker.now c.pass_on.new.taker c.pass_on.result
+    (own_passed g.T.Taker.took a.policy.now a.caller.now a.day c.in-Some.route own.own _ _ _ _ _ own.alike c.pass_on.ensures.passed) doubt held
 
 pub returns-in-Some-clause-stopped : goal.returns-in-Some-clause-stopped
 returns-in-Some-clause-stopped g c = λ doubt h is held.
     let a = c.args in
     let s = g.S.Store.view in
-    let route : Route = c.in-Some.route in
-    let named : c.in_ok-routes.routes.items ≡ routes_for a.policy.now a.caller.now a.wanted = c.in_ok-routes.ensures
-    ∙ ap (λ (r : Role). routes_of (allowed_by a.policy.now r action.List) a.wanted) (ap (λ (p : Party). p.role) c.caller.view_is) in
-    let one : routes_for a.policy.now a.caller.now a.wanted ≡ route ∷ [] = sym (c.deref.ensures.value ∙ named) ∙ c.in-Some.ensures.one in
-    stops g.T.Taker.took a.policy.now h a.day a.caller.now a.wanted is route one (s a.store.now)
-    (s c.pass_on.new.store) a.taker.now c.pass_on.new.taker c.pass_on.result c.pass_on.ensures.passed doubt held
+    let made = named a.policy.now a.caller.now _ a.wanted _ _ (ap (λ (p : Party). p.role) c.caller.view_is) c.deref.ensures.value c.in_ok-selections.ensures in
+    let own = one_route (allowed_by a.policy.now a.caller.now.role action.List) a.wanted c.in-Some.route (sym made ∙ c.in-Some.ensures.one) in
+    stops g.T.Taker.took a.policy.now h a.day a.caller.now a.wanted is own.own own.alone (s a.store.now)
+    (s c.pass_on.new.store) a.taker.now c.pass_on.new.taker c.pass_on.result
+    (own_passed g.T.Taker.took a.policy.now a.caller.now a.day c.in-Some.route own.own _ _ _ _ _ own.alike c.pass_on.ensures.passed) doubt held
 
 pub returns-in-Some-clause-handed : goal.returns-in-Some-clause-handed
 returns-in-Some-clause-handed g c =
@@ -62,26 +58,39 @@ pub returns-clause-stopped : goal.returns-clause-stopped
 returns-clause-stopped g c = λ doubt h is held.
     let a = c.args in
     let s = g.S.Store.view in
-    let named : c.in_ok-routes.routes.items ≡ routes_for a.policy.now a.caller.now a.wanted = c.in_ok-routes.ensures
-    ∙ ap (λ (r : Role). routes_of (allowed_by a.policy.now r action.List) a.wanted) (ap (λ (p : Party). p.role) c.caller.view_is) in
+    let role = ap (λ (p : Party). p.role) c.caller.view_is in
+    let made = named a.policy.now a.caller.now _ a.wanted _ _ role c.deref.ensures.value c.in_ok-selections.ensures in
+    let seen = named a.policy.now a.caller.now _ a.wanted _ _ role c.deref-2.ensures.value c.in_ok-selections.ensures in
     stops_behind g.T.Taker.took a.policy.now h a.caller.now a.day a.wanted (routes_for a.policy.now a.caller.now a.wanted) a.taker.now c.hand_out.new.taker
-    (s a.store.now).handed (s c.list_by_routes.new.store).handed
-    (λ long. let some = c.in_default.ensures.other (ap length (c.deref.ensures.value ∙ named) ∙ long) in cc)
-    (c.in_ok-listing.ensures.opened doubt h is held a.wanted (c.deref-2.ensures.value ∙ named)).handed
+    (s a.store.now).handed (s c.list_selected.new.store).handed
+    (λ long.
+    let one = one_selection (allowed_by a.policy.now a.caller.now.role action.List) a.wanted long in
+    let some = c.in_default.ensures.other one.0 (made ∙ one.1) in cc)
+    (c.in_ok-listing.ensures.opened doubt h is held a.wanted seen).handed
 
 pub returns-then-hand_out-clause-shown : goal.returns-then-hand_out-clause-shown
 returns-then-hand_out-clause-shown g c = λ doubt h is held.
     let a = c.args in
-    let named : c.in_ok-routes.routes.items ≡ routes_for a.policy.now a.caller.now a.wanted = c.in_ok-routes.ensures
-    ∙ ap (λ (r : Role). routes_of (allowed_by a.policy.now r action.List) a.wanted) (ap (λ (p : Party). p.role) c.caller.view_is) in
+    let seen = named a.policy.now a.caller.now _ a.wanted _ _ (ap (λ (p : Party). p.role) c.caller.view_is) c.deref-2.ensures.value c.in_ok-selections.ensures in
     subst (λ (vs : List FileView). TookAll g.T.Taker.took vs a.taker.now c.hand_out.new.taker)
-    (c.in_ok-listing.ensures.files doubt h is held a.wanted (c.deref-2.ensures.value ∙ named))
+    (c.in_ok-listing.ensures.files doubt h is held a.wanted seen)
     (rw c.if-hand_out.true at c.hand_out.ensures)
 
 pub returns-then-hand_out-clause-opened : goal.returns-then-hand_out-clause-opened
 returns-then-hand_out-clause-opened g c = λ doubt h is held.
     let a = c.args in
-    let named : c.in_ok-routes.routes.items ≡ routes_for a.policy.now a.caller.now a.wanted = c.in_ok-routes.ensures
-    ∙ ap (λ (r : Role). routes_of (allowed_by a.policy.now r action.List) a.wanted) (ap (λ (p : Party). p.role) c.caller.view_is) in
-    let opens = c.in_ok-listing.ensures.opened doubt h is held a.wanted (c.deref-2.ensures.value ∙ named) in
+    let seen = named a.policy.now a.caller.now _ a.wanted _ _ (ap (λ (p : Party). p.role) c.caller.view_is) c.deref-2.ensures.value c.in_ok-selections.ensures in
+    let opens = c.in_ok-listing.ensures.opened doubt h is held a.wanted seen in
     (opens.told, opens.handed)
+
+pub returns-clause-shown : goal.returns-clause-shown
+returns-clause-shown g c = λ doubt h is held.
+    let a = c.args in
+    let seen = named a.policy.now a.caller.now _ a.wanted _ _ (ap (λ (p : Party). p.role) c.caller.view_is) c.deref-2.ensures.value c.in_ok-selections.ensures in
+    subst (λ (vs : List FileView). StoppedIn g.T.Taker.took vs a.taker.now c.hand_out.new.taker)
+    (c.in_ok-listing.ensures.files doubt h is held a.wanted seen)
+    (rw c.if-hand_out.false at c.hand_out.ensures)
+
+pub returns-in_err-listing-clause-some : goal.returns-in_err-listing-clause-some
+returns-in_err-listing-clause-some g c =
+    failed_some g.T.Taker.took c.args.taker.now c.from_residual-in_err-listing.result c.from_residual-in_err-listing.ensures.0

@@ -1,7 +1,7 @@
-use Rattle.std.proofs.Common.{◌≡◌, ◌≤◌, ap, length, get_or, arith}
+use Rattle.std.proofs.Common.{ap, get_or, arith}
 use Rattle.permit_base.specs.declared.words.Action.TheVariants.{AddParty}
 use Rattle.permit_policy.specs.Hits.{AreHits}
-use Rattle.permit_policy.specs.Marks.{IsOf, HasRole}
+use Rattle.permit_policy.specs.Marks.{IsOf}
 use Rattle.permit_policy.proofs.MarkSteps.{ByActionsBefore, marks_none, marks_then, marks_of, next_action, by_all_actions}
 use Rattle.permit_policy.proofs.dead.mark_for.Goals as goal
 
@@ -19,8 +19,4 @@ loop-action-preserved c =
     (next_action role i action (ap (λ xs. get_or xs i AddParty) c.all-action-items.ensures))
 
 pub returns : goal.returns
-returns c =
-    let i = c.loop-action.action-index in
-    let count : length c.all-action-items.result.now ≡ 31 = ap length c.all-action-items.ensures in
-    let all : 31 ≤ i = omega arith in
-    marks_of c.args.rules.now (ByActionsBefore c.args.role i) (HasRole c.args.role) _ _ c.loop-action.invariant (by_all_actions c.args.role i all)
+returns c = grind (arith, marks_of, ByActionsBefore, by_all_actions)

@@ -1,4 +1,4 @@
-use Rattle.std.proofs.Common.{◌≡◌, ◌==◌, ◌<◌, ap, sym, ◌∙◌, true, not, inl, length, arith}
+use Rattle.std.proofs.Common.{◌≡◌, ◌==◌, ◌<◌, ap, sym, ◌∙◌, true, not, length, arith}
 use Rattle.permit_model.specs.Opened.{cell_facts}
 use Rattle.permit_policy.specs.Masks.{has_set}
 use Rattle.permit_policy.specs.Dead.{deciding}
@@ -9,11 +9,7 @@ use Rattle.permit_policy.proofs.MarkSteps.{same_facts}
 use Rattle.permit_policy.proofs.dead.mark_in_cell.Goals as goal
 
 pub loop-place-init : goal.loop-place-init
-loop-place-init c = record {
-  kept = λ k e. e;
-  sound = λ role action hits k e. inl e;
-  passes = λ role action hits one. passes_start _ _ _ _ (set_in_every one);
-}
+loop-place-init c = grind (arith, passes_start, set_in_every)
 
 pub loop-place-preserved : goal.loop-place-preserved
 loop-place-preserved c =

@@ -1,14 +1,14 @@
-use Rattle.permit_policy.proofs.CellRoutes.{IsWord, whole_cell, cell_in_parts}
+use Rattle.std.proofs.Common.{ap, ◌∙◌, ◌++◌}
+use Rattle.permit_model.specs.Routes.{route_by}
+use Rattle.permit_policy.specs.Masks.{has_set}
+use Rattle.permit_policy.specs.Selections.{all_bys, opens}
+use Rattle.permit_policy.proofs.Selecting.{items_end}
+use Rattle.permit_policy.proofs.CellRoutes.{routes_by_word}
 use Rattle.permit_policy.proofs.routes.push_routes.Goals as goal
-
-pub returns-then-has_set : goal.returns-then-has_set
-returns-then-has_set c =
-    let word : IsWord c.args.masks.now c.args.cell c.word-mask.result c.on_day.result c.no_relations.result =
-    record { day = c.on_day.ensures; word = c.word-mask.ensures; empty = c.no_relations.ensures } in
-    whole_cell c.args.masks.now c.args.cell c.on_day.result c.word-mask.result c.no_relations.result c.args.routes.now.items c.push.new.self.items c.route_by.result word c.if-has_set.ensures c.route_by.ensures c.in_ok-push.ensures.items
 
 pub returns : goal.returns
 returns c =
-    let word : IsWord c.args.masks.now c.args.cell c.word-mask.result c.on_day.result c.no_relations.result =
-    record { day = c.on_day.ensures; word = c.word-mask.ensures; empty = c.no_relations.ensures } in
-    cell_in_parts c.args.masks.now c.args.cell c.on_day.result c.word-mask.result c.no_relations.result c.args.routes.now.items c.push_singles.new.routes.items c.push_pairs.new.routes.items c.push_pairs.result word c.if-has_set.ensures c.in_ok-push_singles.ensures c.push_pairs.ensures
+    let a = c.args in
+    let mask = c.word-mask.result in
+    items_end (route_by a.cell) (opens (has_set mask)) all_bys c.loop-by.by-index c.loop-by.routes.items _ (rw c.bys-by-items.ensures at c.loop-by-test.false) c.loop-by.invariant
+    ∙ ap (λ rs. a.routes.now.items ++ rs) (routes_by_word a.masks.now a.cell c.on_day.result mask c.on_day.ensures c.word-mask.ensures)

@@ -1,18 +1,11 @@
 use Rattle.std.proofs.Common.{le_refl, refl, rules}
 use Rattle.permit_store.specs.Handing.{found_by_any}
-use Rattle.permit_store.specs.declared.plain.select.Selection.{Selection}
-use Rattle.permit_store.proofs.Selecting.{found_in_tables, told_ok, told_err, reads_failed, hands_among}
+use Rattle.permit_store.proofs.Selecting.{selection_of, found_in_tables, told_ok, told_err, reads_failed, hands_among}
 use Rattle.permit_store.proofs.plain.PlainStoreStore.each_of_any.Goals as goal
 
 pub returns-in-Ok-clause-handed : goal.returns-in-Ok-clause-handed
 returns-in-Ok-clause-handed g c =
-    let s : Selection = record {
-      routes = record { ref_ptr = (0, 0); now = c.args.routes.now };
-      caller = c.args.caller;
-      day = c.args.day;
-      parcels = record { ref_ptr = (0, 0); now = c.args.self.now.parcels };
-      interests = record { ref_ptr = (0, 0); now = c.args.self.now.interests };
-    } in
+    let s = selection_of c.args.routes.now c.args.caller c.args.day c.args.self.now.parcels c.args.self.now.interests in
     hands_among g.T.Taker.took _ (found_by_any c.args.routes.now c.args.caller c.args.day) _ _ c.args.taker.now c.hand-outcome.new.taker _
     (λ t k. found_in_tables _ _ _ s _ _ t c.deref.ensures.value k)
     (search rules)
@@ -20,13 +13,7 @@ returns-in-Ok-clause-handed g c =
 
 pub returns-in-Err-clause-handed : goal.returns-in-Err-clause-handed
 returns-in-Err-clause-handed g c =
-    let s : Selection = record {
-      routes = record { ref_ptr = (0, 0); now = c.args.routes.now };
-      caller = c.args.caller;
-      day = c.args.day;
-      parcels = record { ref_ptr = (0, 0); now = c.args.self.now.parcels };
-      interests = record { ref_ptr = (0, 0); now = c.args.self.now.interests };
-    } in
+    let s = selection_of c.args.routes.now c.args.caller c.args.day c.args.self.now.parcels c.args.self.now.interests in
     rw c.fail.ensures.counted
     (hands_among g.T.Taker.took _ (found_by_any c.args.routes.now c.args.caller c.args.day) _ _ c.args.taker.now c.hand-outcome.new.taker c.fail.result
     (λ t k. found_in_tables _ _ _ s _ _ t c.deref.ensures.value k)

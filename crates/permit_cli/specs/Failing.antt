@@ -1,0 +1,182 @@
+-- Which failures each plan may come to, whatever its files, the disk and the clock give, and what is written before them.
+use Rattle.std.specs.Prelude.{◌≡◌, ◌⊎◌, ℕ, Bool, false, List, Option, None, Err}
+use Rattle.permit_base.specs.Texts.{is_token}
+use Rattle.permit_base.specs.declared.refusal.Reason.TheVariants as reason
+use Rattle.permit_base.specs.declared.refusal.Refusal.{Refusal}
+use Rattle.permit_import.specs.Importing.{EndsOf}
+use Rattle.permit_import.specs.Outcomes.{outcomes_of}
+use Rattle.permit_import.specs.Records.{Fields}
+use Rattle.permit_import.specs.Refusals.{refused_by}
+use Rattle.permit_import.specs.declared.fault.ImportFault.{ImportFault}
+use Rattle.permit_import.specs.declared.refused.Refused.TheVariants as refused
+use Rattle.permit_import.specs.declared.refused.RefusalWord.TheVariants as word
+use Rattle.permit_office.specs.declared.reply.Reply.{Reply}
+use Rattle.permit_policy.specs.PolicyText.{meaning, Means}
+use Rattle.permit_policy.specs.declared.fault.PolicyError.{PolicyError}
+use Rattle.permit_store.specs.declared.store.OpenError.TheVariants as opening
+use Rattle.permit_args.specs.FactsText.{facts_in, pieces}
+use Rattle.permit_args.specs.declared.plan.ActWords.{ActWords}
+use Rattle.permit_args.specs.declared.plan.Check.{Check}
+use Rattle.permit_args.specs.declared.plan.Check.TheVariants as check
+use Rattle.permit_args.specs.declared.plan.CheckPolicyWords.{CheckPolicyWords}
+use Rattle.permit_args.specs.declared.plan.DayWords.{DayWords}
+use Rattle.permit_args.specs.declared.plan.ImportWords.{ImportWords}
+use Rattle.permit_args.specs.declared.plan.InitWords.{InitWords}
+use Rattle.permit_args.specs.declared.plan.OfficeWords.{OfficeWords}
+use Rattle.permit_args.specs.declared.plan.Plan.{Plan}
+use Rattle.permit_args.specs.declared.plan.Plan.TheVariants as plan
+use Rattle.permit_args.specs.declared.plan.RegisterWords.{RegisterWords}
+use Rattle.permit_args.specs.declared.plan.RenewTokenWords.{RenewTokenWords}
+use Rattle.permit_args.specs.declared.plan.ServeWords.{ServeWords}
+use Rattle.permit_args.specs.declared.plan.TokenWords.{TokenWords}
+use Rattle.permit_subcommands.specs.Days as days
+use Rattle.permit_subcommands.specs.Failures.{plain, policy_failure, IsFailureOfImport, IsUnheard, IsUnread}
+use Rattle.permit_subcommands.specs.Founders as founders
+use Rattle.permit_subcommands.specs.Listings.{WritesSome}
+use Rattle.permit_subcommands.specs.Requests as requests
+use Rattle.permit_subcommands.specs.Tokens.{IsTokenFailure, IsTokenOf}
+use Rattle.permit_subcommands.specs.declared.failure.Failure.{Failure}
+use Rattle.permit_subcommands.specs.declared.failure.Failure.TheVariants as failure
+use Rattle.permit_cli.specs.Asked.{IsRefusedCaller}
+use Rattle.permit_cli.specs.Doing.{IsRunDay}
+use Rattle.permit_cli.specs.Served.{SaysWhere}
+use Rattle.permit_cli.specs.declared.question.Question.{Question}
+use Rattle.permit_cli.specs.declared.question.Question.TheVariants as question
+
+-- ---- of a policy
+
+-- no policy is read at a path: the file can't be read, or a text is refused as it has to be; or memory ran out
+abbrev pub IsPolicyFailure : List ℕ → Failure → Type 0
+IsPolicyFailure path why =
+    IsUnread path why ⊎ ((text : List ℕ) × (error : PolicyError) × Means (Err error) (meaning text) × (why ≡ policy_failure error))
+
+-- the facts to decide by can't be read, where there are any
+abbrev pub IsFactsFailure : Check → Failure → Type 0
+IsFactsFailure check.Rules why = ⊥
+IsFactsFailure check.Dead why = ⊥
+IsFactsFailure (check.Facts words) why = (why ≡ failure.Facts) × (facts_in (pieces 44 words.now) ≡ None)
+
+-- ---- of a database
+
+-- a call failed, or memory ran out
+abbrev pub IsOfStore : Failure → Type 0
+IsOfStore why = (why ≡ failure.Database opening.Store) ⊎ (why ≡ plain word.Store)
+
+-- a file isn't opened: it holds no database or a damaged one, or a call failed
+abbrev pub IsUnopened : Failure → Type 0
+IsUnopened why = (why ≡ failure.Database opening.Damaged) ⊎ IsOfStore why
+
+-- its tables can't be used: they aren't sound, or of another version, or a call failed
+abbrev pub IsUnusable : Failure → Type 0
+IsUnusable why = (why ≡ failure.Database opening.Version) ⊎ IsUnopened why
+
+-- no office is founded in it: there are tables in it, or a call failed
+abbrev pub IsUnfounded : Failure → Type 0
+IsUnfounded why = (why ≡ failure.Database opening.Exists) ⊎ IsUnopened why
+
+-- no token is renewed: there is no such party, a party has the token, or the tables can't be used
+abbrev pub IsUnrenewed : Failure → Type 0
+IsUnrenewed why = (why ≡ plain word.Record) ⊎ ((why ≡ failure.Refused (refused.NotAdmitted reason.Taken)) ⊎ IsUnusable why)
+
+-- ---- of what is asked of an office
+
+-- the office refuses
+abbrev pub IsRefusal : Failure → Type 0
+IsRefusal why = (refusal : Refusal) × (why ≡ failure.Refused (refused_by refusal))
+
+-- an import stops before its end, and what stands of its lines
+abbrev pub StopsImport : List ℕ → Bool → Option (List ℕ) → Option (List ℕ) → Failure → Type 0
+StopsImport path asked before after why = (fault : ImportFault) × IsFailureOfImport path fault why × (left : Option (List ℕ)) × (rows : List Fields)
+    × (replies : List Reply) × EndsOf asked left before after (Err fault) rows (outcomes_of rows replies)
+
+-- some office that is asked on the day fails so; of a register and an import a beginning may stand
+abbrev pub FailsOf : {R : Type 0} → ℕ → Question R → Option (List ℕ) → Option (List ℕ) → Failure → Type 0
+FailsOf day (question.Serve request) before after why = (why ≡ plain word.Store) × (after ≡ before)
+FailsOf day (question.List token filter) before after why = IsRefusal why × (after ≡ before)
+FailsOf day (question.Register token kind) before after why = WritesSome kind day before after (Err why)
+FailsOf day (question.Import token path records asked) before after why = StopsImport path.now asked before after why
+
+-- the same, or its database can't be used
+abbrev pub FailsIn : {R : Type 0} → ℕ → Question R → Option (List ℕ) → Option (List ℕ) → Failure → Type 0
+FailsIn day asked before after why = (IsUnusable why × (after ≡ before)) ⊎ FailsOf day asked before after why
+
+-- the words name no office that can be asked: no day, no policy or no database
+abbrev pub IsUnasked : OfficeWords → Failure → Type 0
+IsUnasked words why = days.IsRefusedFor words.days why ⊎ (IsPolicyFailure words.policy.now why ⊎ IsUnusable why)
+
+-- there is none, or one fails that is asked on the day of the run
+abbrev pub FailsOnRunDay : {R : Type 0} → OfficeWords → Question R → Option (List ℕ) → Option (List ℕ) → Failure → Type 0
+FailsOnRunDay words asked before after why =
+    (IsUnasked words why × (after ≡ before)) ⊎ ((day : ℕ) × IsRunDay words.days day × FailsOf day asked before after why)
+
+-- the words name no caller: no token can be read, or what they name is none
+abbrev pub IsUncalled : TokenWords → Failure → Type 0
+IsUncalled words why = IsTokenFailure words why ⊎ ((token : List ℕ) × IsTokenOf words token × IsRefusedCaller token why)
+
+-- they make no request: no token can be read, or the method, the path or the token is refused
+abbrev pub IsUnmade : ActWords → Failure → Type 0
+IsUnmade words why =
+    IsTokenFailure words.office.token why ⊎ ((token : List ℕ) × IsTokenOf words.office.token token × requests.IsRefusedFor words token why)
+
+-- ---- of each plan
+
+-- memory ran out, or the policy isn't read, or the facts to decide by
+abbrev pub FailsToCheck : CheckPolicyWords → Failure → Type 0
+FailsToCheck words why = (why ≡ plain word.Store) ⊎ (IsPolicyFailure words.policy.now why ⊎ IsFactsFailure words.check why)
+
+-- the words name no founder: the name, the token or the day is refused
+abbrev pub IsNoFounder : InitWords → Failure → Type 0
+IsNoFounder words why = (token : List ℕ) × (day : ℕ) × IsTokenOf words.token token × IsRunDay words.days day
+    × founders.IsRefusedFor words.name.now token day why
+
+-- there is no day, no token or no founder, or none is founded
+abbrev pub FailsToFound : InitWords → Failure → Type 0
+FailsToFound words why =
+    days.IsRefusedFor words.days why ⊎ (IsTokenFailure words.token why ⊎ (IsNoFounder words why ⊎ IsUnfounded why))
+
+abbrev pub FailsToAct : ActWords → Failure → Type 0
+FailsToAct words why = IsUnmade words why ⊎ IsUnasked words.office why
+
+abbrev pub FailsToList : OfficeWords → Failure → Type 0
+FailsToList words why = IsUncalled words.token why ⊎ (IsUnasked words why ⊎ IsRefusal why)
+
+-- nothing is written, or a beginning of a register of the day of the run
+abbrev pub FailsToRegister : RegisterWords → Option (List ℕ) → Option (List ℕ) → Failure → Type 0
+FailsToRegister words before after why = ((IsUncalled words.office.token why ⊎ IsUnasked words.office why) × (after ≡ before))
+    ⊎ ((day : ℕ) × IsRunDay words.office.days day × WritesSome words.kind day before after (Err why))
+
+-- nothing is written, or the lines of an import that stops
+abbrev pub FailsToImport : ImportWords → Option (List ℕ) → Option (List ℕ) → Failure → Type 0
+FailsToImport words before after why =
+    ((IsUncalled words.office.token why ⊎ (IsUnread words.file.now why ⊎ IsUnasked words.office why)) × (after ≡ before))
+    ⊎ StopsImport words.file.now words.office.why before after why
+
+-- the serving fails once the database can be used: the address can't be listened on, or the output fails
+abbrev pub FailsToListen : List ℕ → Failure → Type 0
+FailsToListen address why = IsUnheard address why ⊎ (why ≡ failure.Output)
+
+abbrev pub FailsToServe : ServeWords → Failure → Type 0
+FailsToServe words why = days.IsRefusedFor words.days why
+    ⊎ (IsPolicyFailure words.policy.now why ⊎ (IsUnusable why ⊎ FailsToListen words.listen.now why))
+
+-- what the words name is no token
+abbrev pub IsNoToken : TokenWords → Failure → Type 0
+IsNoToken words why = (token : List ℕ) × IsTokenOf words token × (why ≡ plain word.Syntax) × (is_token token ≡ false)
+
+-- no token can be read, or what the words name is none, or it isn't renewed
+abbrev pub FailsToRenew : RenewTokenWords → Failure → Type 0
+FailsToRenew words why = IsTokenFailure words.token why ⊎ (IsNoToken words.token why ⊎ IsUnrenewed why)
+
+-- which failures a plan may come to, and what is written before
+abbrev pub FailsAs : Plan → Option (List ℕ) → Option (List ℕ) → Failure → Type 0
+FailsAs plan.Name before after why = ⊥
+FailsAs (plan.CheckPolicy words) before after why = FailsToCheck words why × (after ≡ before)
+FailsAs (plan.Init words) before after why = FailsToFound words why × (after ≡ before)
+FailsAs (plan.Act words) before after why = FailsToAct words why × (after ≡ before)
+FailsAs (plan.List words) before after why = FailsToList words.office why × (after ≡ before)
+FailsAs (plan.Register words) before after why = FailsToRegister words before after why
+FailsAs (plan.Import words) before after why = FailsToImport words before after why
+FailsAs (plan.Serve words) before after why = FailsToServe words why × SaysWhere before after (Err why)
+FailsAs (plan.Upgrade words) before after why = IsUnusable why × (after ≡ before)
+FailsAs (plan.CheckDb words) before after why = IsUnusable why × (after ≡ before)
+FailsAs (plan.RenewToken words) before after why = FailsToRenew words why × (after ≡ before)

@@ -1,0 +1,3 @@
+mod Kept
+mod Moments
+mod Growing

@@ -1,0 +1,137 @@
+//! Entering lines into the file of a history.
+
+ghost use Rattle.std.specs.Prelude.{◌≡◌, ◌≤◌, ◌++◌, ℕ, List, length, take, IfOk, OnOk, OnErr};
+ghost use Rattle.permit_journal.specs.Files.{Grown, Only, LeavesOnly, LeavesNow};
+ghost use Rattle.permit_journal.specs.Journals.{IsSettled, Has, HasUnlessShut};
+
+use crate::file::{FileError, HistoryFile};
+use std::marker::Model;
+
+/// Writes a line behind the text, and puts it on the disk.
+fn write_out<H: HistoryFile>(file: &mut H, line: &[u8]) -> Result<(), FileError>
+    ensures written { OnOk result (H.text file.new ≡ H.text file.old ++ line.now) }
+    ensures durable { OnOk result (Only (H.text file.new) (H.may_leave file.new)) }
+    ensures part { OnErr result (Grown line.now (H.text file.old) (H.text file.new)) }
+    ensures any_moment { (base : List ℕ) → Only base (H.may_leave file.old)
+        → LeavesNow H.moment H.left_since H.may_leave file.old file.new (Grown line.now base) }
+{
+    file.append(line)?;
+    file.sync()
+}
+
+/// Cuts the text, and puts it on the disk.
+fn cut_back<H: HistoryFile>(file: &mut H, to: u64) -> Result<(), FileError>
+    requires { to ≤ length (H.text file.old) }
+    ensures cut { OnOk result (H.text file.new ≡ take to (H.text file.old)) }
+    ensures durable { OnOk result (Only (H.text file.new) (H.may_leave file.new)) }
+    ensures any_moment { (base line : List ℕ) → length base ≡ to → ((c : List ℕ) → H.may_leave file.old c → Grown line base c)
+        → LeavesOnly H.moment H.left_since file.old file.new (Grown line base) }
+{
+    file.cut(to)?;
+    file.sync()
+}
+
+/// The file of a history to which lines are added. Contracts see the file, the length of its text, and whether it is shut.
+///
+/// A line is entered whole and is on the disk, or nothing of it is left. Where what was written of it can't be cut off, the
+/// journal is shut, and stays so: what stands in the file then isn't known.
+#[derive(Drop)]
+pub struct Journal<H: HistoryFile> {
+    file: H,
+    length: u64,
+    is_shut: bool,
+}
+
+impl<H: HistoryFile> Model for Journal<H> {
+    ghost use Rattle.permit_journal.specs.Journals.{JournalView};
+
+    ghost Value = { JournalView H };
+
+    ghost view = { λ j. record { file = j.file; length = j.length; is_shut = j.is_shut } };
+}
+
+impl<H: HistoryFile + Drop> Journal<H> {
+    /// A journal over the file, whose text is put on the disk. Where a call of the file fails, there is none.
+    pub fn open(mut file: H) -> Result<Journal<H>, FileError>
+        ensures { IfOk result (λ journal. Has H.text H.may_leave journal (H.text file)) }
+    {
+        let length = file.length()?;
+        file.sync()?;
+        Ok(Journal {
+            file,
+            length,
+            is_shut: false,
+        })
+    }
+
+    /// The bytes of the text.
+    pub fn length(&self) -> u64
+        ensures { result ≡ self.now.length }
+    {
+        self.length
+    }
+
+    /// Whether what stands in the file isn't known any longer.
+    pub fn is_shut(&self) -> bool
+        ensures { result ≡ self.now.is_shut }
+    {
+        self.is_shut
+    }
+
+    /// Cuts the text to the length and puts it on the disk, or shuts the journal.
+    fn cut_off(&mut self, to: u64)
+        requires { to ≤ length (H.text self.old.file) }
+        ensures cut { (base line : List ℕ) → length base ≡ to → Grown line base (H.text self.old.file)
+            → HasUnlessShut H.text H.may_leave self.new self.new.is_shut base }
+        ensures any_moment { (base line : List ℕ) → length base ≡ to → ((c : List ℕ) → H.may_leave self.old.file c → Grown line base c)
+            → LeavesOnly H.moment H.left_since self.old.file self.new.file (Grown line base) }
+    {
+        self.length = to;
+        self.is_shut = cut_back(&mut self.file, to).is_err();
+    }
+
+    /// Adds a line to the text, with its LF, and puts it on the disk. Otherwise nothing of it is left, or the journal is shut.
+    pub fn enter(&mut self, line: &[u8]) -> Result<(), FileError>
+        requires { IsSettled H.text H.may_leave self.old }
+        ensures entered { OnOk result (Has H.text H.may_leave self.new (H.text self.old.file ++ line.now)) }
+        ensures refused { OnErr result (HasUnlessShut H.text H.may_leave self.new self.new.is_shut (H.text self.old.file)) }
+
+        // A crash at any moment of the call leaves the text, with a beginning of the line or with all of it.
+        ensures any_moment { LeavesOnly H.moment H.left_since self.old.file self.new.file (Grown line.now (H.text self.old.file)) }
+    {
+        let before = self.length;
+        let Some(length) = before.checked_add(line.len() as u64) else {
+            return Err(FileError);
+        };
+        if write_out(&mut self.file, line).is_err() {
+            self.cut_off(before);
+            return Err(FileError);
+        }
+        self.length = length;
+        Ok(())
+    }
+
+    /// Takes back what was added behind this length, or shuts the journal.
+    pub fn take_back(&mut self, to: u64)
+        requires settled { IsSettled H.text H.may_leave self.old }
+        requires length { to ≤ self.old.length }
+        ensures back { (base line : List ℕ) → length base ≡ to → H.text self.old.file ≡ base ++ line
+            → HasUnlessShut H.text H.may_leave self.new self.new.is_shut base }
+        ensures any_moment { (base line : List ℕ) → length base ≡ to → H.text self.old.file ≡ base ++ line
+            → LeavesOnly H.moment H.left_since self.old.file self.new.file (Grown line base) }
+    {
+        self.cut_off(to);
+    }
+
+    /// The file.
+    pub fn into_file(self) -> H
+        ensures { result ≡ self.file }
+    {
+        let Journal {
+            file,
+            length: _,
+            is_shut: _,
+        } = self;
+        file
+    }
+}

@@ -1,0 +1,6 @@
+mod Planning
+mod Refusing
+mod Probed
+mod Adding
+mod Telling
+mod Stepping

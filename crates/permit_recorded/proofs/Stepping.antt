@@ -1,0 +1,106 @@
+-- What a step leaves of the text and of the tables.
+use Rattle.std.proofs.Common.{◌≡◌, inl, inr, refl, sym, ◌∙◌, subst, arith, ℕ, ◌&&◌, Bool, true, false, List, [], ◌∷◌, Option, Some}
+use Rattle.std.specs.Prelude.{Ok, Err, IsTrue, length}
+use Rattle.std.proofs.lemmas.Bool.{eqb-true}
+use Rattle.std.proofs.lemmas.List.{append-nil}
+use Rattle.permit_base.specs.declared.refusal.Refusal.TheVariants as refusal
+use Rattle.permit_base.specs.declared.request.Request.{Request}
+use Rattle.permit_model.specs.History.{History}
+use Rattle.permit_model.specs.Machine.{Done, Outcome, entry_of}
+use Rattle.permit_recorded.specs.Planned.{number_of}
+use Rattle.permit_model.specs.Sound.{IsSoundTables}
+use Rattle.permit_model.specs.Tables.{Tables}
+use Rattle.permit_history.specs.Meaning.{Tells}
+use Rattle.permit_journal.specs.Files.{Only}
+use Rattle.permit_journal.specs.Journals.{JournalView, HasUnlessShut}
+use Rattle.permit_office.specs.Answers.{Attempts, reply_of}
+use Rattle.permit_office.specs.Frames.{UnlessDone}
+use Rattle.permit_office.specs.Sound.{IsSoundChange, OnDone}
+use Rattle.permit_office.specs.declared.reply.Reply.{Reply as Given}
+use Rattle.permit_office.specs.declared.reply.Reply.TheVariants as given
+use Rattle.permit_store.specs.Changes.{changed}
+use Rattle.permit_store.specs.Frames.{StoreView}
+use Rattle.permit_store.specs.declared.store.StoreError.{StoreError}
+use Rattle.permit_recorded.specs.Probing.{HasCounted}
+use Rattle.permit_recorded.specs.Recorded.{LeavesText, Records, TellsAfter}
+use Rattle.permit_recorded.proofs.Telling.{tells_more}
+
+has_unless : {H : Type 0} (text : H → List ℕ) (may_leave : H → List ℕ → Type 0) (journal : JournalView H) (shut : Bool) (before : List ℕ)
+    → HasUnlessShut text may_leave journal shut before → shut ≡ false → text journal.file ≡ before
+has_unless text may_leave journal true before has unshut = cc
+has_unless text may_leave journal false before has unshut = has.bytes_there
+
+module _ {H : Type 0} (text : H → List ℕ) (may_leave : H → List ℕ → Type 0) (holds : Tables → Type 0) (outcome : Outcome) (h : History)
+    (digest : List ℕ) (asked : Request) (day : ℕ) (before : List ℕ) (journal : JournalView H) where
+  kept : Tells before h → HasUnlessShut text may_leave journal journal.is_shut before → journal.is_shut ≡ false → Tells (text journal.file) h
+  kept tells has unshut = subst (λ (l : List ℕ). Tells l h) (sym (has_unless text may_leave journal journal.is_shut before has unshut)) tells
+
+  -- behind a failure
+  pub failed_tells : (e : StoreError) → Records text may_leave (Err e) h digest asked day before journal → Tells before h
+      → TellsAfter text (given.Refused refusal.Store) h outcome.history journal
+  failed_tells e has tells = kept tells has
+
+  done_reply : (number : Option ℕ) → Attempts holds (Ok (given.Done number)) outcome h
+      → reply_of (given.Done number) ≡ outcome.reply
+  done_reply number (inl answered) = answered.0
+  done_reply number (inr refused) = cc (refused.0)
+
+  -- behind a reply
+  pub replied_tells : ((id : ℕ) (number : Option ℕ) → number_of h digest ≡ Some id → outcome.reply ≡ Done number → outcome.history ≡ entry_of h day id asked ∷ h)
+      → (reply : Given) → Attempts holds (Ok reply) outcome h
+      → Records text may_leave (Ok reply) h digest asked day before journal → Tells before h
+      → TellsAfter text reply h outcome.history journal
+  replied_tells adding (given.Done number) attempt records tells =
+      let behind = records.1 in
+      let has = records.2 in
+      let adds = adding behind.caller number behind.known (sym (done_reply number attempt)) in
+      let told = tells_more before records.0 h (entry_of h day behind.caller asked) day behind.caller behind.act tells behind.told_so behind.line_is in (
+        has.settled.is_open,
+        subst (λ (after : History). Tells (text journal.file) after) (sym adds)
+            (subst (λ (l : List ℕ). Tells l (entry_of h day behind.caller asked ∷ h)) (sym has.bytes_there) told),
+      )
+  replied_tells adding (given.Parcel parcel) attempt has tells = kept tells has
+  replied_tells adding (given.File file papers) attempt has tells = kept tells has
+  replied_tells adding (given.Listed listing) attempt has tells = kept tells has
+  replied_tells adding (given.Register kind listing) attempt has tells = kept tells has
+  replied_tells adding (given.Refused why) attempt has tells = kept tells has
+
+-- a file that isn't written leaves its text
+pub untouched : {H : Type 0} (moment : H → ℕ) (left_since : H → ℕ → List ℕ → Type 0) (text : H → List ℕ) (may_leave : H → List ℕ → Type 0) (old new : H)
+    (before after : StoreView) (digest : List ℕ) (asked : Request) (day : ℕ) → old ≡ new → ((c : List ℕ) → left_since old (moment old) c → may_leave old c)
+    → Only (text old) (may_leave old) → LeavesText moment left_since text old new before after digest asked day
+untouched moment left_since text may_leave old new before after digest asked day same now only =
+    subst (λ f. LeavesText moment left_since text old f before after digest asked day) same (record {
+      line = [];
+      leaves = record {
+        later = omega arith;
+        each = λ c left. record { front = []; rest = []; split = refl; grown = only c (now c left) ∙ sym (append-nil (text old)) };
+        before = λ t c le left. inl left;
+      };
+      told = λ sure h is held. inl refl;
+    })
+
+-- ---- the tables
+
+both : (a b : Bool) → IsTrue (a && b) → IsTrue a × IsTrue b
+both true b is = (refl, is)
+both false b is = cc
+
+-- sound tables have counted
+pub sound_counted : (t : Tables) → IsSoundTables t → HasCounted t
+sound_counted t sound =
+    let most = both _ _ sound.desk in
+    let more = both _ _ most.0 in
+    let counted = both _ _ more.0 in
+    let parties = both _ _ (both _ _ counted.1).0 in
+    eqb-true t.desk.parties (length t.parties) parties.0
+
+-- sound tables lead to sound ones
+pub keeps_sound : (holds : Tables → Type 0) (day : ℕ) (t : Tables) (reply : Given) → IsSoundTables t → UnlessDone reply (holds t)
+    → OnDone reply (IsSoundChange holds day t) → (u : Tables) × holds u × IsSoundTables u
+keeps_sound holds day t (given.Done number) sound held made = (changed t made.change day, made.held, made.sound)
+keeps_sound holds day t (given.Parcel parcel) sound held made = (t, held, sound)
+keeps_sound holds day t (given.File file papers) sound held made = (t, held, sound)
+keeps_sound holds day t (given.Listed listing) sound held made = (t, held, sound)
+keeps_sound holds day t (given.Register kind listing) sound held made = (t, held, sound)
+keeps_sound holds day t (given.Refused why) sound held made = (t, held, sound)

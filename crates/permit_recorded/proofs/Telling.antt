@@ -1,0 +1,30 @@
+-- A text with the line of one entry more tells the history with it.
+use Rattle.std.proofs.Common.{◌≡◌, refl, sym, ap, ◌∙◌, ℕ, List, [], ◌∷◌, ◌++◌, append_assoc, Some}
+use Rattle.permit_model.specs.History.{Entry as TheEntry, History}
+use Rattle.permit_model.specs.Search.{add_last}
+use Rattle.permit_history.specs.declared.entry.Act.{Act}
+use Rattle.permit_history.specs.declared.entry.Deed.TheVariants as deed
+use Rattle.permit_history.specs.declared.entry.Entry.{Entry}
+use Rattle.permit_history.specs.LineData.{line_of, text_of}
+use Rattle.permit_history.specs.Meaning.{Tells, meant_after, meant_with}
+use Rattle.permit_history.specs.Told.{told, told_on, told_history}
+use Rattle.permit_recorded.specs.Planned.{whole_line_of}
+
+after-append : (before first later : List Entry) → meant_after before (first ++ later) ≡ meant_after (meant_after before first) later
+after-append before [] later = refl
+after-append before (entry ∷ first) later = after-append (meant_with before entry entry.deed) first later
+
+text-append : (first : List Entry) (entry : Entry) → text_of (first ++ entry ∷ []) ≡ text_of first ++ whole_line_of entry
+text-append [] entry = refl
+text-append (e ∷ first) entry =
+    ap (λ (later : List ℕ). line_of e ++ 10 ∷ later) (text-append first entry) ∙ sym (append_assoc (line_of e) (10 ∷ text_of first) (whole_line_of entry))
+
+pub tells_more : (text line : List ℕ) (h : History) (e : TheEntry) (day caller : ℕ) (act : Act) → Tells text h
+    → told e ≡ Some (told_on day (deed.Accepted caller act)) → line ≡ whole_line_of (told_on day (deed.Accepted caller act)) → Tells (text ++ line) (e ∷ h)
+tells_more text line h e day caller act tells said is =
+    let entry = told_on day (deed.Accepted caller act) in (
+      tells.0 ++ entry ∷ [],
+      ap (λ (l : List ℕ). l ++ line) tells.1 ∙ ap (λ (l : List ℕ). text_of tells.0 ++ l) is ∙ sym (text-append tells.0 entry),
+      after-append [] tells.0 (entry ∷ []) ∙ ap (λ (es : List Entry). es ++ entry ∷ []) tells.2
+          ∙ sym (ap (add_last (told_history h)) said),
+    )

@@ -1,0 +1,3 @@
+pub mod Planned
+pub mod Probing
+pub mod Recorded

@@ -1,0 +1,78 @@
+-- What an office with a history leaves.
+use Rattle.std.specs.Prelude.{◌≡◌, ◌≤◌, ◌⊎◌, ℕ, false, List, [], ◌++◌, Result, Ok, Err, OnOk, ⊤}
+use Rattle.permit_base.specs.declared.request.Request.{Request}
+use Rattle.permit_model.specs.History.{History}
+use Rattle.permit_model.specs.Tables.{Tables}
+use Rattle.permit_history.specs.Meaning.{Tells}
+use Rattle.permit_journal.specs.Journals.{JournalView, IsSettled, Has, HasUnlessShut}
+use Rattle.permit_office.specs.Frames.{UnlessMade}
+use Rattle.permit_office.specs.declared.reply.Reply.{Reply as Given}
+use Rattle.permit_office.specs.declared.reply.Reply.TheVariants as given
+use Rattle.permit_office.specs.Frames.{UnlessDone}
+use Rattle.permit_office.specs.Answers.{IsOwn}
+use Rattle.permit_office.specs.Sound.{MakesOne}
+use Rattle.permit_store.specs.Frames.{StoreView, HasOneDesk, OverHistory, OverTables}
+use Rattle.permit_store.specs.declared.store.StoreError.{StoreError}
+use Rattle.permit_journal.specs.Files.{Grown, LeavesOnly}
+use Rattle.permit_recorded.specs.Planned.{IsLineBehind}
+use Rattle.permit_recorded.specs.Probing.{HasCounted}
+
+-- what contracts see of the office
+pub record RecordedView (D S H : Type 0) : Type 0 where
+  pub decider : D
+  pub store : S
+  pub journal : JournalView H
+
+-- after a command that is done the text has the line behind it; after anything else it is as it was, or the journal is shut
+abbrev pub Enters : {H : Type 0} → (H → List ℕ) → (H → List ℕ → Type 0) → Result Given StoreError → List ℕ → List ℕ → JournalView H → Type 0
+Enters text may_leave (Ok (given.Done number)) before line journal = Has text may_leave journal (before ++ line)
+Enters text may_leave (Ok reply) before line journal = HasUnlessShut text may_leave journal journal.is_shut before
+Enters text may_leave (Err e) before line journal = HasUnlessShut text may_leave journal journal.is_shut before
+
+-- Unless a command is done, any tables stay; no doubt goes. After a reply a store that is without doubt can be read.
+pub record IsRecording (old new : StoreView) (result : Result Given StoreError) : Type 0 where
+  pub kept : (t : Tables) → old.holds t → UnlessMade result (new.holds t)
+  pub one : new.doubt ≡ 0 → OnOk result (HasOneDesk new)
+  pub doubt : old.doubt ≤ new.doubt
+
+-- ---- with the history
+
+-- after a command that is done the text has the line of its entry behind it; after anything else it is as it was, or the journal
+-- is shut
+abbrev pub Records : {H : Type 0} → (H → List ℕ) → (H → List ℕ → Type 0) → Result Given StoreError → History → List ℕ → Request → ℕ → List ℕ
+    → JournalView H → Type 0
+Records text may_leave (Ok (given.Done number)) h digest asked day before journal =
+    (line : List ℕ) × IsLineBehind h digest asked day line × Has text may_leave journal (before ++ line)
+Records text may_leave (Ok reply) h digest asked day before journal = HasUnlessShut text may_leave journal journal.is_shut before
+Records text may_leave (Err e) h digest asked day before journal = HasUnlessShut text may_leave journal journal.is_shut before
+
+-- A crash at any moment since leaves the text, with nothing, a part or all of one line behind it: that of the request's entry.
+pub record LeavesText {H : Type 0} (moment : H → ℕ) (left_since : H → ℕ → List ℕ → Type 0) (text : H → List ℕ) (old new : H)
+    (before after : StoreView) (digest : List ℕ) (asked : Request) (day : ℕ) : Type 0 where
+  pub line : List ℕ
+  pub leaves : LeavesOnly moment left_since old new (Grown line (text old))
+  pub told : OverHistory before after (λ h. (line ≡ []) ⊎ IsLineBehind h digest asked day line)
+
+-- a reply that isn't that to a command which is done
+abbrev pub IsUndone : Given → Type 0
+IsUndone (given.Done number) = ⊥
+IsUndone reply = ⊤
+
+-- the journal is settled, unless it is shut
+abbrev pub Stands : {H : Type 0} → (H → List ℕ) → (H → List ℕ → Type 0) → JournalView H → Type 0
+Stands text may_leave journal = journal.is_shut ≡ false → IsSettled text may_leave journal
+
+-- After a command that is done the text tells the history with it, and the journal isn't shut. After any other reply it tells the
+-- history of before, unless the journal is shut.
+abbrev pub TellsAfter : {H : Type 0} → (H → List ℕ) → Given → (before after : History) → JournalView H → Type 0
+TellsAfter text (given.Done number) before after journal = (journal.is_shut ≡ false) × Tells (text journal.file) after
+TellsAfter text reply before after journal = journal.is_shut ≡ false → Tells (text journal.file) before
+
+-- A step of the office: what decides stays, and tables that have counted, unless a command is done, which makes one change of sound tables and
+-- leaves them sound; no doubt goes. After any reply but the store's refusal, a store that is without doubt can be read.
+pub record IsRecordedStep {D S H : Type 0} (view : S → StoreView) (day : ℕ) (old new : RecordedView D S H) (reply : Given) : Type 0 where
+  pub decider : new.decider ≡ old.decider
+  pub kept : OverTables (view old.store) (view new.store) (λ t. HasCounted t → UnlessDone reply ((view new.store).holds t))
+  pub made : MakesOne (view old.store) (view new.store) day reply
+  pub one : (view new.store).doubt ≡ 0 → IsOwn reply → HasOneDesk (view new.store)
+  pub doubt : (view old.store).doubt ≤ (view new.store).doubt

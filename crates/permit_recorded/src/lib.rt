@@ -1,0 +1,10 @@
+//! An office with a history: each command's line stands in the history's file, and on the disk, before the command is done.
+#![tactic(auto)]
+
+mod copied;
+pub mod decider;
+mod entering;
+pub mod laws;
+mod planned;
+pub mod probe;
+pub mod recorded;

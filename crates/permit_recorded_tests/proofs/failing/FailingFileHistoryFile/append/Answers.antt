@@ -1,0 +1,7 @@
+use Rattle.std.proofs.Common.{◌∙◌, [], refl, sym, ap}
+use Rattle.std.proofs.lemmas.List.{append-nil}
+use Rattle.permit_recorded_tests.proofs.failing.FailingFileHistoryFile.append.Goals as goal
+
+pub returns-then-fails-clause-part : goal.returns-then-fails-clause-part
+returns-then-fails-clause-part c =
+    record { front = []; rest = c.args.bytes.now; split = refl; grown = ap (λ v. v.items) c.fails.ensures ∙ sym (append-nil c.args.self.now.bytes.items) }

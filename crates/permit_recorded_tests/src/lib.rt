@@ -1,0 +1,7 @@
+//! An office with a history over vectors: the text of what it does, and files of a history that fail.
+#![tactic(auto)]
+
+mod failing;
+#[cfg(test)]
+mod served;
+mod unjudged;

@@ -1,0 +1,352 @@
+//! Commands that are served with a history.
+
+ghost use Rattle.std.specs.Prelude.{IfOk};
+ghost use Rattle.permit_recorded.specs.Recorded.{Stands};
+
+use crate::failing::FailingFile;
+use crate::unjudged::Unjudged;
+use permit_base::digests::digest;
+use permit_base::request::{Command, Request};
+use permit_base::values::{Cents, Day, Digest, FileId, Lot, ParcelId, PartyId, Text, Token};
+use permit_base::words::{Kind, Role};
+use permit_journal::file::HistoryFile;
+use permit_journal::journal::Journal;
+use permit_office::reply::Reply;
+use permit_recorded::recorded::RecordedOffice;
+use permit_replay::replay;
+use permit_store::founder::Founder;
+use permit_store::plain::PlainStore;
+use permit_store::store::Store;
+use std::alloc::Global;
+use std::test::*;
+
+/// The office of these tests.
+type Office = RecordedOffice<Unjudged, PlainStore, FailingFile>;
+
+/// The token of party 1.
+const CHIEF: &str = "abcdefghijklmnopqrstuvwxyz";
+
+/// The text of the founding.
+const FOUNDED: &str =
+    r#"{"body":{"digest":"71c480df93d6ae2f1efad1447c66c9525e316218cf51fc8d9ed832f2daf18b73","name":"Chief"},"caller":0,"day":19700,"done":"found","id":null,"number":1}
+{"body":{},"caller":0,"day":19700,"done":"upgrade","id":null,"number":null}
+"#;
+
+/// The text of what is done.
+const DONE: &str =
+    r#"{"body":{"digest":"4605b248089a824141cc1e1cf568b4ab0e2839dbacff8c5f6a46ff0de3eddcfa","name":"Rae","role":"reviewer"},"caller":1,"day":19701,"done":"add-staff","id":null,"number":2}
+{"body":{"address":"1 Main St","lot":"A-1","owner":1},"caller":1,"day":19701,"done":"add-parcel","id":null,"number":1}
+{"body":{"description":"Roof","kind":"repair","parcel":1,"valuation":250000},"caller":1,"day":19701,"done":"file","id":null,"number":1}
+{"body":{"party":2},"caller":1,"day":19701,"done":"assign-reviewer","id":1,"number":null}
+{"body":{},"caller":1,"day":19701,"done":"start-review","id":1,"number":null}
+{"body":{"text":"Say which rafters"},"caller":1,"day":19701,"done":"return","id":1,"number":1}
+{"body":{"to":2},"caller":1,"day":19701,"done":"transfer","id":1,"number":null}
+"#;
+
+/// Fails where it isn't so.
+fn want(is_so: bool, what: &'static str) -> Result<(), Fail> {
+    if is_so { Ok(()) } else { Err(what.into()) }
+}
+
+/// A text's letters.
+fn letters(alloc: Global, letters: &str) -> Result<Text, Fail> {
+    Ok(Text::new(String::from_str(alloc, letters)?).ok_or("a text")?)
+}
+
+/// A token's letters.
+fn token(alloc: Global, letters: &str) -> Result<Token, Fail> {
+    Ok(Token::new(String::from_str(alloc, letters)?).ok_or("a token")?)
+}
+
+/// The digest of a token.
+fn digest_of(alloc: Global, letters: &str) -> Result<Digest, Fail> {
+    Ok(digest(&token(alloc, letters)?)?)
+}
+
+/// A day.
+fn day(number: u32) -> Result<Day, Fail> {
+    Ok(Day::new(number).ok_or("a day")?)
+}
+
+/// The store of the founding.
+fn founded(alloc: Global) -> Result<PlainStore, Fail> {
+    let name = letters(alloc, "Chief")?;
+    let founder = Founder::new(name, digest_of(alloc, CHIEF)?, day(19700)?).ok_or("a founder")?;
+    Ok(PlainStore::create(alloc, &founder)?)
+}
+
+/// The office after its founding, whose file fails behind so many calls.
+fn office(alloc: Global, good: Option<u32>, stays: bool) -> Result<Office, Fail>
+    ensures { IfOk result (λ o. Stands ⟦<FailingFile as HistoryFile>⟧.text ⟦<FailingFile as HistoryFile>⟧.may_leave o.journal) }
+{
+    let store = founded(alloc)?;
+    let file = FailingFile {
+        bytes: FOUNDED.as_bytes().to_vec(alloc)?,
+        good,
+        stays,
+    };
+    match Journal::open(file) {
+        Ok(journal) => Ok(RecordedOffice::new(Unjudged, store, journal)),
+        Err(_) => Err("a journal".into()),
+    }
+}
+
+/// Whether a request of party 1 is done.
+fn is_done(
+    alloc: Global,
+    office: &mut Office,
+    chief: &Digest,
+    today: Day,
+    request: &Request,
+) -> bool
+    requires { Stands ⟦<FailingFile as HistoryFile>⟧.text ⟦<FailingFile as HistoryFile>⟧.may_leave office.old.journal }
+    ensures { Stands ⟦<FailingFile as HistoryFile>⟧.text ⟦<FailingFile as HistoryFile>⟧.may_leave office.new.journal }
+{
+    let reply = office.step_as(alloc, chief, request, today);
+    matches!(reply, Reply::Done { .. })
+}
+
+/// Serves a request of party 1, and once more where it isn't done. Whether it was done.
+fn serve(alloc: Global, office: &mut Office, request: &Request) -> Result<bool, Fail>
+    requires { Stands ⟦<FailingFile as HistoryFile>⟧.text ⟦<FailingFile as HistoryFile>⟧.may_leave office.old.journal }
+    ensures { Stands ⟦<FailingFile as HistoryFile>⟧.text ⟦<FailingFile as HistoryFile>⟧.may_leave office.new.journal }
+{
+    let chief = digest_of(alloc, CHIEF)?;
+    let today = day(19701)?;
+    if is_done(alloc, office, &chief, today, request) {
+        return Ok(true);
+    }
+    Ok(is_done(alloc, office, &chief, today, request))
+}
+
+/// A new reviewer.
+fn reviewer(alloc: Global) -> Result<Request, Fail> {
+    let name = letters(alloc, "Rae")?;
+    let token = token(alloc, "clerk2clerk2clerk2")?;
+    Ok(Request::AddParty {
+        name,
+        role: Role::Reviewer,
+        token,
+    })
+}
+
+/// A new parcel.
+fn parcel(alloc: Global) -> Result<Request, Fail> {
+    let lot = Lot::new(String::from_str(alloc, "A-1")?).ok_or("a lot")?;
+    let address = letters(alloc, "1 Main St")?;
+    let owner = PartyId::new(1).ok_or("a party")?;
+    Ok(Request::AddParcel {
+        lot,
+        address,
+        owner,
+    })
+}
+
+/// An application.
+fn filing(alloc: Global) -> Result<Request, Fail> {
+    let description = letters(alloc, "Roof")?;
+    let (Some(parcel), Some(valuation)) = (ParcelId::new(1), Cents::new(250000)) else {
+        return Err("a parcel".into());
+    };
+    Ok(Request::File {
+        parcel,
+        kind: Kind::Repair,
+        valuation,
+        description,
+    })
+}
+
+/// A command on the file.
+fn on_file(command: Command) -> Result<Request, Fail> {
+    let file = FileId::new(1).ok_or("a file")?;
+    Ok(Request::OnFile { file, command })
+}
+
+/// The parcel's transfer.
+fn transfer() -> Result<Request, Fail> {
+    let (Some(parcel), Some(to)) = (ParcelId::new(1), PartyId::new(2)) else {
+        return Err("a parcel".into());
+    };
+    Ok(Request::Transfer { parcel, to })
+}
+
+/// Serves the reviewer. Whether it was done.
+fn serve_reviewer(alloc: Global, office: &mut Office) -> Result<bool, Fail>
+    requires { Stands ⟦<FailingFile as HistoryFile>⟧.text ⟦<FailingFile as HistoryFile>⟧.may_leave office.old.journal }
+    ensures { Stands ⟦<FailingFile as HistoryFile>⟧.text ⟦<FailingFile as HistoryFile>⟧.may_leave office.new.journal }
+{
+    let request = reviewer(alloc)?;
+    serve(alloc, office, &request)
+}
+
+/// Serves the parcel. Whether it was done.
+fn serve_parcel(alloc: Global, office: &mut Office) -> Result<bool, Fail>
+    requires { Stands ⟦<FailingFile as HistoryFile>⟧.text ⟦<FailingFile as HistoryFile>⟧.may_leave office.old.journal }
+    ensures { Stands ⟦<FailingFile as HistoryFile>⟧.text ⟦<FailingFile as HistoryFile>⟧.may_leave office.new.journal }
+{
+    let request = parcel(alloc)?;
+    serve(alloc, office, &request)
+}
+
+/// Serves the application. Whether it was done.
+fn serve_filing(alloc: Global, office: &mut Office) -> Result<bool, Fail>
+    requires { Stands ⟦<FailingFile as HistoryFile>⟧.text ⟦<FailingFile as HistoryFile>⟧.may_leave office.old.journal }
+    ensures { Stands ⟦<FailingFile as HistoryFile>⟧.text ⟦<FailingFile as HistoryFile>⟧.may_leave office.new.journal }
+{
+    let request = filing(alloc)?;
+    serve(alloc, office, &request)
+}
+
+/// Serves the assignment. Whether it was done.
+fn serve_assignment(alloc: Global, office: &mut Office) -> Result<bool, Fail>
+    requires { Stands ⟦<FailingFile as HistoryFile>⟧.text ⟦<FailingFile as HistoryFile>⟧.may_leave office.old.journal }
+    ensures { Stands ⟦<FailingFile as HistoryFile>⟧.text ⟦<FailingFile as HistoryFile>⟧.may_leave office.new.journal }
+{
+    let request = on_file(Command::AssignReviewer {
+        party: PartyId::new(2).ok_or("a party")?,
+    })?;
+    serve(alloc, office, &request)
+}
+
+/// Serves the review's beginning. Whether it was done.
+fn serve_beginning(alloc: Global, office: &mut Office) -> Result<bool, Fail>
+    requires { Stands ⟦<FailingFile as HistoryFile>⟧.text ⟦<FailingFile as HistoryFile>⟧.may_leave office.old.journal }
+    ensures { Stands ⟦<FailingFile as HistoryFile>⟧.text ⟦<FailingFile as HistoryFile>⟧.may_leave office.new.journal }
+{
+    let request = on_file(Command::StartReview)?;
+    serve(alloc, office, &request)
+}
+
+/// Serves what the review found. Whether it was done.
+fn serve_returning(alloc: Global, office: &mut Office) -> Result<bool, Fail>
+    requires { Stands ⟦<FailingFile as HistoryFile>⟧.text ⟦<FailingFile as HistoryFile>⟧.may_leave office.old.journal }
+    ensures { Stands ⟦<FailingFile as HistoryFile>⟧.text ⟦<FailingFile as HistoryFile>⟧.may_leave office.new.journal }
+{
+    let request = on_file(Command::Return {
+        text: letters(alloc, "Say which rafters")?,
+    })?;
+    serve(alloc, office, &request)
+}
+
+/// Serves the transfer. Whether it was done.
+fn serve_transfer(alloc: Global, office: &mut Office) -> Result<bool, Fail>
+    requires { Stands ⟦<FailingFile as HistoryFile>⟧.text ⟦<FailingFile as HistoryFile>⟧.may_leave office.old.journal }
+    ensures { Stands ⟦<FailingFile as HistoryFile>⟧.text ⟦<FailingFile as HistoryFile>⟧.may_leave office.new.journal }
+{
+    let request = transfer()?;
+    serve(alloc, office, &request)
+}
+
+/// Serves what the text tells, up to the first command that isn't done. Whether all were done.
+fn serve_all(alloc: Global, office: &mut Office) -> Result<bool, Fail>
+    requires { Stands ⟦<FailingFile as HistoryFile>⟧.text ⟦<FailingFile as HistoryFile>⟧.may_leave office.old.journal }
+    ensures { Stands ⟦<FailingFile as HistoryFile>⟧.text ⟦<FailingFile as HistoryFile>⟧.may_leave office.new.journal }
+{
+    Ok(
+        serve_reviewer(alloc, office)?
+            && serve_parcel(alloc, office)?
+            && serve_filing(alloc, office)?
+            && serve_assignment(alloc, office)?
+            && serve_beginning(alloc, office)?
+            && serve_returning(alloc, office)?
+            && serve_transfer(alloc, office)?,
+    )
+}
+
+/// The store and the text.
+fn told(office: Office) -> (PlainStore, Vec<u8>) {
+    let (store, journal) = office.into_parts();
+    let FailingFile {
+        bytes,
+        good: _,
+        stays: _,
+    } = journal.into_file();
+    (store, bytes)
+}
+
+/// The text of the founding and of so many commands.
+fn lines(alloc: Global, count: usize) -> Result<Vec<u8>, Fail> {
+    let mut text = FOUNDED.as_bytes().to_vec(alloc)?;
+    for (place, line) in DONE.lines().enumerate() {
+        if place < count {
+            text.extend_from_slice(line.as_bytes())?;
+            text.push(b'\n')?;
+        }
+    }
+    Ok(text)
+}
+
+/// Fails where the tables of the text have another desk than the store.
+fn agree(alloc: Global, store: &mut PlainStore, text: &[u8]) -> Result<(), Fail> {
+    let mut source = text;
+    let Ok(mut replayed) = replay(alloc, &mut source) else {
+        return Err("the text is not replayed".into());
+    };
+    let (kept, made) = (store.desk()?, replayed.desk()?);
+    want(kept.last.get() == made.last.get(), "the last day")?;
+    want(kept.parties == made.parties, "the parties")?;
+    want(kept.parcels == made.parcels, "the parcels")?;
+    want(kept.files == made.files, "the files")
+}
+
+#[test]
+fn what_is_done_has_its_line(rt: HostRuntime) -> Result<(), Fail> {
+    let alloc = rt.alloc();
+    let mut office = office(alloc, None, false)?;
+    let all = serve_all(alloc, &mut office)?;
+    let (mut store, text) = told(office);
+    want(all, "all are done")?;
+    want(text.as_slice() == lines(alloc, 7)?.as_slice(), "the text")?;
+    agree(alloc, &mut store, text.as_slice())
+}
+
+#[test]
+fn what_is_refused_has_none(rt: HostRuntime) -> Result<(), Fail> {
+    let alloc = rt.alloc();
+    let mut office = office(alloc, None, false)?;
+    let all = serve_all(alloc, &mut office)?;
+    let again = serve_beginning(alloc, &mut office)?;
+    let (_store, text) = told(office);
+    want(all && !again, "a refusal")?;
+    want(text.as_slice() == lines(alloc, 7)?.as_slice(), "the text")
+}
+
+#[test]
+fn a_call_that_fails_once_leaves_no_line(rt: HostRuntime) -> Result<(), Fail> {
+    let alloc = rt.alloc();
+    for good in 2..16 {
+        let mut office = office(alloc, Some(good), false)?;
+        let all = serve_all(alloc, &mut office)?;
+        let (mut store, text) = told(office);
+        want(all, "all are done")?;
+        want(text.as_slice() == lines(alloc, 7)?.as_slice(), "the text")?;
+        agree(alloc, &mut store, text.as_slice())?;
+    }
+    Ok(())
+}
+
+#[test]
+fn a_file_that_fails_shuts_the_office(rt: HostRuntime) -> Result<(), Fail> {
+    let alloc = rt.alloc();
+    for good in 1..8 {
+        let (appended, synced) = (2 * good, 2 * good + 1);
+        let done = good as usize - 1;
+        stops(alloc, appended, done, done)?;
+        stops(alloc, synced, done, done + 1)?;
+    }
+    Ok(())
+}
+
+/// Fails where an office whose file fails for good behind so many calls does not stop behind so many commands, with a text of so
+/// many.
+fn stops(alloc: Global, calls: u32, done: usize, told_of: usize) -> Result<(), Fail> {
+    let mut office = office(alloc, Some(calls), true)?;
+    let all = serve_all(alloc, &mut office)?;
+    let (mut store, text) = told(office);
+    want(!all, "a file that fails")?;
+    want(
+        text.as_slice() == lines(alloc, told_of)?.as_slice(),
+        "the text",
+    )?;
+    agree(alloc, &mut store, lines(alloc, done)?.as_slice())
+}
