@@ -82,8 +82,10 @@ fn serve_known<S: Store>(
     }
 }
 
-/// Serves the caller that has the digest, as far as the store's calls succeed.
-pub(crate) fn attempt<S: Store>(
+/// Serves a request of the party that keeps the digest, on the day, by the policy. The refusals are tested in the order of
+/// `Office::step_as`. It fails where a call of the store failed, or where memory was refused to a listing; then nothing has
+/// changed.
+pub fn attempt<S: Store>(
     store: &mut S,
     policy: &Policy,
     digest: &Digest,
