@@ -10,6 +10,7 @@ pub mod paper;
 pub mod people;
 pub mod restore;
 pub mod row;
+pub mod shared;
 pub mod state;
 pub mod steps;
 pub mod taker;

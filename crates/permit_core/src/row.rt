@@ -2,8 +2,9 @@
 
 ghost use Rattle.std.specs.Prelude.{◌≡◌};
 
+use crate::shared::SharedText;
 use crate::state::FileState;
-use permit_base::values::{Cents, FileId, Text};
+use permit_base::values::{Cents, FileId};
 use permit_base::words::{Stage, Timing};
 use std::alloc::AllocError;
 use std::marker::Model;
@@ -14,7 +15,7 @@ pub struct FileRow {
     pub id: FileId,
     pub state: FileState,
     pub valuation: Cents,
-    pub description: Text,
+    pub description: SharedText,
 }
 
 impl Model for FileRow {

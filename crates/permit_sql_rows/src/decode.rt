@@ -18,8 +18,8 @@ ghost use Rattle.permit_sql_rows.specs.Typed.{firsts, IsObject, IsDesk, IsParty,
 use crate::fields::{
     Read, RowFault, cents, day, day_or_minus_one, days_or_zero, digest, file_number, has_lot,
     has_string, kind, lot, number, number_or_minus_one, paper_number, parcel_number, party_number,
-    party_or_null, party_or_zero, readable, role, short_number, small_number, sort, stage,
-    step_or_minus_one, string, text, truth,
+    party_or_null, party_or_zero, readable, role, shared_text, short_number, small_number, sort,
+    stage, step_or_minus_one, string, text, truth,
 };
 use permit_base::values::{FileId, ParcelId, PartyId};
 use permit_base::words::{Edition, Role};
@@ -257,7 +257,7 @@ pub fn file_of(row: &Row, upgrade: Option<u32>) -> Read<FileRow>
         id,
         state: readable(state_under(row, edition_numbered(upgrade, id)))?,
         valuation: readable(cents(row, 7))?,
-        description: text(row, 8)?,
+        description: shared_text(row, 8)?,
     })
 }
 

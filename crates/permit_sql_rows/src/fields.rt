@@ -15,8 +15,10 @@ use permit_base::values::{
     Text, TextKind,
 };
 use permit_base::words::{Kind, PaperSort, Role, Stage, Step, Word};
+use permit_core::shared::SharedText;
 use sqlite::{Error, ErrorCode, Row};
 use sqlite_value::value::ValueRef;
+use std::alloc::Global;
 
 /// Why a row isn't read as a typed value.
 #[derive(Clone, Copy, Debug, PartialEq, Eq)]
@@ -276,6 +278,36 @@ pub(crate) fn text(row: &Row, at: usize) -> Read<Text>
 {
     match string(row, at) {
         Ok(text) => readable(Text::new(text)),
+        Err(RowFault::NoMemory) if has_text(row, at) => Err(RowFault::NoMemory),
+        Err(_) => Err(RowFault::Unreadable),
+    }
+}
+
+/// The text, to be shared.
+fn shared(alloc: Global, text: Text) -> Read<SharedText>
+    ensures ok { IfOk result (λ x. x ≡ text) }
+    ensures err { IfErr result (λ e. e ≡ RowFault.NoMemory) }
+{
+    match SharedText::new(alloc, text) {
+        Ok(text) => Ok(text),
+        Err(_) => Err(RowFault::NoMemory),
+    }
+}
+
+/// A text within its limits, to be shared. Memory is said to be refused only where there is one.
+pub(crate) fn shared_text(row: &Row, at: usize) -> Read<SharedText>
+    ensures read { (t : List ℕ) → column row.now at ≡ TextValue t → IfOk result (λ x. x ≡ t) }
+    ensures back { IfOk result (λ x. column row.now at ≡ TextValue x) }
+    ensures within { IfOk result (λ x. IsTrue (is_printable x)) }
+    ensures utf8 { IfOk result (λ x. IsUtf8 x) }
+    ensures some { (t : List ℕ) → IsTrue (is_printable t) → IsUtf8 t → column row.now at ≡ TextValue t → IfErr result (λ e. e ≡ RowFault.NoMemory) }
+    ensures memory { IfErr result (λ e. e ≡ RowFault.NoMemory → IsStringOf is_printable (column row.now at)) }
+{
+    match string(row, at) {
+        Ok(text) => {
+            let alloc = *text.allocator();
+            shared(alloc, readable(Text::new(text))?)
+        }
         Err(RowFault::NoMemory) if has_text(row, at) => Err(RowFault::NoMemory),
         Err(_) => Err(RowFault::Unreadable),
     }

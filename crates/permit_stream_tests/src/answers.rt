@@ -7,6 +7,7 @@ use permit_base::refusal::{Reason, Refusal};
 use permit_base::values::{Cents, PaperNumber, RuleName};
 use permit_base::words::{Action, Edition, Kind, PaperSort, Stage, Timing};
 use permit_core::row::{FileRow, FileView};
+use permit_core::shared::SharedText;
 use permit_core::state::FileState;
 use permit_http::fault::Fault;
 use permit_office::reply::Reply;
@@ -61,7 +62,7 @@ fn house(alloc: Global, papers: Vec<Paper>) -> Result<Answer, Fail> {
             day(19723)?,
         ),
         valuation: Cents::new(25000000).ok_or("cents")?,
-        description: text(alloc, "House")?,
+        description: SharedText::new(alloc, text(alloc, "House")?)?,
     };
     let file = FileView {
         row,

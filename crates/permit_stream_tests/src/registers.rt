@@ -5,6 +5,7 @@ use permit_base::values::{Cents, Day};
 use permit_base::words::{Edition, Kind, RegisterKind, Stage, Step};
 use permit_core::restore::StateFields;
 use permit_core::row::{FileRow, FileView};
+use permit_core::shared::SharedText;
 use permit_core::state::FileState;
 use permit_core::taker::Taker;
 use permit_report::{RegisterWriter, ReportError, register};
@@ -54,7 +55,7 @@ fn shown(alloc: Global, number: u32, state: FileState, on: Day) -> Result<FileVi
         id: file(number)?,
         state,
         valuation: Cents::new(25000000).ok_or("cents")?,
-        description: text(alloc, "House")?,
+        description: SharedText::new(alloc, text(alloc, "House")?)?,
     };
     Ok(FileView { row, stage, timing })
 }

@@ -20,6 +20,7 @@ use crate::rows::{FileRow, Interest, NewPaper, Paper, Parcel, Party, RowEffect};
 use permit_base::limits::{MOST_RECORDS, number_after};
 use permit_base::values::{Cents, Day, Digest, FileId, Lot, ParcelId, PartyId, Text};
 use permit_base::words::Role;
+use permit_core::shared::SharedText;
 use permit_core::state::FileState;
 use std::alloc::Global;
 use std::collections::LinkedList;
@@ -146,6 +147,9 @@ pub(crate) fn ready_file(
     let number = number_after(files.len() as u32)?;
     let id = FileId::new(number)?;
     let Ok(description) = description.clone() else {
+        return None;
+    };
+    let Ok(description) = SharedText::new(*files.allocator(), description) else {
         return None;
     };
     let Ok(()) = files.reserve(1) else {

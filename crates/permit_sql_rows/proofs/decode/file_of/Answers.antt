@@ -16,7 +16,7 @@ returns-clause-back c =
     let id = subst (λ o. IfSome o (λ x. column row 0 ≡ int x)) c.in_ok-id.ensures.ok c.file_number.ensures.back in
     let h = subst (λ o. IfSome o (ShowsState row)) c.in_ok-readable.ensures.ok c.state_under.ensures.back in
     let v = subst (λ o. IfSome o (λ x. column row 7 ≡ int x)) c.in_ok-readable-2.ensures.ok c.cents.ensures.back in
-    file_columns row id h v c.in_ok-text.ensures.back
+    file_columns row id h v c.in_ok-shared_text.ensures.back
 
 pub returns-clause-read : goal.returns-clause-read
 returns-clause-read c = λ is more named e.
@@ -28,7 +28,7 @@ returns-clause-read c = λ is more named e.
     here
     (subst (λ o. IfSome o (λ x. x ≡ is.state)) c.in_ok-readable.ensures.ok (c.state_under.ensures.read c.args.upgrade is more named under e))
     (subst (λ o. IfSome o (λ x. x ≡ is.valuation)) c.in_ok-readable-2.ensures.ok (c.cents.ensures.read is.valuation (at 7)))
-    (c.in_ok-text.ensures.read is.description (at 8))
+    (c.in_ok-shared_text.ensures.read is.description (at 8))
 
 pub returns-in_err-readable-clause-some : goal.returns-in_err-readable-clause-some
 returns-in_err-readable-clause-some c = λ is more good named e.
@@ -38,12 +38,12 @@ returns-in_err-readable-clause-some c = λ is more good named e.
     named.edition ∙ ap (edition_numbered c.args.upgrade) (sym here) ∙ sym c.edition_numbered.ensures in
     not_some _ c.in_err-readable.ensures.err.0 (c.state_under.ensures.some c.args.upgrade is more good named under e)
 
-pub returns-in_err-text-clause-memory : goal.returns-in_err-text-clause-memory
-returns-in_err-text-clause-memory c =
-    let p = err_from_is_err_and c.from_residual-in_err-text.result c.from_residual-in_err-text.ensures.1 in
+pub returns-in_err-shared_text-clause-memory : goal.returns-in_err-shared_text-clause-memory
+returns-in_err-shared_text-clause-memory c =
+    let p = err_from_is_err_and c.from_residual-in_err-shared_text.result c.from_residual-in_err-shared_text.ensures.1 in
     on_memory p.0 p.1 (λ none.
     let row = c.args.row.now in
-    let text = c.in_err-text.ensures.memory (sym p.2 ∙ none) in
+    let text = c.in_err-shared_text.ensures.memory (sym p.2 ∙ none) in
     let id = subst (λ o. IfSome o (λ x. column row 0 ≡ int x)) c.in_ok-id.ensures.ok c.file_number.ensures.back in
     let h = subst (λ o. IfSome o (ShowsState row)) c.in_ok-readable.ensures.ok c.state_under.ensures.back in
     let v = subst (λ o. IfSome o (λ x. column row 7 ≡ int x)) c.in_ok-readable-2.ensures.ok c.cents.ensures.back in
