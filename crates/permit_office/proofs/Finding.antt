@@ -23,7 +23,7 @@ use Rattle.permit_model.specs.Tables.{Paper, State, FileRow, file_row, state_of,
 use Rattle.permit_model.specs.Machine.{FileShown, ParcelShown, shown_parcel, outcome_by_decision, outcome_by_facts, outcome_by_request, refused, unchanged}
 use Rattle.permit_model.specs.Machine.{shown_file}
 use Rattle.permit_policy.specs.Denial.{denied}
-use Rattle.permit_office.proofs.Lists.{find_mapped}
+use Rattle.permit_model.proofs.Lists.{find_mapped}
 use Rattle.permit_office.proofs.Deciding.{allowed_outcome}
 
 found_number_by : {A : Type 0} (id : A → ℕ) (k : ℕ) (x y : A) (rest : Option A) (b : Bool) → (id x == k) ≡ b → cond b (Some x) rest ≡ Some y →

@@ -15,7 +15,7 @@ use Rattle.permit_model.specs.Routes.{kept_cells, route_by, is_open_to_all, is_a
 use Rattle.permit_model.specs.Search.{how_many}
 use Rattle.permit_model.specs.SoundState.{is_stored}
 use Rattle.permit_model.specs.Tables.{Tables}
-use Rattle.permit_model.proofs.FoundFiles.{marks, fits, kept_cell_once}
+use Rattle.permit_model.proofs.FoundFiles.{left_of, right_of, marks, fits, kept_cell_once}
 use Rattle.permit_model.proofs.Selecting.{bit, how_many-cons, how_many-append, how_many-map, how_many-filter, some_counted, everywhere, same_selected}
 use Rattle.permit_policy.specs.Selections.{alone, relation_bys, is_opened, selection, has_routes, selections_by_cells, selections_of}
 use Rattle.permit_policy.proofs.SameRoutes.{selected, same_counts}
@@ -51,14 +51,6 @@ once p xs few = either (list_any p xs) refl
 bit_most : (b : Bool) → bit b ≤ 1
 bit_most true = omega arith
 bit_most false = omega arith
-
-left_of : (a b : Bool) → (a && b) ≡ true → a ≡ true
-left_of true b h = refl
-left_of false b h = cc
-
-right_of : (a b : Bool) → (a && b) ≡ true → b ≡ true
-right_of true b h = h
-right_of false b h = cc
 
 -- as many groups have one that passes as items pass, where no group has two
 grouped : {A : Type 0} (p : A → Bool) (groups : List (List A)) → AllByRecursion (λ g. how_many p g ≤ 1) groups →

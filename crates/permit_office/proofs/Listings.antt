@@ -1,6 +1,6 @@
 -- From the rows that a listing's selections find to its files.
 use Rattle.std.proofs.Common.{◌≡◌, ◌<◌, ◌≤◌, ℕ, ◌+◌, ◌*◌, ◌%◌, ◌^◌, List, [], ◌∷◌, ◌++◌, length, refl, sym, ◌∙◌, ap, subst, ⊎_elim, map}
-use Rattle.std.proofs.Common.{append_assoc, length-append, arith}
+use Rattle.std.proofs.Common.{append_assoc, append-nil, length-append, arith}
 use Rattle.std.specs.Prelude.{filter, Ok, Vec, IsPermutation}
 use Rattle.std.specs.List.{flat_map, Contains, Any}
 use Rattle.std.proofs.lemmas.List.{map-append}
@@ -51,13 +51,9 @@ views_append policy caller day xs ys =
 counted : (b c n m : ℕ) → b ≡ n % 2 ^ 32 → c ≡ m % 2 ^ 32 → (b + c) % 2 ^ 32 ≡ (n + m) % 2 ^ 32
 counted b c n m e f = omega arith
 
-nothing_more : {A : Type 0} (xs : List A) → xs ++ [] ≡ xs
-nothing_more [] = refl
-nothing_more (x ∷ xs) = ap (λ ys. x ∷ ys) (nothing_more xs)
-
 -- the files that were taken come after those of before
 added : (views : List FileView) (before after : FileList) → TookAll Adds views before after → after.files.items ≡ before.files.items ++ views
-added [] before after took = ap (λ (l : FileList). l.files.items) took ∙ sym (nothing_more before.files.items)
+added [] before after took = ap (λ (l : FileList). l.files.items) took ∙ sym (append-nil before.files.items)
 added (view ∷ views) before after took =
     added views took.0 after took.2 ∙ ap (λ fs. fs ++ views) (took.1 refl) ∙ append_assoc before.files.items (view ∷ []) views
 
@@ -68,7 +64,7 @@ rising_rows [] up = up
 rising_rows (row ∷ rows) up = (up.0, rising_rows rows up.1)
 
 flat_last : {A B : Type 0} (f : A → List B) (xs : List A) (x : A) → flat_map f (xs ++ x ∷ []) ≡ flat_map f xs ++ f x
-flat_last f [] x = nothing_more (f x)
+flat_last f [] x = append-nil (f x)
 flat_last f (y ∷ xs) x = ap (λ zs. f y ++ zs) (flat_last f xs x) ∙ sym (append_assoc (f y) (flat_map f xs) (f x))
 
 handed_more : (old mid new n m : ℕ) → HandedMore n old mid → HandedMore m mid new → HandedMore (n + m) old new
@@ -78,7 +74,7 @@ handed_more old mid new n m e f = omega arith
 any_order : (routes : List Route) (caller day : ℕ) (t : Tables) (given rest : List Found) → rest ≡ [] → AreFoundBy routes caller day t (given ++ rest) →
     IsPermutation given (found_by_any routes caller day t)
 any_order routes caller day t given rest none found =
-    by_routes routes (subst (AreFoundBy routes caller day t) (ap (λ rs. given ++ rs) none ∙ nothing_more given) found)
+    by_routes routes (subst (AreFoundBy routes caller day t) (ap (λ rs. given ++ rs) none ∙ append-nil given) found)
   where
     by_routes : (rs : List Route) → AreFoundBy rs caller day t given → IsPermutation given (found_by_any rs caller day t)
     by_routes [] moved = moved

@@ -2,7 +2,7 @@
 use Rattle.std.proofs.Common.{◌≡◌, ◌<◌, ◌+◌, ℕ, ◌==◌, Bool, true, false, cond, not, List, [], ◌∷◌, length, refl, sym, ◌∙◌, ap, subst, map, arith}
 use Rattle.std.specs.Prelude.{Option, None, Some, find, filter, option_map, unwrap_or, is_some, if◌then◌else◌, IsTrue, ◌||◌, ◌&&◌}
 use Rattle.std.specs.List.{cons_option}
-use Rattle.std.proofs.lemmas.Bool.{eqb-true}
+use Rattle.std.proofs.lemmas.Bool.{eqb-true, and_right}
 use Rattle.std.proofs.lemmas.List.{map-append}
 use Rattle.std.proofs.lemmas.Bool.Decides.{nat_tests}
 use Rattle.permit_base.specs.declared.words.PaperSort.{PaperSort}
@@ -192,13 +192,9 @@ cleared_in : (k m : ℕ) (open_now : List ℕ) (b c : Bool) → (m == k) ≡ c �
 cleared_in k m open_now false c e = refl
 cleared_in k m open_now true c e = without k m open_now ∙ ap (λ (t : Bool). if t then false else has_number open_now m) e
 
-no_more : (b : Bool) → (b && false) ≡ false
-no_more true = refl
-no_more false = refl
-
 closed_paper : (p : Paper) (notice was : Bool) (c : Bool) → record p { is_open = notice && (if c then false else was) }
     ≡ (if c then record p { is_open = false } else record p { is_open = notice && was })
-closed_paper p notice was true = ap (λ t. record p { is_open = t }) (no_more notice)
+closed_paper p notice was true = ap (λ t. record p { is_open = t }) (and_right notice false refl)
 closed_paper p notice was false = refl
 
 closed_if : (file id k : ℕ) (act : Act) (before : List Act) (was : Bool) (o : Option PaperSort) → paper_sort act.command ≡ o →

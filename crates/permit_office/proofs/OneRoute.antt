@@ -1,5 +1,5 @@
 -- A listing whose rows one selection finds.
-use Rattle.std.proofs.Common.{◌≡◌, ◌<◌, ◌≤◌, ℕ, Bool, List, [], ◌∷◌, ◌++◌, length, refl, sym, ◌∙◌, ap, subst, map, append_assoc, get_or, arith}
+use Rattle.std.proofs.Common.{◌≡◌, ◌<◌, ◌≤◌, ℕ, Bool, List, [], ◌∷◌, ◌++◌, length, refl, sym, ◌∙◌, ap, subst, map, append_assoc, append-nil, get_or, arith}
 use Rattle.std.specs.Prelude.{filter, Result, Ok, Err, IsErr, Some}
 use Rattle.std.specs.List.{flat_map}
 use Rattle.permit_base.specs.declared.request.Filter.{Filter}
@@ -26,10 +26,6 @@ use Rattle.permit_office.specs.Showing.{Shows, OpensAt, HandedAt, end_of}
 use Rattle.permit_office.specs.Stops.{StopsAtLast, StopsIn, StopsFor, routes_for}
 use Rattle.permit_office.proofs.Listings.{views_append, files_listed, few_read}
 use Rattle.permit_office.proofs.PassedRows.{listed_alone}
-
-nothing_more : {A : Type 0} (xs : List A) → xs ++ [] ≡ xs
-nothing_more [] = refl
-nothing_more (x ∷ xs) = ap (λ ys. x ∷ ys) (nothing_more xs)
 
 -- a list of one
 pub alone : {A : Type 0} (xs : List A) (x : A) → 1 ≤ length xs → length xs < 2 → x ≡ get_or xs 0 x → xs ≡ x ∷ []
@@ -58,7 +54,7 @@ views_rising policy h day caller route is =
 found_alone : (h : History) (day : ℕ) (caller : Party) (route : Route) (routes : List Route) → routes ≡ route ∷ [] →
     found_by route caller.id day (tables h) ≡ flat_map (λ r. found_by r caller.id day (tables h)) routes
 found_alone h day caller route routes e =
-    sym (nothing_more (found_by route caller.id day (tables h))) ∙ ap (flat_map (λ (r : Route). found_by r caller.id day (tables h))) (sym e)
+    sym (append-nil (found_by route caller.id day (tables h))) ∙ ap (flat_map (λ (r : Route). found_by r caller.id day (tables h))) (sym e)
 
 -- the files among them that may be listed are the listing's
 one_listed : (policy : Policy) (h : History) (day : ℕ) (caller : Party) (wanted : Filter) → IsHistory h → (route : Route) →
@@ -119,7 +115,7 @@ module _ {T : Type 0} (took : T → FileView → T → Bool → Type 0) (policy 
       let found = passed.found sure h is held in
       let all : listing policy h day caller wanted ≡ views_found policy caller day passed.given =
       sym (one_listed policy h day caller wanted is route e) ∙ ap (views_found policy caller day)
-      (found.2 ∙ ap (λ rest. passed.given ++ rest) found.1 ∙ nothing_more passed.given) in
+      (found.2 ∙ ap (λ rest. passed.given ++ rest) found.1 ∙ append-nil passed.given) in
       subst (λ (vs : List FileView). TookAll took vs before after) (sym all) passed.taken.1
   shown e old new before after (Ok ended.Stopped) passed sure held =
       let found = passed.found sure h is held in
@@ -136,7 +132,7 @@ module _ {T : Type 0} (took : T → FileView → T → Bool → Type 0) (policy 
   opens e old new before after (Ok (ended.All read)) passed sure held =
       let found = passed.found sure h is held in
       let all : passed.given ≡ found_by route caller.id day (tables h) =
-      sym (found.2 ∙ ap (λ rest. passed.given ++ rest) found.1 ∙ nothing_more passed.given) in
+      sym (found.2 ∙ ap (λ rest. passed.given ++ rest) found.1 ∙ append-nil passed.given) in
       let count : length passed.given ≡ length (opened policy h day caller wanted) =
       ap length (all ∙ found_alone h day caller route (routes_for policy caller wanted) e) ∙ same_count policy h day caller wanted in (
         few_read read (length passed.given) (length (opened policy h day caller wanted)) passed.taken.0 count (few_opened policy h day caller wanted is),

@@ -3,7 +3,7 @@ use Rattle.std.proofs.Common.{◌≡◌, ◌≤◌, ◌<◌, ℕ, ◌+◌, suc, 
 use Rattle.std.proofs.Common.{length-append}
 use Rattle.std.specs.Prelude.{Option, None, Some, is_some, is_none, filter, option_map, ◌&&◌, ◌||◌, nat_le, if◌then◌else◌, unwrap_or}
 use Rattle.std.specs.List.{list_all, list_any}
-use Rattle.std.proofs.lemmas.Bool.{eq-eqb, eqb-true, ne_eqb, le-leb, leb-true, ltb-false, and_from, and_parts}
+use Rattle.std.proofs.lemmas.Bool.{eq-eqb, eqb-true, ne_eqb, le-leb, leb-true, ltb-false, and_from, and_right, and_parts}
 use Rattle.std.proofs.lemmas.List.{length-map, append-nil}
 use Rattle.std.proofs.lemmas.List.Elements.{filter-append}
 use Rattle.std.proofs.lemmas.List.Folds.{list_all-append, list_all-map}
@@ -215,16 +215,12 @@ untouched id n first (p ∷ ps) below numbered =
 abbrev has_open : ℕ → List Paper → Bool
 has_open n ps = list_any (λ (p : Paper). p.is_open && (p.number == n)) ps
 
-and_false : (a b : Bool) → b ≡ false → (a && b) ≡ false
-and_false true b e = e
-and_false false b e = refl
-
 none_open : (n first : ℕ) (ps : List Paper) → n < first → is_numbered_from (λ (q : Paper). q.number) first ps ≡ true → has_open n ps ≡ false
 none_open n first [] below numbered = refl
 none_open n first (p ∷ ps) below numbered =
     let parts = and_parts (p.number == first) (is_numbered_from (λ (q : Paper). q.number) (first + 1) ps) numbered in
     let other : (p.number == n) ≡ false = ne_eqb p.number n (omega (arith, below, eqb-true p.number first parts.0)) in
-    ap (λ b. b || has_open n ps) (and_false p.is_open (p.number == n) other) ∙ none_open n (first + 1) ps (omega (arith, below)) parts.1
+    ap (λ b. b || has_open n ps) (and_right p.is_open (p.number == n) other) ∙ none_open n (first + 1) ps (omega (arith, below)) parts.1
 
 close_first : (id n first : ℕ) (p : Paper) (ps : List Paper) (b o : Bool) → (p.number == n) ≡ b → p.is_open ≡ o → (p.file == id) ≡ true →
     p.number ≡ first → is_numbered_from (λ (q : Paper). q.number) (first + 1) ps ≡ true → ((p.is_open && (p.number == n)) || has_open n ps) ≡ true →
@@ -239,12 +235,12 @@ close_first id n first p ps true false e o file same numbered there ih =
     let later : has_open n ps ≡ false = none_open n (first + 1) ps (omega (arith, same, eqb-true p.number n e)) numbered in
     let bad : true ≡ false = sym there ∙ ap (λ c. (c && (p.number == n)) || has_open n ps) o ∙ later in cc
 close_first id n first p ps false true e o file same numbered there ih =
-    let later : has_open n ps ≡ true = ap (λ c. c || has_open n ps) (sym (and_false p.is_open (p.number == n) e)) ∙ there in
+    let later : has_open n ps ≡ true = ap (λ c. c || has_open n ps) (sym (and_right p.is_open (p.number == n) e)) ∙ there in
     let after : length (opened (closed_by id n p ∷ map (closed_by id n) ps)) ≡ suc (length (opened (map (closed_by id n) ps))) =
     ap (λ q. length (opened (q ∷ map (closed_by id n) ps))) (closed_unnumbered id n p e) ∙ count_first p (map (closed_by id n) ps) true o in
     omega (arith, after, count_first p ps true o, ih later)
 close_first id n first p ps false false e o file same numbered there ih =
-    let later : has_open n ps ≡ true = ap (λ c. c || has_open n ps) (sym (and_false p.is_open (p.number == n) e)) ∙ there in
+    let later : has_open n ps ≡ true = ap (λ c. c || has_open n ps) (sym (and_right p.is_open (p.number == n) e)) ∙ there in
     let after : length (opened (closed_by id n p ∷ map (closed_by id n) ps)) ≡ length (opened (map (closed_by id n) ps)) =
     ap (λ q. length (opened (q ∷ map (closed_by id n) ps))) (closed_unnumbered id n p e) ∙ count_first p (map (closed_by id n) ps) false o in
     omega (arith, after, count_first p ps false o, ih later)

@@ -1,5 +1,5 @@
 -- A run goes on by one request.
-use Rattle.std.proofs.Common.{◌≡◌, ℕ, ◌+◌, Bool, true, false, cond, not, List, [], ◌∷◌, ◌++◌, length, map, refl, sym, ◌∙◌, ap, subst, ⊎_elim, length-append}
+use Rattle.std.proofs.Common.{◌≡◌, ℕ, ◌+◌, Bool, true, false, cond, not, List, [], ◌∷◌, ◌++◌, length, map, refl, sym, ◌∙◌, ap, subst, ⊎_elim, length-append, append-nil}
 use Rattle.std.proofs.Common.{arith}
 use Rattle.std.specs.Prelude.{filter, if◌then◌else◌}
 use Rattle.permit_base.specs.declared.refusal.Refusal.TheVariants as refusal
@@ -66,10 +66,6 @@ own_last : (replies : List Given) (reply : Given) → own_replies (replies ++ re
 own_last [] reply = own_first (is_store_refusal reply) reply
 own_last (r ∷ rs) reply = own_by (is_store_refusal r) r rs (if is_store_refusal reply then [] else reply_of reply ∷ []) (rs ++ reply ∷ []) (own_last rs reply)
 
-nothing_more : {A : Type 0} (xs : List A) → xs ++ [] ≡ xs
-nothing_more [] = refl
-nothing_more (x ∷ xs) = ap (λ ys. x ∷ ys) (nothing_more xs)
-
 longer : {A B : Type 0} (xs : List A) (ys : List B) (x : A) (y : B) → length ys ≡ length xs → length (ys ++ y ∷ []) ≡ length (xs ++ x ∷ [])
 longer xs ys x y e = length-append ys (y ∷ []) ∙ ap (λ n. n + 1) e ∙ sym (length-append xs (x ∷ []))
 
@@ -112,10 +108,10 @@ skips : (holds after : Tables → Type 0) (policy : Policy) (requests : List (As
 skips holds after policy requests replies h request reply ran one e held =
     let same : answered (requests ++ request ∷ []) (replies ++ reply ∷ []) ≡ answered requests replies =
     answered_last requests replies request reply ran.each ∙ ap (λ (b : Bool). answered requests replies ++ (if b then [] else request ∷ [])) e
-    ∙ nothing_more (answered requests replies) in
+    ∙ append-nil (answered requests replies) in
     record {
       each = longer requests replies request reply ran.each;
-      told = own_last replies reply ∙ ap (λ (b : Bool). own_replies replies ++ (if b then [] else reply_of reply ∷ [])) e ∙ nothing_more (own_replies replies)
+      told = own_last replies reply ∙ ap (λ (b : Bool). own_replies replies ++ (if b then [] else reply_of reply ∷ [])) e ∙ append-nil (own_replies replies)
           ∙ ran.told ∙ ap (λ xs. replies_to policy xs h) (sym same);
       read = tell_last policy requests replies h request reply ran.each ran.read one;
       held = subst (λ xs. after (tables (history_after policy xs h))) (sym same) held;

@@ -1,8 +1,8 @@
 -- A known caller in time is served.
 use Rattle.std.proofs.Common.{◌≡◌, ◌≤◌, ℕ, Bool, true, false, List, refl, ◌≢◌, sym, ◌∙◌, ap, subst, arith, inl, [], ◌∷◌, ◌++◌, not}
-use Rattle.std.specs.Prelude.{Option, None, Some, option_and_then, Result, IfOk, nat_lt, if◌then◌else◌, IsTrue, Ok, Err}
+use Rattle.std.specs.Prelude.{Option, None, Some, option_and_then, Result, IfOk, if◌then◌else◌, IsTrue, Ok, Err}
 use Rattle.permit_store.specs.declared.store.StoreError.{StoreError}
-use Rattle.std.proofs.lemmas.Bool.Decides.{nat_tests}
+use Rattle.std.proofs.lemmas.Bool.{le-ltb}
 use Rattle.permit_base.specs.declared.refusal.Refusal.{Refusal}
 use Rattle.permit_base.specs.declared.refusal.Refusal.TheVariants as refusal
 use Rattle.permit_base.specs.Digests.{digest_of}
@@ -26,14 +26,11 @@ use Rattle.permit_office.specs.Frames.{IsAttempt, IsStep, Steps, UnlessDone}
 use Rattle.permit_office.specs.Sound.{KeepsSound, IsSoundChange, OnMade, MakesOne}
 use Rattle.permit_model.proofs.Histories.{found_by_number}
 
-in_time : (last day : ℕ) → last ≤ day → nat_lt day last ≡ false
-in_time last day h = grind (arith, nat_tests)
-
 pub stepped : (policy : Policy) (h : History) (digest : List ℕ) (request : Request) (day : ℕ) (caller : Party) → Some caller ≡ who h digest → last_day h ≤ day →
     step_as policy h digest request day ≡ outcome_by_request policy h day caller request
 stepped policy h digest request day caller found time =
     ap (outcome_by_caller policy h day request) (sym found)
-    ∙ ap (λ (b : Bool). if b then refused h refusal.Clock else outcome_by_request policy h day caller request) (in_time (last_day h) day time)
+    ∙ ap (λ (b : Bool). if b then refused h refusal.Clock else outcome_by_request policy h day caller request) (le-ltb day (last_day h) time)
 
 pub caller_there : (h : History) (digest : List ℕ) (caller : Party) → Some caller ≡ who h digest → IsTrue (is_party h caller.id)
 caller_there h digest caller found = found_by_number (parties h) digest caller (sym found)

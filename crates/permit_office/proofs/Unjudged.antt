@@ -1,7 +1,7 @@
 -- What comes of a command that no policy judges, where its record is there and where it isn't.
-use Rattle.std.proofs.Common.{◌≡◌, ◌≤◌, ℕ, true, false, refl, sym, ◌∙◌, ap, arith}
-use Rattle.std.specs.Prelude.{Option, None, Some, option_map, is_some, nat_lt}
-use Rattle.std.proofs.lemmas.Bool.Decides.{nat_tests}
+use Rattle.std.proofs.Common.{◌≡◌, ◌≤◌, ℕ, true, false, refl, sym, ◌∙◌, ap}
+use Rattle.std.specs.Prelude.{Option, None, Some, option_map, is_some}
+use Rattle.std.proofs.lemmas.Bool.{le-ltb}
 use Rattle.permit_base.specs.declared.refusal.Refusal.TheVariants as refusal
 use Rattle.permit_base.specs.declared.request.Request.{Request}
 use Rattle.permit_model.specs.History.{History, last_day}
@@ -46,10 +46,7 @@ file_there h day caller file asked one found = ap (λ o. outcome_if_there h day 
 
 -- ---- the caller and the day
 
-in_time : (last day : ℕ) → last ≤ day → nat_lt day last ≡ false
-in_time last day h = grind (arith, nat_tests)
-
 pub known_in_time : (h : History) (day caller : ℕ) (asked : Request) → true ≡ is_party h caller → last_day h ≤ day
     → outcome_unjudged h day caller asked ≡ outcome_on_record h day caller asked
 known_in_time h day caller asked known time =
-    ap (outcome_of_party h day caller asked) (sym known) ∙ ap (outcome_in_time h day caller asked) (in_time (last_day h) day time)
+    ap (outcome_of_party h day caller asked) (sym known) ∙ ap (outcome_in_time h day caller asked) (le-ltb day (last_day h) time)
