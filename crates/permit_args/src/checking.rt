@@ -33,6 +33,15 @@ pub fn dead_text(alloc: Global, policy: &Policy) -> Result<String, AllocError>
 }
 
 /// A line for each rule up to the one that decides for the facts, and a line with what is decided.
+///
+/// # Examples
+///
+/// ```
+/// let text = "[[rule]]\nname = \"plans\"\neffect = \"allow\"\nrole = [\"reviewer\"]\n";
+/// let policy = read_policy(alloc, text)?;
+/// let explained = explained_text(alloc, &policy, &facts)?;
+/// assert!(rt; explained.as_str() == "plans match\ndecided plans allow\n");
+/// ```
 pub fn explained_text(alloc: Global, policy: &Policy, facts: &Facts) -> Result<String, AllocError>
     ensures { IfOk result (λ text. string_bytes text ≡ tried_lines (explanation policy.now facts.now) ++ decided_line (decision policy.now facts.now)) }
 {

@@ -106,6 +106,15 @@ fn facts_by(
 
 /// The facts of a text `ROLE,RELATIONS,ACTION,STAGE,STOPPED,TIMING`, or none where it says no facts. Relations are joined
 /// by `+`, each at most once, and a hyphen stands for none; a stop order is `yes` or `no`.
+///
+/// # Examples
+///
+/// ```
+/// let text = "reviewer,assigned-reviewer,approve-plans,review,no,ahead";
+/// let facts = read_facts(alloc, text)?.ok_or("facts")?;
+/// assert!(rt; facts.role == Role::Reviewer);
+/// assert!(rt; read_facts(alloc, "reviewer")?.is_none());
+/// ```
 pub fn read_facts(alloc: Global, text: &str) -> Result<Option<Facts>, AllocError>
     ensures { IfOk result (λ facts. facts ≡ facts_in (pieces 44 text.now)) }
 {

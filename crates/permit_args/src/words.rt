@@ -143,8 +143,19 @@ fn subcommand(words: &[String]) -> Option<Subcommand>
     }
 }
 
-/// The plan of the words behind the program's name: none to print the name, else those of the subcommand that the first
-/// word names, as the command line library reads them.
+/// What the words behind the program's name ask for. Without words the program prints its name. Else the first word names
+/// a subcommand, and the command line library reads the words for it.
+///
+/// # Examples
+///
+/// ```
+/// let mut words = Vec::new(alloc);
+/// for word in ["check-db", "--db", "office.db"] {
+///     words.push(String::from_str(alloc, word)?)?;
+/// }
+/// let planned = plan(alloc, words.as_slice());
+/// assert!(rt; matches!(planned, Ok(Plan::CheckDb(_))));
+/// ```
 pub fn plan<'a>(alloc: Global, words: &'a [String]) -> Result<Plan<'a>, PlanFault>
     ensures plan { IfOk result (IsPlanOf (map string_bytes words.now)) }
     ensures refused { IfErr result (IsNoPlan (map string_bytes words.now)) }

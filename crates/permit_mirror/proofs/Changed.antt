@@ -2,9 +2,10 @@
 use Rattle.std.proofs.Common.{◌≡◌, ◌<◌, ℕ, ◌+◌, ◌%◌, ◌^◌, ◌==◌, Bool, true, false, cond, List, [], ◌∷◌, ◌++◌, length, map, find, inl, inr, refl, sym, ◌∙◌, ap, subst, arith, length-append}
 use Rattle.std.specs.Prelude.{◌⊎◌, ◌&&◌, ◌||◌, IsTrue, Option, Some, None, option_map, is_some, nat_lt}
 use Rattle.std.specs.List.{AllByRecursion}
-use Rattle.std.proofs.lemmas.Bool.{eqb-true, ltb-true, and_parts}
+use Rattle.std.proofs.lemmas.Bool.{eqb-true, ltb-true, and_parts, or_cases}
 use Rattle.std.proofs.lemmas.Bool.Decides.{nat_tests}
 use Rattle.std.proofs.lemmas.List.{length-map}
+use Rattle.std.proofs.lemmas.Option.{same_Some}
 use Rattle.std.proofs.lemmas.List.Folds.{list_any-append}
 use Rattle.permit_base.specs.Limits.{most_records}
 use Rattle.permit_model.specs.Codes.{is_edition}
@@ -26,12 +27,9 @@ use Rattle.permit_mirror.specs.Pairs.{has, Grows}
 abbrev pub owner_among : ℕ → List Parcel → Option ℕ
 owner_among parcel parcels = option_map (λ (p : Parcel). p.owner) (find (λ (p : Parcel). p.id == parcel) parcels)
 
-owner_some : (x p : ℕ) → Some x ≡ Some p → x ≡ p
-owner_some x p e = cc
-
 last_owner : (y : Parcel) (parcel p : ℕ) (b : Bool) → (y.id == parcel) ≡ b → option_map (λ (p : Parcel). p.owner) (cond b (Some y) None) ≡ Some p →
     (y.id ≡ parcel) × (y.owner ≡ p)
-last_owner y parcel p true at e = (eqb-true y.id parcel at, owner_some y.owner p e)
+last_owner y parcel p true at e = (eqb-true y.id parcel at, same_Some y.owner p e)
 last_owner y parcel p false at e = cc
 
 more_owner : (x : Parcel) (parcel p : ℕ) (b : Bool) (before after : Option Parcel) (here : Type 0)
@@ -54,7 +52,7 @@ given_owner : (x : Parcel) (id owner parcel p : ℕ) (b c : Bool) (before after 
     → (option_map (λ (p : Parcel). p.owner) (cond c (Some x) before) ≡ Some p) ⊎ ((id ≡ parcel) × (owner ≡ p))
 given_owner x id owner parcel p true true before after eb ec rest e =
     let h = ap (λ k. option_map (λ (p : Parcel). p.owner) (cond k (Some (record x { owner = owner })) after)) (sym ec) ∙ e in
-    inr (sym (eqb-true x.id id eb) ∙ eqb-true x.id parcel ec, owner_some owner p h)
+    inr (sym (eqb-true x.id id eb) ∙ eqb-true x.id parcel ec, same_Some owner p h)
 given_owner x id owner parcel p true false before after eb ec rest e =
     rest (ap (λ k. option_map (λ (p : Parcel). p.owner) (cond k (Some (record x { owner = owner })) after)) (sym ec) ∙ e)
 given_owner x id owner parcel p false true before after eb ec rest e =
@@ -72,12 +70,8 @@ owner_given (x ∷ parcels) id owner parcel p e =
 
 -- ---- the interests
 
-either : (a b : Bool) → (a || b) ≡ true → (a ≡ true) ⊎ (b ≡ true)
-either true b e = inl refl
-either false b e = inr e
-
 interest_here : (i : Interest) (parcel p : ℕ) → (((i.parcel == parcel) && (i.party == p)) || false) ≡ true → (i.parcel ≡ parcel) × (i.party ≡ p)
-interest_here i parcel p e = elim (either ((i.parcel == parcel) && (i.party == p)) false e) [
+interest_here i parcel p e = elim (or_cases ((i.parcel == parcel) && (i.party == p)) false e) [
   | inl h ↦ let both = and_parts (i.parcel == parcel) (i.party == p) h in (eqb-true i.parcel parcel both.0, eqb-true i.party p both.1)
   | inr h ↦ cc
 ]
@@ -237,7 +231,7 @@ covers_changed i j t (NewInterest id party) day c ahead a fits = record {
   interests = λ parcel p e.
       let new : Interest = record { parcel = id; party = party } in
       let two = sym (list_any-append (λ (i : Interest). (i.parcel == parcel) && (i.party == p)) t.interests (new ∷ [])) ∙ e in
-      grows_same _ _ a.at parcel p (elim (either _ _ two) [
+      grows_same _ _ a.at parcel p (elim (or_cases _ _ two) [
         | inl h ↦ c.interests parcel p h
         | inr h ↦
             let here = interest_here new parcel p h in

@@ -3,7 +3,7 @@ use Rattle.std.proofs.Common.{◌≡◌, ◌<◌, ◌≤◌, ℕ, ◌+◌, ◌==
 use Rattle.std.specs.Prelude.{◌⊎◌, ◌||◌, Some, option_to_list}
 use Rattle.std.specs.List.{AllByRecursion, list_any}
 use Rattle.std.proofs.Common.{inl, inr}
-use Rattle.std.proofs.lemmas.Bool.{eqb-true}
+use Rattle.std.proofs.lemmas.Bool.{eqb-true, eq-eqb}
 use Rattle.std.proofs.lemmas.Bool.Decides.{nat_tests}
 use Rattle.permit_base.specs.declared.route.Route.{Route}
 use Rattle.permit_model.specs.Numbering.{IsNumberedFrom}
@@ -22,9 +22,6 @@ different a b h = grind (arith, nat_tests)
 
 different_up : (a b : ℕ) → b < a → (a == b) ≡ false
 different_up a b h = grind (arith, nat_tests)
-
-same : (a b : ℕ) → a ≡ b → (a == b) ≡ true
-same a b h = grind (arith, nat_tests)
 
 module _ (p : Found → Bool) (g : FileRow → Found) where
   -- what passes the test of the row of one number
@@ -111,7 +108,7 @@ module _ (p : Found → Bool) (g : FileRow → Found) where
   some_are_all k (f ∷ files) [] numbered rise all = sym (none_among (f ∷ files) all)
   some_are_all k (f ∷ files) (n ∷ numbers) numbered rise all = elim (at_first n k rise.0 (n == k) refl) [
     | inl e ↦
-        let here : (f.id == n) ≡ true = same f.id n (numbered.0 ∙ sym e) in
+        let here : (f.id == n) ≡ true = eq-eqb f.id n (numbered.0 ∙ sym e) in
         let later : RiseFrom (k + 1) numbers = subst (λ m. RiseFrom (m + 1) numbers) e rise.1 in
         let rest : some_of (f ∷ files) numbers ≡ all_of files = skipped f files (k + 1) numbers (omega (arith, numbered.0)) later
         ∙ some_are_all (k + 1) files numbers numbered.1 later (behind n (k + 1) numbers files (omega (arith, e)) numbered.1 all.1) in

@@ -1,7 +1,7 @@
 -- An index to which all of the tables was added covers them.
 use Rattle.std.proofs.Common.{◌≡◌, ◌<◌, ◌≤◌, ℕ, ◌+◌, ◌==◌, Bool, true, false, cond, List, [], ◌∷◌, length, find, inl, inr, refl, sym, ◌∙◌, ap, subst, arith}
 use Rattle.std.specs.Prelude.{◌⊎◌, IsTrue, Some, option_map}
-use Rattle.std.proofs.lemmas.Bool.{eqb-true}
+use Rattle.std.proofs.lemmas.Bool.{eqb-true, eq-eqb}
 use Rattle.std.proofs.lemmas.Bool.Decides.{nat_tests}
 use Rattle.permit_model.specs.Numbering.{IsNumberedFrom}
 use Rattle.permit_model.specs.Parcels.{Parcel}
@@ -61,9 +61,6 @@ found_within (x ∷ parcels) k parcel p numbered e =
     let both = within_by x parcels k parcel p (x.id == parcel) refl numbered.0 (found_within parcels (k + 1) parcel p numbered.1) e in
     (both.0, omega (arith, both.1))
 
-same : (a b : ℕ) → a ≡ b → (a == b) ≡ true
-same a b h = grind (arith, nat_tests)
-
 different : (a b : ℕ) → a < b → (a == b) ≡ false
 different a b h = grind (arith, nat_tests)
 
@@ -72,7 +69,7 @@ all_found : (j : Index) (k : ℕ) (files : List FileRow) → IsNumberedFrom (λ 
     → ((n : ℕ) (row : FileRow) → k ≤ n → n < k + length files → find (λ (f : FileRow). f.id == n) files ≡ Some row → IsThere j n row.state) → AreThere j files
 all_found j k [] numbered there = tt
 all_found j k (f ∷ files) numbered there = (
-  there f.id f (omega (arith, numbered.0)) (omega (arith, numbered.0)) (ap (λ b. cond b (Some f) (find (λ (g : FileRow). g.id == f.id) files)) (same f.id f.id refl)),
+  there f.id f (omega (arith, numbered.0)) (omega (arith, numbered.0)) (ap (λ b. cond b (Some f) (find (λ (g : FileRow). g.id == f.id) files)) (eq-eqb f.id f.id refl)),
   all_found j (k + 1) files numbered.1
       (λ n row low high found. there n row (omega (arith, low)) (omega (arith, high))
       (ap (λ b. cond b (Some f) (find (λ (g : FileRow). g.id == n) files)) (different f.id n (omega (arith, low, numbered.0))) ∙ found)),

@@ -5,6 +5,8 @@
 #[cfg(test)]
 mod asking;
 #[cfg(test)]
+mod examples;
+#[cfg(test)]
 mod listings;
 #[cfg(test)]
 mod policies;

@@ -177,6 +177,17 @@ fn parse_reason(alloc: Global, error: &toml::de::Error) -> Result<String, AllocE
 /// The line says where the error's place is, and what is wrong there: the rule and its name, the key, the word as it was
 /// typed, at most 60 characters of it and with `?` for a control character, and what would be taken. For a text that is not
 /// TOML it is the message of `toml`, with the line and the column. Want of memory is the only error.
+///
+/// # Examples
+///
+/// ```
+/// let text = "[[rule]]\nname = \"plans\"\neffect = \"alow\"\n";
+/// let Err(error) = read_policy(alloc, text) else {
+///     return Err(Fail::new("a policy"));
+/// };
+/// let line = policy_reason(alloc, text, &error)?;
+/// assert!(rt; line.as_str() == "rule 1 `plans`: effect `alow`: allow or deny");
+/// ```
 pub fn policy_reason(alloc: Global, text: &str, error: &PolicyError) -> Result<String, AllocError>
     ensures { IfOk result (λ s. IsReason error.now text.now (string_bytes s)) }
 {

@@ -22,9 +22,19 @@ use permit_wire::read_request;
 use std::alloc::{AllocError, Global};
 use std::io::Write;
 
-/// Has the office serve the request of these bytes on the day, as on a connection of its own, and gives the answer.
+/// Has the office serve the request of these bytes on the day, as on a connection of its own, and returns the answer.
 ///
-/// Nothing is asked for behind the office's reply that could fail, so no answer is lost: with an error the office is as it was.
+/// Once the office has replied, nothing is left that can fail, so no answer is lost: with an error the office is as it was.
+///
+/// # Examples
+///
+/// ```
+/// let request = "GET /files HTTP/1.1\r\nHost: office\r\n\r\n";
+/// let answer = ask(alloc, office, request, day)?;
+/// let mut out = Vec::new(alloc);
+/// assert!(rt; show(alloc, &answer, &mut out).is_err());
+/// assert!(rt; out.as_slice() == b"{\"refused\":\"caller\"}\n".as_slice());
+/// ```
 pub fn ask<S: Store + Drop>(
     alloc: Global,
     office: &mut Office<S>,
@@ -78,7 +88,7 @@ fn refusal_of(answer: &Answer) -> Option<Refused>
     }
 }
 
-/// Prints a body and a line end. The refusal that stands beside it is the failure then.
+/// Prints a body and a line end. A refusal that is given is the failure then.
 fn tell<O: Write>(body: &[u8], refusal: Option<Refused>, out: &mut O) -> Result<(), Failure>
     ensures { Tells body.now refusal (O.contents out.old) (O.contents out.new) result }
 {
@@ -89,8 +99,8 @@ fn tell<O: Write>(body: &[u8], refusal: Option<Refused>, out: &mut O) -> Result<
     }
 }
 
-/// Prints an answer's body and a line end, and the refusal that it is, is the failure then. Where a read finds no memory for its
-/// text, the store's refusal is shown in its place.
+/// Prints an answer's body and a line end. Where the answer is a refusal, that is the failure then. Where there is no memory
+/// for the body, the store's refusal is printed in its place.
 pub fn show<O: Write>(alloc: Global, answer: &Answer, out: &mut O) -> Result<(), Failure>
     ensures { Shows (answer_data answer.now) (O.contents out.old) (O.contents out.new) result }
 {

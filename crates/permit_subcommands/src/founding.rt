@@ -25,8 +25,17 @@ fn person(alloc: Global, name: &str, token: &str) -> Result<(Text, Token), Failu
     }
 }
 
-/// The founder with this name and token on this day. A name or token out of limits is refused as syntax, else day 0 as
-/// the clock.
+/// The founder with this name and token on this day. A name or a token out of its limits is refused as `syntax`; else day 0
+/// is refused as `clock`.
+///
+/// # Examples
+///
+/// ```
+/// let Ok(founder) = founder(alloc, "Ada", "abcdefghijklmnopqrstuvwxyz", day) else {
+///     return Err(Fail::new("no founder"));
+/// };
+/// assert!(rt; founder.name.as_str() == "Ada");
+/// ```
 pub fn founder(alloc: Global, name: &str, token: &str, day: Day) -> Result<Founder, Failure>
     ensures made { IfOk result (Founds name.now token.now day) }
     ensures refused { IfErr result (IsRefusedFor name.now token.now day) }

@@ -48,8 +48,17 @@ pub fn filter_of(stage: Option<FileStage>) -> Filter
     }
 }
 
-/// Lists the files of a filter, by one step of the office for the caller of the token. A refusal is the failure, and what
-/// the policy keeps from the caller is no failure but left out.
+/// Lists the files of a filter, by one step of the office for the caller of the token. A refusal is the failure. Files that
+/// the policy keeps from the caller are left out, which is no failure.
+///
+/// # Examples
+///
+/// ```
+/// let Ok(listing) = list(office, token, Filter::All, day) else {
+///     return Err(Fail::new("no listing"));
+/// };
+/// assert!(rt; listing_text(alloc, &listing)?.as_str() == "read 0\n");
+/// ```
 pub fn list<S: Store + Drop>(
     office: &mut Office<S>,
     token: Token,
@@ -64,8 +73,8 @@ pub fn list<S: Store + Drop>(
     listed(reply)
 }
 
-/// Writes a register for the caller of the token, each line as the office hands its file out. After a failure a beginning of
-/// its text stands: the failure is the output's where that failed, else the office's refusal.
+/// Writes a register for the caller of the token, each line as the office hands its file out. The failure is the output's
+/// where that failed, else the office's refusal; a beginning of the text is then written.
 pub fn write_register<S: Store + Drop, W: Write>(
     office: &mut Office<S>,
     token: Token,

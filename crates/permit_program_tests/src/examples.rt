@@ -1,0 +1,86 @@
+//! The examples of the doc comments of what reads a command line, what its subcommands do and why a policy is refused, line
+//! by line as they stand there.
+
+use permit_args::checking::explained_text;
+use permit_args::facts::read_facts;
+use permit_args::plan::Plan;
+use permit_args::words::plan;
+use permit_base::request::Filter;
+use permit_base::words::Role;
+use permit_policy::read_policy;
+use permit_reasons::policy_reason;
+use permit_samples::ask::TOKENS;
+use permit_samples::makers::{day, token};
+use permit_samples::offices::over_vectors;
+use permit_subcommands::answering::{ask, show};
+use permit_subcommands::founding::founder;
+use permit_subcommands::listing::{list, listing_text};
+use std::alloc::Global;
+use std::process::Abort;
+use std::test::Fail;
+
+fn words(rt: &impl Abort, alloc: Global) -> Result<(), Fail> {
+    let mut words = Vec::new(alloc);
+    for word in ["check-db", "--db", "office.db"] {
+        words.push(String::from_str(alloc, word)?)?;
+    }
+    let planned = plan(alloc, words.as_slice());
+    assert!(rt; matches!(planned, Ok(Plan::CheckDb(_))));
+    Ok(())
+}
+
+fn policies(rt: &impl Abort, alloc: Global) -> Result<(), Fail> {
+    let text = "reviewer,assigned-reviewer,approve-plans,review,no,ahead";
+    let facts = read_facts(alloc, text)?.ok_or("facts")?;
+    assert!(rt; facts.role == Role::Reviewer);
+    assert!(rt; read_facts(alloc, "reviewer")?.is_none());
+    let text = "[[rule]]\nname = \"plans\"\neffect = \"allow\"\nrole = [\"reviewer\"]\n";
+    let policy = read_policy(alloc, text)?;
+    let explained = explained_text(alloc, &policy, &facts)?;
+    assert!(rt; explained.as_str() == "plans match\ndecided plans allow\n");
+    Ok(())
+}
+
+fn reasons(rt: &impl Abort, alloc: Global) -> Result<(), Fail> {
+    let text = "[[rule]]\nname = \"plans\"\neffect = \"alow\"\n";
+    let Err(error) = read_policy(alloc, text) else {
+        return Err(Fail::new("a policy"));
+    };
+    let line = policy_reason(alloc, text, &error)?;
+    assert!(rt; line.as_str() == "rule 1 `plans`: effect `alow`: allow or deny");
+    Ok(())
+}
+
+fn founders(rt: &impl Abort, alloc: Global) -> Result<(), Fail> {
+    let day = day(19700)?;
+    let Ok(founder) = founder(alloc, "Ada", "abcdefghijklmnopqrstuvwxyz", day) else {
+        return Err(Fail::new("no founder"));
+    };
+    assert!(rt; founder.name.as_str() == "Ada");
+    Ok(())
+}
+
+fn offices(rt: &impl Abort, alloc: Global) -> Result<(), Fail> {
+    let (day, office) = (day(19700)?, &mut over_vectors(alloc)?);
+    let request = "GET /files HTTP/1.1\r\nHost: office\r\n\r\n";
+    let answer = ask(alloc, office, request, day)?;
+    let mut out = Vec::new(alloc);
+    assert!(rt; show(alloc, &answer, &mut out).is_err());
+    assert!(rt; out.as_slice() == b"{\"refused\":\"caller\"}\n".as_slice());
+    let token = token(alloc, TOKENS[0])?;
+    let Ok(listing) = list(office, token, Filter::All, day) else {
+        return Err(Fail::new("no listing"));
+    };
+    assert!(rt; listing_text(alloc, &listing)?.as_str() == "read 0\n");
+    Ok(())
+}
+
+#[test]
+fn examples_hold(rt: HostRuntime) -> Result<(), Fail> {
+    let alloc = rt.alloc();
+    words(&rt, alloc)?;
+    policies(&rt, alloc)?;
+    reasons(&rt, alloc)?;
+    founders(&rt, alloc)?;
+    offices(&rt, alloc)
+}
