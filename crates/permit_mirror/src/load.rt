@@ -11,8 +11,17 @@ use permit_store::store::{Store, StoreError};
 use std::alloc::Global;
 
 impl<S: Store> Mirrored<S, Indexed<PlainStore>> {
-    /// Reads the tables of a store into memory, and holds them in both: all sound tables that the store held. It refuses where
-    /// a call of the store failed, or where memory was refused, and the store then comes back with what it held.
+    /// Reads the tables of a store into memory. The new store holds all sound tables that the given one held. It refuses
+    /// where a call of the given store failed or memory was refused; that store then comes back, and holds what it held.
+    ///
+    /// # Examples
+    ///
+    /// ```
+    /// let Ok(mut store) = Mirrored::load(alloc, kept) else {
+    ///     return Err(Fail::new("no tables"));
+    /// };
+    /// assert!(rt; store.desk()?.parties == 1);
+    /// ```
     pub fn load(
         alloc: Global,
         mut kept: S,

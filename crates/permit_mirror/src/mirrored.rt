@@ -29,9 +29,16 @@ use permit_store::store::{Got, Store};
 /// | `each` of the files of a whole cell, `each_of_any` with such a selection | the store that keeps the tables: its indexes find the rows, where memory would go over all files |
 /// | `commit` | both: memory asks for what the change needs, the store that keeps the tables makes it, then memory makes it |
 ///
-/// After a failed call of the store that keeps the tables, memory answers nothing until that store has answered once more.
-/// A fault may have shut it with the change on the disk. It is asked for its desk, and while that fails, each call
-/// fails. Each read says by its clause `asked` which of the two it asks.
+/// A failed call of the store that keeps the tables may have shut it with the change on the disk. So memory answers
+/// nothing until that store has answered once more: a call that memory would answer asks it for its desk first, and fails
+/// where that fails. Each read says by its clause `asked` which of the two it asks.
+///
+/// # Examples
+///
+/// ```
+/// let role = store.role(party(1)?)?;
+/// assert!(rt; matches!(role, Some(Role::Official)));
+/// ```
 #[derive(Drop)]
 pub struct Mirrored<S: Store, M: Memory> {
     kept: S,
@@ -44,7 +51,8 @@ pub struct Mirrored<S: Store, M: Memory> {
 }
 
 impl<S: Store, M: Memory + Drop> Mirrored<S, M> {
-    /// Both stores together. They hold what the one keeps and memory holds too while that one can be read.
+    /// Makes one store of both. It holds the tables that the first keeps, where memory holds them too or the first can't be
+    /// read.
     pub fn new(kept: S, memory: M) -> Mirrored<S, M>
         ensures held { (t : Tables) → (S.view kept).holds t → (CanBeRead (S.view kept) → (M.view memory).holds t)
             → (⟦<Mirrored<S, M> as Store>⟧.view result).holds t }
@@ -63,6 +71,13 @@ impl<S: Store, M: Memory + Drop> Mirrored<S, M> {
     }
 
     /// Returns the store that keeps the tables. It holds what was held.
+    ///
+    /// # Examples
+    ///
+    /// ```
+    /// let mut kept = store.into_kept();
+    /// assert!(rt; kept.desk()?.parties == 1);
+    /// ```
     pub fn into_kept(self) -> S
         ensures kept { result ≡ self.kept }
         ensures held { (t : Tables) → (⟦<Mirrored<S, M> as Store>⟧.view self).holds t → (S.view result).holds t }
@@ -78,7 +93,7 @@ impl<S: Store, M: Memory + Drop> Mirrored<S, M> {
         kept
     }
 
-    /// The answer of a call, which counts where it failed.
+    /// Counts a failed call, and gives its answer on.
     fn counted<T>(&mut self, answer: Got<T>) -> Got<T>
         ensures answer { result ≡ answer }
         ensures failed { self.new.failed ≡ failed_after answer self.old.failed }
@@ -91,8 +106,8 @@ impl<S: Store, M: Memory + Drop> Mirrored<S, M> {
         answer
     }
 
-    /// Makes sure that the store that keeps the tables can be read, so that memory may answer. Where it has answered nothing
-    /// since a commit failed, it is asked for its desk.
+    /// Makes sure that the store that keeps the tables can be read, so that memory may answer. Where that store has answered
+    /// nothing since it was given here, or since a call of it failed, it is asked for its desk.
     fn settle(&mut self) -> Got<()>
         ensures read { IsRead (both (S.view self.old.kept) (M.view self.old.memory) self.old.failed self.old.commits)
             (both (S.view self.new.kept) (M.view self.new.memory) self.new.failed self.new.commits) result }

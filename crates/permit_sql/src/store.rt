@@ -55,9 +55,9 @@ pub struct SqlStore<S: Alter> {
     handed: u64,
     failed: u64,
     commits: u64,
-    /// Whether the last commit failed, and no request has begun with a success since.
+    /// Whether a commit failed, and no call that a request may begin with has succeeded since.
     is_suspect: bool,
-    /// What is set once the connection is shut.
+    /// The flag that is set once the connection is shut, where one was given.
     shut: Option<Arc<AtomicBool, Global>>,
 }
 
@@ -86,7 +86,7 @@ fn founds_sound_tables(founder: &Founder)
 }
 
 impl<S: Alter> SqlStore<S> {
-    /// What a call answers, where a failure counts.
+    /// Counts a failed call, and gives its answer on.
     fn counted<T>(&mut self, got: Got<T>) -> Got<T>
         ensures same { result ≡ got }
         ensures failed { self.new.failed ≡ failed_after got self.old.failed }
@@ -100,7 +100,7 @@ impl<S: Alter> SqlStore<S> {
         got
     }
 
-    /// What a look-up of a file's row answers, where a row found counts as handed out, and a failure counts.
+    /// Counts a file's row that was found as handed out, or a failed call, and gives the answer on.
     fn looked_up<T>(&mut self, got: Got<Option<T>>) -> Got<Option<T>>
         ensures same { result ≡ got }
         ensures handed { self.new.handed ≡ handed_after got self.old.handed }
@@ -115,7 +115,7 @@ impl<S: Alter> SqlStore<S> {
         self.counted(got)
     }
 
-    /// What a selection answers, where each row found counts as handed out, and a failure counts.
+    /// Counts each row that was found as handed out, or a failed call, and gives the answer on.
     fn selected<T>(&mut self, got: Got<Vec<T>>) -> Got<Vec<T>>
         ensures same { result ≡ got }
         ensures handed { self.new.handed ≡ selected_after (λ v. length v.items) got self.old.handed }
@@ -130,8 +130,8 @@ impl<S: Alter> SqlStore<S> {
         self.counted(got)
     }
 
-    /// What a call that a request may begin with answers, where a failure counts. A failure of it behind a commit that
-    /// failed shows that a fault of the disk has shut the connection, which only an opening of the file mends.
+    /// Counts a failed call that a request may begin with, and gives its answer on. Where a commit failed before it, a
+    /// fault of the disk has shut the connection, and the flag is set: only opening the file again mends that.
     fn counted_first<T>(&mut self, got: Got<T>) -> Got<T>
         ensures same { result ≡ got }
         ensures failed { self.new.failed ≡ failed_after got self.old.failed }
@@ -150,8 +150,9 @@ impl<S: Alter> SqlStore<S> {
         self.counted(got)
     }
 
-    /// Sets the flag once a request can't begin behind a commit that failed: a fault of the disk has shut the connection
-    /// then, or memory was refused to both. The tables and the counts stay.
+    /// Takes the flag that tells of a shut connection. It is set where a commit fails and then a call that a request may
+    /// begin with fails too: a fault of the disk has shut the connection, or memory was refused to both. The tables and the
+    /// counts stay.
     pub fn tell_when_shut(&mut self, shut: Arc<AtomicBool, Global>)
         ensures shut { self.new.shut ≡ Some shut }
         ensures suspect { self.new.is_suspect ≡ self.old.is_suspect }
@@ -166,6 +167,15 @@ impl<S: Alter> SqlStore<S> {
     /// one transaction. It refuses as `Store` where a call failed or a transaction is open, and else as `Exists` exactly
     /// where the database has a table, an index or a view; with a refusal the connection comes back, its database as
     /// before. A crash inside leaves what was there, or the founding with its upgrade alone.
+    ///
+    /// # Examples
+    ///
+    /// ```
+    /// let conn = Connection::open_in_memory(alloc)?;
+    /// let Ok(store) = SqlStore::create(alloc, conn, &founder) else {
+    ///     return Err(Fail::new("no tables"));
+    /// };
+    /// ```
     pub fn create(
         alloc: Global,
         conn: Connection<S>,
@@ -222,8 +232,17 @@ impl<S: Alter> SqlStore<S> {
     /// only where the rows are no sound tables; and as `Store` where a call
     /// failed or gave a rowid that is no number, memory was refused, a transaction is open, or the database has another
     /// schema than `create` makes. The order in which SQLite writes the schema is no part of it, so a database is opened
-    /// after `VACUUM` and from a dump too. What it tells other than `Store` it tells of a connection that is open
-    /// afterwards. With a refusal the connection comes back, its database as before.
+    /// after `VACUUM` and from a dump too. With a refusal the connection comes back, its database as before; it is still
+    /// open where the refusal is another than `Store`.
+    ///
+    /// # Examples
+    ///
+    /// ```
+    /// let Ok(mut store) = SqlStore::open(alloc, conn) else {
+    ///     return Err(Fail::new("no tables"));
+    /// };
+    /// assert!(rt; store.desk()?.parties == 1);
+    /// ```
     pub fn open(
         alloc: Global,
         conn: Connection<S>,
@@ -267,13 +286,13 @@ impl<S: Alter> SqlStore<S> {
     }
 
     /// Makes of a database of version 1 one of version 2, all in one transaction: the tables of the same history with the
-    /// entry of the upgrade, which are sound. It gives the count of files, which keep to the first edition of the
+    /// entry of the upgrade, which are sound. It returns the count of files; these keep to the first edition of the
     /// inspections for good. It refuses as `Version` where the desk's row says another version than 1, which is tested
     /// first; as `Damaged` only where the rows are no sound tables; and as `Store` where a call failed, memory was
     /// refused, a transaction is open, or the database has another schema than that version's, whose order neither
-    /// `VACUUM` nor a dump changes. What it tells other than `Store` it tells of a connection that is open afterwards. With
-    /// a refusal the database is as before. A crash inside leaves what was there, or, where those were sound tables, the
-    /// tables after the upgrade whole.
+    /// `VACUUM` nor a dump changes. With a refusal the database is as before; the connection is still open where the refusal
+    /// is another than `Store`. A crash inside leaves what was there, or, where those were sound tables, the tables after
+    /// the upgrade whole.
     pub fn upgrade(alloc: Global, conn: &mut Connection<S>) -> Result<u32, OpenError>
         ensures made { HasCleanDisk (state S.Store conn.new) → (t : Tables) → AreCounted t → KeepsUnder First t (state S.Store conn.old).now
             → IfOk result (λ n. (n ≡ t.desk.files) × Keeps (with_upgrade t) (state S.Store conn.new).now) }
@@ -312,9 +331,16 @@ impl<S: Alter> SqlStore<S> {
         }
     }
 
-    /// Gives the connection back with its database as it is. Of any store, so after each of its calls: while the
-    /// connection is open, a crash leaves exactly what it shows. Each call that succeeds, on a disk that has given back
-    /// what was written, leaves it open.
+    /// Gives the connection back with its database as it is. While the connection is open, a crash leaves exactly what it
+    /// shows; that holds of any store, so after each of its calls. A call that succeeds leaves the connection open, on a
+    /// disk that has given back what was written.
+    ///
+    /// # Examples
+    ///
+    /// ```
+    /// let conn = store.into_connection();
+    /// assert!(rt; conn.is_autocommit());
+    /// ```
     pub fn into_connection(self) -> Connection<S>
         ensures conn { result ≡ self.conn }
         ensures idle { IsIdle result }

@@ -10,6 +10,8 @@ mod damage;
 #[cfg(test)]
 mod database;
 #[cfg(test)]
+mod examples;
+#[cfg(test)]
 mod opening;
 #[cfg(test)]
 mod renewing;
