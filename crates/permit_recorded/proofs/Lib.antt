@@ -1,6 +1,5 @@
 mod Planning
 mod Refusing
 mod Probed
-mod Adding
 mod Telling
 mod Stepping

@@ -1,3 +1,4 @@
+pub mod Adding
 pub mod Planned
 pub mod Probing
 pub mod Recorded

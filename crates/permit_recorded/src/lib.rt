@@ -4,7 +4,7 @@
 mod copied;
 pub mod decider;
 mod entering;
-pub mod laws;
 mod planned;
+mod policy;
 pub mod probe;
 pub mod recorded;

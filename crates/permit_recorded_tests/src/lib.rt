@@ -4,4 +4,3 @@
 mod failing;
 #[cfg(test)]
 mod served;
-mod unjudged;

@@ -4,7 +4,6 @@ ghost use Rattle.std.specs.Prelude.{IfOk};
 ghost use Rattle.permit_recorded.specs.Recorded.{Stands};
 
 use crate::failing::FailingFile;
-use crate::unjudged::Unjudged;
 use permit_base::digests::digest;
 use permit_base::request::{Command, Request};
 use permit_base::values::{Cents, Day, Digest, FileId, Lot, ParcelId, PartyId, Text, Token};
@@ -12,6 +11,7 @@ use permit_base::words::{Kind, Role};
 use permit_journal::file::HistoryFile;
 use permit_journal::journal::Journal;
 use permit_office::reply::Reply;
+use permit_policy::{Policy, read_policy};
 use permit_recorded::recorded::RecordedOffice;
 use permit_replay::replay;
 use permit_store::founder::Founder;
@@ -21,10 +21,16 @@ use std::alloc::Global;
 use std::test::*;
 
 /// The office of these tests.
-type Office = RecordedOffice<Unjudged, PlainStore, FailingFile>;
+type Office = RecordedOffice<Policy, PlainStore, FailingFile>;
 
 /// The token of party 1.
 const CHIEF: &str = "abcdefghijklmnopqrstuvwxyz";
+
+/// A policy that allows everything.
+const ALLOWS_ALL: &str = r#"[[rule]]
+name = "all"
+effect = "allow"
+"#;
 
 /// The text of the founding.
 const FOUNDED: &str =
@@ -79,6 +85,7 @@ fn founded(alloc: Global) -> Result<PlainStore, Fail> {
 fn office(alloc: Global, good: Option<u32>, stays: bool) -> Result<Office, Fail>
     ensures { IfOk result (λ o. Stands ⟦<FailingFile as HistoryFile>⟧.text ⟦<FailingFile as HistoryFile>⟧.may_leave o.journal) }
 {
+    let policy = read_policy(alloc, ALLOWS_ALL)?;
     let store = founded(alloc)?;
     let file = FailingFile {
         bytes: FOUNDED.as_bytes().to_vec(alloc)?,
@@ -86,7 +93,7 @@ fn office(alloc: Global, good: Option<u32>, stays: bool) -> Result<Office, Fail>
         stays,
     };
     match Journal::open(file) {
-        Ok(journal) => Ok(RecordedOffice::new(Unjudged, store, journal)),
+        Ok(journal) => Ok(RecordedOffice::new(policy, store, journal)),
         Err(_) => Err("a journal".into()),
     }
 }

@@ -1,0 +1,5 @@
+mod Numbered
+mod Whole
+mod Declared
+mod Stepping
+mod Transferred

@@ -1,0 +1,42 @@
+-- What comparing two stores says.
+use Rattle.std.specs.Prelude.{◌≡◌, ◌≤◌, ℕ, ◌==◌, List, Option, find, filter}
+use Rattle.permit_model.specs.Tables.{State, FileRow, Paper, Tables}
+use Rattle.permit_store.specs.Frames.{StoreView}
+
+-- calls that read: what is held stays, no doubt goes, and no commit was called
+pub record Looks (old new : StoreView) : Type 0 where
+  pub kept : (t : Tables) → old.holds t → new.holds t
+  pub doubt : old.doubt ≤ new.doubt
+  pub commits : new.commits ≡ old.commits
+
+-- said of all tables that the two stores held before, where both are without doubt afterwards
+abbrev pub OverBoth : (old new old_other new_other : StoreView) → (Tables → Tables → Type 0) → Type 0
+OverBoth old new old_other new_other said =
+    new.doubt ≡ 0 → new_other.doubt ≡ 0 → (t u : Tables) → old.holds t → old_other.holds u → said t u
+
+-- of each number from 1 to the count the two have the same
+abbrev pub HaveSame : {A : Type 0} → ℕ → (ℕ → A) → (ℕ → A) → Type 0
+HaveSame count first second = (k : ℕ) → 1 ≤ k → k ≤ count → first k ≡ second k
+
+-- the row of a file, and its papers
+abbrev pub file_at : ℕ → Tables → Option FileRow × List Paper
+file_at file t = (find (λ f. f.id == file) t.files, filter (λ p. p.file == file) t.papers)
+
+-- ---- parts of a file's row
+
+-- the two were filed alike
+abbrev pub HaveSameFiling : State → State → Type 0
+HaveSameFiling a b =
+    (a.parcel ≡ b.parcel) × (a.applicant ≡ b.applicant) × (a.kind ≡ b.kind) × (a.edition ≡ b.edition) × (a.filed ≡ b.filed)
+
+abbrev pub HaveSamePeople : State → State → Type 0
+HaveSamePeople a b = (a.contractor ≡ b.contractor) × (a.reviewer ≡ b.reviewer) × (a.inspector ≡ b.inspector)
+
+-- the two have the same stage and the same ends
+abbrev pub HaveSameCourse : State → State → Type 0
+HaveSameCourse a b = (a.stage ≡ b.stage) × (a.deadline ≡ b.deadline) × (a.ask ≡ b.ask) × (a.temporary ≡ b.temporary)
+
+abbrev pub HaveSameWork : State → State → Type 0
+HaveSameWork a b =
+    (a.done ≡ b.done) × (a.request ≡ b.request) × (a.requested ≡ b.requested) × (a.stopped ≡ b.stopped) × (a.notices ≡ b.notices)
+    × (a.papers ≡ b.papers)

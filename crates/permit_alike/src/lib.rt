@@ -1,0 +1,6 @@
+//! Tables that no call of a store tells apart, and the comparison of two stores, row by row.
+#![tactic(auto)]
+
+pub mod compare;
+mod rows;
+pub mod unordered;
