@@ -4,6 +4,7 @@ ghost use Rattle.std.specs.Prelude.{IfOk};
 ghost use Rattle.permit_recorded.specs.Recorded.{Stands};
 
 use crate::failing::FailingFile;
+use permit_alike::compare::are_alike;
 use permit_base::digests::digest;
 use permit_base::request::{Command, Request};
 use permit_base::values::{Cents, Day, Digest, FileId, Lot, ParcelId, PartyId, Text, Token};
@@ -283,17 +284,18 @@ fn lines(alloc: Global, count: usize) -> Result<Vec<u8>, Fail> {
     Ok(text)
 }
 
-/// Fails where the tables of the text have another desk than the store.
-fn agree(alloc: Global, store: &mut PlainStore, text: &[u8]) -> Result<(), Fail> {
+/// Whether the tables of the store are those of the text.
+fn are_told(alloc: Global, store: &mut PlainStore, text: &[u8]) -> Result<bool, Fail> {
     let mut source = text;
     let Ok(mut replayed) = replay(alloc, &mut source) else {
         return Err("the text is not replayed".into());
     };
-    let (kept, made) = (store.desk()?, replayed.desk()?);
-    want(kept.last.get() == made.last.get(), "the last day")?;
-    want(kept.parties == made.parties, "the parties")?;
-    want(kept.parcels == made.parcels, "the parcels")?;
-    want(kept.files == made.files, "the files")
+    Ok(are_alike(store, &mut replayed)?)
+}
+
+/// Fails where the tables of the store aren't those of the text.
+fn agree(alloc: Global, store: &mut PlainStore, text: &[u8]) -> Result<(), Fail> {
+    want(are_told(alloc, store, text)?, "the tables")
 }
 
 #[test]
@@ -304,6 +306,11 @@ fn what_is_done_has_its_line(rt: HostRuntime) -> Result<(), Fail> {
     let (mut store, text) = told(office);
     want(all, "all are done")?;
     want(text.as_slice() == lines(alloc, 7)?.as_slice(), "the text")?;
+    let fewer = lines(alloc, 6)?;
+    want(
+        !are_told(alloc, &mut store, fewer.as_slice())?,
+        "other tables",
+    )?;
     agree(alloc, &mut store, text.as_slice())
 }
 
