@@ -127,7 +127,7 @@ fn is_same_row(first: &FileRow, second: &FileRow) -> bool
 {
     first.id == second.id
         && first.valuation == second.valuation
-        && first.description == second.description
+        && first.description.as_str() == second.description.as_str()
         && is_same_state(&first.state, &second.state)
 }
 
