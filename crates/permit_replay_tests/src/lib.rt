@@ -7,3 +7,5 @@ mod life;
 mod refused;
 #[cfg(test)]
 mod replayed;
+#[cfg(test)]
+mod told;
