@@ -72,6 +72,21 @@ impl<D: Disk> HistoryFile for DiskFile<D> {
         }
     }
 
+    fn read_at(&mut self, at: u64, room: &mut [u8]) -> Result<usize, FileError> {
+        let Some(end) = self.end else {
+            return Err(FileError);
+        };
+        if !self.disk.may_be_used() {
+            return Err(FileError);
+        }
+        let from = end.min(at as usize);
+        let count = room.len().min(end - from);
+        match self.disk.read_at(from, &mut room[..count]) {
+            Ok(()) => Ok(count),
+            Err(_) => Err(FileError),
+        }
+    }
+
     fn append(&mut self, bytes: &[u8]) -> Result<(), FileError> {
         let Some(end) = self.end else {
             return Err(FileError);

@@ -1,6 +1,6 @@
 //! What every file of a history promises.
 
-ghost use Rattle.std.specs.Prelude.{◌≡◌, ◌≤◌, ◌++◌, ℕ, Bool, List, [], length, take, IfOk, IsTrue, OnOk, OnErr};
+ghost use Rattle.std.specs.Prelude.{◌≡◌, ◌≤◌, ◌++◌, ℕ, Bool, List, [], drop, length, take, IfOk, IsTrue, OnOk, OnErr};
 ghost use Rattle.permit_journal.specs.Files.{Grown, LeavesGrown, Only};
 
 /// A call of a file failed.
@@ -32,6 +32,14 @@ pub trait HistoryFile {
     /// How many bytes it has.
     fn length(&mut self) -> Result<u64, FileError>
         ensures length { IfOk result (λ n. IsTrue (is_clean self.new) → n ≡ length (text self.old)) }
+        ensures kept { text self.new ≡ text self.old }
+        ensures crash { (c : List ℕ) → may_leave self.new c → may_leave self.old c }
+        ensures clean { IsTrue (is_clean self.new) → IsTrue (is_clean self.old) };
+
+    /// Reads the bytes from there on into the room, as many as there are and have room. How many these are.
+    fn read_at(&mut self, at: u64, room: &mut [u8]) -> Result<usize, FileError>
+        ensures read { IfOk result (λ n. IsTrue (is_clean self.new) → take n room.new ≡ take (length room.old) (drop at (text self.old))) }
+        ensures within { IfOk result (λ n. n ≤ length room.old) }
         ensures kept { text self.new ≡ text self.old }
         ensures crash { (c : List ℕ) → may_leave self.new c → may_leave self.old c }
         ensures clean { IsTrue (is_clean self.new) → IsTrue (is_clean self.old) };

@@ -1,6 +1,6 @@
 //! A file of a history in memory.
 
-ghost use Rattle.std.specs.Prelude.{◌≡◌};
+ghost use Rattle.std.specs.Prelude.{◌≡◌, ◌≤◌, length, take};
 
 use crate::file::{FileError, HistoryFile};
 
@@ -28,6 +28,16 @@ impl MemoryFile {
     }
 }
 
+/// Copies the bytes into the room, as many as have room. How many these are.
+fn copy_front(bytes: &[u8], room: &mut [u8]) -> usize
+    ensures copied { take result room.new ≡ take (length room.old) bytes.now }
+    ensures within { result ≤ length room.old }
+{
+    let count = bytes.len().min(room.len());
+    room[..count].copy_from_slice(&bytes[..count]);
+    count
+}
+
 impl HistoryFile for MemoryFile {
     ghost use Rattle.std.specs.Prelude.{true, refl, []};
     ghost use Rattle.std.proofs.Common.{sym};
@@ -48,6 +58,11 @@ impl HistoryFile for MemoryFile {
 
     fn length(&mut self) -> Result<u64, FileError> {
         Ok(self.bytes.len() as u64)
+    }
+
+    fn read_at(&mut self, at: u64, room: &mut [u8]) -> Result<usize, FileError> {
+        let from = self.bytes.len().min(at as usize);
+        Ok(copy_front(&self.bytes[from..], room))
     }
 
     fn append(&mut self, bytes: &[u8]) -> Result<(), FileError> {

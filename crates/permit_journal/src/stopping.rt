@@ -68,6 +68,11 @@ impl<H: HistoryFile> HistoryFile for Stopping<H> {
         self.inner.length()
     }
 
+    fn read_at(&mut self, at: u64, room: &mut [u8]) -> Result<usize, FileError> {
+        take_call(&mut self.calls_left)?;
+        self.inner.read_at(at, room)
+    }
+
     fn append(&mut self, bytes: &[u8]) -> Result<(), FileError> {
         take_call(&mut self.calls_left)?;
         self.inner.append(bytes)
