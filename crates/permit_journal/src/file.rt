@@ -12,10 +12,10 @@ pub struct FileError;
 /// What is written is on the disk once it is synced. Until then a crash may leave a part of it; but it leaves what was synced
 /// before. A disk that loses what it said it had is none of these.
 ///
-/// The clauses of each call have the same names. `crash` says what a crash behind the call may leave, whatever the call
-/// answered. A crash in the middle of a call, or between two, is one of a file of which each call fails from that moment on and
-/// changes nothing: such a file keeps these clauses too, as `stopping::Stopping` shows. So what is proved of every file is
-/// proved of a crash at each moment.
+/// `crash` says of each call what a crash in it or behind it may leave, whatever the call answered. A crash between two calls, in
+/// the middle of what a journal does, is one of a file of which each call fails from that moment on and changes nothing. Such a
+/// file keeps these clauses too, as `stopping::Stopping` shows. So what is proved over every file is proved of a crash at each
+/// moment.
 pub trait HistoryFile {
     /// The bytes that a reading of it gives.
     ghost text: { Self → List ℕ };
