@@ -1,6 +1,10 @@
-//! An office with a history over vectors: the text of what it does, and files of a history that fail.
+//! An office with a history over vectors, files of a history that fail, and journals over files in memory and on a disk.
 #![tactic(auto)]
 
 mod failing;
+#[cfg(test)]
+mod in_memory;
+#[cfg(test)]
+mod on_disk;
 #[cfg(test)]
 mod served;
