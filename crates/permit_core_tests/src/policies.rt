@@ -3,8 +3,9 @@
 use permit_base::words::{Action, Relations, Role, Stage, Timing};
 use permit_policy::decide::decide;
 use permit_policy::facts::Facts;
-use permit_policy::read_policy;
+use permit_policy::{Policy, read_policy};
 use std::alloc::Global;
+use std::process::Abort;
 use std::test::Fail;
 
 /// Who may act on plans: nobody on their own, and the assigned reviewer.
@@ -293,18 +294,23 @@ fn refuses_more_than_64_rules(rt: HostRuntime) -> Result<(), Fail> {
     Ok(())
 }
 
+/// A policy decides so by its rule of this name.
+fn decides(rt: &impl Abort, policy: &Policy, facts: &Facts, is_allow: bool, rule: &str) {
+    let decision = decide(policy, facts);
+    let denial = if is_allow { None } else { Some(decision.rule) };
+    assert!(rt;
+        decision.is_allow() == is_allow && decision.rule.as_str() == rule,
+        "{rule}"
+    );
+    assert!(rt; policy.denial(facts) == denial, "{rule}");
+}
+
 #[test]
 fn decides_by_its_rules(rt: HostRuntime) -> Result<(), Fail> {
     for (text, rules, facts, is_allow, rule) in DECISIONS {
         let policy = read_policy(rt.alloc(), text)?;
-        let decision = decide(&policy, &facts);
-        let denial = if is_allow { None } else { Some(decision.rule) };
         assert!(rt; policy.rules() == rules, "{text}");
-        assert!(rt;
-            decision.is_allow() == is_allow && decision.rule.as_str() == rule,
-            "{text}"
-        );
-        assert!(rt; policy.denial(&facts) == denial, "{text}");
+        decides(&rt, &policy, &facts, is_allow, rule);
     }
     Ok(())
 }

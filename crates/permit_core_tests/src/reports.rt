@@ -1,8 +1,9 @@
 //! What a policy's text tells its author: rules that never decide, and why a rule decided.
 
+use permit_base::values::RuleName;
 use permit_base::words::{Action, Relations, Role, Stage, Timing, Word};
 use permit_policy::dead::dead_rules;
-use permit_policy::explain::explain;
+use permit_policy::explain::{Tried, explain};
 use permit_policy::facts::Facts;
 use permit_policy::key::Key;
 use permit_policy::read_policy;
@@ -140,30 +141,35 @@ const OWN_PLANS: Facts = Facts {
     timing: Timing::Ahead,
 };
 
+fn dead(alloc: Global, text: &str) -> Result<Vec<RuleName>, Fail> {
+    let policy = read_policy(alloc, text)?;
+    Ok(dead_rules(alloc, &policy)?)
+}
+
 /// The names of the dead rules, each with a space behind it.
 fn dead_in(alloc: Global, text: &str) -> Result<String, Fail> {
-    let policy = read_policy(alloc, text)?;
     let mut names = String::new(alloc);
-    for name in &dead_rules(alloc, &policy)? {
-        names.push_str(name.as_str())?;
-        names.push_str(" ")?;
+    for name in &dead(alloc, text)? {
+        let name = name.as_str();
+        write!(names, "{name} ")?;
     }
     Ok(names)
 }
 
+fn tried(alloc: Global, text: &str) -> Result<Vec<Tried>, Fail> {
+    let policy = read_policy(alloc, text)?;
+    Ok(explain(alloc, &policy, &OWN_PLANS)?)
+}
+
 /// Each rule that was tried, with its failing key or `match`, a line each.
 fn explained(alloc: Global, text: &str) -> Result<String, Fail> {
-    let policy = read_policy(alloc, text)?;
     let mut lines = String::new(alloc);
-    for tried in &explain(alloc, &policy, &OWN_PLANS)? {
-        let outcome = match tried.failing {
-            Some(key) => key.word(),
-            None => "match",
-        };
-        lines.push_str(tried.rule.as_str())?;
-        lines.push_str(" ")?;
-        lines.push_str(outcome)?;
-        lines.push_str("\n")?;
+    for tried in &tried(alloc, text)? {
+        let (rule, outcome) = (
+            tried.rule.as_str(),
+            tried.failing.map_or("match", Word::word),
+        );
+        writeln!(lines, "{rule} {outcome}")?;
     }
     Ok(lines)
 }
