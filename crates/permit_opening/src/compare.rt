@@ -52,7 +52,7 @@ impl Compared {
     }
 }
 
-/// That tables of the first edition are not those of a store. It fails where the store keeps to the first edition itself.
+/// Whether a store has tables of the first edition, of which none are made here. It fails where the store keeps to that edition.
 fn has_first<S: Store>(store: &mut S) -> Got<bool>
     ensures same { OverTables (S.view store.old) (S.view store.new) (λ t. (u : Tables) → u.desk.edition ≡ First
         → IfOk result (λ same. Decides same (AreAlike u t))) }
