@@ -126,3 +126,12 @@ fn the_founding_alone_is_no_text(rt: HostRuntime) -> Result<(), Fail> {
     }
     Ok(())
 }
+
+#[test]
+fn what_is_kept_ends_where_the_lines_of_the_tables_do(_rt: HostRuntime) -> Result<(), Fail> {
+    let alike = Compared::Alike { length: 300 };
+    want(alike.kept() == Some(300), "the text's lines")?;
+    let one_more = Compared::OneMore { length: 200 };
+    want(one_more.kept() == Some(200), "those before the last")?;
+    want(Compared::Differs.kept().is_none(), "nothing")
+}
