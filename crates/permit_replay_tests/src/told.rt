@@ -80,8 +80,9 @@ fn a_life_is_told(rt: HostRuntime) -> Result<(), Fail> {
     let alloc = rt.alloc();
     tells(&rt, alloc, &ALL, TOLD)?;
     let since = Day::new(19731);
-    let last =
-        "2024-01-09 official 1 certify file 1 paper 10\n2024-01-10 clerk 2 transfer parcel 1 party 6\n";
+    let last = "2024-01-09 official 1 certify file 1 paper 10
+2024-01-10 clerk 2 transfer parcel 1 party 6
+";
     tells(&rt, alloc, &Wanted { since, ..ALL }, last)?;
     let parcel = ParcelId::new(1);
     let of_parcel = "2023-12-11 clerk 2 add-parcel parcel 1 party 5
