@@ -1,11 +1,12 @@
 //! What takes memory beside the scenarios: the making of an office, policies with each fault, a parcel list, a hall over
 //! events, and files that are passed to a taker. Growths count for these calls alone.
 
-use crate::serving::{COUNT, REST, opened, print_answer, print_tables};
+use crate::serving::{COUNT, REST, mark, opened, print_answer, print_tables};
 use permit_answer::answer::Answer;
 use permit_answer::write_reply;
 use permit_base::refusal::Refusal;
 use permit_base::request::{Asked, Filter};
+use permit_base::values::Day;
 use permit_base::words::{Action, RegisterKind};
 use permit_hall::events::{Event, hall_run};
 use permit_http::inbox::Inbox;
@@ -42,9 +43,9 @@ const POLICIES: [&str; 7] = [
 /// Founds a store, and opens an office over it.
 fn found(rt: &(impl Print + AllocGlobal)) -> Result<(), Fail> {
     let founder = founder(rt.alloc())?;
-    println!(rt; "{COUNT}")?;
+    mark(rt, COUNT);
     let made = PlainStore::create(rt.alloc(), &founder);
-    println!(rt; "{REST}")?;
+    mark(rt, REST);
     match made {
         Ok(store) => {
             println!(rt; "0 made")?;
@@ -63,9 +64,9 @@ pub fn made(rt: &(impl Print + AllocGlobal)) -> Result<(), Fail> {
     let mut number = 0u32;
     for text in POLICIES {
         number = number.saturating_add(1);
-        println!(rt; "{COUNT}")?;
+        mark(rt, COUNT);
         let read = read_policy(rt.alloc(), text);
-        println!(rt; "{REST}")?;
+        mark(rt, REST);
         match read {
             Ok(policy) => {
                 let rules = policy.rules();
@@ -98,60 +99,97 @@ pub const SESSIONS: [&str; 3] = [
     "6 19723 GET /registers/files",
 ];
 
-/// The events of three sessions, each with its request but that of the number, from 1, which is left out.
-fn events(alloc: Global, left_out: usize) -> Result<Vec<Event>, Fail> {
+/// Puts what a line of a script asks in a session.
+fn put(alloc: Global, events: &mut Vec<Event>, session: u8, line: &str) -> Result<(), Fail> {
+    events.push(Event::Put(session, asked(alloc, line)?))?;
+    Ok(())
+}
+
+/// The requests of three sessions but that of the number, from 1, which is left out.
+fn puts(alloc: Global, left_out: usize) -> Result<Vec<Event>, Fail> {
     let mut events = Vec::new(alloc);
     let mut session = 0u8;
     for line in SESSIONS {
         session = session.saturating_add(1);
         if usize::from(session) != left_out {
-            events.push(Event::Put(session, asked(alloc, line)?))?;
+            put(alloc, &mut events, session, line)?;
         }
-    }
-    for _ in SESSIONS {
-        events.push(Event::Take(day(19723)?))?;
-    }
-    for session in 1..4u8 {
-        events.push(Event::Collect(session))?;
     }
     Ok(events)
 }
 
-/// Prints the reply to the request of the number, as it is answered on the day of the hall.
+/// Takes three times on a day, and collects the replies of each session.
+fn take_and_collect(events: &mut Vec<Event>, on: Day) -> Result<(), Fail> {
+    for _ in SESSIONS {
+        events.push(Event::Take(on))?;
+    }
+    for session in 1..4u8 {
+        events.push(Event::Collect(session))?;
+    }
+    Ok(())
+}
+
+/// The events of three sessions, each with its request but that of the number, from 1, which is left out.
+fn events(alloc: Global, left_out: usize, on: Day) -> Result<Vec<Event>, Fail> {
+    let mut events = puts(alloc, left_out)?;
+    take_and_collect(&mut events, on)?;
+    Ok(events)
+}
+
+/// Prints the reply to the request of the number, as it is answered on a day.
 pub fn print_reply(
     rt: &(impl Print + AllocGlobal),
     number: usize,
     reply: Reply,
+    day: Day,
 ) -> Result<(), Fail> {
-    let alloc = rt.alloc();
-    let actions = [Action::File, Action::List, Action::List];
-    let answer = Answer::Replied {
-        reply,
-        action: *actions.get(number.wrapping_sub(1)).ok_or("a session")?,
-        day: day(19723)?,
+    let action = if number == 1 {
+        Action::File
+    } else {
+        Action::List
     };
-    let mut written = Vec::new(alloc);
-    let _ = write_reply(alloc, &answer, false, &mut written);
+    let answer = Answer::Replied { reply, action, day };
+    let mut written = Vec::new(rt.alloc());
+    let _ = write_reply(rt.alloc(), &answer, false, &mut written);
     drop(answer);
     print_answer(rt, number, "kept", written)
+}
+
+/// What the events of a hall come to, in the office. Growths count for the hall alone.
+fn ran(
+    rt: &(impl Print + AllocGlobal),
+    office: &mut Office<PlainStore>,
+    events: &[Event],
+) -> Option<Vec<(u8, Reply)>> {
+    mark(rt, COUNT);
+    let ran = hall_run(rt.alloc(), office, events);
+    mark(rt, REST);
+    ran.ok()
+}
+
+/// Prints the answers of a hall, or that memory was refused.
+fn print_answers(
+    rt: &(impl Print + AllocGlobal),
+    answers: Option<Vec<(u8, Reply)>>,
+    on: Day,
+) -> Result<(), Fail> {
+    let Some(answers) = answers else {
+        return Ok(println!(rt; "0 memory")?);
+    };
+    for (session, reply) in answers {
+        print_reply(rt, usize::from(session), reply, on)?;
+    }
+    Ok(())
 }
 
 /// Runs a hall of three sessions without the request of the number, and prints the answers and the tables.
 pub fn hall(rt: &(impl Print + AllocGlobal), left_out: usize) -> Result<(), Fail> {
     let alloc = rt.alloc();
+    let on = day(19723)?;
     let mut office = opened(alloc)?;
-    let events = events(alloc, left_out)?;
-    println!(rt; "{COUNT}")?;
-    let ran = hall_run(alloc, &mut office, events.as_slice());
-    println!(rt; "{REST}")?;
-    match ran {
-        Ok(answers) => {
-            for (session, reply) in answers {
-                print_reply(rt, usize::from(session), reply)?;
-            }
-        }
-        Err(_) => println!(rt; "0 memory")?,
-    }
+    let events = events(alloc, left_out, on)?;
+    let answers = ran(rt, &mut office, events.as_slice());
+    print_answers(rt, answers, on)?;
     print_tables(rt, office)
 }
 
@@ -189,7 +227,7 @@ pub fn imported(
     let (token, on) = (token(alloc, TOKENS[1])?, day(19723)?);
     let list = list(alloc, left_out, records)?;
     let mut out = Vec::with_capacity(alloc, 4096)?;
-    println!(rt; "{COUNT}")?;
+    mark(rt, COUNT);
     let ended = import(
         alloc,
         &mut office,
@@ -199,7 +237,7 @@ pub fn imported(
         list.as_str().as_bytes(),
         &mut out,
     );
-    println!(rt; "{REST}")?;
+    mark(rt, REST);
     let word = match ended {
         Ok(_) => "whole",
         Err(ImportFault::FirstRecord) => "first-record",
@@ -225,9 +263,9 @@ pub fn passed(rt: &(impl Print + AllocGlobal)) -> Result<(), Fail> {
         let token = token(alloc, TOKENS.get(party.wrapping_sub(1)).ok_or("a party")?)?;
         let mut written = Vec::with_capacity(alloc, 4096)?;
         let mut writer = RegisterWriter::new(RegisterKind::Files, on, &mut written);
-        println!(rt; "{COUNT}")?;
+        mark(rt, COUNT);
         let ended = office.rows(&token, on, Filter::All, &mut writer);
-        println!(rt; "{REST}")?;
+        mark(rt, REST);
         let word = match ended {
             RowsEnd::All { .. } => match writer.finish() {
                 Ok(()) => "all",

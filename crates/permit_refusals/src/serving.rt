@@ -62,6 +62,11 @@ pub fn opened(alloc: Global) -> Result<Office<PlainStore>, Fail> {
     Ok(office)
 }
 
+/// Prints a mark. Where it can't be printed, the mark is missed by who reads.
+pub fn mark(rt: &impl Print, word: &str) {
+    let _ = println!(rt; "{word}");
+}
+
 /// How serving ended, in a word.
 fn word(served: Served) -> &'static str {
     match served {
@@ -97,9 +102,9 @@ fn stepped(
     let mut reader = bytes;
     match read_request(rt.alloc(), &mut inbox, &mut reader) {
         Ok(Some(asked)) => {
-            println!(rt; "{COUNT}")?;
+            mark(rt, COUNT);
             let reply = office.step(&asked, on);
-            println!(rt; "{REST}")?;
+            mark(rt, REST);
             let action = action(&asked.request);
             Ok(Answer::Replied {
                 reply,
@@ -139,7 +144,7 @@ fn exchange(
     let mut written = Vec::with_capacity(rt.alloc(), 65536)?;
     let mut inbox = Inbox::new();
     let mut reader = bytes;
-    println!(rt; "{COUNT}")?;
+    mark(rt, COUNT);
     let served = serve_one(
         rt.alloc(),
         office,
@@ -148,7 +153,7 @@ fn exchange(
         &mut written,
         on,
     );
-    println!(rt; "{REST}")?;
+    mark(rt, REST);
     print_answer(rt, number, word(served), written)
 }
 

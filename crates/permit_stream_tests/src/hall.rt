@@ -117,17 +117,31 @@ fn are_one_approval(rt: &impl Abort, answers: &[(u8, Reply)]) -> Result<(), Fail
     Ok(())
 }
 
+/// Three approvals, two of them in one session.
+fn put_three(alloc: Global) -> Result<Vec<Event>, Fail> {
+    let mut events = Vec::new(alloc);
+    for (session, party) in [(0, 1), (1, 4), (0, 1)] {
+        put(alloc, &mut events, session, party)?;
+    }
+    Ok(events)
+}
+
+fn events_of(alloc: Global, on: Day) -> Result<Vec<Event>, Fail> {
+    let mut events = put_three(alloc)?;
+    take_and_collect(&mut events, on)?;
+    Ok(events)
+}
+
+fn answers_to(alloc: Global, events: &[Event]) -> Result<Vec<(u8, Reply)>, Fail> {
+    let mut office = with_pending_frame(alloc)?;
+    Ok(hall_run(alloc, &mut office, events)?)
+}
+
 #[test]
 fn hall_events_that_do_nothing(rt: HostRuntime) -> Result<(), Fail> {
     let alloc = rt.alloc();
-    let on = day(REQUESTED)?;
-    let mut events = Vec::new(alloc);
-    put(alloc, &mut events, 0, 1)?;
-    put(alloc, &mut events, 1, 4)?;
-    put(alloc, &mut events, 0, 1)?;
-    take_and_collect(&mut events, on)?;
-    let answers = hall_run(alloc, &mut with_pending_frame(alloc)?, &events)?;
-    are_one_approval(&rt, &answers)
+    let events = events_of(alloc, day(REQUESTED)?)?;
+    are_one_approval(&rt, &answers_to(alloc, &events)?)
 }
 
 /// How the hall over the lists ends, each request served on its day of the calendar. The tests share this one call of
