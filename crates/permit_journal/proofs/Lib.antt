@@ -1,3 +1,1 @@
-mod Kept
-mod Moments
 mod Growing

@@ -1,4 +1,4 @@
 pub mod Files
 pub mod Memory
-pub mod Past
+pub mod Stopping
 pub mod Journals

@@ -1,7 +1,7 @@
 //! What every file of a history promises.
 
-ghost use Rattle.std.specs.Prelude.{◌≡◌, ◌≤◌, ◌++◌, ℕ, List, length, take, IfOk, OnOk, OnErr};
-ghost use Rattle.permit_journal.specs.Files.{Grown, Cut, Follows, Only, Elapses};
+ghost use Rattle.std.specs.Prelude.{◌≡◌, ◌≤◌, ◌++◌, ℕ, Bool, List, [], drop, length, take, IfOk, IsTrue, OnOk, OnErr};
+ghost use Rattle.permit_journal.specs.Files.{Grown, LeavesGrown, Only};
 
 /// A call of a file failed.
 #[derive(Clone, Copy, Debug, PartialEq, Eq)]
@@ -12,8 +12,10 @@ pub struct FileError;
 /// What is written is on the disk once it is synced. Until then a crash may leave a part of it; but it leaves what was synced
 /// before. A disk that loses what it said it had is none of these.
 ///
-/// The clauses of each call have the same names. `crash` says what a crash behind the call may leave, by what it might have
-/// left before the call. `time` says that a crash inside the call leaves nothing else.
+/// `crash` says of each call what a crash in it or behind it may leave, whatever the call answered. A crash between two calls, in
+/// the middle of what a journal does, is one of a file of which each call fails from that moment on and changes nothing. Such a
+/// file keeps these clauses too, as `stopping::Stopping` shows. So what is proved over every file is proved of a crash at each
+/// moment.
 pub trait HistoryFile {
     /// The bytes that a reading of it gives.
     ghost text: { Self → List ℕ };
@@ -21,44 +23,54 @@ pub trait HistoryFile {
     /// What a crash at this moment may leave.
     ghost may_leave: { Self → List ℕ → Type 0 };
 
-    /// The moment, as a number that doesn't fall.
-    ghost moment: { Self → ℕ };
+    /// No call has told what isn't so. It may fall at a call that reads, and no code can tell.
+    ghost is_clean: { Self → Bool };
 
-    /// What a crash at some moment from that one on might have left, during a call or between two.
-    ghost left_since: { Self → ℕ → List ℕ → Type 0 };
+    /// Which parts the writing of these bytes may leave behind the text where it is cut short.
+    ghost leaves: { List ℕ → List ℕ → Type 0 };
 
     /// How many bytes it has.
     fn length(&mut self) -> Result<u64, FileError>
-        ensures length { IfOk result (λ n. n ≡ length (text self.old)) }
+        ensures length { IfOk result (λ n. IsTrue (is_clean self.new) → n ≡ length (text self.old)) }
         ensures kept { text self.new ≡ text self.old }
         ensures crash { (c : List ℕ) → may_leave self.new c → may_leave self.old c }
-        ensures time { Elapses (moment self.old) (moment self.new) (left_since self.old) (left_since self.new) (may_leave self.new) };
+        ensures clean { IsTrue (is_clean self.new) → IsTrue (is_clean self.old) };
 
-    /// Writes the bytes behind the text. An error may leave a part of them there.
+    /// Reads the bytes from there on into the room, as many as there are and have room. How many these are.
+    fn read_at(&mut self, at: u64, room: &mut [u8]) -> Result<usize, FileError>
+        ensures read { IfOk result (λ n. IsTrue (is_clean self.new) → take n room.new ≡ take (length room.old) (drop at (text self.old))) }
+        ensures within { IfOk result (λ n. n ≤ length room.old) }
+        ensures kept { text self.new ≡ text self.old }
+        ensures crash { (c : List ℕ) → may_leave self.new c → may_leave self.old c }
+        ensures clean { IsTrue (is_clean self.new) → IsTrue (is_clean self.old) };
+
+    /// Writes the bytes behind the text. An error may leave a part there, and so may a crash, if the text was on the disk.
     fn append(&mut self, bytes: &[u8]) -> Result<(), FileError>
-        ensures written { OnOk result (text self.new ≡ text self.old ++ bytes.now) }
-        ensures part { OnErr result (Grown bytes.now (text self.old) (text self.new)) }
-        ensures crash { Follows (Grown bytes.now) (may_leave self.old) (may_leave self.new) }
-        ensures time { Elapses (moment self.old) (moment self.new) (left_since self.old) (left_since self.new) (may_leave self.new) };
+        ensures written { IsTrue (is_clean self.old) → OnOk result (text self.new ≡ text self.old ++ bytes.now) }
+        ensures part { IsTrue (is_clean self.old) → OnErr result (Grown leaves bytes.now (text self.old) (text self.new)) }
+        ensures crash { IsTrue (is_clean self.old) → Only (text self.old) (may_leave self.old)
+            → LeavesGrown leaves bytes.now (text self.old) (may_leave self.new) }
+        ensures clean { is_clean self.new ≡ is_clean self.old };
 
     /// Puts the text on the disk: from then on a crash leaves it whole.
     fn sync(&mut self) -> Result<(), FileError>
         ensures durable { OnOk result (Only (text self.old) (may_leave self.new)) }
         ensures kept { text self.new ≡ text self.old }
         ensures crash { (c : List ℕ) → may_leave self.new c → may_leave self.old c }
-        ensures time { Elapses (moment self.old) (moment self.new) (left_since self.old) (left_since self.new) (may_leave self.new) };
+        ensures clean { is_clean self.new ≡ is_clean self.old };
 
-    /// Cuts the text to the length. An error may leave it as it was, or cut to a length between.
+    /// Cuts the text to the length. Where a part of some bytes stood behind that length, an error may leave one there, and so
+    /// may a crash.
     fn cut(&mut self, to: u64) -> Result<(), FileError>
-        requires { to ≤ length (text self.old) }
-        ensures cut { OnOk result (text self.new ≡ take to (text self.old)) }
-        ensures part { OnErr result (Cut to (text self.old) (text self.new)) }
-        ensures crash { Follows (Cut to) (may_leave self.old) (may_leave self.new) }
-        ensures time { Elapses (moment self.old) (moment self.new) (left_since self.old) (left_since self.new) (may_leave self.new) };
+        ensures cut { to ≤ length (text self.old) → OnOk result (text self.new ≡ take to (text self.old)) }
+        ensures part { (base bytes : List ℕ) → length base ≡ to → Grown leaves bytes base (text self.old) → Grown leaves bytes base (text self.new) }
+        ensures crash { (base bytes : List ℕ) → length base ≡ to → LeavesGrown leaves bytes base (may_leave self.old)
+            → LeavesGrown leaves bytes base (may_leave self.new) }
+        ensures clean { is_clean self.new ≡ is_clean self.old };
 
-    /// This moment is one of those since an earlier one.
-    ghost counts_now: { (file : Self) (t : ℕ) (c : List ℕ) → t ≤ moment file → may_leave file c → left_since file t c };
+    /// A writing that is cut short may leave nothing.
+    ghost leaves_nothing: { (bytes : List ℕ) → leaves bytes [] };
 
-    /// Since this moment there is no other.
-    ghost only_now: { (file : Self) (c : List ℕ) → left_since file (moment file) c → may_leave file c };
+    /// It may leave all of the bytes.
+    ghost leaves_all: { (bytes : List ℕ) → leaves bytes bytes };
 }

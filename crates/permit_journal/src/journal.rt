@@ -1,7 +1,7 @@
 //! Entering lines into the file of a history.
 
-ghost use Rattle.std.specs.Prelude.{◌≡◌, ◌≤◌, ◌++◌, ℕ, List, length, take, IfOk, OnOk, OnErr};
-ghost use Rattle.permit_journal.specs.Files.{Grown, Only, LeavesOnly, LeavesNow};
+ghost use Rattle.std.specs.Prelude.{◌≡◌, ◌≤◌, ◌++◌, ℕ, List, true, length, take, IfOk, IsErr, IsTrue, OnOk, OnErr};
+ghost use Rattle.permit_journal.specs.Files.{Grown, LeavesGrown, Only};
 ghost use Rattle.permit_journal.specs.Journals.{IsSettled, Has, HasUnlessShut};
 
 use crate::file::{FileError, HistoryFile};
@@ -9,11 +9,12 @@ use std::marker::Model;
 
 /// Writes a line behind the text, and puts it on the disk.
 fn write_out<H: HistoryFile>(file: &mut H, line: &[u8]) -> Result<(), FileError>
-    ensures written { OnOk result (H.text file.new ≡ H.text file.old ++ line.now) }
+    ensures written { IsTrue (H.is_clean file.old) → OnOk result (H.text file.new ≡ H.text file.old ++ line.now) }
     ensures durable { OnOk result (Only (H.text file.new) (H.may_leave file.new)) }
-    ensures part { OnErr result (Grown line.now (H.text file.old) (H.text file.new)) }
-    ensures any_moment { (base : List ℕ) → Only base (H.may_leave file.old)
-        → LeavesNow H.moment H.left_since H.may_leave file.old file.new (Grown line.now base) }
+    ensures part { IsTrue (H.is_clean file.old) → OnErr result (Grown H.leaves line.now (H.text file.old) (H.text file.new)) }
+    ensures crash { IsTrue (H.is_clean file.old) → Only (H.text file.old) (H.may_leave file.old)
+        → LeavesGrown H.leaves line.now (H.text file.old) (H.may_leave file.new) }
+    ensures clean { H.is_clean file.new ≡ H.is_clean file.old }
 {
     file.append(line)?;
     file.sync()
@@ -21,11 +22,11 @@ fn write_out<H: HistoryFile>(file: &mut H, line: &[u8]) -> Result<(), FileError>
 
 /// Cuts the text, and puts it on the disk.
 fn cut_back<H: HistoryFile>(file: &mut H, to: u64) -> Result<(), FileError>
-    requires { to ≤ length (H.text file.old) }
-    ensures cut { OnOk result (H.text file.new ≡ take to (H.text file.old)) }
+    ensures cut { to ≤ length (H.text file.old) → OnOk result (H.text file.new ≡ take to (H.text file.old)) }
     ensures durable { OnOk result (Only (H.text file.new) (H.may_leave file.new)) }
-    ensures any_moment { (base line : List ℕ) → length base ≡ to → ((c : List ℕ) → H.may_leave file.old c → Grown line base c)
-        → LeavesOnly H.moment H.left_since file.old file.new (Grown line base) }
+    ensures crash { (base line : List ℕ) → length base ≡ to → LeavesGrown H.leaves line base (H.may_leave file.old)
+        → LeavesGrown H.leaves line base (H.may_leave file.new) }
+    ensures clean { H.is_clean file.new ≡ H.is_clean file.old }
 {
     file.cut(to)?;
     file.sync()
@@ -35,6 +36,8 @@ fn cut_back<H: HistoryFile>(file: &mut H, to: u64) -> Result<(), FileError>
 ///
 /// A line is entered whole and is on the disk, or nothing of it is left. Where what was written of it can't be cut off, the
 /// journal is shut, and stays so: what stands in the file then isn't known.
+///
+/// The clauses are said of a journal that is settled: its file has told nothing false. No code can tell whether one has.
 #[derive(Drop)]
 pub struct Journal<H: HistoryFile> {
     file: H,
@@ -53,7 +56,9 @@ impl<H: HistoryFile> Model for Journal<H> {
 impl<H: HistoryFile + Drop> Journal<H> {
     /// A journal over the file, whose text is put on the disk. Where a call of the file fails, there is none.
     pub fn open(mut file: H) -> Result<Journal<H>, FileError>
-        ensures { IfOk result (λ journal. Has H.text H.may_leave journal (H.text file)) }
+        ensures settled { IfOk result (λ journal. IsTrue (H.is_clean journal.file) → Has H.text H.may_leave H.is_clean journal (H.text file)) }
+        ensures kept { IfOk result (λ journal. H.text journal.file ≡ H.text file) }
+        ensures crash { IfOk result (λ journal. (c : List ℕ) → H.may_leave journal.file c → H.may_leave file c) }
     {
         let length = file.length()?;
         file.sync()?;
@@ -80,11 +85,10 @@ impl<H: HistoryFile + Drop> Journal<H> {
 
     /// Cuts the text to the length and puts it on the disk, or shuts the journal.
     fn cut_off(&mut self, to: u64)
-        requires { to ≤ length (H.text self.old.file) }
-        ensures cut { (base line : List ℕ) → length base ≡ to → Grown line base (H.text self.old.file)
-            → HasUnlessShut H.text H.may_leave self.new self.new.is_shut base }
-        ensures any_moment { (base line : List ℕ) → length base ≡ to → ((c : List ℕ) → H.may_leave self.old.file c → Grown line base c)
-            → LeavesOnly H.moment H.left_since self.old.file self.new.file (Grown line base) }
+        ensures cut { IsTrue (H.is_clean self.old.file) → (base line : List ℕ) → length base ≡ to → Grown H.leaves line base (H.text self.old.file)
+            → HasUnlessShut H.text H.may_leave H.is_clean self.new self.new.is_shut base }
+        ensures crash { (base line : List ℕ) → length base ≡ to → LeavesGrown H.leaves line base (H.may_leave self.old.file)
+            → LeavesGrown H.leaves line base (H.may_leave self.new.file) }
     {
         self.length = to;
         self.is_shut = cut_back(&mut self.file, to).is_err();
@@ -92,17 +96,23 @@ impl<H: HistoryFile + Drop> Journal<H> {
 
     /// Adds a line to the text, with its LF, and puts it on the disk. Otherwise nothing of it is left, or the journal is shut.
     pub fn enter(&mut self, line: &[u8]) -> Result<(), FileError>
-        requires { IsSettled H.text H.may_leave self.old }
-        ensures entered { OnOk result (Has H.text H.may_leave self.new (H.text self.old.file ++ line.now)) }
-        ensures refused { OnErr result (HasUnlessShut H.text H.may_leave self.new self.new.is_shut (H.text self.old.file)) }
+        ensures entered { IsSettled H.text H.may_leave H.is_clean self.old
+            → OnOk result (Has H.text H.may_leave H.is_clean self.new (H.text self.old.file ++ line.now)) }
+        ensures refused { IsSettled H.text H.may_leave H.is_clean self.old
+            → OnErr result (HasUnlessShut H.text H.may_leave H.is_clean self.new self.new.is_shut (H.text self.old.file)) }
 
-        // A crash at any moment of the call leaves the text, with a beginning of the line or with all of it.
-        ensures any_moment { LeavesOnly H.moment H.left_since self.old.file self.new.file (Grown line.now (H.text self.old.file)) }
+        // A crash leaves the text, with nothing, a part of the line or all of it behind it.
+        ensures crash { IsSettled H.text H.may_leave H.is_clean self.old
+            → LeavesGrown H.leaves line.now (H.text self.old.file) (H.may_leave self.new.file) }
+        ensures shut { self.old.is_shut ≡ true → IsErr result × (self.new ≡ self.old) }
     {
         let before = self.length;
         let Some(length) = before.checked_add(line.len() as u64) else {
             return Err(FileError);
         };
+        if self.is_shut {
+            return Err(FileError);
+        }
         if write_out(&mut self.file, line).is_err() {
             self.cut_off(before);
             return Err(FileError);
@@ -113,14 +123,15 @@ impl<H: HistoryFile + Drop> Journal<H> {
 
     /// Takes back what was added behind this length, or shuts the journal.
     pub fn take_back(&mut self, to: u64)
-        requires settled { IsSettled H.text H.may_leave self.old }
-        requires length { to ≤ self.old.length }
-        ensures back { (base line : List ℕ) → length base ≡ to → H.text self.old.file ≡ base ++ line
-            → HasUnlessShut H.text H.may_leave self.new self.new.is_shut base }
-        ensures any_moment { (base line : List ℕ) → length base ≡ to → H.text self.old.file ≡ base ++ line
-            → LeavesOnly H.moment H.left_since self.old.file self.new.file (Grown line base) }
+        ensures back { IsSettled H.text H.may_leave H.is_clean self.old → (base line : List ℕ) → length base ≡ to → H.text self.old.file ≡ base ++ line
+            → HasUnlessShut H.text H.may_leave H.is_clean self.new self.new.is_shut base }
+        ensures crash { IsSettled H.text H.may_leave H.is_clean self.old → (base line : List ℕ) → length base ≡ to → H.text self.old.file ≡ base ++ line
+            → LeavesGrown H.leaves line base (H.may_leave self.new.file) }
+        ensures shut { self.old.is_shut ≡ true → self.new ≡ self.old }
     {
-        self.cut_off(to);
+        if !self.is_shut {
+            self.cut_off(to);
+        }
     }
 
     /// The file.

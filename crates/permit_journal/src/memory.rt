@@ -1,31 +1,23 @@
 //! A file of a history in memory.
 
-ghost use Rattle.std.specs.Prelude.{◌≡◌, [], ◌∷◌, ◌++◌, length, OnOk, OnErr};
+ghost use Rattle.std.specs.Prelude.{◌≡◌, ◌≤◌, length, take};
 
 use crate::file::{FileError, HistoryFile};
-use std::alloc::{AllocError, Global};
 
-/// A text in memory. Each call is done at once, so that a crash leaves what is there. It keeps each text that it has had, so
-/// that contracts can name what a crash might have left.
+/// A text in memory. Each call is done at once, so that a crash leaves what is there.
 #[derive(Drop)]
 pub struct MemoryFile {
-    alloc: Global,
     bytes: Vec<u8>,
-    past: Vec<Vec<u8>>,
 }
 
 impl MemoryFile {
     ghost use Rattle.permit_journal.specs.Memory.{memory_bytes};
 
     /// A file with this text.
-    pub fn new(alloc: Global, bytes: Vec<u8>) -> Self
+    pub fn new(bytes: Vec<u8>) -> Self
         ensures { memory_bytes result ≡ bytes.items }
     {
-        MemoryFile {
-            alloc,
-            bytes,
-            past: Vec::new(alloc),
-        }
+        MemoryFile { bytes }
     }
 
     /// Its text.
@@ -36,54 +28,48 @@ impl MemoryFile {
     }
 }
 
-/// Puts the next text in the place of the one that is there, which is kept.
-fn replace(
-    alloc: Global,
-    bytes: &mut Vec<u8>,
-    past: &mut Vec<Vec<u8>>,
-    next: Vec<u8>,
-) -> Result<(), AllocError>
-    ensures ok { OnOk result (bytes.new.items ≡ next.items) }
-    ensures err { OnErr result (bytes.new.items ≡ bytes.old.items) }
-    ensures past { OnOk result ((v : _) × (v.items ≡ bytes.old.items) × (past.new.items ≡ past.old.items ++ v ∷ [])) }
-    ensures past_err { OnErr result (past.new.items ≡ past.old.items) }
+/// Copies the bytes into the room, as many as have room. How many these are.
+fn copy_front(bytes: &[u8], room: &mut [u8]) -> usize
+    ensures copied { take result room.new ≡ take (length room.old) bytes.now }
+    ensures within { result ≤ length room.old }
 {
-    past.push(bytes.to_vec(alloc)?)?;
-    *bytes = next;
-    Ok(())
-}
-
-impl From<AllocError> for FileError {
-    fn from(_: AllocError) -> FileError {
-        FileError
-    }
+    let count = bytes.len().min(room.len());
+    room[..count].copy_from_slice(&bytes[..count]);
+    count
 }
 
 impl HistoryFile for MemoryFile {
-    ghost use Rattle.std.specs.Prelude.{◌⊎◌, drop};
-    ghost use Rattle.std.proofs.Common.{inl};
-    ghost use Rattle.permit_journal.specs.Past.{HadBeen, only_bytes};
+    ghost use Rattle.std.specs.Prelude.{true, refl, []};
+    ghost use Rattle.std.proofs.Common.{sym};
+    ghost use Rattle.std.proofs.lemmas.List.{append-nil};
+    ghost use Rattle.permit_journal.specs.Files.{IsFront};
 
     ghost text = { λ m. m.bytes.items };
 
     ghost may_leave = { λ m c. c ≡ m.bytes.items };
 
-    ghost moment = { λ m. length m.past.items };
+    ghost is_clean = { λ _. true };
 
-    ghost left_since = { λ m t c. (c ≡ m.bytes.items) ⊎ HadBeen (drop t m.past.items) c };
+    ghost leaves = { IsFront };
 
-    ghost counts_now = { λ m t c le now. inl now };
+    ghost leaves_nothing = { λ bytes. (bytes, refl) };
 
-    ghost only_now = { λ m c left. only_bytes m.past.items m.bytes.items c left };
+    ghost leaves_all = { λ bytes. ([], sym (append-nil bytes)) };
 
     fn length(&mut self) -> Result<u64, FileError> {
         Ok(self.bytes.len() as u64)
     }
 
+    fn read_at(&mut self, at: u64, room: &mut [u8]) -> Result<usize, FileError> {
+        let from = self.bytes.len().min(at as usize);
+        Ok(copy_front(&self.bytes[from..], room))
+    }
+
     fn append(&mut self, bytes: &[u8]) -> Result<(), FileError> {
-        let mut next = self.bytes.to_vec(self.alloc)?;
-        next.extend_from_slice(bytes)?;
-        Ok(replace(self.alloc, &mut self.bytes, &mut self.past, next)?)
+        match self.bytes.extend_from_slice(bytes) {
+            Ok(()) => Ok(()),
+            Err(_) => Err(FileError),
+        }
     }
 
     fn sync(&mut self) -> Result<(), FileError> {
@@ -91,7 +77,7 @@ impl HistoryFile for MemoryFile {
     }
 
     fn cut(&mut self, to: u64) -> Result<(), FileError> {
-        let next = self.bytes[..to as usize].to_vec(self.alloc)?;
-        Ok(replace(self.alloc, &mut self.bytes, &mut self.past, next)?)
+        self.bytes.truncate(to as usize);
+        Ok(())
     }
 }

@@ -1,5 +1,5 @@
 -- What a step leaves of the text and of the tables.
-use Rattle.std.proofs.Common.{◌≡◌, inl, inr, refl, sym, ◌∙◌, subst, arith, ℕ, ◌&&◌, Bool, true, false, List, [], ◌∷◌, Option, Some}
+use Rattle.std.proofs.Common.{◌≡◌, inl, inr, refl, sym, ◌∙◌, subst, ℕ, ◌&&◌, Bool, true, false, List, [], ◌∷◌, Option, Some}
 use Rattle.std.specs.Prelude.{Ok, Err, IsTrue, length}
 use Rattle.std.proofs.lemmas.Bool.{eqb-true}
 use Rattle.std.proofs.lemmas.List.{append-nil}
@@ -25,18 +25,18 @@ use Rattle.permit_recorded.specs.Probing.{HasCounted}
 use Rattle.permit_recorded.specs.Recorded.{LeavesText, Records, TellsAfter}
 use Rattle.permit_recorded.proofs.Telling.{tells_more}
 
-has_unless : {H : Type 0} (text : H → List ℕ) (may_leave : H → List ℕ → Type 0) (journal : JournalView H) (shut : Bool) (before : List ℕ)
-    → HasUnlessShut text may_leave journal shut before → shut ≡ false → text journal.file ≡ before
-has_unless text may_leave journal true before has unshut = cc
-has_unless text may_leave journal false before has unshut = has.bytes_there
+has_unless : {H : Type 0} (text : H → List ℕ) (may_leave : H → List ℕ → Type 0) (is_clean : H → Bool) (journal : JournalView H) (shut : Bool) (before : List ℕ)
+    → HasUnlessShut text may_leave is_clean journal shut before → shut ≡ false → text journal.file ≡ before
+has_unless text may_leave is_clean journal true before has unshut = cc
+has_unless text may_leave is_clean journal false before has unshut = has.bytes_there
 
-module _ {H : Type 0} (text : H → List ℕ) (may_leave : H → List ℕ → Type 0) (holds : Tables → Type 0) (outcome : Outcome) (h : History)
+module _ {H : Type 0} (text : H → List ℕ) (may_leave : H → List ℕ → Type 0) (is_clean : H → Bool) (holds : Tables → Type 0) (outcome : Outcome) (h : History)
     (digest : List ℕ) (asked : Request) (day : ℕ) (before : List ℕ) (journal : JournalView H) where
-  kept : Tells before h → HasUnlessShut text may_leave journal journal.is_shut before → journal.is_shut ≡ false → Tells (text journal.file) h
-  kept tells has unshut = subst (λ (l : List ℕ). Tells l h) (sym (has_unless text may_leave journal journal.is_shut before has unshut)) tells
+  kept : Tells before h → HasUnlessShut text may_leave is_clean journal journal.is_shut before → journal.is_shut ≡ false → Tells (text journal.file) h
+  kept tells has unshut = subst (λ (l : List ℕ). Tells l h) (sym (has_unless text may_leave is_clean journal journal.is_shut before has unshut)) tells
 
   -- behind a failure
-  pub failed_tells : (e : StoreError) → Records text may_leave (Err e) h digest asked day before journal → Tells before h
+  pub failed_tells : (e : StoreError) → Records text may_leave is_clean (Err e) h digest asked day before journal → Tells before h
       → TellsAfter text (given.Refused refusal.Store) h outcome.history journal
   failed_tells e has tells = kept tells has
 
@@ -48,7 +48,7 @@ module _ {H : Type 0} (text : H → List ℕ) (may_leave : H → List ℕ → Ty
   -- behind a reply
   pub replied_tells : ((id : ℕ) (number : Option ℕ) → number_of h digest ≡ Some id → outcome.reply ≡ Done number → outcome.history ≡ entry_of h day id asked ∷ h)
       → (reply : Given) → Attempts holds (Ok reply) outcome h
-      → Records text may_leave (Ok reply) h digest asked day before journal → Tells before h
+      → Records text may_leave is_clean (Ok reply) h digest asked day before journal → Tells before h
       → TellsAfter text reply h outcome.history journal
   replied_tells adding (given.Done number) attempt records tells =
       let behind = records.1 in
@@ -66,17 +66,13 @@ module _ {H : Type 0} (text : H → List ℕ) (may_leave : H → List ℕ → Ty
   replied_tells adding (given.Refused why) attempt has tells = kept tells has
 
 -- a file that isn't written leaves its text
-pub untouched : {H : Type 0} (moment : H → ℕ) (left_since : H → ℕ → List ℕ → Type 0) (text : H → List ℕ) (may_leave : H → List ℕ → Type 0) (old new : H)
-    (before after : StoreView) (digest : List ℕ) (asked : Request) (day : ℕ) → old ≡ new → ((c : List ℕ) → left_since old (moment old) c → may_leave old c)
-    → Only (text old) (may_leave old) → LeavesText moment left_since text old new before after digest asked day
-untouched moment left_since text may_leave old new before after digest asked day same now only =
-    subst (λ f. LeavesText moment left_since text old f before after digest asked day) same (record {
+pub untouched : {H : Type 0} (leaves : List ℕ → List ℕ → Type 0) (text : H → List ℕ) (may_leave : H → List ℕ → Type 0) (old new : H)
+    (before after : StoreView) (digest : List ℕ) (asked : Request) (day : ℕ) → leaves [] [] → old ≡ new → Only (text old) (may_leave old)
+    → LeavesText leaves (text old) (may_leave new) before after digest asked day
+untouched leaves text may_leave old new before after digest asked day nothing same only =
+    subst (λ f. LeavesText leaves (text old) (may_leave f) before after digest asked day) same (record {
       line = [];
-      leaves = record {
-        later = omega arith;
-        each = λ c left. record { front = []; rest = []; split = refl; grown = only c (now c left) ∙ sym (append-nil (text old)) };
-        before = λ t c le left. inl left;
-      };
+      left = λ c left. record { part = []; allowed = nothing; grown = only c left ∙ sym (append-nil (text old)) };
       told = λ sure h is held. inl refl;
     })
 

@@ -1,5 +1,5 @@
 -- What an office with a history leaves.
-use Rattle.std.specs.Prelude.{◌≡◌, ◌≤◌, ◌⊎◌, ℕ, false, List, [], ◌++◌, Result, Ok, Err, OnOk, ⊤}
+use Rattle.std.specs.Prelude.{◌≡◌, ◌≤◌, ◌⊎◌, ℕ, Bool, false, List, [], ◌++◌, Result, Ok, Err, OnOk, ⊤}
 use Rattle.permit_base.specs.declared.request.Request.{Request}
 use Rattle.permit_model.specs.History.{History}
 use Rattle.permit_model.specs.Tables.{Tables}
@@ -13,7 +13,7 @@ use Rattle.permit_office.specs.Answers.{IsOwn}
 use Rattle.permit_office.specs.Sound.{MakesOne}
 use Rattle.permit_store.specs.Frames.{StoreView, HasOneDesk, OverHistory, OverTables}
 use Rattle.permit_store.specs.declared.store.StoreError.{StoreError}
-use Rattle.permit_journal.specs.Files.{Grown, LeavesOnly}
+use Rattle.permit_journal.specs.Files.{LeavesGrown}
 use Rattle.permit_recorded.specs.Planned.{IsLineBehind}
 use Rattle.permit_recorded.specs.Probing.{HasCounted}
 
@@ -24,10 +24,10 @@ pub record RecordedView (D S H : Type 0) : Type 0 where
   pub journal : JournalView H
 
 -- after a command that is done the text has the line behind it; after anything else it is as it was, or the journal is shut
-abbrev pub Enters : {H : Type 0} → (H → List ℕ) → (H → List ℕ → Type 0) → Result Given StoreError → List ℕ → List ℕ → JournalView H → Type 0
-Enters text may_leave (Ok (given.Done number)) before line journal = Has text may_leave journal (before ++ line)
-Enters text may_leave (Ok reply) before line journal = HasUnlessShut text may_leave journal journal.is_shut before
-Enters text may_leave (Err e) before line journal = HasUnlessShut text may_leave journal journal.is_shut before
+abbrev pub Enters : {H : Type 0} → (H → List ℕ) → (H → List ℕ → Type 0) → (H → Bool) → Result Given StoreError → List ℕ → List ℕ → JournalView H → Type 0
+Enters text may_leave is_clean (Ok (given.Done number)) before line journal = Has text may_leave is_clean journal (before ++ line)
+Enters text may_leave is_clean (Ok reply) before line journal = HasUnlessShut text may_leave is_clean journal journal.is_shut before
+Enters text may_leave is_clean (Err e) before line journal = HasUnlessShut text may_leave is_clean journal journal.is_shut before
 
 -- Unless a command is done, any tables stay; no doubt goes. After a reply a store that is without doubt can be read.
 pub record IsRecording (old new : StoreView) (result : Result Given StoreError) : Type 0 where
@@ -39,18 +39,18 @@ pub record IsRecording (old new : StoreView) (result : Result Given StoreError) 
 
 -- after a command that is done the text has the line of its entry behind it; after anything else it is as it was, or the journal
 -- is shut
-abbrev pub Records : {H : Type 0} → (H → List ℕ) → (H → List ℕ → Type 0) → Result Given StoreError → History → List ℕ → Request → ℕ → List ℕ
-    → JournalView H → Type 0
-Records text may_leave (Ok (given.Done number)) h digest asked day before journal =
-    (line : List ℕ) × IsLineBehind h digest asked day line × Has text may_leave journal (before ++ line)
-Records text may_leave (Ok reply) h digest asked day before journal = HasUnlessShut text may_leave journal journal.is_shut before
-Records text may_leave (Err e) h digest asked day before journal = HasUnlessShut text may_leave journal journal.is_shut before
+abbrev pub Records : {H : Type 0} → (H → List ℕ) → (H → List ℕ → Type 0) → (H → Bool) → Result Given StoreError → History → List ℕ → Request → ℕ
+    → List ℕ → JournalView H → Type 0
+Records text may_leave is_clean (Ok (given.Done number)) h digest asked day before journal =
+    (line : List ℕ) × IsLineBehind h digest asked day line × Has text may_leave is_clean journal (before ++ line)
+Records text may_leave is_clean (Ok reply) h digest asked day before journal = HasUnlessShut text may_leave is_clean journal journal.is_shut before
+Records text may_leave is_clean (Err e) h digest asked day before journal = HasUnlessShut text may_leave is_clean journal journal.is_shut before
 
--- A crash at any moment since leaves the text, with nothing, a part or all of one line behind it: that of the request's entry.
-pub record LeavesText {H : Type 0} (moment : H → ℕ) (left_since : H → ℕ → List ℕ → Type 0) (text : H → List ℕ) (old new : H)
-    (before after : StoreView) (digest : List ℕ) (asked : Request) (day : ℕ) : Type 0 where
+-- A crash leaves the text, with nothing, a part or all of one line behind it: that of the request's entry.
+pub record LeavesText (leaves : List ℕ → List ℕ → Type 0) (text : List ℕ) (outcomes : List ℕ → Type 0) (before after : StoreView) (digest : List ℕ)
+    (asked : Request) (day : ℕ) : Type 0 where
   pub line : List ℕ
-  pub leaves : LeavesOnly moment left_since old new (Grown line (text old))
+  pub left : LeavesGrown leaves line text outcomes
   pub told : OverHistory before after (λ h. (line ≡ []) ⊎ IsLineBehind h digest asked day line)
 
 -- a reply that isn't that to a command which is done
@@ -59,8 +59,8 @@ IsUndone (given.Done number) = ⊥
 IsUndone reply = ⊤
 
 -- the journal is settled, unless it is shut
-abbrev pub Stands : {H : Type 0} → (H → List ℕ) → (H → List ℕ → Type 0) → JournalView H → Type 0
-Stands text may_leave journal = journal.is_shut ≡ false → IsSettled text may_leave journal
+abbrev pub Stands : {H : Type 0} → (H → List ℕ) → (H → List ℕ → Type 0) → (H → Bool) → JournalView H → Type 0
+Stands text may_leave is_clean journal = journal.is_shut ≡ false → IsSettled text may_leave is_clean journal
 
 -- After a command that is done the text tells the history with it, and the journal isn't shut. After any other reply it tells the
 -- history of before, unless the journal is shut.

@@ -1,7 +1,7 @@
 //! Entering a command's line before the command is done.
 
 ghost use Rattle.std.specs.Prelude.{◌≡◌, ℕ, List, Ok, IfOk, IsTrue};
-ghost use Rattle.permit_journal.specs.Files.{Grown, LeavesOnly};
+ghost use Rattle.permit_journal.specs.Files.{LeavesGrown};
 ghost use Rattle.permit_journal.specs.Journals.{IsSettled};
 ghost use Rattle.permit_model.specs.Sound.{IsSoundTables};
 ghost use Rattle.permit_office.specs.Answers.{Attempts, IsOwn};
@@ -28,9 +28,10 @@ pub(crate) fn enter_and_do<D: Decider, S: Store, H: HistoryFile + Drop>(
     request: &Request,
     day: Day,
 ) -> Got<Reply>
-    requires { IsSettled H.text H.may_leave journal.old }
-    ensures entered { Enters H.text H.may_leave result (H.text journal.old.file) line.now journal.new }
-    ensures any_moment { LeavesOnly H.moment H.left_since journal.old.file journal.new.file (Grown line.now (H.text journal.old.file)) }
+    ensures entered { IsSettled H.text H.may_leave H.is_clean journal.old
+        → Enters H.text H.may_leave H.is_clean result (H.text journal.old.file) line.now journal.new }
+    ensures crash { IsSettled H.text H.may_leave H.is_clean journal.old
+        → LeavesGrown H.leaves line.now (H.text journal.old.file) (H.may_leave journal.new.file) }
     ensures model { OverHistory (S.view store.old) (S.view store.new) (λ h.
         Attempts (S.view store.new).holds result (D.decides decider.now h digest.now request.now day) h) }
     ensures sound { OverTables (S.view store.old) (S.view store.new) (λ t. IsSoundTables t → OnMade result (IsSoundChange (S.view store.new).holds day t)) }

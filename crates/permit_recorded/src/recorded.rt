@@ -61,11 +61,11 @@ fn record<D: Decider, S: Store, H: HistoryFile + Drop>(
     request: &Request,
     day: Day,
 ) -> Got<Reply>
-    requires { IsSettled H.text H.may_leave journal.old }
-    ensures recorded { OverHistory (S.view store.old) (S.view store.new) (λ h.
-        Records H.text H.may_leave result h digest.now request.now day (H.text journal.old.file) journal.new) }
-    ensures stands { Stands H.text H.may_leave journal.new }
-    ensures any_moment { LeavesText H.moment H.left_since H.text journal.old.file journal.new.file (S.view store.old) (S.view store.new) digest.now request.now day }
+    ensures recorded { IsSettled H.text H.may_leave H.is_clean journal.old → OverHistory (S.view store.old) (S.view store.new) (λ h.
+        Records H.text H.may_leave H.is_clean result h digest.now request.now day (H.text journal.old.file) journal.new) }
+    ensures stands { IsSettled H.text H.may_leave H.is_clean journal.old → Stands H.text H.may_leave H.is_clean journal.new }
+    ensures crash { IsSettled H.text H.may_leave H.is_clean journal.old → LeavesText H.leaves (H.text journal.old.file) (H.may_leave journal.new.file)
+        (S.view store.old) (S.view store.new) digest.now request.now day }
     ensures model { OverHistory (S.view store.old) (S.view store.new) (λ h.
         Attempts (S.view store.new).holds result (D.decides decider.now h digest.now request.now day) h) }
     ensures sound { OverTables (S.view store.old) (S.view store.new) (λ t. IsSoundTables t → OnMade result (IsSoundChange (S.view store.new).holds day t)) }
@@ -126,15 +126,14 @@ impl<D: Decider + Drop, S: Store + Drop, H: HistoryFile + Drop> RecordedOffice<D
 
     /// Serves a request as far as the store's calls and those of the history's file succeed.
     fn serve(&mut self, alloc: Global, digest: &Digest, request: &Request, day: Day) -> Got<Reply>
-        requires { Stands H.text H.may_leave self.old.journal }
         ensures model { OverHistory (S.view self.old.store) (S.view self.new.store) (λ h.
             Attempts (S.view self.new.store).holds result (D.decides self.old.decider h digest.now request.now day) h) }
-        ensures recorded { self.old.journal.is_shut ≡ false → OverHistory (S.view self.old.store) (S.view self.new.store) (λ h.
-            Records H.text H.may_leave result h digest.now request.now day (H.text self.old.journal.file) self.new.journal) }
-        ensures stands { Stands H.text H.may_leave self.new.journal }
+        ensures recorded { IsSettled H.text H.may_leave H.is_clean self.old.journal → OverHistory (S.view self.old.store) (S.view self.new.store) (λ h.
+            Records H.text H.may_leave H.is_clean result h digest.now request.now day (H.text self.old.journal.file) self.new.journal) }
+        ensures stands { Stands H.text H.may_leave H.is_clean self.old.journal → Stands H.text H.may_leave H.is_clean self.new.journal }
         ensures shut { self.old.journal.is_shut ≡ true → IsErr result × (self.new.journal ≡ self.old.journal) }
-        ensures any_moment { self.old.journal.is_shut ≡ false → LeavesText H.moment H.left_since H.text self.old.journal.file self.new.journal.file
-            (S.view self.old.store) (S.view self.new.store) digest.now request.now day }
+        ensures crash { IsSettled H.text H.may_leave H.is_clean self.old.journal → LeavesText H.leaves (H.text self.old.journal.file)
+            (H.may_leave self.new.journal.file) (S.view self.old.store) (S.view self.new.store) digest.now request.now day }
         ensures kept { OverTables (S.view self.old.store) (S.view self.new.store) (λ t. HasCounted t → UnlessMade result ((S.view self.new.store).holds t)) }
         ensures sound { OverTables (S.view self.old.store) (S.view self.new.store) (λ t. IsSoundTables t
             → OnMade result (IsSoundChange (S.view self.new.store).holds day t)) }
@@ -165,24 +164,24 @@ impl<D: Decider + Drop, S: Store + Drop, H: HistoryFile + Drop> RecordedOffice<D
     /// history's file failed.
     ///
     /// Where the text told the history, it tells it afterwards: behind a command that is done with the command's line, and
-    /// behind any other reply as it was, unless the journal is shut.
+    /// behind any other reply as it was, unless the journal is shut. This is said of a journal that is settled: its file has told
+    /// nothing false.
     pub fn step_as(&mut self, alloc: Global, digest: &Digest, request: &Request, day: Day) -> Reply
-        requires { Stands H.text H.may_leave self.old.journal }
         ensures model { OverHistory (S.view self.old.store) (S.view self.new.store) (λ h.
             Answers (S.view self.new.store).holds result (D.decides self.old.decider h digest.now request.now day) h) }
         ensures sound { KeepsSound (S.view self.old.store) (S.view self.new.store) }
         ensures step { IsRecordedStep S.view day self.old self.new result }
-        ensures told { self.old.journal.is_shut ≡ false → OverHistory (S.view self.old.store) (S.view self.new.store) (λ h.
+        ensures told { IsSettled H.text H.may_leave H.is_clean self.old.journal → OverHistory (S.view self.old.store) (S.view self.new.store) (λ h.
             Tells (H.text self.old.journal.file) h
             → TellsAfter H.text result h (D.decides self.old.decider h digest.now request.now day).history self.new.journal) }
-        ensures stands { Stands H.text H.may_leave self.new.journal }
+        ensures stands { Stands H.text H.may_leave H.is_clean self.old.journal → Stands H.text H.may_leave H.is_clean self.new.journal }
 
         // Once it is shut nothing is done.
         ensures shut { self.old.journal.is_shut ≡ true → (result ≡ given.Refused refusal.Store) × (self.new.journal ≡ self.old.journal) }
 
-        // A crash at any moment leaves the text, with nothing, a part or all of the command's line behind it.
-        ensures any_moment { self.old.journal.is_shut ≡ false → LeavesText H.moment H.left_since H.text self.old.journal.file self.new.journal.file
-            (S.view self.old.store) (S.view self.new.store) digest.now request.now day }
+        // A crash leaves the text, with nothing, a part or all of the command's line behind it.
+        ensures crash { IsSettled H.text H.may_leave H.is_clean self.old.journal → LeavesText H.leaves (H.text self.old.journal.file)
+            (H.may_leave self.new.journal.file) (S.view self.old.store) (S.view self.new.store) digest.now request.now day }
     {
         match self.serve(alloc, digest, request, day) {
             Ok(reply) => reply,

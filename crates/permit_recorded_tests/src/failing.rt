@@ -36,23 +36,33 @@ impl FailingFile {
 }
 
 impl HistoryFile for FailingFile {
+    ghost use Rattle.std.specs.Prelude.{true, refl, []};
+    ghost use Rattle.std.proofs.Common.{sym};
+    ghost use Rattle.std.proofs.lemmas.List.{append-nil};
+    ghost use Rattle.permit_journal.specs.Files.{IsFront};
+
     ghost text = { λ f. f.bytes.items };
 
     ghost may_leave = { λ _ _. ⊥ };
 
-    ghost moment = { λ _. 0 };
+    ghost is_clean = { λ _. true };
 
-    ghost left_since = { λ _ _ _. ⊥ };
+    ghost leaves = { IsFront };
 
-    ghost counts_now = { λ _ _ _ _ now. now };
+    ghost leaves_nothing = { λ bytes. (bytes, refl) };
 
-    ghost only_now = { λ _ _ left. left };
+    ghost leaves_all = { λ bytes. ([], sym (append-nil bytes)) };
 
     fn length(&mut self) -> Result<u64, FileError> {
         if self.fails() {
             return Err(FileError);
         }
         Ok(self.bytes.len() as u64)
+    }
+
+    // No test reads it.
+    fn read_at(&mut self, _at: u64, _room: &mut [u8]) -> Result<usize, FileError> {
+        Err(FileError)
     }
 
     fn append(&mut self, bytes: &[u8]) -> Result<(), FileError> {

@@ -3,4 +3,6 @@
 
 mod failing;
 #[cfg(test)]
+mod on_disk;
+#[cfg(test)]
 mod served;

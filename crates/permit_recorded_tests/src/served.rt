@@ -1,15 +1,11 @@
 //! Commands that are served with a history.
 
-ghost use Rattle.std.specs.Prelude.{IfOk};
-ghost use Rattle.permit_recorded.specs.Recorded.{Stands};
-
 use crate::failing::FailingFile;
 use permit_alike::compare::are_alike;
 use permit_base::digests::digest;
 use permit_base::request::{Command, Request};
 use permit_base::values::{Cents, Day, Digest, FileId, Lot, ParcelId, PartyId, Text, Token};
 use permit_base::words::{Kind, Role};
-use permit_journal::file::HistoryFile;
 use permit_journal::journal::Journal;
 use permit_office::reply::Reply;
 use permit_policy::{Policy, read_policy};
@@ -83,9 +79,7 @@ fn founded(alloc: Global) -> Result<PlainStore, Fail> {
 }
 
 /// The office after its founding, whose file fails behind so many calls.
-fn office(alloc: Global, good: Option<u32>, stays: bool) -> Result<Office, Fail>
-    ensures { IfOk result (λ o. Stands ⟦<FailingFile as HistoryFile>⟧.text ⟦<FailingFile as HistoryFile>⟧.may_leave o.journal) }
-{
+fn office(alloc: Global, good: Option<u32>, stays: bool) -> Result<Office, Fail> {
     let policy = read_policy(alloc, ALLOWS_ALL)?;
     let store = founded(alloc)?;
     let file = FailingFile {
@@ -106,19 +100,13 @@ fn is_done(
     chief: &Digest,
     today: Day,
     request: &Request,
-) -> bool
-    requires { Stands ⟦<FailingFile as HistoryFile>⟧.text ⟦<FailingFile as HistoryFile>⟧.may_leave office.old.journal }
-    ensures { Stands ⟦<FailingFile as HistoryFile>⟧.text ⟦<FailingFile as HistoryFile>⟧.may_leave office.new.journal }
-{
+) -> bool {
     let reply = office.step_as(alloc, chief, request, today);
     matches!(reply, Reply::Done { .. })
 }
 
 /// Serves a request of party 1, and once more where it isn't done. Whether it was done.
-fn serve(alloc: Global, office: &mut Office, request: &Request) -> Result<bool, Fail>
-    requires { Stands ⟦<FailingFile as HistoryFile>⟧.text ⟦<FailingFile as HistoryFile>⟧.may_leave office.old.journal }
-    ensures { Stands ⟦<FailingFile as HistoryFile>⟧.text ⟦<FailingFile as HistoryFile>⟧.may_leave office.new.journal }
-{
+fn serve(alloc: Global, office: &mut Office, request: &Request) -> Result<bool, Fail> {
     let chief = digest_of(alloc, CHIEF)?;
     let today = day(19701)?;
     if is_done(alloc, office, &chief, today, request) {
@@ -179,37 +167,25 @@ fn transfer() -> Result<Request, Fail> {
 }
 
 /// Serves the reviewer. Whether it was done.
-fn serve_reviewer(alloc: Global, office: &mut Office) -> Result<bool, Fail>
-    requires { Stands ⟦<FailingFile as HistoryFile>⟧.text ⟦<FailingFile as HistoryFile>⟧.may_leave office.old.journal }
-    ensures { Stands ⟦<FailingFile as HistoryFile>⟧.text ⟦<FailingFile as HistoryFile>⟧.may_leave office.new.journal }
-{
+fn serve_reviewer(alloc: Global, office: &mut Office) -> Result<bool, Fail> {
     let request = reviewer(alloc)?;
     serve(alloc, office, &request)
 }
 
 /// Serves the parcel. Whether it was done.
-fn serve_parcel(alloc: Global, office: &mut Office) -> Result<bool, Fail>
-    requires { Stands ⟦<FailingFile as HistoryFile>⟧.text ⟦<FailingFile as HistoryFile>⟧.may_leave office.old.journal }
-    ensures { Stands ⟦<FailingFile as HistoryFile>⟧.text ⟦<FailingFile as HistoryFile>⟧.may_leave office.new.journal }
-{
+fn serve_parcel(alloc: Global, office: &mut Office) -> Result<bool, Fail> {
     let request = parcel(alloc)?;
     serve(alloc, office, &request)
 }
 
 /// Serves the application. Whether it was done.
-fn serve_filing(alloc: Global, office: &mut Office) -> Result<bool, Fail>
-    requires { Stands ⟦<FailingFile as HistoryFile>⟧.text ⟦<FailingFile as HistoryFile>⟧.may_leave office.old.journal }
-    ensures { Stands ⟦<FailingFile as HistoryFile>⟧.text ⟦<FailingFile as HistoryFile>⟧.may_leave office.new.journal }
-{
+fn serve_filing(alloc: Global, office: &mut Office) -> Result<bool, Fail> {
     let request = filing(alloc)?;
     serve(alloc, office, &request)
 }
 
 /// Serves the assignment. Whether it was done.
-fn serve_assignment(alloc: Global, office: &mut Office) -> Result<bool, Fail>
-    requires { Stands ⟦<FailingFile as HistoryFile>⟧.text ⟦<FailingFile as HistoryFile>⟧.may_leave office.old.journal }
-    ensures { Stands ⟦<FailingFile as HistoryFile>⟧.text ⟦<FailingFile as HistoryFile>⟧.may_leave office.new.journal }
-{
+fn serve_assignment(alloc: Global, office: &mut Office) -> Result<bool, Fail> {
     let request = on_file(Command::AssignReviewer {
         party: PartyId::new(2).ok_or("a party")?,
     })?;
@@ -217,19 +193,13 @@ fn serve_assignment(alloc: Global, office: &mut Office) -> Result<bool, Fail>
 }
 
 /// Serves the review's beginning. Whether it was done.
-fn serve_beginning(alloc: Global, office: &mut Office) -> Result<bool, Fail>
-    requires { Stands ⟦<FailingFile as HistoryFile>⟧.text ⟦<FailingFile as HistoryFile>⟧.may_leave office.old.journal }
-    ensures { Stands ⟦<FailingFile as HistoryFile>⟧.text ⟦<FailingFile as HistoryFile>⟧.may_leave office.new.journal }
-{
+fn serve_beginning(alloc: Global, office: &mut Office) -> Result<bool, Fail> {
     let request = on_file(Command::StartReview)?;
     serve(alloc, office, &request)
 }
 
 /// Serves what the review found. Whether it was done.
-fn serve_returning(alloc: Global, office: &mut Office) -> Result<bool, Fail>
-    requires { Stands ⟦<FailingFile as HistoryFile>⟧.text ⟦<FailingFile as HistoryFile>⟧.may_leave office.old.journal }
-    ensures { Stands ⟦<FailingFile as HistoryFile>⟧.text ⟦<FailingFile as HistoryFile>⟧.may_leave office.new.journal }
-{
+fn serve_returning(alloc: Global, office: &mut Office) -> Result<bool, Fail> {
     let request = on_file(Command::Return {
         text: letters(alloc, "Say which rafters")?,
     })?;
@@ -237,19 +207,13 @@ fn serve_returning(alloc: Global, office: &mut Office) -> Result<bool, Fail>
 }
 
 /// Serves the transfer. Whether it was done.
-fn serve_transfer(alloc: Global, office: &mut Office) -> Result<bool, Fail>
-    requires { Stands ⟦<FailingFile as HistoryFile>⟧.text ⟦<FailingFile as HistoryFile>⟧.may_leave office.old.journal }
-    ensures { Stands ⟦<FailingFile as HistoryFile>⟧.text ⟦<FailingFile as HistoryFile>⟧.may_leave office.new.journal }
-{
+fn serve_transfer(alloc: Global, office: &mut Office) -> Result<bool, Fail> {
     let request = transfer()?;
     serve(alloc, office, &request)
 }
 
 /// Serves what the text tells, up to the first command that isn't done. Whether all were done.
-fn serve_all(alloc: Global, office: &mut Office) -> Result<bool, Fail>
-    requires { Stands ⟦<FailingFile as HistoryFile>⟧.text ⟦<FailingFile as HistoryFile>⟧.may_leave office.old.journal }
-    ensures { Stands ⟦<FailingFile as HistoryFile>⟧.text ⟦<FailingFile as HistoryFile>⟧.may_leave office.new.journal }
-{
+fn serve_all(alloc: Global, office: &mut Office) -> Result<bool, Fail> {
     Ok(
         serve_reviewer(alloc, office)?
             && serve_parcel(alloc, office)?

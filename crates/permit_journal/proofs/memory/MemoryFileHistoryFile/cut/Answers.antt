@@ -1,7 +1,9 @@
-use Rattle.permit_journal.proofs.Kept.{elapses_to}
+use Rattle.std.proofs.Common.{◌∙◌, refl}
+use Rattle.permit_journal.specs.Files.{IsFront}
+use Rattle.permit_journal.proofs.Growing.{cut_exactly, nothing}
 use Rattle.permit_journal.proofs.memory.MemoryFileHistoryFile.cut.Goals as goal
 
-pub returns-clause-time : goal.returns-clause-time
-returns-clause-time c =
-    let past = c.in_ok-replace.ensures.past in
-    elapses_to c.args.self.now.past.items c.replace.new.past.items past.0 c.args.self.now.bytes.items c.replace.new.bytes.items past.1 past.2
+pub returns-clause-crash : goal.returns-clause-crash
+returns-clause-crash c base bytes len before left there =
+    nothing IsFront bytes base left (bytes, refl)
+    (there ∙ cut_exactly IsFront bytes base c.args.self.now.bytes.items c.truncate.new.self.items c.args.to len (before c.args.self.now.bytes.items refl) c.truncate.ensures.items)

@@ -1,0 +1,8 @@
+-- What a file on a disk shows.
+use Rattle.sqlite_disk.specs.declared.Disk.{Ghosts}
+use Rattle.permit_history_file.specs.declared.disk_file.DiskFile.{DiskFile}
+
+module _ {D : Type 0} {g : Ghosts D} where
+  -- the disk on which it is
+  abbrev pub disk_of : DiskFile D g → D
+  disk_of file = file.disk

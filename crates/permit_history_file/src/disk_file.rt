@@ -1,0 +1,134 @@
+//! A file of a history on a disk.
+
+ghost use Rattle.std.specs.Prelude.{◌≡◌, ℕ, List, IfOk, IsTrue};
+ghost use Rattle.permit_history_file.specs.Ends.{EndsThere};
+
+use permit_journal::file::{FileError, HistoryFile};
+use sqlite_disk::Disk;
+
+/// A text on a disk. Its end is asked of the disk once, and known from then on.
+///
+/// Where a write behind the text has failed, what it left there isn't known: nothing is written until the text is cut. Where a
+/// sync has failed nothing more is asked of the disk.
+#[derive(Drop)]
+pub struct DiskFile<D: Disk> {
+    disk: D,
+    /// Where the text ends; None where a call that changes it has failed.
+    end: Option<usize>,
+    ghost ends_there: { EndsThere (D.Disk.is_clean disk) (D.Disk.seen disk) end },
+}
+
+impl<D: Disk + Drop> DiskFile<D> {
+    ghost use Rattle.permit_history_file.specs.Shown.{disk_of};
+
+    /// The file on this disk, with the text that is there. There is none where the disk may not be used, or doesn't say how long
+    /// the text is.
+    pub fn open(mut disk: D) -> Result<DiskFile<D>, FileError>
+        ensures seen { IfOk result (λ file. D.Disk.seen (disk_of file) ≡ D.Disk.seen disk) }
+        ensures crash { IfOk result (λ file. (c : List ℕ) → D.Disk.may_leave (disk_of file) c → D.Disk.may_leave disk c) }
+        ensures clean { IfOk result (λ file. IsTrue (D.Disk.is_clean (disk_of file)) → IsTrue (D.Disk.is_clean disk)) }
+    {
+        if !disk.may_be_used() {
+            return Err(FileError);
+        }
+        match disk.len() {
+            Ok(end) => Ok(DiskFile {
+                disk,
+                end: Some(end),
+            }),
+            Err(_) => Err(FileError),
+        }
+    }
+
+    /// The disk.
+    pub fn into_disk(self) -> D
+        ensures { result ≡ disk_of self }
+    {
+        let DiskFile { disk, end: _ } = self;
+        disk
+    }
+}
+
+impl<D: Disk> HistoryFile for DiskFile<D> {
+    ghost use Rattle.permit_history_file.specs.Parts.{AreNoMore};
+    ghost use Rattle.std.proofs.Common.{arith};
+
+    ghost text = { λ f. D.Disk.seen f.disk };
+
+    ghost may_leave = { λ f. D.Disk.may_leave f.disk };
+
+    ghost is_clean = { λ f. D.Disk.is_clean f.disk };
+
+    ghost leaves = { AreNoMore };
+
+    ghost leaves_nothing = { λ bytes. Prim.omega arith };
+
+    ghost leaves_all = { λ bytes. Prim.omega arith };
+
+    fn length(&mut self) -> Result<u64, FileError> {
+        match self.end {
+            Some(end) => Ok(end as u64),
+            None => Err(FileError),
+        }
+    }
+
+    fn read_at(&mut self, at: u64, room: &mut [u8]) -> Result<usize, FileError> {
+        let Some(end) = self.end else {
+            return Err(FileError);
+        };
+        if !self.disk.may_be_used() {
+            return Err(FileError);
+        }
+        let from = end.min(at as usize);
+        let count = room.len().min(end - from);
+        match self.disk.read_at(from, &mut room[..count]) {
+            Ok(()) => Ok(count),
+            Err(_) => Err(FileError),
+        }
+    }
+
+    fn append(&mut self, bytes: &[u8]) -> Result<(), FileError> {
+        let Some(end) = self.end else {
+            return Err(FileError);
+        };
+        let Some(next) = end.checked_add(bytes.len()) else {
+            return Err(FileError);
+        };
+        if !self.disk.may_be_used() {
+            return Err(FileError);
+        }
+        self.end = None;
+        match self.disk.write_at(end, bytes) {
+            Ok(()) => {
+                self.end = Some(next);
+                Ok(())
+            }
+            Err(_) => Err(FileError),
+        }
+    }
+
+    fn sync(&mut self) -> Result<(), FileError> {
+        if !self.disk.may_be_used() {
+            return Err(FileError);
+        }
+        match self.disk.sync() {
+            Ok(()) => Ok(()),
+            Err(_) => Err(FileError),
+        }
+    }
+
+    fn cut(&mut self, to: u64) -> Result<(), FileError> {
+        if !self.disk.may_be_used() {
+            return Err(FileError);
+        }
+        let to = to as usize;
+        self.end = None;
+        match self.disk.set_len(to) {
+            Ok(()) => {
+                self.end = Some(to);
+                Ok(())
+            }
+            Err(_) => Err(FileError),
+        }
+    }
+}
