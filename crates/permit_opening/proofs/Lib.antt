@@ -1,0 +1,4 @@
+pub mod SoundTables
+pub mod Lines
+pub mod Looking
+pub mod Opened

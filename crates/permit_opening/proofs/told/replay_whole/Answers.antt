@@ -1,0 +1,6 @@
+use Rattle.permit_replay.proofs.Reading.{if_some, some_at}
+use Rattle.permit_opening.proofs.told.replay_whole.Goals as goal
+
+pub returns-in-Ok-clause-stopped : goal.returns-in-Ok-clause-stopped
+returns-in-Ok-clause-stopped g c = if_some (g.R.Read.remaining c.args.source.now) _
+    (λ bytes e. c.finish.ensures.stopped bytes (some_at (g.R.Read.remaining c.args.source.now) _ bytes c.in-Ok.ensures.told e))

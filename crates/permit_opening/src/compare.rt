@@ -1,0 +1,131 @@
+//! The comparison of a text with a store.
+
+ghost use Rattle.std.specs.Prelude.{◌≡◌, ℕ, false, List, Some, IfErr, IfNone, IfOk, IfSome, IsTrue, length, take};
+ghost use Rattle.std.specs.Bool.{Decides};
+ghost use Rattle.permit_base.specs.declared.words.Edition.TheVariants.{First};
+ghost use Rattle.permit_alike.specs.Alike.{AreAlike};
+ghost use Rattle.permit_alike.specs.Comparing.{Looks};
+ghost use Rattle.permit_history.specs.declared.entry.Entry.{Entry as TheEntry};
+ghost use Rattle.permit_model.specs.History.{History};
+ghost use Rattle.permit_model.specs.Machine.{IsHistory};
+ghost use Rattle.permit_model.specs.Sound.{IsSoundTables};
+ghost use Rattle.permit_model.specs.Tables.{Tables, tables};
+ghost use Rattle.permit_replay.specs.Holding.{Holds};
+ghost use Rattle.permit_store.specs.Frames.{OverTables};
+ghost use Rattle.permit_opening.specs.Opening.{IsAlike, IsOther, Says, TellOthers};
+ghost use Rattle.permit_opening.specs.Texts.{IsTextOf, StopsAs};
+
+use crate::fault::CompareFault;
+use crate::told::{replay_first, replay_whole};
+use permit_alike::compare::are_alike;
+use permit_base::words::Edition;
+use permit_replay::replayed::Replayed;
+use permit_store::plain::PlainStore;
+use permit_store::store::{Got, Store, StoreError};
+use std::alloc::Global;
+use std::io::BufRead;
+
+/// What a text says of a store's tables.
+#[derive(Clone, Copy, PartialEq, Eq)]
+pub enum Compared {
+    /// The tables are those of the history that the whole lines of the text tell. The lines end at this length in bytes: what
+    /// stands behind it is a part of a line, or nothing.
+    Alike { length: u64 },
+    /// The tables are those of the history that the whole lines but the last tell. Those end at this length.
+    OneMore { length: u64 },
+    /// They are neither.
+    Differs,
+}
+
+impl Compared {
+    /// The length to which the text is to be cut, so that its lines are those of the tables, and no part of a line stands behind
+    /// them. There is none where the tables are other ones.
+    pub fn kept(self) -> Option<u64>
+        ensures alike { (bytes : List ℕ) (t : Tables) → Says bytes t self → IfSome result (λ size. IsAlike (take size bytes) t size) }
+        ensures other { (bytes : List ℕ) (t : Tables) → Says bytes t self → IfNone result (IsOther bytes t) }
+    {
+        match self {
+            Compared::Alike { length } => Some(length),
+            Compared::OneMore { length } => Some(length),
+            Compared::Differs => None,
+        }
+    }
+}
+
+/// That tables of the first edition are not those of a store. It fails where the store keeps to the first edition itself.
+fn has_first<S: Store>(store: &mut S) -> Got<bool>
+    ensures same { OverTables (S.view store.old) (S.view store.new) (λ t. (u : Tables) → u.desk.edition ≡ First
+        → IfOk result (λ same. Decides same (AreAlike u t))) }
+    ensures never { IfOk result (λ same. same ≡ false) }
+    ensures looks { Looks (S.view store.old) (S.view store.new) }
+{
+    let desk = store.desk()?;
+    if desk.edition == Edition::Second {
+        Ok(false)
+    } else {
+        Err(StoreError)
+    }
+}
+
+/// Whether a store has the tables that were replayed.
+fn has_tables<S: Store>(store: &mut S, replayed: Replayed) -> Got<bool>
+    ensures same { OverTables (S.view store.old) (S.view store.new) (λ t. (h : History) → Holds ⟦<PlainStore as Store>⟧.view replayed h
+        → (IsHistory h → IsSoundTables (tables h)) → IsSoundTables t → IfOk result (λ same. Decides same (AreAlike (tables h) t))) }
+    ensures history { (h : History) → Holds ⟦<PlainStore as Store>⟧.view replayed h → IfOk result (λ same. IsTrue same → IsHistory h) }
+    ensures looks { Looks (S.view store.old) (S.view store.new) }
+{
+    match replayed {
+        Replayed::Open(mut told) => are_alike(&mut told, store),
+        Replayed::Nothing | Replayed::Founded(_) => has_first(store),
+    }
+}
+
+/// What a text says of a store that hasn't the tables of its lines, which are so many.
+fn compare_before<S: Store, Q: BufRead>(
+    alloc: Global,
+    store: &mut S,
+    again: &mut Q,
+    lines: u64,
+) -> Result<Compared, CompareFault>
+    ensures says { (bytes : List ℕ) (entries : List TheEntry) (left : List ℕ) → Q.remaining again.old ≡ Some bytes → IsTextOf bytes entries left
+        → lines ≡ length entries
+        → OverTables (S.view store.old) (S.view store.new) (λ t. IsSoundTables t → TellOthers entries t → IfOk result (Says bytes t)) }
+    ensures looks { Looks (S.view store.old) (S.view store.new) }
+    ensures stopped { IfSome (Q.remaining again.old) (λ bytes. IfErr result (StopsAs ⟦<PlainStore as Store>⟧.view bytes)) }
+{
+    let told = replay_first(alloc, again, lines.saturating_sub(1))?;
+    let length = told.length;
+    let same = has_tables(store, told.replayed)?;
+    if same {
+        Ok(Compared::OneMore { length })
+    } else {
+        Ok(Compared::Differs)
+    }
+}
+
+/// What the text of a history says of a store's tables. Of the text there are two readings, from its start: the second is read
+/// only where the tables are not those of the whole text, up to the line before the last.
+///
+/// A text that is not replayed, or whose lines are the founding alone or none, is a fault, and then it says nothing of the
+/// tables. The store is only read. It keeps the tables of one of the readings at a time, and one line.
+pub fn compare<S: Store, R: BufRead, Q: BufRead>(
+    alloc: Global,
+    store: &mut S,
+    source: &mut R,
+    again: &mut Q,
+) -> Result<Compared, CompareFault>
+    ensures says { (bytes : List ℕ) → R.remaining source.old ≡ Some bytes → Q.remaining again.old ≡ Some bytes
+        → OverTables (S.view store.old) (S.view store.new) (λ t. IsSoundTables t → IfOk result (Says bytes t)) }
+    ensures looks { Looks (S.view store.old) (S.view store.new) }
+    ensures stopped { (bytes : List ℕ) → R.remaining source.old ≡ Some bytes → Q.remaining again.old ≡ Some bytes
+        → IfErr result (StopsAs ⟦<PlainStore as Store>⟧.view bytes) }
+{
+    let told = replay_whole(alloc, source)?;
+    let (lines, length) = (told.lines, told.length);
+    let alike = has_tables(store, told.replayed)?;
+    if alike {
+        Ok(Compared::Alike { length })
+    } else {
+        compare_before(alloc, store, again, lines)
+    }
+}

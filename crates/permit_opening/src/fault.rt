@@ -1,0 +1,26 @@
+//! Why a text and a store aren't compared.
+
+use permit_replay::fault::ReplayFault;
+use permit_store::store::StoreError;
+
+/// Why a text and a store aren't compared. Of the tables it says nothing.
+#[derive(Drop)]
+pub enum CompareFault {
+    /// A call of the store failed, memory was refused for the comparison, or the store keeps to the first edition.
+    Store,
+    /// The text is not replayed, or can't be read.
+    Text(ReplayFault),
+    /// The text has 18446744073709551616 bytes or more.
+    Long,
+}
+
+impl From<StoreError> for CompareFault {
+    ghost use Rattle.std.specs.Prelude.{◌≡◌};
+    ghost use Rattle.permit_opening.specs.declared.fault.CompareFault.TheVariants.{Store};
+
+    ghost from_gives = { λ _ fault. fault ≡ Store };
+
+    fn from(_error: StoreError) -> CompareFault {
+        CompareFault::Store
+    }
+}
