@@ -5,4 +5,6 @@ mod failing;
 #[cfg(test)]
 mod on_disk;
 #[cfg(test)]
+mod resumed;
+#[cfg(test)]
 mod served;
