@@ -1,6 +1,8 @@
 //! An office that is opened with its history.
 
-use crate::served::{ALLOWS_ALL, agree, chief_digest, day, lines, office, serve_all, told, transfer, want};
+use crate::served::{
+    ALLOWS_ALL, agree, chief_digest, day, lines, office, serve_all, told, transfer, want,
+};
 use permit_alike::unordered::Unordered;
 use permit_journal::memory::MemoryFile;
 use permit_office::reply::Reply;

@@ -1,7 +1,8 @@
 -- A text that was cut to the lines of a store's tables tells their history.
 use Rattle.std.proofs.Common.{◌≡◌, ◌⊎◌, inl, inr, refl, sym, ap, ◌∙◌, subst, ℕ, List, [], ◌∷◌, ◌++◌, length, take, append_assoc}
+use Rattle.std.specs.Prelude.{Result, Ok, Err, OnOk}
 use Rattle.permit_model.specs.Tables.{Tables, tables}
-use Rattle.permit_alike.specs.Alike.{AreAlike, unordered}
+use Rattle.permit_alike.specs.Alike.{AreAlike}
 use Rattle.permit_store.specs.Frames.{StoreView}
 use Rattle.permit_history.specs.declared.entry.Entry.{Entry}
 use Rattle.permit_history.specs.LineData.{text_of}
@@ -24,19 +25,19 @@ alike_back t u alike = record {
 
 -- the text of entries that tell a history, whose tables are held
 resumed_by : (bytes : List ℕ) (entries : List Entry) (left : List ℕ) (text : List ℕ) (store : StoreView) (t : Tables) → IsTextOf bytes entries left
-    → TellTables entries t → text ≡ text_of entries → store.holds t → IsResumed text (unordered store)
-resumed_by bytes entries left text store t of tells is held = (
-  entries,
-  is,
-  λ token_of have. record {
+    → TellTables entries t → text ≡ text_of entries → store.holds t → IsResumed text store
+resumed_by bytes entries left text store t of tells is held = record {
+  entries = entries;
+  text_is = is;
+  has = λ token_of have. record {
     history = of.history token_of have;
     held = (t, held, alike_back (tables (history_by token_of entries)) t (tells token_of have).1);
     told = (entries, is, sym (of.told token_of have));
-  },
-)
+  };
+}
 
 resumed_kept : (before after : List ℕ) (store : StoreView) (t : Tables) (size : ℕ) → IsKept before t size → after ≡ take size before → store.holds t
-    → IsResumed after (unordered store)
+    → IsResumed after store
 resumed_kept before after store t size (inl (entries, left, text, tells, of)) cut held =
     resumed_by before entries left after store t text tells (cut ∙ whole_length entries before left size text.text of) held
 resumed_kept before after store t size (inr (entries, last, left, text, other, alone, tells, of)) cut held =
@@ -44,5 +45,9 @@ resumed_kept before after store t size (inr (entries, last, left, text, other, a
     resumed_by (text_of entries) entries [] after store t alone tells (cut ∙ whole) held
 
 -- so does the text that is left
-pub resumed : (before after : List ℕ) (store : StoreView) (t : Tables) → IsCutTo before t after → store.holds t → IsResumed after (unordered store)
+pub resumed : (before after : List ℕ) (store : StoreView) (t : Tables) → IsCutTo before t after → store.holds t → IsResumed after store
 resumed before after store t (size, kept, cut) held = resumed_kept before after store t size kept cut held
+
+pub on_ok : {A E P Q : Type 0} (r : Result A E) → (P → Q) → OnOk r P → OnOk r Q
+on_ok (Ok done) step fact = step fact
+on_ok (Err e) step fact = tt

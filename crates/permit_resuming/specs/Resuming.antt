@@ -3,6 +3,7 @@ use Rattle.std.specs.Prelude.{◌≡◌, ◌⊎◌, ℕ, List, take}
 use Rattle.permit_model.specs.History.{History}
 use Rattle.permit_model.specs.Machine.{IsHistory}
 use Rattle.permit_model.specs.Tables.{Tables, tables}
+use Rattle.permit_alike.specs.Alike.{unordered}
 use Rattle.permit_store.specs.Frames.{StoreView}
 use Rattle.permit_history.specs.declared.entry.Entry.{Entry}
 use Rattle.permit_history.specs.LineData.{text_of}
@@ -25,8 +26,8 @@ pub record HasHistory (text : List ℕ) (store : StoreView) (h : History) : Type
   pub held : store.holds (tables h)
   pub told : Tells text h
 
--- the text is that of entries, and by any tokens the store holds the tables of the history that they tell
-abbrev pub IsResumed : List ℕ → StoreView → Type 0
-IsResumed text store =
-    (entries : List Entry) × (text ≡ text_of entries)
-    × ((token_of : List ℕ → List ℕ) → HaveTokens token_of entries → HasHistory text store (history_by token_of entries))
+-- The text is that of entries. By any tokens it tells a history whose tables the store holds, but for orders that no call shows.
+pub record IsResumed (text : List ℕ) (store : StoreView) : Type 0 where
+  pub entries : List Entry
+  pub text_is : text ≡ text_of entries
+  pub has : (token_of : List ℕ → List ℕ) → HaveTokens token_of entries → HasHistory text (unordered store) (history_by token_of entries)

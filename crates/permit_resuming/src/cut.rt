@@ -1,6 +1,6 @@
 //! Cutting the text of a history's file to the history of a store's tables.
 
-ghost use Rattle.std.specs.Prelude.{◌≡◌, ◌≤◌, Err, IfOk, IsTrue, OnOk, length, take};
+ghost use Rattle.std.specs.Prelude.{◌≡◌, Err, IfOk, IsTrue, OnOk, length, take};
 ghost use Rattle.permit_alike.specs.Comparing.{Looks};
 ghost use Rattle.permit_model.specs.Sound.{IsSoundTables};
 ghost use Rattle.permit_opening.specs.Opening.{IsOther};
