@@ -59,6 +59,7 @@ impl<H: HistoryFile + Drop> Journal<H> {
         ensures settled { IfOk result (λ journal. IsTrue (H.is_clean journal.file) → Has H.text H.may_leave H.is_clean journal (H.text file)) }
         ensures kept { IfOk result (λ journal. H.text journal.file ≡ H.text file) }
         ensures crash { IfOk result (λ journal. (c : List ℕ) → H.may_leave journal.file c → H.may_leave file c) }
+        ensures clean { IfOk result (λ journal. IsTrue (H.is_clean journal.file) → IsTrue (H.is_clean file)) }
     {
         let length = file.length()?;
         file.sync()?;

@@ -13,7 +13,9 @@ use Rattle.permit_alike.specs.Alike.{AreAlike}
 use Rattle.permit_store.specs.declared.plain.PlainStore.{PlainStore}
 use Rattle.permit_store.specs.Frames.{StoreView}
 use Rattle.permit_history.specs.declared.entry.Entry.{Entry}
+use Rattle.permit_history.specs.Meaning.{meant}
 use Rattle.permit_history.specs.Text.{next_line, GivesInTurn}
+use Rattle.permit_history.specs.Told.{told_history}
 use Rattle.permit_history.specs.LineData.{line_of, text_of}
 use Rattle.permit_history.specs.Within.{is_within}
 use Rattle.permit_history.proofs.LineByLine.{gives_all, gives_only}
@@ -47,20 +49,23 @@ text_known view bytes entries left told has end opened = record {
   within = has.within;
   next = has.next;
   history = λ token_of have. open_history view told.replayed (history_by token_of entries) opened (has.as_far.held token_of have);
+  told = has.as_far.told;
 }
 
 -- entries within their limits have a text by themselves
 alone : (entries : List Entry) → IsTrue (list_all is_within entries)
     → ((token_of : List ℕ → List ℕ) → HaveTokens token_of entries → AreNext token_of [] entries)
     → ((token_of : List ℕ → List ℕ) → HaveTokens token_of entries → IsHistory (history_by token_of entries))
+    → ((token_of : List ℕ → List ℕ) → HaveTokens token_of entries → told_history (history_by token_of entries) ≡ meant entries)
     → IsTextOf (text_of entries) entries []
-alone entries within next history = record {
+alone entries within next history told = record {
   text = sym (append-nil (text_of entries));
   given = subst (λ bytes. GivesInTurn bytes entries []) (append-nil (text_of entries)) (gives_all entries [] within);
   end = refl;
   within = within;
   next = next;
   history = history;
+  told = told;
 }
 
 -- ---- the tables
@@ -152,7 +157,7 @@ says_one_more view bytes entries left told lines most t same text counted less u
       left,
       subst (λ es. IsTextOf bytes es left) b.is text,
       subst (λ es. TellOthers es t) b.is other,
-      alone b.front b.has.within b.has.next (λ token_of have. (tells token_of have).0),
+      alone b.front b.has.within b.has.next (λ token_of have. (tells token_of have).0) b.has.as_far.told,
       tells,
       b.has.size,
     )
@@ -182,19 +187,19 @@ whole_there view bytes most told (entries, left, has, few, end) early opened = (
 
 -- ---- what is kept
 
-text_split : (entries : List Entry) (last : Entry) → text_of (entries ++ last ∷ []) ≡ text_of entries ++ (line_of last ++ 10 ∷ [])
+pub text_split : (entries : List Entry) (last : Entry) → text_of (entries ++ last ∷ []) ≡ text_of entries ++ (line_of last ++ 10 ∷ [])
 text_split [] last = refl
 text_split (first ∷ later) last =
     ap (λ rest. line_of first ++ 10 ∷ rest) (text_split later last) ∙ sym (append_assoc (line_of first) (10 ∷ text_of later) (line_of last ++ 10 ∷ []))
 
-whole_length : (entries : List Entry) (bytes left : List ℕ) (size : ℕ) → bytes ≡ text_of entries ++ left → size ≡ length (text_of entries)
+pub whole_length : (entries : List Entry) (bytes left : List ℕ) (size : ℕ) → bytes ≡ text_of entries ++ left → size ≡ length (text_of entries)
     → take size bytes ≡ text_of entries
 whole_length entries bytes left size cut of = ap (take size) cut ∙ take_at (text_of entries) left size (sym of)
 
 pub kept_of_alike : (bytes : List ℕ) (t : Tables) (size : ℕ) → IsAlike bytes t size → IsAlike (take size bytes) t size
 kept_of_alike bytes t size (entries, left, text, tells, of) =
     let cut = whole_length entries bytes left size text.text of in
-    (entries, [], subst (λ bs. IsTextOf bs entries []) (sym cut) (alone entries text.within text.next text.history), tells, of)
+    (entries, [], subst (λ bs. IsTextOf bs entries []) (sym cut) (alone entries text.within text.next text.history text.told), tells, of)
 
 pub kept_of_one_more : (bytes : List ℕ) (t : Tables) (size : ℕ) → HasOneMore bytes t size → IsAlike (take size bytes) t size
 kept_of_one_more bytes t size (entries, last, left, text, other, before, tells, of) =

@@ -7,7 +7,9 @@ use Rattle.permit_store.specs.declared.plain.PlainStore.{PlainStore}
 use Rattle.permit_store.specs.Frames.{StoreView}
 use Rattle.permit_history.specs.declared.entry.Entry.{Entry}
 use Rattle.permit_history.specs.LineData.{text_of}
+use Rattle.permit_history.specs.Meaning.{meant}
 use Rattle.permit_history.specs.Text.{next_line, GivesInTurn}
+use Rattle.permit_history.specs.Told.{told_history}
 use Rattle.permit_history.specs.Within.{is_within}
 use Rattle.permit_replay.specs.Against.{against}
 use Rattle.permit_replay.specs.Histories.{HaveTokens, history_with, history_by}
@@ -29,6 +31,7 @@ pub record IsTextOf (bytes : List ℕ) (entries : List Entry) (left : List ℕ) 
   pub within : IsTrue (list_all is_within entries)
   pub next : (token_of : List ℕ → List ℕ) → HaveTokens token_of entries → AreNext token_of [] entries
   pub history : (token_of : List ℕ → List ℕ) → HaveTokens token_of entries → IsHistory (history_by token_of entries)
+  pub told : (token_of : List ℕ → List ℕ) → HaveTokens token_of entries → told_history (history_by token_of entries) ≡ meant entries
 
 -- Replaying the text stops there. A store that failed says nothing of it.
 abbrev pub StopsAs : (PlainStore → StoreView) → List ℕ → CompareFault → Type 0

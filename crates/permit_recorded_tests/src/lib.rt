@@ -7,4 +7,6 @@ mod in_memory;
 #[cfg(test)]
 mod on_disk;
 #[cfg(test)]
+mod resumed;
+#[cfg(test)]
 mod served;

@@ -18,13 +18,13 @@ use std::alloc::Global;
 use std::test::*;
 
 /// The office of these tests.
-type Office = RecordedOffice<Policy, PlainStore, FailingFile>;
+pub(crate) type Office = RecordedOffice<Policy, PlainStore, FailingFile>;
 
 /// The token of party 1.
 const CHIEF: &str = "abcdefghijklmnopqrstuvwxyz";
 
 /// A policy that allows everything.
-const ALLOWS_ALL: &str = r#"[[rule]]
+pub(crate) const ALLOWS_ALL: &str = r#"[[rule]]
 name = "all"
 effect = "allow"
 "#;
@@ -47,7 +47,7 @@ const DONE: &str =
 "#;
 
 /// Fails where it isn't so.
-fn want(is_so: bool, what: &'static str) -> Result<(), Fail> {
+pub(crate) fn want(is_so: bool, what: &'static str) -> Result<(), Fail> {
     if is_so { Ok(()) } else { Err(what.into()) }
 }
 
@@ -66,8 +66,13 @@ fn digest_of(alloc: Global, letters: &str) -> Result<Digest, Fail> {
     Ok(digest(&token(alloc, letters)?)?)
 }
 
+/// The digest of party 1's token.
+pub(crate) fn chief_digest(alloc: Global) -> Result<Digest, Fail> {
+    digest_of(alloc, CHIEF)
+}
+
 /// A day.
-fn day(number: u32) -> Result<Day, Fail> {
+pub(crate) fn day(number: u32) -> Result<Day, Fail> {
     Ok(Day::new(number).ok_or("a day")?)
 }
 
@@ -79,7 +84,7 @@ fn founded(alloc: Global) -> Result<PlainStore, Fail> {
 }
 
 /// The office after its founding, whose file fails behind so many calls.
-fn office(alloc: Global, good: Option<u32>, stays: bool) -> Result<Office, Fail> {
+pub(crate) fn office(alloc: Global, good: Option<u32>, stays: bool) -> Result<Office, Fail> {
     let policy = read_policy(alloc, ALLOWS_ALL)?;
     let store = founded(alloc)?;
     let file = FailingFile {
@@ -107,7 +112,7 @@ fn is_done(
 
 /// Serves a request of party 1, and once more where it isn't done. Whether it was done.
 fn serve(alloc: Global, office: &mut Office, request: &Request) -> Result<bool, Fail> {
-    let chief = digest_of(alloc, CHIEF)?;
+    let chief = chief_digest(alloc)?;
     let today = day(19701)?;
     if is_done(alloc, office, &chief, today, request) {
         return Ok(true);
@@ -159,7 +164,7 @@ fn on_file(command: Command) -> Result<Request, Fail> {
 }
 
 /// The parcel's transfer.
-fn transfer() -> Result<Request, Fail> {
+pub(crate) fn transfer() -> Result<Request, Fail> {
     let (Some(parcel), Some(to)) = (ParcelId::new(1), PartyId::new(2)) else {
         return Err("a parcel".into());
     };
@@ -213,7 +218,7 @@ fn serve_transfer(alloc: Global, office: &mut Office) -> Result<bool, Fail> {
 }
 
 /// Serves what the text tells, up to the first command that isn't done. Whether all were done.
-fn serve_all(alloc: Global, office: &mut Office) -> Result<bool, Fail> {
+pub(crate) fn serve_all(alloc: Global, office: &mut Office) -> Result<bool, Fail> {
     Ok(
         serve_reviewer(alloc, office)?
             && serve_parcel(alloc, office)?
@@ -226,7 +231,7 @@ fn serve_all(alloc: Global, office: &mut Office) -> Result<bool, Fail> {
 }
 
 /// The store and the text.
-fn told(office: Office) -> (PlainStore, Vec<u8>) {
+pub(crate) fn told(office: Office) -> (PlainStore, Vec<u8>) {
     let (store, journal) = office.into_parts();
     let FailingFile {
         bytes,
@@ -237,7 +242,7 @@ fn told(office: Office) -> (PlainStore, Vec<u8>) {
 }
 
 /// The text of the founding and of so many commands.
-fn lines(alloc: Global, count: usize) -> Result<Vec<u8>, Fail> {
+pub(crate) fn lines(alloc: Global, count: usize) -> Result<Vec<u8>, Fail> {
     let mut text = FOUNDED.as_bytes().to_vec(alloc)?;
     for (place, line) in DONE.lines().enumerate() {
         if place < count {
@@ -258,7 +263,7 @@ fn are_told(alloc: Global, store: &mut PlainStore, text: &[u8]) -> Result<bool, 
 }
 
 /// Fails where the tables of the store aren't those of the text.
-fn agree(alloc: Global, store: &mut PlainStore, text: &[u8]) -> Result<(), Fail> {
+pub(crate) fn agree(alloc: Global, store: &mut PlainStore, text: &[u8]) -> Result<(), Fail> {
     want(are_told(alloc, store, text)?, "the tables")
 }
 

@@ -1,0 +1,65 @@
+//! Cutting the text of a history's file to the history of a store's tables.
+
+ghost use Rattle.std.specs.Prelude.{◌≡◌, Err, IfOk, IsTrue, OnOk, length, take};
+ghost use Rattle.permit_alike.specs.Comparing.{Looks};
+ghost use Rattle.permit_model.specs.Sound.{IsSoundTables};
+ghost use Rattle.permit_opening.specs.Opening.{IsOther};
+ghost use Rattle.permit_store.specs.Frames.{OverTables};
+ghost use Rattle.permit_resuming.specs.Resuming.{IsCutTo, IsKept};
+ghost use Rattle.permit_resuming.specs.declared.fault.ResumeFault.TheVariants.{Differs};
+
+use crate::fault::ResumeFault;
+use crate::read::read_whole;
+use permit_journal::file::{FileError, HistoryFile};
+use permit_opening::compare::{Compared, compare};
+use permit_store::store::Store;
+use std::alloc::Global;
+
+/// The length to which a text is cut, so that its lines are those of the store's tables.
+fn kept_length<S: Store>(alloc: Global, store: &mut S, text: &[u8]) -> Result<u64, ResumeFault>
+    ensures kept { OverTables (S.view store.old) (S.view store.new) (λ t. IsSoundTables t → IfOk result (IsKept text.now t)) }
+    ensures differs { OverTables (S.view store.old) (S.view store.new) (λ t. IsSoundTables t → result ≡ Err Differs → IsOther text.now t) }
+    ensures looks { Looks (S.view store.old) (S.view store.new) }
+{
+    let mut source = text;
+    let mut again = text;
+    match compare(alloc, store, &mut source, &mut again) {
+        Ok(Compared::Alike { length }) => Ok(length),
+        Ok(Compared::OneMore { length }) => Ok(length),
+        Ok(Compared::Differs) => Err(ResumeFault::Differs),
+        Err(fault) => Err(ResumeFault::Compare(fault)),
+    }
+}
+
+/// Cuts the text, which has so many bytes, to a length, unless that is its own.
+fn cut_to<H: HistoryFile>(file: &mut H, size: usize, kept: u64) -> Result<(), FileError>
+    ensures cut { size ≡ length (H.text file.old) → OnOk result (H.text file.new ≡ take kept (H.text file.old)) }
+    ensures clean { H.is_clean file.new ≡ H.is_clean file.old }
+{
+    if kept < size as u64 {
+        file.cut(kept)
+    } else {
+        Ok(())
+    }
+}
+
+/// Cuts the text of the file to the history of the store's tables. Where the tables are other ones nothing is cut. The store is
+/// only read.
+pub(crate) fn cut_to_tables<S: Store, H: HistoryFile>(
+    alloc: Global,
+    store: &mut S,
+    file: &mut H,
+) -> Result<(), ResumeFault>
+    ensures cut { OverTables (S.view store.old) (S.view store.new) (λ t. IsSoundTables t → IsTrue (H.is_clean file.new)
+        → OnOk result (IsCutTo (H.text file.old) t (H.text file.new))) }
+    ensures differs { OverTables (S.view store.old) (S.view store.new) (λ t. IsSoundTables t → IsTrue (H.is_clean file.new)
+        → result ≡ Err Differs → IsOther (H.text file.old) t) }
+    ensures uncut { result ≡ Err Differs → H.text file.new ≡ H.text file.old }
+    ensures looks { Looks (S.view store.old) (S.view store.new) }
+    ensures clean { IsTrue (H.is_clean file.new) → IsTrue (H.is_clean file.old) }
+{
+    let text = read_whole(alloc, file)?;
+    let kept = kept_length(alloc, store, text.as_slice())?;
+    cut_to(file, text.len(), kept)?;
+    Ok(())
+}

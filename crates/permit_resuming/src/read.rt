@@ -1,0 +1,25 @@
+//! Reading the text of a history's file.
+
+ghost use Rattle.std.specs.Prelude.{◌≡◌, ℕ, List, IfOk, IsTrue};
+
+use permit_journal::file::{FileError, HistoryFile};
+use std::alloc::Global;
+
+/// The whole text of the file, which is held in memory here. A reading that ends before the file's length is a failure, and so
+/// is memory that was refused.
+pub(crate) fn read_whole<H: HistoryFile>(alloc: Global, file: &mut H) -> Result<Vec<u8>, FileError>
+    ensures text { IfOk result (λ text. IsTrue (H.is_clean file.new) → text.items ≡ H.text file.old) }
+    ensures kept { H.text file.new ≡ H.text file.old }
+    ensures crash { (c : List ℕ) → H.may_leave file.new c → H.may_leave file.old c }
+    ensures clean { IsTrue (H.is_clean file.new) → IsTrue (H.is_clean file.old) }
+{
+    let length = file.length()?;
+    let Ok(mut text) = Vec::from_elem(alloc, 0, length as usize) else {
+        return Err(FileError);
+    };
+    let count = file.read_at(0, text.as_mut_slice())?;
+    if count < text.len() {
+        return Err(FileError);
+    }
+    Ok(text)
+}

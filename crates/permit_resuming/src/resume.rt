@@ -1,0 +1,77 @@
+//! The opening.
+
+ghost use Rattle.std.specs.Prelude.{◌≡◌, Err, is_some, IfErr, IfOk, IfSome, IsTrue, OnOk};
+ghost use Rattle.permit_alike.specs.Comparing.{Looks};
+ghost use Rattle.permit_journal.specs.Journals.{IsSettled};
+ghost use Rattle.permit_model.specs.Sound.{IsSoundTables};
+ghost use Rattle.permit_opening.specs.Opening.{IsOther};
+ghost use Rattle.permit_store.specs.Frames.{OverTables};
+ghost use Rattle.permit_resuming.specs.Resuming.{IsCutTo, IsResumed};
+ghost use Rattle.permit_resuming.specs.declared.fault.ResumeFault.TheVariants.{Differs};
+
+use crate::cut::cut_to_tables;
+use crate::fault::ResumeFault;
+use permit_alike::unordered::Unordered;
+use permit_journal::file::HistoryFile;
+use permit_journal::journal::Journal;
+use permit_recorded::decider::Decider;
+use permit_recorded::recorded::RecordedOffice;
+use permit_store::store::Store;
+use std::alloc::Global;
+
+/// Cuts the text of the file to the history of the store's tables, which it tells from then on. Where the tables are other ones
+/// nothing is cut. The store is only read.
+fn cut_to_history<S: Store, H: HistoryFile>(
+    alloc: Global,
+    store: &mut S,
+    file: &mut H,
+) -> Result<(), ResumeFault>
+    ensures resumed { OverTables (S.view store.old) (S.view store.new) (λ t. IsSoundTables t → IsTrue (H.is_clean file.new)
+        → OnOk result (IsResumed (H.text file.new) (S.view store.new))) }
+    ensures cut { OverTables (S.view store.old) (S.view store.new) (λ t. IsSoundTables t → IsTrue (H.is_clean file.new)
+        → OnOk result (IsCutTo (H.text file.old) t (H.text file.new))) }
+    ensures differs { OverTables (S.view store.old) (S.view store.new) (λ t. IsSoundTables t → IsTrue (H.is_clean file.new)
+        → result ≡ Err Differs → IsOther (H.text file.old) t) }
+    ensures uncut { result ≡ Err Differs → H.text file.new ≡ H.text file.old }
+    ensures looks { Looks (S.view store.old) (S.view store.new) }
+{
+    cut_to_tables(alloc, store, file)
+}
+
+/// Opens the office with its history: the file has the text, and the store the tables. A crash left the text at the history of
+/// the tables, or one line further. What stands behind that history is cut off, and what is left is put on the disk. The office
+/// has the store but for orders that no call shows. The text is held in memory once meanwhile.
+///
+/// Where the tables are other ones nothing is cut. The store is given back with the fault, and was only read. So is the file,
+/// unless its last sync failed.
+///
+/// What is said of the text is said of a file that has told nothing false. No code can tell whether one has.
+pub fn resume<D: Decider + Drop, S: Store + Drop, H: HistoryFile + Drop>(
+    alloc: Global,
+    decider: D,
+    mut store: S,
+    mut file: H,
+) -> Result<RecordedOffice<D, Unordered<S>, H>, (S, Option<H>, ResumeFault)>
+    ensures resumed { IfOk result (λ office. OverTables (S.view store) (S.view office.store.store) (λ t. IsSoundTables t
+        → IsTrue (H.is_clean office.journal.file) → IsResumed (H.text office.journal.file) (S.view office.store.store))) }
+    ensures settled { IfOk result (λ office. IsTrue (H.is_clean office.journal.file) → IsSettled H.text H.may_leave H.is_clean office.journal) }
+    ensures cut { IfOk result (λ office. OverTables (S.view store) (S.view office.store.store) (λ t. IsSoundTables t
+        → IsTrue (H.is_clean office.journal.file) → IsCutTo (H.text file) t (H.text office.journal.file))) }
+    ensures decider { IfOk result (λ office. office.decider ≡ decider) }
+    ensures looks { IfOk result (λ office. Looks (S.view store) (S.view office.store.store)) }
+    ensures given_back { IfErr result (λ back. Looks (S.view store) (S.view back.0)) }
+
+    // Where the tables differ, the file is given back with its whole text.
+    ensures there { IfErr result (λ back. back.2 ≡ Differs → IsTrue (is_some back.1)) }
+    ensures differs { IfErr result (λ back. back.2 ≡ Differs → OverTables (S.view store) (S.view back.0) (λ t. IsSoundTables t
+        → IfSome back.1 (λ left. IsTrue (H.is_clean left) → IsOther (H.text file) t))) }
+    ensures uncut { IfErr result (λ back. back.2 ≡ Differs → IfSome back.1 (λ left. H.text left ≡ H.text file)) }
+{
+    if let Err(fault) = cut_to_history(alloc, &mut store, &mut file) {
+        return Err((store, Some(file), fault));
+    }
+    match Journal::open(file) {
+        Ok(journal) => Ok(RecordedOffice::new(decider, Unordered { store }, journal)),
+        Err(_) => Err((store, None, ResumeFault::File)),
+    }
+}
