@@ -2,7 +2,7 @@
 //! them.
 
 use crate::others::{SESSIONS, asked, print_reply};
-use crate::serving::{COUNT, REST, mark, opened, print_tables};
+use crate::serving::{COUNT, REST, opened, print_tables};
 use permit_base::request::Asked;
 use permit_base::values::Day;
 use permit_hall::error::HallError;
@@ -45,7 +45,6 @@ fn print_each(
     rt: &(impl Print + AllocGlobal),
     left_out: usize,
     replies: Option<Vec<Reply>>,
-    on: Day,
 ) -> Result<(), Fail> {
     let Some(replies) = replies else {
         return Ok(println!(rt; "0 no worker")?);
@@ -56,7 +55,7 @@ fn print_each(
         if number == left_out {
             number = number.saturating_add(1);
         }
-        print_reply(rt, number, reply, on)?;
+        print_reply(rt, number, reply)?;
     }
     Ok(())
 }
@@ -69,13 +68,13 @@ where
     let alloc = rt.alloc();
     let (office, on) = (opened(alloc)?, day(19723)?);
     let lists = vec![in alloc; list(alloc, left_out)?]?;
-    mark(&rt, COUNT);
+    println!(rt; "{COUNT}")?;
     let end = ended(rt, alloc, office, lists, on);
-    mark(&rt, REST);
+    println!(rt; "{REST}")?;
     match end {
         Ok(ListsEnd { office, answers }) => {
             for replies in answers {
-                print_each(&rt, left_out, replies, on)?;
+                print_each(&rt, left_out, replies)?;
             }
             print_tables(&rt, office)
         }

@@ -1,12 +1,11 @@
 //! What takes memory beside the scenarios: the making of an office, policies with each fault, a parcel list, a hall over
 //! events, and files that are passed to a taker. Growths count for these calls alone.
 
-use crate::serving::{COUNT, REST, mark, opened, print_answer, print_tables};
+use crate::serving::{COUNT, REST, opened, print_answer, print_tables};
 use permit_answer::answer::Answer;
 use permit_answer::write_reply;
 use permit_base::refusal::Refusal;
 use permit_base::request::{Asked, Filter};
-use permit_base::values::Day;
 use permit_base::words::{Action, RegisterKind};
 use permit_hall::events::{Event, hall_run};
 use permit_http::inbox::Inbox;
@@ -43,9 +42,9 @@ const POLICIES: [&str; 7] = [
 /// Founds a store, and opens an office over it.
 fn found(rt: &(impl Print + AllocGlobal)) -> Result<(), Fail> {
     let founder = founder(rt.alloc())?;
-    mark(rt, COUNT);
+    println!(rt; "{COUNT}")?;
     let made = PlainStore::create(rt.alloc(), &founder);
-    mark(rt, REST);
+    println!(rt; "{REST}")?;
     match made {
         Ok(store) => {
             println!(rt; "0 made")?;
@@ -64,9 +63,9 @@ pub fn made(rt: &(impl Print + AllocGlobal)) -> Result<(), Fail> {
     let mut number = 0u32;
     for text in POLICIES {
         number = number.saturating_add(1);
-        mark(rt, COUNT);
+        println!(rt; "{COUNT}")?;
         let read = read_policy(rt.alloc(), text);
-        mark(rt, REST);
+        println!(rt; "{REST}")?;
         match read {
             Ok(policy) => {
                 let rules = policy.rules();
@@ -99,97 +98,60 @@ pub const SESSIONS: [&str; 3] = [
     "6 19723 GET /registers/files",
 ];
 
-/// Puts what a line of a script asks in a session.
-fn put(alloc: Global, events: &mut Vec<Event>, session: u8, line: &str) -> Result<(), Fail> {
-    events.push(Event::Put(session, asked(alloc, line)?))?;
-    Ok(())
-}
-
-/// The requests of three sessions but that of the number, from 1, which is left out.
-fn puts(alloc: Global, left_out: usize) -> Result<Vec<Event>, Fail> {
+/// The events of three sessions, each with its request but that of the number, from 1, which is left out.
+fn events(alloc: Global, left_out: usize) -> Result<Vec<Event>, Fail> {
     let mut events = Vec::new(alloc);
     let mut session = 0u8;
     for line in SESSIONS {
         session = session.saturating_add(1);
         if usize::from(session) != left_out {
-            put(alloc, &mut events, session, line)?;
+            events.push(Event::Put(session, asked(alloc, line)?))?;
         }
     }
-    Ok(events)
-}
-
-/// Takes three times on a day, and collects the replies of each session.
-fn take_and_collect(events: &mut Vec<Event>, on: Day) -> Result<(), Fail> {
     for _ in SESSIONS {
-        events.push(Event::Take(on))?;
+        events.push(Event::Take(day(19723)?))?;
     }
     for session in 1..4u8 {
         events.push(Event::Collect(session))?;
     }
-    Ok(())
-}
-
-/// The events of three sessions, each with its request but that of the number, from 1, which is left out.
-fn events(alloc: Global, left_out: usize, on: Day) -> Result<Vec<Event>, Fail> {
-    let mut events = puts(alloc, left_out)?;
-    take_and_collect(&mut events, on)?;
     Ok(events)
 }
 
-/// Prints the reply to the request of the number, as it is answered on a day.
+/// Prints the reply to the request of the number, as it is answered on the day of the hall.
 pub fn print_reply(
     rt: &(impl Print + AllocGlobal),
     number: usize,
     reply: Reply,
-    day: Day,
 ) -> Result<(), Fail> {
-    let action = if number == 1 {
-        Action::File
-    } else {
-        Action::List
+    let alloc = rt.alloc();
+    let actions = [Action::File, Action::List, Action::List];
+    let answer = Answer::Replied {
+        reply,
+        action: *actions.get(number.wrapping_sub(1)).ok_or("a session")?,
+        day: day(19723)?,
     };
-    let answer = Answer::Replied { reply, action, day };
-    let mut written = Vec::new(rt.alloc());
-    let _ = write_reply(rt.alloc(), &answer, false, &mut written);
+    let mut written = Vec::new(alloc);
+    let _ = write_reply(alloc, &answer, false, &mut written);
     drop(answer);
     print_answer(rt, number, "kept", written)
-}
-
-/// What the events of a hall come to, in the office. Growths count for the hall alone.
-fn ran(
-    rt: &(impl Print + AllocGlobal),
-    office: &mut Office<PlainStore>,
-    events: &[Event],
-) -> Option<Vec<(u8, Reply)>> {
-    mark(rt, COUNT);
-    let ran = hall_run(rt.alloc(), office, events);
-    mark(rt, REST);
-    ran.ok()
-}
-
-/// Prints the answers of a hall, or that memory was refused.
-fn print_answers(
-    rt: &(impl Print + AllocGlobal),
-    answers: Option<Vec<(u8, Reply)>>,
-    on: Day,
-) -> Result<(), Fail> {
-    let Some(answers) = answers else {
-        return Ok(println!(rt; "0 memory")?);
-    };
-    for (session, reply) in answers {
-        print_reply(rt, usize::from(session), reply, on)?;
-    }
-    Ok(())
 }
 
 /// Runs a hall of three sessions without the request of the number, and prints the answers and the tables.
 pub fn hall(rt: &(impl Print + AllocGlobal), left_out: usize) -> Result<(), Fail> {
     let alloc = rt.alloc();
-    let on = day(19723)?;
     let mut office = opened(alloc)?;
-    let events = events(alloc, left_out, on)?;
-    let answers = ran(rt, &mut office, events.as_slice());
-    print_answers(rt, answers, on)?;
+    let events = events(alloc, left_out)?;
+    println!(rt; "{COUNT}")?;
+    let ran = hall_run(alloc, &mut office, events.as_slice());
+    println!(rt; "{REST}")?;
+    match ran {
+        Ok(answers) => {
+            for (session, reply) in answers {
+                print_reply(rt, usize::from(session), reply)?;
+            }
+        }
+        Err(_) => println!(rt; "0 memory")?,
+    }
     print_tables(rt, office)
 }
 
@@ -227,7 +189,7 @@ pub fn imported(
     let (token, on) = (token(alloc, TOKENS[1])?, day(19723)?);
     let list = list(alloc, left_out, records)?;
     let mut out = Vec::with_capacity(alloc, 4096)?;
-    mark(rt, COUNT);
+    println!(rt; "{COUNT}")?;
     let ended = import(
         alloc,
         &mut office,
@@ -237,7 +199,7 @@ pub fn imported(
         list.as_str().as_bytes(),
         &mut out,
     );
-    mark(rt, REST);
+    println!(rt; "{REST}")?;
     let word = match ended {
         Ok(_) => "whole",
         Err(ImportFault::FirstRecord) => "first-record",
@@ -263,9 +225,9 @@ pub fn passed(rt: &(impl Print + AllocGlobal)) -> Result<(), Fail> {
         let token = token(alloc, TOKENS.get(party.wrapping_sub(1)).ok_or("a party")?)?;
         let mut written = Vec::with_capacity(alloc, 4096)?;
         let mut writer = RegisterWriter::new(RegisterKind::Files, on, &mut written);
-        mark(rt, COUNT);
+        println!(rt; "{COUNT}")?;
         let ended = office.rows(&token, on, Filter::All, &mut writer);
-        mark(rt, REST);
+        println!(rt; "{REST}")?;
         let word = match ended {
             RowsEnd::All { .. } => match writer.finish() {
                 Ok(()) => "all",

@@ -62,11 +62,6 @@ pub fn opened(alloc: Global) -> Result<Office<PlainStore>, Fail> {
     Ok(office)
 }
 
-/// Prints a mark. Where it can't be printed, the mark is missed by who reads.
-pub fn mark(rt: &impl Print, word: &str) {
-    let _ = println!(rt; "{word}");
-}
-
 /// How serving ended, in a word.
 fn word(served: Served) -> &'static str {
     match served {
@@ -102,9 +97,9 @@ fn stepped(
     let mut reader = bytes;
     match read_request(rt.alloc(), &mut inbox, &mut reader) {
         Ok(Some(asked)) => {
-            mark(rt, COUNT);
+            println!(rt; "{COUNT}")?;
             let reply = office.step(&asked, on);
-            mark(rt, REST);
+            println!(rt; "{REST}")?;
             let action = action(&asked.request);
             Ok(Answer::Replied {
                 reply,
@@ -144,7 +139,7 @@ fn exchange(
     let mut written = Vec::with_capacity(rt.alloc(), 65536)?;
     let mut inbox = Inbox::new();
     let mut reader = bytes;
-    mark(rt, COUNT);
+    println!(rt; "{COUNT}")?;
     let served = serve_one(
         rt.alloc(),
         office,
@@ -153,7 +148,7 @@ fn exchange(
         &mut written,
         on,
     );
-    mark(rt, REST);
+    println!(rt; "{REST}")?;
     print_answer(rt, number, word(served), written)
 }
 
