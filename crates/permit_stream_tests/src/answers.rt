@@ -45,47 +45,40 @@ fn filed() -> Result<Answer, Fail> {
     replied(Reply::Done { number: Some(1) }, Action::File, 19723)
 }
 
-fn filing() -> Result<FileState, Fail> {
-    let (applicant, parcel, day) = (party(5)?, parcel(1)?, day(19723)?);
-    Ok(FileState::file(applicant, parcel, Kind::Construct, Edition::Second, day))
-}
-
-fn house_file(alloc: Global) -> Result<FileView, Fail> {
-    let (id, state) = (file(1)?, filing()?);
-    let valuation = Cents::new(25000000).ok_or("cents")?;
-    let row = FileRow {
-        id,
-        state,
-        valuation,
-        description: SharedText::new(alloc, text(alloc, "House")?)?,
-    };
-    Ok(FileView {
-        row,
-        stage: Stage::Filed,
-        timing: Timing::Near,
-    })
-}
-
-fn shown(file: FileView, papers: Vec<Paper>) -> Result<Answer, Fail> {
-    replied(Reply::File(file, papers), Action::Read, 19903)
+fn denied_by(name: &str) -> Result<Answer, Fail> {
+    refused(Refusal::Denied(RuleName::new(name).ok_or("name")?))
 }
 
 fn house(alloc: Global, papers: Vec<Paper>) -> Result<Answer, Fail> {
-    shown(house_file(alloc)?, papers)
-}
-
-fn land_parcel(alloc: Global) -> Result<Parcel, Fail> {
-    let (id, owner) = (parcel(1)?, party(5)?);
-    Ok(Parcel {
-        id,
-        lot: lot(alloc, "A-1")?,
-        address: text(alloc, "1 \"Main\" St")?,
-        owner,
-    })
+    let parcel = parcel(1)?;
+    let applicant = party(5)?;
+    let row = FileRow {
+        id: file(1)?,
+        state: FileState::file(
+            applicant,
+            parcel,
+            Kind::Construct,
+            Edition::Second,
+            day(19723)?,
+        ),
+        valuation: Cents::new(25000000).ok_or("cents")?,
+        description: SharedText::new(alloc, text(alloc, "House")?)?,
+    };
+    let file = FileView {
+        row,
+        stage: Stage::Filed,
+        timing: Timing::Near,
+    };
+    replied(Reply::File(file, papers), Action::Read, 19903)
 }
 
 fn land(alloc: Global) -> Result<Answer, Fail> {
-    let parcel = land_parcel(alloc)?;
+    let parcel = Parcel {
+        id: parcel(1)?,
+        lot: lot(alloc, "A-1")?,
+        address: text(alloc, "1 \"Main\" St")?,
+        owner: party(5)?,
+    };
     replied(Reply::Parcel(parcel), Action::ReadParcel, 19903)
 }
 
@@ -96,116 +89,86 @@ fn written(alloc: Global, answer: &Answer, close: bool) -> Result<(String, bool)
     Ok((String::from_utf8(bytes).map_err(|_| "text")?, closes))
 }
 
-/// An answer has this text, and the connection closes where that is asked for.
-fn goes_out(
+/// Each answer, with whether the connection closes, has its text.
+fn go_out(
     rt: &impl Abort,
     alloc: Global,
-    answer: &Answer,
-    close: bool,
-    wanted: &str,
+    answers: &[(Answer, bool, &'static str)],
 ) -> Result<(), Fail> {
-    let (text, closes) = written(alloc, answer, close)?;
-    assert!(rt; text.as_str() == wanted && closes == close, "{wanted}");
+    for (answer, close, wanted) in answers {
+        let (text, closes) = written(alloc, answer, *close)?;
+        assert!(rt; text.as_str() == *wanted && closes == *close, "{wanted}");
+    }
     Ok(())
-}
-
-/// The answer of a refusal has this text.
-fn refusal_goes_out(
-    rt: &impl Abort,
-    alloc: Global,
-    why: Refusal,
-    wanted: &str,
-) -> Result<(), Fail> {
-    goes_out(rt, alloc, &refused(why)?, false, wanted)
 }
 
 #[test]
 fn refusals_go_out(rt: HostRuntime) -> Result<(), Fail> {
-    let rule = RuleName::new("closed-to-public").ok_or("name")?;
-    let cases = [
+    let answers = [
         (
-            Refusal::Caller,
+            refused(Refusal::Caller)?,
+            false,
             "HTTP/1.1 401 Unauthorized\r\nContent-Type: application/json\r\nContent-Length: 20\r\nWWW-Authenticate: Bearer\r\n\r\n{\"refused\":\"caller\"}",
         ),
         (
-            Refusal::Record,
+            refused(Refusal::Record)?,
+            false,
             "HTTP/1.1 404 Not Found\r\nContent-Type: application/json\r\nContent-Length: 20\r\n\r\n{\"refused\":\"record\"}",
         ),
         (
-            Refusal::Denied(rule),
+            denied_by("closed-to-public")?,
+            false,
             "HTTP/1.1 403 Forbidden\r\nContent-Type: application/json\r\nContent-Length: 46\r\n\r\n{\"refused\":\"denied\",\"rule\":\"closed-to-public\"}",
         ),
         (
-            Refusal::NotAdmitted(Reason::Days),
+            refused(Refusal::NotAdmitted(Reason::Days))?,
+            false,
             "HTTP/1.1 409 Conflict\r\nContent-Type: application/json\r\nContent-Length: 42\r\n\r\n{\"reason\":\"days\",\"refused\":\"not-admitted\"}",
         ),
         (
-            Refusal::Clock,
+            refused(Refusal::Clock)?,
+            false,
             "HTTP/1.1 503 Service Unavailable\r\nContent-Type: application/json\r\nContent-Length: 19\r\n\r\n{\"refused\":\"clock\"}",
         ),
     ];
-    for (why, wanted) in cases {
-        refusal_goes_out(&rt, rt.alloc(), why, wanted)?;
-    }
-    Ok(())
+    go_out(&rt, rt.alloc(), answers.as_slice())
 }
 
 #[test]
 fn faults_go_out(rt: HostRuntime) -> Result<(), Fail> {
-    let cases = [
+    let answers = [
         (
-            Fault::Large,
+            Answer::Fault(Fault::Large),
+            true,
             "HTTP/1.1 413 Content Too Large\r\nContent-Type: application/json\r\nContent-Length: 19\r\nConnection: close\r\n\r\n{\"refused\":\"large\"}",
         ),
         (
-            Fault::Caller,
+            Answer::Fault(Fault::Caller),
+            true,
             "HTTP/1.1 401 Unauthorized\r\nContent-Type: application/json\r\nContent-Length: 20\r\nWWW-Authenticate: Bearer\r\nConnection: close\r\n\r\n{\"refused\":\"caller\"}",
         ),
-        (Fault::Memory, STORE_REFUSAL),
+        (Answer::Fault(Fault::Memory), true, STORE_REFUSAL),
     ];
-    for (fault, wanted) in cases {
-        goes_out(&rt, rt.alloc(), &Answer::Fault(fault), true, wanted)?;
-    }
-    Ok(())
-}
-
-fn done_goes_out(
-    rt: &impl Abort,
-    alloc: Global,
-    number: Option<u32>,
-    action: Action,
-    close: bool,
-    wanted: &str,
-) -> Result<(), Fail> {
-    goes_out(
-        rt,
-        alloc,
-        &replied(Reply::Done { number }, action, 19723)?,
-        close,
-        wanted,
-    )
+    go_out(&rt, rt.alloc(), answers.as_slice())
 }
 
 #[test]
-fn commands_that_are_done_go_out(rt: HostRuntime) -> Result<(), Fail> {
-    let transferred =
-        "HTTP/1.1 200 OK\r\nContent-Type: application/json\r\nContent-Length: 45\r\nConnection: close\r\n\r\n{\"day\":19723,\"done\":\"transfer\",\"number\":null}";
-    done_goes_out(&rt, rt.alloc(), Some(1), Action::File, false, FILED)?;
-    done_goes_out(&rt, rt.alloc(), None, Action::Transfer, true, transferred)
-}
-
-#[test]
-fn a_file_goes_out(rt: HostRuntime) -> Result<(), Fail> {
-    let answer = house(rt.alloc(), Vec::new(rt.alloc()))?;
-    goes_out(&rt, rt.alloc(), &answer, false, HOUSE)
-}
-
-#[test]
-fn a_parcel_goes_out(rt: HostRuntime) -> Result<(), Fail> {
-    let wanted =
-        "HTTP/1.1 200 OK\r\nContent-Type: application/json\r\nContent-Length: 56\r\n\r\n{\"address\":\"1 \\\"Main\\\" St\",\"id\":1,\"lot\":\"A-1\",\"owner\":5}";
-    let answer = land(rt.alloc())?;
-    goes_out(&rt, rt.alloc(), &answer, false, wanted)
+fn replies_go_out(rt: HostRuntime) -> Result<(), Fail> {
+    let answers = [
+        (filed()?, false, FILED),
+        (
+            replied(Reply::Done { number: None }, Action::Transfer, 19723)?,
+            true,
+            "HTTP/1.1 200 OK\r\nContent-Type: application/json\r\nContent-Length: 45\r\nConnection: close\r\n\r\n{\"day\":19723,\"done\":\"transfer\",\"number\":null}",
+        ),
+        (house(rt.alloc(), Vec::new(rt.alloc()))?, false, HOUSE),
+        (
+            land(rt.alloc())?,
+            false,
+            "HTTP/1.1 200 OK\r\nContent-Type: application/json\r\nContent-Length: 56\r\n\r\n{\"address\":\"1 \\\"Main\\\" St\",\"id\":1,\"lot\":\"A-1\",\"owner\":5}",
+        ),
+    ];
+    go_out(&rt, rt.alloc(), answers.as_slice())
 }
 
 /// An ask of party 5 on file 1.

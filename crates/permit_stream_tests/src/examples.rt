@@ -3,18 +3,15 @@
 use permit_answer::answer::Answer;
 use permit_answer::{Outgoing, body, write_reply};
 use permit_base::request::{Asked, Filter, Request};
-use permit_base::values::Day;
 use permit_base::words::RegisterKind;
 use permit_hall::events::{Event, hall_run};
 use permit_http::fault::Fault;
 use permit_import::importing::import;
-use permit_office::office::Office;
 use permit_office::reply::Reply;
 use permit_report::register;
 use permit_samples::ask::TOKENS;
 use permit_samples::makers::{day, token};
 use permit_samples::offices::over_vectors;
-use permit_store::plain::PlainStore;
 use std::alloc::Global;
 use std::process::Abort;
 use std::test::Fail;
@@ -28,13 +25,9 @@ fn registers(rt: &impl Abort, alloc: Global) -> Result<(), Fail> {
     Ok(())
 }
 
-fn bodies(rt: &impl Abort, alloc: Global) -> Result<(), Fail> {
+fn answers(rt: &impl Abort, alloc: Global) -> Result<(), Fail> {
     let large = body(alloc, &Answer::Fault(Fault::Large))?;
     assert!(rt; large.as_slice() == b"{\"refused\":\"large\"}".as_slice());
-    Ok(())
-}
-
-fn answers(rt: &impl Abort, alloc: Global) {
     let outgoing = Outgoing::new(alloc, &Answer::Fault(Fault::Caller), true);
     assert!(rt; outgoing.closes());
     assert!(rt; outgoing.as_bytes().starts_with(b"HTTP/1.1 401 "));
@@ -42,6 +35,7 @@ fn answers(rt: &impl Abort, alloc: Global) {
     let closes = write_reply(alloc, &Answer::Fault(Fault::Route), false, &mut written);
     assert!(rt; matches!(closes, Ok(false)));
     assert!(rt; written.as_slice().ends_with(b"{\"refused\":\"route\"}"));
+    Ok(())
 }
 
 fn imports(rt: &impl Abort, alloc: Global) -> Result<(), Fail> {
@@ -55,21 +49,13 @@ fn imports(rt: &impl Abort, alloc: Global) -> Result<(), Fail> {
     Ok(())
 }
 
-fn asked(alloc: Global) -> Result<Asked, Fail> {
-    let token = token(alloc, TOKENS[0])?;
+fn halls(rt: &impl Abort, alloc: Global) -> Result<(), Fail> {
     let request = Request::ListFiles {
         filter: Filter::All,
     };
-    Ok(Asked { token, request })
-}
-
-fn session(
-    rt: &impl Abort,
-    alloc: Global,
-    office: &mut Office<PlainStore>,
-    asked: Asked,
-    day: Day,
-) -> Result<(), Fail> {
+    let token = token(alloc, TOKENS[0])?;
+    let (asked, day) = (Asked { token, request }, day(19700)?);
+    let office = &mut over_vectors(alloc)?;
     let events = [Event::Put(0, asked), Event::Take(day), Event::Collect(0)];
     let answers = hall_run(alloc, office, &events)?;
     let [(session, reply)] = answers.as_slice() else {
@@ -79,18 +65,11 @@ fn session(
     Ok(())
 }
 
-fn halls(rt: &impl Abort, alloc: Global) -> Result<(), Fail> {
-    let day = day(19700)?;
-    let office = &mut over_vectors(alloc)?;
-    session(rt, alloc, office, asked(alloc)?, day)
-}
-
 #[test]
 fn examples_hold(rt: HostRuntime) -> Result<(), Fail> {
     let alloc = rt.alloc();
     registers(&rt, alloc)?;
-    bodies(&rt, alloc)?;
-    answers(&rt, alloc);
+    answers(&rt, alloc)?;
     imports(&rt, alloc)?;
     halls(&rt, alloc)?;
     Ok(())

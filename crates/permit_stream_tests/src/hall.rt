@@ -6,7 +6,7 @@ use crate::memory_doors::{
 };
 use permit_base::refusal::{Reason, Refusal};
 use permit_base::request::{Asked, Command, Request};
-use permit_base::values::{Cents, Day, Token};
+use permit_base::values::Cents;
 use permit_base::words::{Kind, Stage, Step, Timing};
 use permit_hall::error::HallError;
 use permit_hall::events::{Event, hall_run};
@@ -22,7 +22,6 @@ use permit_samples::opening::OPENING;
 use permit_samples::script::play;
 use permit_store::plain::PlainStore;
 use std::alloc::Global;
-use std::process::Abort;
 use std::sync::{Arc, Wait};
 use std::test::*;
 use std::thread::Threads;
@@ -63,20 +62,25 @@ pub fn with_pending_frame(alloc: Global) -> Result<Office<PlainStore>, Fail> {
     Ok(office)
 }
 
-/// The token of a party, by its number.
-fn token_of(alloc: Global, party: usize) -> Result<Token, Fail> {
-    token(alloc, *TOKENS.get(party.wrapping_sub(1)).ok_or("a party")?)
+/// A request of a party, by its number.
+fn by(alloc: Global, party: usize, request: Request) -> Result<Asked, Fail> {
+    let letters = *TOKENS.get(party.wrapping_sub(1)).ok_or("a party")?;
+    Ok(Asked {
+        token: token(alloc, letters)?,
+        request,
+    })
 }
 
 /// The approval of the frame by a party.
 fn approval(alloc: Global, party: usize) -> Result<Asked, Fail> {
-    let file = file(1)?;
-    let token = token_of(alloc, party)?;
-    let command = Command::ApproveStep { step: Step::Frame };
-    Ok(Asked {
-        token,
-        request: Request::OnFile { file, command },
-    })
+    by(
+        alloc,
+        party,
+        Request::OnFile {
+            file: file(1)?,
+            command: Command::ApproveStep { step: Step::Frame },
+        },
+    )
 }
 
 fn is_done(reply: &Reply) -> bool {
@@ -90,58 +94,29 @@ fn has_nothing_pending(reply: &Reply) -> bool {
     )
 }
 
-/// Puts the approval of the frame by a party in a session.
-fn put(alloc: Global, events: &mut Vec<Event>, session: u8, party: usize) -> Result<(), Fail> {
-    events.push(Event::Put(session, approval(alloc, party)?))?;
-    Ok(())
-}
-
-/// Takes three times, and collects before that and after.
-fn take_and_collect(events: &mut Vec<Event>, on: Day) -> Result<(), Fail> {
-    events.push(Event::Collect(0))?;
-    for _ in 0..3 {
-        events.push(Event::Take(on))?;
-    }
-    events.push(Event::Collect(1))?;
-    events.push(Event::Collect(0))?;
-    Ok(())
-}
-
-/// One approval is done, and another finds nothing pending.
-fn are_one_approval(rt: &impl Abort, answers: &[(u8, Reply)]) -> Result<(), Fail> {
-    let [(first, refused), (second, done)] = answers else {
+#[test]
+fn hall_events_that_do_nothing(rt: HostRuntime) -> Result<(), Fail> {
+    let alloc = rt.alloc();
+    let mut office = with_pending_frame(alloc)?;
+    let on = day(REQUESTED)?;
+    let events = [
+        Event::Put(0, approval(alloc, 1)?),
+        Event::Put(1, approval(alloc, 4)?),
+        Event::Put(0, approval(alloc, 1)?),
+        Event::Collect(0),
+        Event::Take(on),
+        Event::Take(on),
+        Event::Take(on),
+        Event::Collect(1),
+        Event::Collect(0),
+    ];
+    let answers = hall_run(alloc, &mut office, &events)?;
+    let [(first, refused), (second, done)] = answers.as_slice() else {
         return Err(Fail::new("two answers"));
     };
     assert!(rt; *first == 1 && has_nothing_pending(refused));
     assert!(rt; *second == 0 && is_done(done));
     Ok(())
-}
-
-/// Three approvals, two of them in one session.
-fn put_three(alloc: Global) -> Result<Vec<Event>, Fail> {
-    let mut events = Vec::new(alloc);
-    for (session, party) in [(0, 1), (1, 4), (0, 1)] {
-        put(alloc, &mut events, session, party)?;
-    }
-    Ok(events)
-}
-
-fn events_of(alloc: Global, on: Day) -> Result<Vec<Event>, Fail> {
-    let mut events = put_three(alloc)?;
-    take_and_collect(&mut events, on)?;
-    Ok(events)
-}
-
-fn answers_to(alloc: Global, events: &[Event]) -> Result<Vec<(u8, Reply)>, Fail> {
-    let mut office = with_pending_frame(alloc)?;
-    Ok(hall_run(alloc, &mut office, events)?)
-}
-
-#[test]
-fn hall_events_that_do_nothing(rt: HostRuntime) -> Result<(), Fail> {
-    let alloc = rt.alloc();
-    let events = events_of(alloc, day(REQUESTED)?)?;
-    are_one_approval(&rt, &answers_to(alloc, &events)?)
 }
 
 /// How the hall over the lists ends, each request served on its day of the calendar. The tests share this one call of
@@ -160,24 +135,18 @@ fn hall_of_lists<R: Threads + Wait + Copy + Drop + Send + 'static>(
     }
 }
 
-/// A list for each party, with its approval of the frame.
-fn approvals(alloc: Global, parties: [usize; 2]) -> Result<Vec<Vec<Asked>>, Fail> {
-    let mut lists = Vec::new(alloc);
-    for party in parties {
-        let mut list = Vec::new(alloc);
-        list.push(approval(alloc, party)?)?;
-        lists.push(list)?;
-    }
-    Ok(lists)
-}
-
-/// One of two approvals is done, and the other finds nothing pending.
-fn is_one_done(
-    rt: &impl Abort,
-    first: &Option<Vec<Reply>>,
-    second: &Option<Vec<Reply>>,
-) -> Result<(), Fail> {
-    let (Some(first), Some(second)) = (first, second) else {
+#[test]
+fn two_approvals_of_one_request(rt: HostRuntime) -> Result<(), Fail> {
+    let alloc = rt.alloc();
+    let office = with_pending_frame(alloc)?;
+    let lists = vec![in alloc;
+        vec![in alloc; approval(alloc, 1)?]?,
+        vec![in alloc; approval(alloc, 4)?]?,
+    ]?;
+    let Ok(end) = hall_of_lists(rt, alloc, office, lists, always(REQUESTED)?) else {
+        return Err(Fail::new("a hall"));
+    };
+    let [Some(first), Some(second)] = end.answers.as_slice() else {
         return Err(Fail::new("two lists of answers"));
     };
     let ([first], [second]) = (first.as_slice(), second.as_slice()) else {
@@ -190,64 +159,23 @@ fn is_one_done(
     Ok(())
 }
 
-#[test]
-fn two_approvals_of_one_request(rt: HostRuntime) -> Result<(), Fail> {
-    let alloc = rt.alloc();
-    let (office, calendar) = (with_pending_frame(alloc)?, always(REQUESTED)?);
-    let lists = approvals(alloc, [1, 4])?;
-    let Ok(end) = hall_of_lists(rt, alloc, office, lists, calendar) else {
-        return Err(Fail::new("a hall"));
-    };
-    let [first, second] = end.answers.as_slice() else {
-        return Err(Fail::new("two lists"));
-    };
-    is_one_done(&rt, first, second)
-}
-
-/// A filing by party 5.
-fn filing(alloc: Global) -> Result<Asked, Fail> {
-    let (parcel, valuation) = (parcel(1)?, Cents::new(25000000).ok_or("an amount")?);
-    let token = token_of(alloc, 5)?;
-    let description = text(alloc, "House")?;
-    let request = Request::File {
-        parcel,
-        kind: Kind::Construct,
-        valuation,
-        description,
-    };
-    Ok(Asked { token, request })
-}
-
-/// The reading of file 1 by a party.
-fn reading(alloc: Global, party: usize) -> Result<Asked, Fail> {
-    let file = file(1)?;
-    let token = token_of(alloc, party)?;
-    let request = Request::ReadFile { file };
-    Ok(Asked { token, request })
-}
-
 /// A filing by party 5 and then its reading.
-fn filing_and_reading(alloc: Global) -> Result<Vec<Vec<Asked>>, Fail> {
-    let mut list = Vec::new(alloc);
-    list.push(filing(alloc)?)?;
-    list.push(reading(alloc, 5)?)?;
-    Ok(vec![in alloc; list]?)
-}
-
-/// File 1 is read twice by party 1.
-fn two_readings(alloc: Global) -> Result<Vec<Vec<Asked>>, Fail> {
-    let mut list = Vec::new(alloc);
-    list.push(reading(alloc, 1)?)?;
-    list.push(reading(alloc, 1)?)?;
-    Ok(vec![in alloc; list]?)
+fn filing_and_reading(alloc: Global) -> Result<Vec<Asked>, Fail> {
+    let filing = Request::File {
+        parcel: parcel(1)?,
+        kind: Kind::Construct,
+        valuation: Cents::new(25000000).ok_or("an amount")?,
+        description: text(alloc, "House")?,
+    };
+    let reading = Request::ReadFile { file: file(1)? };
+    Ok(vec![in alloc; by(alloc, 5, filing)?, by(alloc, 5, reading)?]?)
 }
 
 #[test]
 fn a_filing_and_then_its_reading(rt: HostRuntime) -> Result<(), Fail> {
     let alloc = rt.alloc();
-    let (office, calendar) = (opened(alloc)?, always(19723)?);
-    let lists = filing_and_reading(alloc)?;
-    let Ok(end) = hall_of_lists(rt, alloc, office, lists, calendar) else {
+    let lists = vec![in alloc; filing_and_reading(alloc)?]?;
+    let Ok(end) = hall_of_lists(rt, alloc, opened(alloc)?, lists, always(19723)?) else {
         return Err(Fail::new("a hall"));
     };
     let [Some(answers)] = end.answers.as_slice() else {
@@ -266,9 +194,12 @@ fn midnight_in_a_list(rt: HostRuntime) -> Result<(), Fail> {
     let alloc = rt.alloc();
     let mut office = opened(alloc)?;
     play(alloc, &mut office, FILED)?;
-    let calendar = midnight_after(1, 19903)?;
-    let lists = two_readings(alloc)?;
-    let Ok(end) = hall_of_lists(rt, alloc, office, lists, calendar) else {
+    let (once, again) = (
+        Request::ReadFile { file: file(1)? },
+        Request::ReadFile { file: file(1)? },
+    );
+    let lists = vec![in alloc; vec![in alloc; by(alloc, 1, once)?, by(alloc, 1, again)?]?]?;
+    let Ok(end) = hall_of_lists(rt, alloc, office, lists, midnight_after(1, 19903)?) else {
         return Err(Fail::new("a hall"));
     };
     let [Some(answers)] = end.answers.as_slice() else {
