@@ -42,8 +42,8 @@ fn cut_to_history<S: Store, H: HistoryFile>(
 /// the tables, or one line further. What stands behind that history is cut off, and what is left is put on the disk. The office
 /// has the store but for orders that no call shows. The text is held in memory once meanwhile.
 ///
-/// Where the tables are other ones nothing is cut. The store is given back with the fault, and was only read. So is the file,
-/// unless its last sync failed.
+/// Where the tables are other ones nothing is cut. The store is given back with the fault, and was only read. The file is given
+/// back too, unless one of its last two calls failed, for its length and to put it on the disk.
 ///
 /// What is said of the text is said of a file that has told nothing false. No code can tell whether one has.
 pub fn resume<D: Decider + Drop, S: Store + Drop, H: HistoryFile + Drop>(
