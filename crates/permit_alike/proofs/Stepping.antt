@@ -1,9 +1,9 @@
 -- One number more of two stores.
-use Rattle.std.proofs.Common.{◌≡◌, ◌≤◌, ◌⊎◌, inl, inr, ℕ, ◌+◌, Bool, true, false, refl, sym, ◌∙◌, ap, subst, arith}
-use Rattle.std.specs.Prelude.{Result, OnOk}
-use Rattle.std.specs.Bool.{Decides}
+use Rattle.std.proofs.Common.{◌≡◌, ◌≤◌, ◌⊎◌, inl, inr, ℕ, ◌+◌, sym, ◌∙◌, subst, arith}
+use Rattle.std.specs.Prelude.{Result}
 use Rattle.permit_store.specs.Frames.{StoreView, Reads}
-use Rattle.permit_alike.specs.Comparing.{HaveSame, Looks}
+use Rattle.permit_alike.specs.Comparing.{Looks}
+use Rattle.permit_alike.specs.Differing.{HaveSame, IsFirstOther}
 
 pub looks_once : {A E : Type 0} (sure : Type 0) (count : ℕ) (old new : StoreView) (r : Result A E) → Reads sure count old new r → Looks old new
 looks_once sure count old new r read = record { kept = read.kept; doubt = read.doubt; commits = read.commits }
@@ -21,15 +21,21 @@ clean_before old new looks clean = omega (arith, looks.doubt, clean)
 below_or : (n k : ℕ) → k ≤ n + 1 → (k ≤ n) ⊎ (k ≡ n + 1)
 below_or n k high = grind arith
 
-pub same_more : {A : Type 0} (f g : ℕ → A) (n id : ℕ) → id ≡ 1 + n → HaveSame n f g → f id ≡ g id → HaveSame (n + 1) f g
-same_more {A} f g n id next was here k low high = by (below_or n k high)
+pub same_more : (same : ℕ → Type 0) (n next : ℕ) → next ≡ n + 1 → HaveSame n same → same next → HaveSame next same
+same_more same n next is was here k low high = by (below_or n k (omega (arith, high, is)))
   where
-    by : (k ≤ n) ⊎ (k ≡ n + 1) → f k ≡ g k
+    by : (k ≤ n) ⊎ (k ≡ n + 1) → same k
     by (inl below) = was k low below
-    by (inr top) = let at : id ≡ k = omega (arith, next, top) in subst (λ (m : ℕ). f m ≡ g m) at here
+    by (inr top) = subst same (is ∙ sym top) here
 
-pub all_same : {A : Type 0} (f g : ℕ → A) (count n : ℕ) → count ≤ n → HaveSame n f g → Decides true (HaveSame count f g)
-all_same f g count n past was = (λ _. λ k low high. was k low (omega (arith, high, past)), λ _. refl)
+pub first_other : (same : ℕ → Type 0) (count n next : ℕ) → next ≡ n + 1 → next ≤ count → HaveSame n same → (same next → ⊥)
+    → IsFirstOther count same next
+first_other same count n next is high was differ = record {
+  low = omega (arith, is);
+  high = high;
+  before = λ k low less. was k low (omega (arith, less, is));
+  here = differ;
+}
 
-pub not_same : {A : Type 0} (f g : ℕ → A) (count id : ℕ) → 1 ≤ id → id ≤ count → (f id ≡ g id → false ≡ true) → Decides false (HaveSame count f g)
-not_same f g count id low high differ = (λ e. absurd cc, λ all. differ (all id low high))
+pub all_same : (same : ℕ → Type 0) (count n : ℕ) → count ≤ n → HaveSame n same → HaveSame count same
+all_same same count n past was k low high = was k low (omega (arith, high, past))

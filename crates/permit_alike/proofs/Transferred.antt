@@ -4,6 +4,8 @@ use Rattle.std.specs.Prelude.{◌&&◌, ◌||◌, Option, None, Some, option_map
 use Rattle.std.specs.List.{list_any}
 use Rattle.permit_base.specs.declared.route.Route.{Route}
 use Rattle.permit_model.specs.Parcels.{Interest, Parcel}
+use Rattle.permit_base.specs.declared.refusal.Refusal.{Refusal}
+use Rattle.permit_model.specs.Renewal.{against_renewal, with_digest, with_renewed}
 use Rattle.permit_model.specs.Routes.{Found, found_by, found_row, is_found, owner_in, has_interest_in}
 use Rattle.permit_model.specs.Tables.{Desk, FileRow, Paper, Tables}
 use Rattle.permit_store.specs.Changes.{Fits, changed, closed_by, given_to, paper_of, papers_after, suits, suits_effect, suits_row, with_state}
@@ -14,6 +16,8 @@ use Rattle.permit_store.specs.declared.change.Change.{Change}
 use Rattle.permit_store.specs.declared.change.Change.TheVariants.{NewParty, NewParcel, NewOwner, NewInterest, NewFile, NewRow}
 use Rattle.permit_store.specs.declared.change.RowEffect.{RowEffect}
 use Rattle.permit_store.specs.declared.change.RowEffect.TheVariants as effect
+use Rattle.permit_store.specs.Renewing.{Renews}
+use Rattle.permit_store.specs.declared.store.StoreError.{StoreError}
 use Rattle.permit_alike.specs.Alike.{AreAlike, unordered}
 
 -- ---- answers
@@ -246,3 +250,27 @@ fits_alike t u change day same fits = record {
   suits = sym (suits_tables t u change same) ∙ fits.suits;
   in_time = omega (arith, ap (λ (d : Desk). d.last) same.desk, fits.in_time);
 }
+
+-- ---- renewals
+
+-- tables that are alike stay so where a party of both gets the digest
+pub renewed_alike : (party : ℕ) (digest : List ℕ) (t u : Tables) → AreAlike t u → AreAlike (with_renewed party digest t) (with_renewed party digest u)
+renewed_alike party digest t u same = record {
+  desk = same.desk;
+  upgrade = same.upgrade;
+  parties = ap (map (with_digest party digest)) same.parties;
+  parcels = same.parcels;
+  interests = same.interests;
+  files = same.files;
+  papers = same.papers;
+}
+
+pub renews : (store : StoreView) (party : ℕ) (digest : List ℕ) (t u : Tables) → AreAlike t u → (r : Result (Result (Unit {0}) Refusal) StoreError)
+    → Renews store.holds party digest t r → Renews (unordered store).holds party digest u r
+renews store party digest t u same (Ok (Ok done)) renewed = (
+  subst (λ ps. against_renewal ps party digest ≡ None) same.parties renewed.0,
+  (with_renewed party digest t, renewed.1, renewed_alike party digest t u same),
+)
+renews store party digest t u same (Ok (Err why)) renewed =
+    (subst (λ ps. against_renewal ps party digest ≡ Some why) same.parties renewed.0, (t, renewed.1, same))
+renews store party digest t u same (Err e) renewed = (t, renewed, same)

@@ -1,7 +1,11 @@
 -- What comparing two stores says.
-use Rattle.std.specs.Prelude.{◌≡◌, ◌≤◌, ℕ, ◌==◌, List, Option, find, filter}
-use Rattle.permit_model.specs.Tables.{State, FileRow, Paper, Tables}
+use Rattle.std.specs.Prelude.{◌≡◌, ◌≤◌, ℕ, Option, None, Some}
+use Rattle.permit_model.specs.Tables.{State, Tables}
 use Rattle.permit_store.specs.Frames.{StoreView}
+use Rattle.permit_alike.specs.declared.compare.Table.{Table}
+use Rattle.permit_alike.specs.declared.compare.Table.TheVariants as table
+use Rattle.permit_alike.specs.declared.differing.Difference.{Difference}
+use Rattle.permit_alike.specs.Differing.{HaveSameBehind, HaveSameFile, HaveSameParcel, HaveSameParty, IsFirstDifference}
 
 -- calls that read: what is held stays, no doubt goes, and no commit was called
 pub record Looks (old new : StoreView) : Type 0 where
@@ -14,13 +18,16 @@ abbrev pub OverBoth : (old new old_other new_other : StoreView) → (Tables → 
 OverBoth old new old_other new_other said =
     new.doubt ≡ 0 → new_other.doubt ≡ 0 → (t u : Tables) → old.holds t → old_other.holds u → said t u
 
--- of each number from 1 to the count the two have the same
-abbrev pub HaveSame : {A : Type 0} → ℕ → (ℕ → A) → (ℕ → A) → Type 0
-HaveSame count first second = (k : ℕ) → 1 ≤ k → k ≤ count → first k ≡ second k
+-- the two have the same row of a table under this number
+abbrev pub HaveSameRow : Table → Tables → Tables → ℕ → Type 0
+HaveSameRow table.Parties t u number = HaveSameParty t u number
+HaveSameRow table.Parcels t u number = HaveSameParcel t u number
+HaveSameRow table.Files t u number = HaveSameFile t u number
 
--- the row of a file, and its papers
-abbrev pub file_at : ℕ → Tables → Option FileRow × List Paper
-file_at file t = (find (λ f. f.id == file) t.files, filter (λ p. p.file == file) t.papers)
+-- the first place at which the two differ, or none, where they have the same behind their desks
+abbrev pub Finds : Tables → Tables → Option Difference → Type 0
+Finds t u None = HaveSameBehind t u
+Finds t u (Some place) = IsFirstDifference t u place
 
 -- ---- parts of a file's row
 

@@ -2,5 +2,6 @@
 #![tactic(auto)]
 
 pub mod compare;
+pub mod differing;
 mod rows;
 pub mod unordered;

@@ -26,15 +26,6 @@ pub(crate) fn is_of_second(desk: &Desk) -> bool
     desk.edition == Edition::Second
 }
 
-/// How many parties, parcels and files there are.
-pub(crate) fn counts(desk: &Desk) -> (u32, u32, u32)
-    ensures parties { result.0 ≡ desk.now.parties }
-    ensures parcels { result.1 ≡ desk.now.parcels }
-    ensures files { result.2 ≡ desk.now.files }
-{
-    (desk.parties, desk.parcels, desk.files)
-}
-
 fn is_same_party(first: &Party, second: &Party) -> bool
     ensures { Decides result (first.now ≡ second.now) }
 {

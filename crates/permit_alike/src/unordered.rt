@@ -1,10 +1,12 @@
 //! A store, but for orders that none of its calls shows.
 
+use permit_base::refusal::Refusal;
 use permit_base::route::Route;
 use permit_base::values::{Day, Digest, FileId, Lot, PaperNumber, ParcelId, PartyId};
 use permit_base::words::Role;
 use permit_core::state::FileState;
 use permit_core::taker::Taker;
+use permit_store::renewing::Renewing;
 use permit_store::rows::{Change, Desk, FileRow, Found, Interest, Paper, Parcel, Party};
 use permit_store::store::{Got, Store};
 
@@ -101,5 +103,11 @@ impl<S: Store> Store for Unordered<S> {
 
     fn commit(&mut self, change: &Change<'_>, day: Day) -> Got<()> {
         self.store.commit(change, day)
+    }
+}
+
+impl<S: Renewing> Renewing for Unordered<S> {
+    fn renew(&mut self, party: PartyId, digest: &Digest) -> Got<Result<(), Refusal>> {
+        self.store.renew(party, digest)
     }
 }

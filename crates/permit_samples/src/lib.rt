@@ -7,6 +7,7 @@ pub mod each_change;
 pub mod exchange;
 pub mod filing;
 pub mod found;
+pub mod held;
 pub mod limits;
 mod listings;
 pub mod makers;

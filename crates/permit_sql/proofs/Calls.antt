@@ -1,9 +1,10 @@
 -- The calls of a store over SQLite leave what the trait says.
-use Rattle.std.proofs.Common.{◌≡◌, ℕ, List, [], ◌∷◌, Result, Ok, Err, ap, sym, ◌∙◌, refl, subst, arith}
+use Rattle.std.proofs.Common.{◌≡◌, ◌≤◌, ℕ, List, [], ◌∷◌, Result, Ok, Err, ap, sym, ◌∙◌, subst, arith}
 use Rattle.std.specs.Prelude.{IsTrue, IfSome, Option, None, Some, OnOk, OnErr, ⊤, pos, slice_index_or}
 use Rattle.sqlite.specs.declared.types.Value.{Value}
 use Rattle.sqlite.specs.declared.types.Value.TheVariants.{Null, Int}
 use Rattle.sqlite_value.specs.Order.{Row}
+use Rattle.sqlite_trees.specs.View.{doubt}
 use Rattle.sqlite_trees.specs.declared.store.Store.{Ghosts}
 use Rattle.sqlite.specs.Effect.{Database}
 use Rattle.sqlite.specs.State.{State, HasCleanDisk}
@@ -11,9 +12,6 @@ use Rattle.sqlite.specs.Held.{Held, state}
 use Rattle.permit_base.specs.declared.words.Edition.{Edition}
 use Rattle.permit_base.specs.declared.words.Edition.TheVariants.{Second}
 use Rattle.permit_model.specs.Tables.{Tables, Desk, edition_by}
-use Rattle.permit_store.specs.Changes.{changed}
-use Rattle.permit_store.specs.declared.change.Change.{Change}
-use Rattle.permit_store.specs.declared.change.Change.TheVariants.{NewParty, NewParcel, NewOwner, NewInterest, NewFile, NewRow}
 use Rattle.permit_store.specs.Counts.{next_count, failed_after}
 use Rattle.permit_store.specs.Frames.{HasOneDesk, Reads, IsCommit}
 use Rattle.permit_sql_rows.specs.Schema.{upgrade_tree}
@@ -58,15 +56,6 @@ upgrade_read t db k = go t.upgrade (k.keyed.edition) k.rows.upgrade
 
 pub one_upgrade : (t u : Tables) (db : Database) → Keeps t db → Keeps u db → t.upgrade ≡ u.upgrade
 one_upgrade t u db one other = upgrade_read t db one ∙ sym (upgrade_read u db other)
-
--- a change leaves it
-pub upgrade_stays : (t : Tables) (change : Change) (day : ℕ) → (changed t change day).upgrade ≡ t.upgrade
-upgrade_stays t (NewParty name role digest) day = refl
-upgrade_stays t (NewParcel lot address owner) day = refl
-upgrade_stays t (NewOwner parcel owner) day = refl
-upgrade_stays t (NewInterest parcel party) day = refl
-upgrade_stays t (NewFile state valuation description) day = refl
-upgrade_stays t (NewRow file state effect) day = refl
 
 -- an open connection with a clean disk shows the tables of one desk
 seen_one : (s : State) (upgrade : Option ℕ) (handed failed commits : ℕ) → HasCleanDisk s → IsTrue s.is_open →
@@ -126,3 +115,11 @@ module _ {S A E : Type 0} (g : Ghosts S) where
           OnErr x (HasCleanDisk (state g new) → (t.upgrade ≡ upgrade') × Shows t (state g new))
       go (Ok a) held stays = tt
       go (Err e) held stays = λ clean. let was = held clean in (was.0 ∙ sym kept, stays clean was)
+
+-- what is shown of the tables made is held, where they had as many files at the upgrade
+pub held_after : {A E : Type 0} (r : Result A E) (old new : State) (upgrade upgrade' : Option ℕ) (t u : Tables) → u.upgrade ≡ t.upgrade → upgrade' ≡ upgrade →
+    doubt old.is_clean ≤ doubt new.is_clean → (HasCleanDisk old → (t.upgrade ≡ upgrade) × Shows t old) →
+    (HasCleanDisk new → Shows t old → OnOk r (Shows u new)) → OnOk r (HasCleanDisk new → (u.upgrade ≡ upgrade') × Shows u new)
+held_after (Ok x) old new upgrade upgrade' t u stays kept doubts held made = λ clean.
+    let was = held (omega (arith, doubts, clean)) in (stays ∙ was.0 ∙ sym kept, made clean was.1)
+held_after (Err e) old new upgrade upgrade' t u stays kept doubts held made = tt

@@ -1,5 +1,5 @@
 -- What the tables' rows are where all were taken.
-use Rattle.std.proofs.Common.{◌≡◌, codes, ℕ, Bool, true, false, not, eqb, List, [], ◌∷◌, map, drop, length, refl, sym, ap, ap₂, subst, ◌∙◌, arith}
+use Rattle.std.proofs.Common.{◌≡◌, codes, ℕ, Bool, true, false, not, eqb, List, [], ◌∷◌, map, drop, length, refl, sym, ap₂, subst, ◌∙◌, arith}
 use Rattle.std.proofs.Common.{IsPermutation}
 use Rattle.std.specs.Prelude.{◌&&◌, MatchBool, bytes_eq}
 use Rattle.std.specs.List.{AllByRecursion, list_any}

@@ -32,3 +32,4 @@ mod Firsts
 mod Turns
 pub mod SoundRenewal
 pub mod Renewing
+mod Stepping

@@ -7,6 +7,7 @@ use Rattle.permit_sql.specs.Named.{fits_paper_rule, fault_at}
 use Rattle.permit_sql.specs.First.{first_broken, or_else, of_paper, of_turn, told_after, paper_rules}
 use Rattle.permit_sql.specs.declared.tally.Tally.{Tally}
 use Rattle.permit_sql.specs.declared.fault.Fault.TheVariants as fault
+use Rattle.permit_sql.specs.declared.fault.PaperRule.TheVariants as paper
 
 module _ (parties last : ℕ) (told : List Tally) (p q : Paper) (u : Tally) (same : q ≡ p)
     (exact : None ≡ first_broken (λ r. fits_paper_rule parties last r q) paper_rules) (at : slice_get told (p.file - 1) ≡ Some u) where
@@ -36,3 +37,12 @@ module _ (parties last : ℕ) (told : List Tally) (p q : Paper) (u : Tally) (sam
           ((if b then None else Some (fault_at u p)) ≡ None) × (next ≡ tally_after u p)
       go true is = (refl, let e : next ≡ tally_after u p = cc in e)
       go false is = absurd (let e = is in cc)
+
+-- a paper of no file that is there
+pub turn_missing : (parties last : ℕ) (told : List Tally) (p q : Paper) → q ≡ p →
+    None ≡ first_broken (λ r. fits_paper_rule parties last r q) paper_rules → slice_get told (p.file - 1) ≡ None →
+    Some (fault.Paper (Some q.file) (Some q.number) paper.File) ≡ or_else (of_paper parties last p) (of_turn p (slice_get told (p.file - 1)))
+turn_missing parties last told p q same exact none =
+    let whole : of_paper parties last p ≡ None = ap (option_map (fault.Paper (Some p.file) (Some p.number)))
+    (ap (λ z. first_broken (λ r. fits_paper_rule parties last r z) paper_rules) (sym same) ∙ sym exact) in
+    ap (λ (z : Paper). Some (fault.Paper (Some z.file) (Some z.number) paper.File)) same ∙ sym (ap₂ or_else whole (ap (of_turn p) none))

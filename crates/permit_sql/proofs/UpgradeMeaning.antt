@@ -1,5 +1,5 @@
 -- What the text that reads the table of the upgrade means, in whatever tree that stands.
-use Rattle.std.proofs.Common.{◌≡◌, ◌<◌, refl, sym, subst, arith, eqb, true≢false, codes, List, [], ◌∷◌, ℕ}
+use Rattle.std.proofs.Common.{◌≡◌, ◌<◌, refl, sym, subst, arith, eqb, true≢false, codes, [], ◌∷◌, ℕ}
 use Rattle.std.specs.Prelude.{Bool, true, false, if◌then◌else◌, nat_le, ◌^◌, Result, Ok, Err, None}
 use Rattle.std.proofs.lemmas.Bool.Decides.{nat_tests}
 use Rattle.sqlite_tied.specs.Compute.{everything}

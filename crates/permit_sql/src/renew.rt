@@ -14,25 +14,29 @@ ghost use Rattle.permit_model.specs.History.{History};
 ghost use Rattle.permit_model.specs.Machine.{IsHistory};
 ghost use Rattle.permit_model.specs.Renewal.{renewed, with_renewed, against_renewal};
 ghost use Rattle.permit_model.specs.Tables.{Tables, tables};
+ghost use Rattle.permit_store.specs.Renewing.{Renews};
 ghost use Rattle.permit_store.specs.declared.store.OpenError.TheVariants as open_error;
 ghost use Rattle.permit_sql_rows.specs.Schema.{IsOffice};
-ghost use Rattle.permit_sql_rows.specs.Kept.{IsFine, Keeps};
-ghost use Rattle.permit_sql_statements.specs.Frames.{IsIdle, IsPlainIn};
+ghost use Rattle.permit_sql_rows.specs.Kept.{IsFine, Keeps, Shows};
+ghost use Rattle.permit_sql_statements.specs.Frames.{IsIdle, IsPlainIn, KeepsDoubt, OverShown};
 ghost use Rattle.permit_sql.specs.Found.{KeepsSound};
 ghost use Rattle.permit_sql.specs.Frames.{IsLook};
 ghost use Rattle.permit_sql.specs.Opening.{HasOtherVersion};
 ghost use Rattle.permit_sql.specs.Renewing.{OverKept, IsRenewed};
+ghost use Rattle.permit_sql.specs.Seen.{IsLeft};
 ghost use Rattle.permit_sql.specs.declared.renew.RenewError.TheVariants as renew_error;
 
 use crate::open::check;
 use crate::store::SqlStore;
 use permit_base::digests::digest;
 use permit_base::refusal::{Reason, Refusal};
-use permit_base::values::{Digest, Token};
+use permit_base::values::{Digest, PartyId, Token};
 use permit_base::words::Edition;
 use permit_sql_rows::schema::is_office;
+use permit_sql_statements::idle::Idle;
 use permit_sql_statements::query::read_all;
-use permit_sql_statements::renew::renew_in;
+use permit_sql_statements::read::{find_party, read_role};
+use permit_sql_statements::renew::{renew_in, renew_party};
 use permit_sql_statements::texts::{FIND_PARTY, READ_PARTY};
 use permit_store::store::{Got, OpenError, StoreError};
 use sqlite::{Alter, Connection, params};
@@ -160,6 +164,7 @@ impl<S: Alter> SqlStore<S> {
         ensures sound { HasCleanDisk (state S.Store conn.new) → OnOk result (KeepsSound (state S.Store conn.new).now) }
         ensures opened { HasCleanDisk (state S.Store conn.new) → OnOk result (IsTrue (state S.Store conn.new).is_open) }
         ensures same { IsFine (state S.Store conn.new) → OnErr result ((state S.Store conn.new).now ≡ (state S.Store conn.old).now) }
+        ensures fine { IsFine (state S.Store conn.new) → IsFine (state S.Store conn.old) }
         ensures version { HasCleanDisk (state S.Store conn.new)
             → IfErr result (λ e. e ≡ renew_error.Open open_error.Version → HasOtherVersion Second (state S.Store conn.old).now) }
         ensures told { HasCleanDisk (state S.Store conn.new) → HasOtherVersion Second (state S.Store conn.old).now
@@ -186,4 +191,27 @@ impl<S: Alter> SqlStore<S> {
             Err(why) => Err(RenewError::Open(why)),
         }
     }
+}
+
+/// Gives the party the digest where nothing stands against it.
+pub(crate) fn renew_over<S: Alter>(
+    conn: &mut Idle<S>,
+    party: PartyId,
+    digest: &Digest,
+) -> Got<Result<(), Refusal>>
+    ensures renewed { OverShown S.Store conn.old conn.new (λ t. Renews (λ u. Shows u (state S.Store conn.new)) party digest.now t result) }
+    ensures doubt { KeepsDoubt S.Store conn.old conn.new }
+    ensures crash { (t : Tables) → Keeps t (state S.Store conn.old).now
+        → Survives (state S.Store conn.old) (state S.Store conn.new) (λ trees. IsLeft trees (with_renewed party digest.now t)) }
+{
+    let role = read_role(conn, party)?;
+    if role.is_none() {
+        return Ok(Err(Refusal::Record));
+    }
+    let holder = find_party(conn, digest)?;
+    if holder.is_some() {
+        return Ok(Err(Refusal::NotAdmitted(Reason::Taken)));
+    }
+    renew_party(conn, party.get(), digest)?;
+    Ok(Ok(()))
 }

@@ -16,7 +16,7 @@ use crate::check::takes_all;
 use crate::each::Taker;
 use crate::sound::{has_declarers, has_owners, roles_of};
 use crate::sound_row::{fits_desk, fits_file, fits_paper, has_official};
-use crate::tally::{Tally, are_ended};
+use crate::tally::{Tally, are_ended, place_of};
 use crate::texts::{EACH_FILE, EACH_PAPER};
 use permit_base::values::Day;
 use permit_base::words::{Edition, Role};
@@ -122,7 +122,7 @@ impl Taker for Entered {
         if !fits_paper(self.parties, self.last, &paper) {
             return false;
         }
-        let at = paper.file.get() as usize - 1;
+        let at = place_of(paper.file);
         if at >= self.tallies.len() {
             return false;
         }

@@ -1,6 +1,6 @@
 //! The store over SQL.
 
-ghost use Rattle.std.specs.Prelude.{◌≡◌, ◌==◌, ◌≢◌, ◌⊎◌, false, IsTrue, IfOk, IfErr, IsErrAnd, OnOk, OnErr, Err, Some, None, is_err, length, find, bytes_eq};
+ghost use Rattle.std.specs.Prelude.{◌≡◌, ◌==◌, ◌≢◌, ◌≤◌, ◌⊎◌, false, IsTrue, IfOk, IfErr, IsErrAnd, OnOk, OnErr, Err, Some, None, is_err, length, find, bytes_eq};
 ghost use Rattle.sqlite_trees.specs.View.{doubt};
 ghost use Rattle.sqlite.specs.State.{HasCleanDisk, Survives};
 ghost use Rattle.sqlite.specs.Held.{state};
@@ -11,7 +11,7 @@ ghost use Rattle.permit_model.specs.Files.{case_files};
 ghost use Rattle.permit_model.specs.Tables.{Tables, tables, with_upgrade};
 ghost use Rattle.permit_model.specs.Sound.{IsSoundTables};
 ghost use Rattle.permit_store.specs.Founding.{founding};
-ghost use Rattle.permit_store.specs.Counts.{failed_after, handed_after};
+ghost use Rattle.permit_store.specs.Counts.{failed_after, handed_after, next_count};
 ghost use Rattle.permit_store.specs.Handing.{selected_after};
 ghost use Rattle.permit_store.specs.declared.store.OpenError.TheVariants as open_error;
 ghost use Rattle.permit_sql_rows.specs.Schema.{empty_schema, IsOffice};
@@ -24,20 +24,26 @@ ghost use Rattle.permit_sql_statements.specs.Founding.{AreCounted};
 ghost use Rattle.permit_sql_statements.specs.Frames.{IsIdle};
 
 use crate::open::check;
+use crate::renew::renew_over;
+use permit_base::refusal::Refusal;
 use permit_base::route::Route;
 use permit_base::values::{Day, Digest, FileId, Lot, PaperNumber, ParcelId, PartyId};
 use permit_base::words::{Edition, Role};
+use permit_batch::batching::Batching;
 use permit_core::state::FileState;
 use permit_core::taker::Taker;
-use permit_sql_statements::commit::commit_in;
+use permit_sql_statements::commit::{change_step, commit_in, renewal_step};
 use permit_sql_statements::create::{create_in, upgrade_in};
 use permit_sql_statements::idle::Idle;
+use permit_sql_statements::lending::run_steps;
 use permit_sql_statements::read::{
     find_parcel, find_party, has_interest, has_open_notice, read_desk, read_file, read_interests,
     read_owner, read_papers, read_parcel, read_party, read_role, read_state,
 };
 use permit_sql_statements::select::{each_found, each_of_any_found, select_found};
+use permit_sql_statements::step::Step;
 use permit_store::founder::Founder;
+use permit_store::renewing::Renewing;
 use permit_store::rows::{Change, Desk, FileRow, Found, Interest, Paper, Parcel, Party};
 use permit_store::store::{Got, OpenError, Store};
 use sqlite::{Alter, Connection};
@@ -147,6 +153,22 @@ impl<S: Alter> SqlStore<S> {
         {
             shut.store(true, Ordering::SeqCst);
         }
+        self.counted(got)
+    }
+
+    /// Counts a commit, and gives its answer on. Where it failed it counts as a failed call, and the connection is suspected to be
+    /// shut.
+    fn committed(&mut self, got: Got<()>) -> Got<()>
+        ensures same { result ≡ got }
+        ensures failed { self.new.failed ≡ failed_after got self.old.failed }
+        ensures commits { self.new.commits ≡ next_count self.old.commits }
+        ensures others { (self.new.handed ≡ self.old.handed) × (self.new.upgrade ≡ self.old.upgrade) }
+        ensures suspect { self.new.is_suspect ≡ is_err got }
+        ensures shut { self.new.shut ≡ self.old.shut }
+        ensures conn { self.new.conn ≡ self.old.conn }
+    {
+        self.commits = self.commits.wrapping_add(1);
+        self.is_suspect = got.is_err();
         self.counted(got)
     }
 
@@ -502,9 +524,60 @@ impl<S: Alter> Store for SqlStore<S> {
         ensures suspect { self.new.is_suspect ≡ is_err result }
         ensures shut { self.new.shut ≡ self.old.shut }
     {
-        self.commits = self.commits.wrapping_add(1);
-        let got = commit_in(&mut self.conn, change, day);
-        self.is_suspect = got.is_err();
+        let got = commit_in(&mut self.conn, self.alloc, change, day);
+        self.committed(got)
+    }
+}
+
+impl<S: Alter> Renewing for SqlStore<S> {
+    ghost use Rattle.sqlite.specs.Held.{state};
+    ghost use Rattle.permit_model.specs.Renewal.{with_renewed};
+    ghost use Rattle.permit_store.specs.Frames.{OverTables};
+    ghost use Rattle.permit_store.specs.Renewing.{Renews};
+
+    fn renew(&mut self, party: PartyId, digest: &Digest) -> Got<Result<(), Refusal>>
+        ensures renewed { OverTables (⟦<SqlStore<S> as Store>⟧.view self.old) (⟦<SqlStore<S> as Store>⟧.view self.new)
+            (λ t. Renews (⟦<SqlStore<S> as Store>⟧.view self.new).holds party digest.now t result) }
+        ensures doubt { (⟦<SqlStore<S> as Store>⟧.view self.old).doubt ≤ (⟦<SqlStore<S> as Store>⟧.view self.new).doubt }
+        ensures failed { (⟦<SqlStore<S> as Store>⟧.view self.new).failed ≡ failed_after result (⟦<SqlStore<S> as Store>⟧.view self.old).failed }
+        ensures handed { (⟦<SqlStore<S> as Store>⟧.view self.new).handed ≡ (⟦<SqlStore<S> as Store>⟧.view self.old).handed }
+        ensures commits { (⟦<SqlStore<S> as Store>⟧.view self.new).commits ≡ (⟦<SqlStore<S> as Store>⟧.view self.old).commits }
+        ensures crash { (t : Tables) → ⟦<SqlStore<S> as Store>⟧.crash self.old self.new t (λ left. left (with_renewed party digest.now t)) }
+        ensures suspect { (self.new.is_suspect ≡ self.old.is_suspect) × (self.new.shut ≡ self.old.shut) }
+    {
+        let got = renew_over(&mut self.conn, party, digest);
         self.counted(got)
+    }
+}
+
+impl<S: Alter> Batching for SqlStore<S> {
+    ghost use Rattle.permit_batch.specs.Leading.{LeadThrough};
+    ghost use Rattle.permit_store.specs.Frames.{IsCommit};
+    ghost use Rattle.permit_sql_statements.specs.Changing.{Lead};
+    ghost use Rattle.permit_sql_statements.specs.Written.{written_in};
+
+    type Step = Step;
+
+    ghost leads = { λ step t u. Lead S.Store (written_in step) t u };
+
+    fn change_step(alloc: Global, desk: &Desk, change: &Change<'_>, day: Day) -> Got<Step> {
+        change_step(alloc, desk, change, day)
+    }
+
+    fn renewal_step(alloc: Global, party: PartyId, digest: &Digest) -> Got<Step> {
+        renewal_step(alloc, party, digest)
+    }
+
+    fn commit_all(&mut self, steps: &[Step]) -> Got<()>
+        ensures made { (t u : Tables) → LeadThrough ⟦<SqlStore<S> as Batching>⟧.leads steps.now t u → (⟦<SqlStore<S> as Store>⟧.view self.old).holds t
+            → OnOk result ((⟦<SqlStore<S> as Store>⟧.view self.new).holds u) }
+        ensures commit { IsCommit (⟦<SqlStore<S> as Store>⟧.view self.old) (⟦<SqlStore<S> as Store>⟧.view self.new) result }
+        ensures crash { (t u : Tables) → LeadThrough ⟦<SqlStore<S> as Batching>⟧.leads steps.now t u
+            → ⟦<SqlStore<S> as Store>⟧.crash self.old self.new t (λ left. left u) }
+        ensures suspect { self.new.is_suspect ≡ is_err result }
+        ensures shut { self.new.shut ≡ self.old.shut }
+    {
+        let got = run_steps(&mut self.conn, self.alloc, steps);
+        self.committed(got)
     }
 }

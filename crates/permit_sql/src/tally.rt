@@ -1,11 +1,12 @@
 //! What is told of a file while its papers are read.
 
-ghost use Rattle.std.specs.Prelude.{◌≡◌, ◌<◌, ◌^◌, length, Some};
+ghost use Rattle.std.specs.Prelude.{◌≡◌, ◌<◌, ◌-◌, ◌^◌, length, Some};
 ghost use Rattle.std.specs.List.{list_all};
 ghost use Rattle.permit_sql.specs.Tested.{first_tally, next_tally, is_ended};
 ghost use Rattle.permit_sql.specs.Named.{fault_at, fault_at_end, unended_from};
 
 use crate::fault::{Fault, FileRule, PaperRule};
+use permit_base::values::FileId;
 use permit_core::state::FileState;
 use permit_store::rows::Paper;
 
@@ -21,6 +22,13 @@ pub(crate) struct Tally {
     pub(crate) papers: u16,
     /// How many of the open notices that the file's row counts weren't read.
     pub(crate) notices: u16,
+}
+
+/// At which place what is told of a file stands, where the files stand in the order of their numbers.
+pub(crate) fn place_of(file: FileId) -> usize
+    ensures { result ≡ file - 1 }
+{
+    file.get() as usize - 1
 }
 
 impl Tally {

@@ -19,7 +19,7 @@ use crate::fault::{Fault, PaperRule};
 use crate::sound::roles_of;
 use crate::sound_files::tallies_of;
 use crate::sound_row::paper_rule;
-use crate::tally::{Tally, first_unended};
+use crate::tally::{Tally, first_unended, place_of};
 use crate::texts::EACH_PAPER;
 use permit_base::values::Day;
 use permit_base::words::Edition;
@@ -69,7 +69,7 @@ impl Taker for Read {
             self.fault = Some(fault_of(&paper, rule));
             return false;
         }
-        let at = paper.file.get() as usize - 1;
+        let at = place_of(paper.file);
         if at >= self.tallies.len() {
             self.fault = Some(fault_of(&paper, PaperRule::File));
             return false;

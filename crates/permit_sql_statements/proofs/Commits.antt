@@ -10,7 +10,6 @@ use Rattle.sqlite_trees.specs.Tree.{put_row, without_rowid}
 use Rattle.std.specs.List.{AllByRecursion}
 use Rattle.sqlite_trees.specs.declared.store.Store.{Ghosts}
 use Rattle.sqlite_rules.specs.Edit.{next_rowid}
-use Rattle.sqlite.specs.Effect.{Database}
 use Rattle.sqlite.specs.State.{State, Executes}
 use Rattle.sqlite.specs.Held.{Held, state}
 use Rattle.permit_base.specs.declared.words.Edition.TheVariants.{Second}
@@ -23,7 +22,7 @@ use Rattle.permit_sql_rows.specs.Rows.{int, party_row, parcel_row, file_row, sho
 use Rattle.permit_sql_rows.specs.Kept.{papers_counted, IsNamed, AreKeyed, AreInTrees, Keeps}
 use Rattle.permit_sql_statements.specs.declared.texts.TheConstants.{WRITE_DESK, ADD_PARTY, ADD_PARCEL, ADD_INTEREST, ADD_FILE, ADD_PAPER, SET_OWNER, WRITE_FILE}
 use Rattle.permit_sql_statements.specs.declared.texts.TheConstants.{CLOSE_NOTICE}
-use Rattle.permit_sql_statements.specs.Statements.{RanAll, desk_statement}
+use Rattle.permit_sql_statements.specs.Statements.{Ran, desk_statement}
 use Rattle.permit_sql_statements.proofs.Permuted.{put_fresh, put_more, put_changed, key_free, not_found, only_found, append_any}
 use Rattle.permit_sql_statements.proofs.Writes.{sets_desk, adds_party, adds_parcel, adds_interest, adds_file, adds_paper, sets_owner, sets_file}
 use Rattle.permit_sql_statements.proofs.Closing.{apart_put, notice_set}
@@ -103,14 +102,14 @@ paper_added old new count t k p above low h =
     map_last [] = refl
     map_last (x ∷ xs) = ap (λ l. shown_paper x ∷ l) (map_last xs)
 
-module _ {S : Type 0} (g : Ghosts S) (old : Held S) (db : Database) (t : Tables) (k : Keeps t (state g old).now) (d : Desk)
+module _ {S : Type 0} (g : Ghosts S) (old last : Held S) (t : Tables) (k : Keeps t (state g old).now) (d : Desk)
     (more : t.desk.files ≤ d.files) (same_edition : d.edition ≡ t.desk.edition) where
   pub party_made : (p : Party) → find (λ q. bytes_eq q.digest p.digest) t.parties ≡ None →
-      RanAll g ((ADD_PARTY.now, shown_party p) ∷ desk_statement d ∷ []) old db → Keeps (record t { desk = d; parties = t.parties ++ p ∷ [] }) db
+      Ran g ((ADD_PARTY.now, shown_party p) ∷ desk_statement d ∷ []) old last → Keeps (record t { desk = d; parties = t.parties ++ p ∷ [] }) (state g last).now
   party_made p new ran =
-      let one = ran.ran in
+      let one = ran in
       let two = one.3 in
-      let begun = state g (record old { in_transaction = true }) in
+      let begun = state g old in
       let a = state g one.0 in
       let b = state g two.0 in
       let first = adds_party k.schema.order begun a one.1 k.schema.is p one.2 in
@@ -121,15 +120,15 @@ module _ {S : Type 0} (g : Ghosts S) (old : Held S) (db : Database) (t : Tables)
       let keyed = keyed_party t k.keyed p (key_free (λ (q : Party). q.id) party_row (λ q. refl) p t.parties (begun.now.trees 1) first.fresh k.rows.parties)
       (not_found _ t.parties new) in
       let done = ended a b two.1 (record t { parties = xs }) d more same_edition k.now (second_after begun.now a.now k.schema first.leaves.schema) rows keyed two.2 in
-      let same : db ≡ b.now = ran.is ∙ ap (λ (h : Held _). (state g h).now) two.3 in
+      let same : (state g last).now ≡ b.now = ap (λ (h : Held _). (state g h).now) two.3 in
       subst (Keeps (record t { desk = d; parties = xs })) (sym same) done
 
   pub parcel_made : (p : Parcel) → find (λ q. bytes_eq q.lot p.lot) t.parcels ≡ None →
-      RanAll g ((ADD_PARCEL.now, shown_parcel p) ∷ desk_statement d ∷ []) old db → Keeps (record t { desk = d; parcels = t.parcels ++ p ∷ [] }) db
+      Ran g ((ADD_PARCEL.now, shown_parcel p) ∷ desk_statement d ∷ []) old last → Keeps (record t { desk = d; parcels = t.parcels ++ p ∷ [] }) (state g last).now
   parcel_made p new ran =
-      let one = ran.ran in
+      let one = ran in
       let two = one.3 in
-      let begun = state g (record old { in_transaction = true }) in
+      let begun = state g old in
       let a = state g one.0 in
       let b = state g two.0 in
       let first = adds_parcel k.schema.order begun a one.1 k.schema.is p one.2 in
@@ -140,16 +139,16 @@ module _ {S : Type 0} (g : Ghosts S) (old : Held S) (db : Database) (t : Tables)
       let keyed = keyed_parcel t k.keyed p (key_free (λ (q : Parcel). q.id) parcel_row (λ q. refl) p t.parcels (begun.now.trees 3) first.fresh k.rows.parcels)
       (not_found _ t.parcels new) in
       let done = ended a b two.1 (record t { parcels = xs }) d more same_edition k.now (second_after begun.now a.now k.schema first.leaves.schema) rows keyed two.2 in
-      let same : db ≡ b.now = ran.is ∙ ap (λ (h : Held _). (state g h).now) two.3 in
+      let same : (state g last).now ≡ b.now = ap (λ (h : Held _). (state g h).now) two.3 in
       subst (Keeps (record t { desk = d; parcels = xs })) (sym same) done
 
   pub owner_made : (id owner : ℕ) (p : Parcel) → find (λ q. eqb q.id id) t.parcels ≡ Some p →
-      RanAll g ((SET_OWNER.now, int id ∷ int owner ∷ []) ∷ desk_statement d ∷ []) old db →
-      Keeps (record t { desk = d; parcels = map (given_to id owner) t.parcels }) db
+      Ran g ((SET_OWNER.now, int id ∷ int owner ∷ []) ∷ desk_statement d ∷ []) old last →
+      Keeps (record t { desk = d; parcels = map (given_to id owner) t.parcels }) (state g last).now
   owner_made id owner p found ran =
-      let one = ran.ran in
+      let one = ran in
       let two = one.3 in
-      let begun = state g (record old { in_transaction = true }) in
+      let begun = state g old in
       let a = state g one.0 in
       let b = state g two.0 in
       let only = only_found (λ (q : Parcel). eqb q.id id) t.parcels p found (k.keyed.parcels id) in
@@ -163,18 +162,18 @@ module _ {S : Type 0} (g : Ghosts S) (old : Held S) (db : Database) (t : Tables)
       ∙ sym first.1) there in
       let rows = keeps_parcels begun.now a.now t k.schema k.rows xs first.0 row in
       let done = ended a b two.1 (record t { parcels = xs }) d more same_edition k.now (second_after begun.now a.now k.schema first.0.schema) rows (keyed_owner t k.keyed id owner) two.2 in
-      let same : db ≡ b.now = ran.is ∙ ap (λ (h : Held _). (state g h).now) two.3 in
+      let same : (state g last).now ≡ b.now = ap (λ (h : Held _). (state g h).now) two.3 in
       subst (Keeps (record t { desk = d; parcels = xs })) (sym same) done
     where
       given : p.id ≡ id → given_to id owner p ≡ record p { owner = owner }
       given e = let is : eqb p.id id ≡ true = grind (arith, nat_tests) in ap (λ c. cond c (record p { owner = owner }) p) is
 
-  pub interest_made : (i : Interest) → RanAll g ((ADD_INTEREST.now, shown_interest i) ∷ desk_statement d ∷ []) old db →
-      Keeps (record t { desk = d; interests = t.interests ++ i ∷ [] }) db
+  pub interest_made : (i : Interest) → Ran g ((ADD_INTEREST.now, shown_interest i) ∷ desk_statement d ∷ []) old last →
+      Keeps (record t { desk = d; interests = t.interests ++ i ∷ [] }) (state g last).now
   interest_made i ran =
-      let one = ran.ran in
+      let one = ran in
       let two = one.3 in
-      let begun = state g (record old { in_transaction = true }) in
+      let begun = state g old in
       let a = state g one.0 in
       let b = state g two.0 in
       let first = adds_interest k.schema.order begun a one.1 k.schema.is i one.2 in
@@ -187,19 +186,19 @@ module _ {S : Type 0} (g : Ghosts S) (old : Held S) (db : Database) (t : Tables)
       let rows = keeps_interests begun.now a.now t k.schema k.rows xs first.leaves
       (subst (λ r. IsPermutation (map shown_interest xs) (map (drop 1) r)) (sym first.row) there) in
       let done = ended a b two.1 (record t { interests = xs }) d more same_edition k.now (second_after begun.now a.now k.schema first.leaves.schema) rows (keyed_interests t k.keyed xs) two.2 in
-      let same : db ≡ b.now = ran.is ∙ ap (λ (h : Held _). (state g h).now) two.3 in
+      let same : (state g last).now ≡ b.now = ap (λ (h : Held _). (state g h).now) two.3 in
       subst (Keeps (record t { desk = d; interests = xs })) (sym same) done
     where
       map_last : (xs : List Interest) → map shown_interest (xs ++ i ∷ []) ≡ map shown_interest xs ++ shown_interest i ∷ []
       map_last [] = refl
       map_last (x ∷ xs) = ap (λ l. shown_interest x ∷ l) (map_last xs)
 
-  pub file_made : (f : FileRow) → IsNamed t.upgrade f.id f.state → RanAll g ((ADD_FILE.now, shown_file f) ∷ desk_statement d ∷ []) old db →
-      Keeps (record t { desk = d; files = t.files ++ f ∷ [] }) db
+  pub file_made : (f : FileRow) → IsNamed t.upgrade f.id f.state → Ran g ((ADD_FILE.now, shown_file f) ∷ desk_statement d ∷ []) old last →
+      Keeps (record t { desk = d; files = t.files ++ f ∷ [] }) (state g last).now
   file_made f named ran =
-      let one = ran.ran in
+      let one = ran in
       let two = one.3 in
-      let begun = state g (record old { in_transaction = true }) in
+      let begun = state g old in
       let a = state g one.0 in
       let b = state g two.0 in
       let first = adds_file k.schema.order begun a one.1 k.schema.is f one.2 in
@@ -209,34 +208,34 @@ module _ {S : Type 0} (g : Ghosts S) (old : Held S) (db : Database) (t : Tables)
       let rows = keeps_files begun.now a.now t k.schema k.rows xs first.leaves there in
       let keyed = keyed_file t k.keyed f (key_free (λ (q : FileRow). q.id) file_row (λ q. refl) f t.files (begun.now.trees 7) first.fresh k.rows.files) named in
       let done = ended a b two.1 (record t { files = xs }) d more same_edition k.now (second_after begun.now a.now k.schema first.leaves.schema) rows keyed two.2 in
-      let same : db ≡ b.now = ran.is ∙ ap (λ (h : Held _). (state g h).now) two.3 in
+      let same : (state g last).now ≡ b.now = ap (λ (h : Held _). (state g h).now) two.3 in
       subst (Keeps (record t { desk = d; files = xs })) (sym same) done
 
   pub row_made : (id : ℕ) (s : FileState) (f : FileRow) → find (λ q. eqb q.id id) t.files ≡ Some f → s.parcel ≡ f.state.parcel →
       s.applicant ≡ f.state.applicant → f.state.papers ≤ s.papers → IsNamed t.upgrade id s
-      → RanAll g ((WRITE_FILE.now, row_params id s) ∷ desk_statement d ∷ []) old db → Keeps (record t { desk = d; files = map (with_state id s) t.files }) db
+      → Ran g ((WRITE_FILE.now, row_params id s) ∷ desk_statement d ∷ []) old last → Keeps (record t { desk = d; files = map (with_state id s) t.files }) (state g last).now
   row_made id s f found parcel applicant kept named ran =
-      let one = ran.ran in
+      let one = ran in
       let two = one.3 in
-      let begun = state g (record old { in_transaction = true }) in
+      let begun = state g old in
       let a = state g one.0 in
       let b = state g two.0 in
       let first = row_set begun a one.1 t k id s f found parcel applicant kept named one.2 in
       let xs = map (with_state id s) t.files in
       let done = ended a b two.1 (record t { files = xs }) d more same_edition k.now first.schema first.rows first.keyed two.2 in
-      let same : db ≡ b.now = ran.is ∙ ap (λ (h : Held _). (state g h).now) two.3 in
+      let same : (state g last).now ≡ b.now = ap (λ (h : Held _). (state g h).now) two.3 in
       subst (Keeps (record t { desk = d; files = xs })) (sym same) done
 
   pub paper_made : (id : ℕ) (s : FileState) (f : FileRow) (p : Paper) → find (λ q. eqb q.id id) t.files ≡ Some f → s.parcel ≡ f.state.parcel →
       s.applicant ≡ f.state.applicant → s.papers ≡ f.state.papers + 1 → IsNamed t.upgrade id s
       → p.file ≡ id → p.number ≡ s.papers
-      → RanAll g ((WRITE_FILE.now, row_params id s) ∷ (ADD_PAPER.now, shown_paper p) ∷ desk_statement d ∷ []) old db →
-      Keeps (record t { desk = d; files = map (with_state id s) t.files; papers = t.papers ++ p ∷ [] }) db
+      → Ran g ((WRITE_FILE.now, row_params id s) ∷ (ADD_PAPER.now, shown_paper p) ∷ desk_statement d ∷ []) old last →
+      Keeps (record t { desk = d; files = map (with_state id s) t.files; papers = t.papers ++ p ∷ [] }) (state g last).now
   paper_made id s f p found parcel applicant kept named file number ran =
-      let one = ran.ran in
+      let one = ran in
       let two = one.3 in
       let three = two.3 in
-      let begun = state g (record old { in_transaction = true }) in
+      let begun = state g old in
       let a = state g one.0 in
       let b = state g two.0 in
       let c = state g three.0 in
@@ -251,18 +250,18 @@ module _ {S : Type 0} (g : Ghosts S) (old : Held S) (db : Database) (t : Tables)
       let second = paper_added a b two.1 t1 first p above (omega (arith, number, now)) two.2 in
       let pp = t.papers ++ p ∷ [] in
       let done = ended b c three.1 (record t { files = fs; papers = pp }) d more same_edition k.now second.schema second.rows second.keyed three.2 in
-      let same : db ≡ c.now = ran.is ∙ ap (λ (h : Held _). (state g h).now) three.3 in
+      let same : (state g last).now ≡ c.now = ap (λ (h : Held _). (state g h).now) three.3 in
       subst (Keeps (record t { desk = d; files = fs; papers = pp })) (sym same) done
 
   pub notice_closed : (id number : ℕ) (s : FileState) (f : FileRow) → find (λ q. eqb q.id id) t.files ≡ Some f → s.parcel ≡ f.state.parcel →
       s.applicant ≡ f.state.applicant → f.state.papers ≤ s.papers → IsNamed t.upgrade id s
-      → RanAll g ((WRITE_FILE.now, row_params id s) ∷ (CLOSE_NOTICE.now, int id ∷ int number ∷ []) ∷ desk_statement d ∷ []) old db →
-      Keeps (record t { desk = d; files = map (with_state id s) t.files; papers = map (closed_by id number) t.papers }) db
+      → Ran g ((WRITE_FILE.now, row_params id s) ∷ (CLOSE_NOTICE.now, int id ∷ int number ∷ []) ∷ desk_statement d ∷ []) old last →
+      Keeps (record t { desk = d; files = map (with_state id s) t.files; papers = map (closed_by id number) t.papers }) (state g last).now
   notice_closed id number s f found parcel applicant kept named ran =
-      let one = ran.ran in
+      let one = ran in
       let two = one.3 in
       let three = two.3 in
-      let begun = state g (record old { in_transaction = true }) in
+      let begun = state g old in
       let a = state g one.0 in
       let b = state g two.0 in
       let c = state g three.0 in
@@ -271,5 +270,5 @@ module _ {S : Type 0} (g : Ghosts S) (old : Held S) (db : Database) (t : Tables)
       let second = notice_set a b two.1 (record t { files = fs }) first id number two.2 in
       let pp = map (closed_by id number) t.papers in
       let done = ended b c three.1 (record t { files = fs; papers = pp }) d more same_edition k.now second.schema second.rows second.keyed three.2 in
-      let same : db ≡ c.now = ran.is ∙ ap (λ (h : Held _). (state g h).now) three.3 in
+      let same : (state g last).now ≡ c.now = ap (λ (h : Held _). (state g h).now) three.3 in
       subst (Keeps (record t { desk = d; files = fs; papers = pp })) (sym same) done

@@ -25,3 +25,5 @@ pub mod Committing
 pub mod Running
 pub mod KeptLemmas
 pub mod Renewing
+pub mod Leading
+pub mod Writing

@@ -29,7 +29,7 @@ use Rattle.permit_sql_rows.specs.Rows.{int, party_row}
 use Rattle.permit_sql_rows.specs.Kept.{AreKeyed, Keeps}
 use Rattle.permit_sql_statements.specs.declared.texts.TheConstants.{SET_DIGEST}
 use Rattle.permit_sql_statements.specs.Renewing.{renewal_statements}
-use Rattle.permit_sql_statements.specs.Statements.{RanAll}
+use Rattle.permit_sql_statements.specs.Statements.{Ran, RanAll}
 use Rattle.permit_sql_statements.proofs.Lookups.{plain_query, equals, one_test, eq_is, finds_one}
 use Rattle.permit_sql_statements.proofs.QueryTexts.{alone}
 use Rattle.permit_sql_statements.proofs.Effects.{cast_int, cast_null, Leaves, sets}
@@ -153,11 +153,12 @@ against_none (Some p) (Some q) taken missing none = absurd (let bad = none in cc
 given : (id : ℕ) (digest : List ℕ) (p : Party) → p.id ≡ id → with_digest id digest p ≡ record p { digest = digest }
 given id digest p e = let is : eqb p.id id ≡ true = grind (arith, nat_tests) in ap (λ c. cond c (record p { digest = digest }) p) is
 
-pub renewal_made : {S : Type 0} (g : Ghosts S) (old : Held S) (db : Database) (t : Tables) → Keeps t (state g old).now → (id : ℕ) (digest : List ℕ) →
-    against_renewal t.parties id digest ≡ None → RanAll g (renewal_statements (int id ∷ Text digest ∷ [])) old db → Keeps (with_renewed id digest t) db
-renewal_made g old db t k id digest none ran =
-    let begun = state g (record old { in_transaction = true }) in
-    let one = ran.ran in
+pub renewal_ran : {S : Type 0} (g : Ghosts S) (old last : Held S) (t : Tables) → Keeps t (state g old).now → (id : ℕ) (digest : List ℕ) →
+    against_renewal t.parties id digest ≡ None → Ran g (renewal_statements (int id ∷ Text digest ∷ [])) old last
+    → Keeps (with_renewed id digest t) (state g last).now
+renewal_ran g old last t k id digest none ran =
+    let begun = state g old in
+    let one = ran in
     let a = state g one.0 in
     let free = against_none _ _ _ _ none in
     let p = free.0.0 in
@@ -170,10 +171,16 @@ renewal_made g old db t k id digest none ran =
     (λ y apart. ap (λ c. cond c (record y { digest = digest }) y) apart) (ap (λ (q : Party). q.id) here ∙ number) only k.rows.parties in
     let row = subst (IsPermutation (map party_row xs)) (ap (λ q. put_row (party_row q) (without_rowid (pos id) (begun.now.trees 1))) here ∙ sym set.1) there in
     let rows = keeps_parties begun.now a.now t k.schema k.rows xs set.0 row in
-    let same : db ≡ a.now = ran.is ∙ ap (λ (h : Held _). (state g h).now) one.3 in
+    let same : (state g last).now ≡ a.now = ap (λ (h : Held _). (state g h).now) one.3 in
     subst (Keeps (with_renewed id digest t)) (sym same) (record {
       schema = second_after begun.now a.now k.schema set.0.schema;
       now = k.now;
       keyed = keyed_renewal id digest t k.keyed free.1;
       rows = rows;
     })
+
+-- as a transaction
+pub renewal_made : {S : Type 0} (g : Ghosts S) (old : Held S) (db : Database) (t : Tables) → Keeps t (state g old).now → (id : ℕ) (digest : List ℕ) →
+    against_renewal t.parties id digest ≡ None → RanAll g (renewal_statements (int id ∷ Text digest ∷ [])) old db → Keeps (with_renewed id digest t) db
+renewal_made g old db t k id digest none ran =
+    subst (Keeps (with_renewed id digest t)) (sym ran.is) (renewal_ran g (record old { in_transaction = true }) ran.last t k id digest none ran.ran)

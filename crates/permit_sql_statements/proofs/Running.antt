@@ -1,25 +1,23 @@
--- Statements that run in one transaction are the change that they make.
-use Rattle.std.proofs.Common.{◌≡◌, ℕ, List, Result}
+-- The statement that runs in one transaction is the renewal that it makes.
+use Rattle.std.proofs.Common.{ℕ, List, [], ◌∷◌, Result}
+use Rattle.sqlite.specs.declared.types.Value.TheVariants.{Text}
 use Rattle.sqlite_trees.specs.declared.store.Store.{Ghosts}
-use Rattle.sqlite.specs.Effect.{Database}
 use Rattle.sqlite.specs.Held.{Held, state}
 use Rattle.sqlite.proofs.StateLemmas.{survives_weaker}
-use Rattle.permit_model.specs.Tables.{Desk, Tables}
-use Rattle.permit_store.specs.Changes.{Fits, changed}
-use Rattle.permit_store.specs.declared.change.Change.{Change}
-use Rattle.permit_sql_rows.specs.Kept.{Keeps}
-use Rattle.permit_sql_statements.specs.Frames.{IsChange, IsRun}
-use Rattle.permit_sql_statements.specs.Statements.{Statement, RanAll}
+use Rattle.permit_model.specs.Renewal.{with_renewed}
+use Rattle.permit_sql_rows.specs.Rows.{int}
+use Rattle.permit_sql_statements.specs.Frames.{IsRun}
+use Rattle.permit_sql_statements.specs.Renewing.{IsRenewal, renewal_statements}
+use Rattle.permit_sql_statements.proofs.Renewing.{renewal_made}
 
-pub changed_by : {S A E : Type 0} (g : Ghosts S) {statements : List Statement} {desk : Desk} {change : Change} {old new : Held S} {r : Result A E} →
-    IsRun g statements old new r →
-    ((db : Database) (t : Tables) → Keeps t (state g old).now → (day : ℕ) → desk ≡ (changed t change day).desk → Fits t change day →
-    RanAll g statements old db → Keeps (changed t change day) db) → IsChange g desk change old new r
-changed_by g {statements} {desk} {change} {old} {new} run keeps = record {
-  made = λ t day clean shows is fits. run.made t (changed t change day) clean shows (λ k db ran. keeps db t k day is fits ran);
+pub renewed_by : {S A E : Type 0} (g : Ghosts S) (party : ℕ) (digest : List ℕ) {old new : Held S} {r : Result A E} →
+    IsRun g (renewal_statements (int party ∷ Text digest ∷ [])) old new r → IsRenewal g party digest old new r
+renewed_by g party digest {old} {new} run = record {
+  made = λ t clean shows none. run.made t (with_renewed party digest t) clean shows
+      (λ k db ran. renewal_made g old db t k party digest none ran);
   kept = run.kept;
   opened = run.opened;
   doubt = run.doubt;
   crash = survives_weaker (state g old) (state g new) _ _
-      (λ clean trees h t day k is fits. (h.0, keeps h.0 t k day is fits h.1, h.2)) run.crash;
+      (λ clean trees h t none k. (h.0, renewal_made g old h.0 t k party digest none h.1, h.2)) run.crash;
 }

@@ -8,9 +8,7 @@ use Rattle.sqlite.specs.Listing.{understood}
 use Rattle.sqlite.specs.Effect.{Database}
 use Rattle.sqlite.specs.State.{HasCleanDisk, Survives}
 use Rattle.sqlite.specs.Held.{Held, state}
-use Rattle.permit_model.specs.Tables.{Desk, Tables}
-use Rattle.permit_store.specs.declared.change.Change.{Change}
-use Rattle.permit_store.specs.Changes.{changed, Fits}
+use Rattle.permit_model.specs.Tables.{Tables}
 use Rattle.permit_base.specs.declared.words.Edition.{Edition}
 use Rattle.permit_sql_rows.specs.Schema.{IsOffice}
 use Rattle.permit_sql_rows.specs.Kept.{IsFine, Keeps, Shows}
@@ -49,6 +47,11 @@ module _ {S : Type 0} (g : Ghosts S) where
   abbrev pub ReadSurvives : Held S → Held S → Type 0
   ReadSurvives old new = (t : Tables) → Keeps t (state g old).now → Survives (state g old) (state g new) (λ _. ⊥)
 
+  -- The same where the tables are known to be kept only if the disk is clean afterwards, as behind another read.
+  abbrev pub ReadOutlasts : Held S → Held S → Type 0
+  ReadOutlasts old new =
+      (t : Tables) → (HasCleanDisk (state g new) → Keeps t (state g old).now) → Survives (state g old) (state g new) (λ _. ⊥)
+
   -- A read: it shows what it showed before.
   pub record IsRead {A E : Type 0} (old new : Held S) (result : Result A E) : Type 0 where
     pub kept : LeavesTables old new
@@ -76,20 +79,6 @@ module _ {S : Type 0} (g : Ghosts S) where
     pub was_open : HasCleanDisk (state g new) → IsTrue (state g new).is_open → IsTrue (state g old).is_open
     pub opened : IsOpenAfter new result
 
-  -- A success makes the change, where it fits and the desk is the one after it.
-  abbrev pub MakesChange : {A E : Type 0} → Desk → Change → Held S → Held S → Result A E → Type 0
-  MakesChange desk change old new result =
-      (t : Tables) (day : ℕ) → HasCleanDisk (state g new) → Shows t (state g old)
-      → desk ≡ (changed t change day).desk → Fits t change day
-      → OnOk result (Shows (changed t change day) (state g new))
-
-  -- A crash inside a change leaves what it left before, or the tables with the change whole.
-  abbrev pub ChangeSurvives : Desk → Change → Held S → Held S → Type 0
-  ChangeSurvives desk change old new =
-      Survives (state g old) (state g new) (λ trees. (t : Tables) (day : ℕ) → Keeps t (state g old).now
-      → desk ≡ (changed t change day).desk → Fits t change day
-      → (db : Database) × Keeps (changed t change day) db × (trees ≡ db.trees))
-
   -- After a success it shows the tables to which the statements lead.
   abbrev pub ShowsAfter : {A E : Type 0} → List Statement → Held S → Held S → Result A E → Type 0
   ShowsAfter statements old new result =
@@ -116,11 +105,3 @@ module _ {S : Type 0} (g : Ghosts S) where
     pub opened : IsOpenAfter new result
     pub doubt : KeepsDoubt old new
     pub crash : StatementsSurvive statements old new
-
-  -- A change, or nothing.
-  pub record IsChange {A E : Type 0} (desk : Desk) (change : Change) (old new : Held S) (result : Result A E) : Type 0 where
-    pub made : MakesChange desk change old new result
-    pub kept : FailureLeavesTables old new result
-    pub opened : IsOpenAfter new result
-    pub doubt : KeepsDoubt old new
-    pub crash : ChangeSurvives desk change old new

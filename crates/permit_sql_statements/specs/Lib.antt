@@ -3,6 +3,8 @@ pub use Rattle.permit_sql_rows.specs.Kept
 pub mod Selected
 pub mod Gave
 pub mod Statements
+pub mod Changing
+pub mod Written
 pub mod TextAndParams
 pub mod Founding
 pub mod Frames

@@ -1,36 +1,39 @@
-//! The changes of the tables, each in one transaction. The desk that a change is given is the one after it.
+//! The changes of the tables, written down, and each in one transaction. The desk that is written is the one after the change.
 
-ghost use Rattle.std.specs.Prelude.{◌≡◌, ◌≢◌, ◌+◌, ℕ, Option, Some, OnOk, IfOk};
+ghost use Rattle.std.specs.Prelude.{◌≡◌, ◌≢◌, ◌+◌, [], ◌∷◌, ℕ, Option, Some, OnOk, IfOk};
+ghost use Rattle.sqlite.specs.declared.types.Value.TheVariants.{Text as TextValue};
 ghost use Rattle.sqlite.specs.Effect.{Database};
 ghost use Rattle.sqlite.specs.State.{Survives};
 ghost use Rattle.sqlite.specs.Held.{state};
-ghost use Rattle.permit_model.specs.Tables.{Tables, edition_numbered};
+ghost use Rattle.permit_model.specs.Tables.{Tables};
 ghost use Rattle.permit_store.specs.Changes.{changed, Fits};
-ghost use Rattle.permit_store.specs.declared.change.Change.TheVariants.{NewParty, NewParcel, NewOwner, NewInterest, NewFile, NewRow};
-ghost use Rattle.permit_store.specs.declared.change.RowEffect.TheVariants as effect;
-ghost use Rattle.permit_sql_rows.specs.Kept.{IsNamed, Keeps, Shows};
-ghost use Rattle.permit_sql_statements.specs.Frames.{OverShown, FailureLeavesTables, IsChange, IsOpenAfter, KeepsDoubt};
+ghost use Rattle.permit_store.specs.declared.change.Change.TheVariants.{NewFile, NewRow};
+ghost use Rattle.permit_sql_rows.specs.Kept.{Keeps, Shows};
+ghost use Rattle.permit_sql_rows.specs.Rows.{int};
+ghost use Rattle.permit_sql_statements.specs.Changing.{Names, NamesRow, change_statements, row_statements};
+ghost use Rattle.permit_sql_statements.specs.Frames.{OverShown, FailureLeavesTables, IsOpenAfter, KeepsDoubt};
+ghost use Rattle.permit_sql_statements.specs.Renewing.{renewal_statements};
+ghost use Rattle.permit_sql_statements.specs.Written.{Writes, written_in};
 
 use crate::idle::Idle;
+use crate::lending::run_steps;
 use crate::read::read_desk;
-use crate::runs::{run_three, run_two};
+use crate::step::Step;
 use crate::texts::{
-    ADD_FILE, ADD_INTEREST, ADD_PAPER, ADD_PARCEL, ADD_PARTY, CLOSE_NOTICE, SET_OWNER, WRITE_DESK,
-    WRITE_FILE,
+    ADD_FILE, ADD_INTEREST, ADD_PAPER, ADD_PARCEL, ADD_PARTY, CLOSE_NOTICE, SET_DIGEST, SET_OWNER,
+    WRITE_DESK, WRITE_FILE,
 };
 use permit_base::limits::number_after;
-use permit_base::values::{
-    Cents, Day, Days, Digest, FileId, Lot, PaperNumber, ParcelId, PartyId, Text,
-};
-use permit_base::words::Role;
+use permit_base::values::{Cents, Day, Days, Digest, FileId, PartyId, Text};
 use permit_core::restore::StateFields;
 use permit_core::state::FileState;
 use permit_sql_rows::values::{
     desk_values, file_values, pair_values, paper_values, parcel_values, party_values, row_values,
 };
-use permit_store::rows::{Change, Desk, NewPaper, RowEffect};
+use permit_store::rows::{Change, Desk, RowEffect};
 use permit_store::store::{Got, StoreError};
-use sqlite::Alter;
+use sqlite::{Alter, params};
+use std::alloc::Global;
 
 /// A party's number isn't 0.
 fn is_party(party: Option<PartyId>)
@@ -53,7 +56,7 @@ fn is_count(days: Option<Days>)
 /// The fields of a row, in which no number is 0. Its edition is stored nowhere.
 fn fields_of(row: &FileState) -> StateFields
     ensures same { result ≡ row.now }
-    ensures named { (upgrade : Option ℕ) (id : ℕ) → row.now.edition ≡ edition_numbered upgrade id → IsNamed upgrade id row.now }
+    ensures named { Names row.now }
 {
     let fields = row.fields();
     is_party(fields.contractor);
@@ -63,166 +66,121 @@ fn fields_of(row: &FileState) -> StateFields
     fields
 }
 
-/// Adds a party, whose number is the desk's count of parties.
-fn add_party<S: Alter>(
-    conn: &mut Idle<S>,
-    desk: &Desk,
-    name: &Text,
-    role: Role,
-    digest: &Digest,
-) -> Got<()>
-    ensures { IsChange S.Store desk.now (NewParty name.entry role digest.entry) conn.old conn.new result }
+/// In the row that a change writes no number is 0.
+fn names_row(change: &Change<'_>)
+    ensures { NamesRow change.now }
 {
-    let party = party_values(desk, name, role, digest);
-    let office = desk_values(desk);
-    run_two(conn, ADD_PARTY, &party, WRITE_DESK, &office)
-}
-
-/// Adds a parcel, whose number is the desk's count of parcels.
-fn add_parcel<S: Alter>(
-    conn: &mut Idle<S>,
-    desk: &Desk,
-    lot: &Lot,
-    address: &Text,
-    owner: PartyId,
-) -> Got<()>
-    ensures { IsChange S.Store desk.now (NewParcel lot.entry address.entry owner) conn.old conn.new result }
-{
-    let parcel = parcel_values(desk, lot, address, owner);
-    let office = desk_values(desk);
-    run_two(conn, ADD_PARCEL, &parcel, WRITE_DESK, &office)
-}
-
-/// Gives a parcel another owner.
-fn set_owner<S: Alter>(conn: &mut Idle<S>, desk: &Desk, parcel: ParcelId, owner: PartyId) -> Got<()>
-    ensures { IsChange S.Store desk.now (NewOwner parcel owner) conn.old conn.new result }
-{
-    let pair = pair_values(parcel.get(), owner.get());
-    let office = desk_values(desk);
-    run_two(conn, SET_OWNER, &pair, WRITE_DESK, &office)
-}
-
-/// Adds an interest of a party in a parcel.
-fn add_interest<S: Alter>(
-    conn: &mut Idle<S>,
-    desk: &Desk,
-    parcel: ParcelId,
-    party: PartyId,
-) -> Got<()>
-    ensures { IsChange S.Store desk.now (NewInterest parcel party) conn.old conn.new result }
-{
-    let pair = pair_values(parcel.get(), party.get());
-    let office = desk_values(desk);
-    run_two(conn, ADD_INTEREST, &pair, WRITE_DESK, &office)
+    match change {
+        Change::NewFile {
+            state,
+            valuation: _,
+            description: _,
+        } => {
+            let _fields = fields_of(state);
+        }
+        Change::NewRow {
+            file: _,
+            state,
+            effect: _,
+        } => {
+            let _fields = fields_of(state);
+        }
+        Change::NewParty {
+            name: _,
+            role: _,
+            digest: _,
+        } => {}
+        Change::NewParcel {
+            lot: _,
+            address: _,
+            owner: _,
+        } => {}
+        Change::NewOwner {
+            parcel: _,
+            owner: _,
+        } => {}
+        Change::NewInterest {
+            parcel: _,
+            party: _,
+        } => {}
+    }
 }
 
 /// Adds a file, whose number is the desk's count of files.
-fn add_file<S: Alter>(
-    conn: &mut Idle<S>,
+fn write_file(
+    step: &mut Step,
     desk: &Desk,
     new: &FileState,
     valuation: Cents,
     description: &Text,
 ) -> Got<()>
-    ensures { IsChange S.Store desk.now (NewFile new.now valuation description.entry) conn.old conn.new result }
+    ensures { Writes (row_statements desk.now (NewFile new.now valuation description.entry)) step.old step.new result }
 {
     let file = file_values(desk, valuation, description, &fields_of(new));
-    let office = desk_values(desk);
-    run_two(conn, ADD_FILE, &file, WRITE_DESK, &office)
+    step.add(ADD_FILE, &file)
 }
 
-/// Sets a file's row.
-fn set_row<S: Alter>(conn: &mut Idle<S>, desk: &Desk, file: FileId, new: &FileState) -> Got<()>
-    ensures { IsChange S.Store desk.now (NewRow file new.now effect.None) conn.old conn.new result }
-{
-    let fields = row_values(file, &fields_of(new));
-    let office = desk_values(desk);
-    run_two(conn, WRITE_FILE, &fields, WRITE_DESK, &office)
-}
-
-/// Sets a file's row and adds a paper on the desk's day, whose number is the row's count of papers.
-fn add_paper<S: Alter>(
-    conn: &mut Idle<S>,
-    desk: &Desk,
-    file: FileId,
-    new: &FileState,
-    paper: &NewPaper<'_>,
-) -> Got<()>
-    ensures { IsChange S.Store desk.now (NewRow file new.now (effect.Paper paper.now)) conn.old conn.new result }
-{
-    let now = fields_of(new);
-    let fields = row_values(file, &now);
-    let added = paper_values(file, &now, desk, paper);
-    let office = desk_values(desk);
-    run_three(
-        conn, WRITE_FILE, &fields, ADD_PAPER, &added, WRITE_DESK, &office,
-    )
-}
-
-/// Sets a file's row and closes a notice of the file.
-fn close_notice<S: Alter>(
-    conn: &mut Idle<S>,
-    desk: &Desk,
-    file: FileId,
-    new: &FileState,
-    number: PaperNumber,
-) -> Got<()>
-    ensures { IsChange S.Store desk.now (NewRow file new.now (effect.NoticeClosed number)) conn.old conn.new result }
-{
-    let fields = row_values(file, &fields_of(new));
-    let pair = pair_values(file.get(), number.get());
-    let office = desk_values(desk);
-    run_three(
-        conn,
-        WRITE_FILE,
-        &fields,
-        CLOSE_NOTICE,
-        &pair,
-        WRITE_DESK,
-        &office,
-    )
-}
-
-/// Makes a file's new row, with its effect.
-fn make_row<S: Alter>(
-    conn: &mut Idle<S>,
+/// Sets a file's row, with its effect: a paper is added on the desk's day, and its number is the row's count of papers.
+fn write_row(
+    step: &mut Step,
     desk: &Desk,
     file: FileId,
     new: &FileState,
     effect: &RowEffect<'_>,
 ) -> Got<()>
-    ensures { IsChange S.Store desk.now (NewRow file new.now effect.now) conn.old conn.new result }
+    ensures { Writes (row_statements desk.now (NewRow file new.now effect.now)) step.old step.new result }
 {
+    let now = fields_of(new);
+    let fields = row_values(file, &now);
+    step.add(WRITE_FILE, &fields)?;
     match effect {
-        RowEffect::None => set_row(conn, desk, file, new),
-        RowEffect::Paper(paper) => add_paper(conn, desk, file, new, paper),
-        RowEffect::NoticeClosed(number) => close_notice(conn, desk, file, new, *number),
+        RowEffect::None => Ok(()),
+        RowEffect::Paper(paper) => {
+            let added = paper_values(file, &now, desk, paper);
+            step.add(ADD_PAPER, &added)
+        }
+        RowEffect::NoticeClosed(number) => {
+            let pair = pair_values(file.get(), number.get());
+            step.add(CLOSE_NOTICE, &pair)
+        }
     }
 }
 
-/// Makes a change.
-fn make<S: Alter>(conn: &mut Idle<S>, desk: &Desk, change: &Change<'_>) -> Got<()>
-    ensures { IsChange S.Store desk.now change.now conn.old conn.new result }
+/// Writes a change down, but for the desk. A new record's number is the desk's count of its kind.
+fn write_change(step: &mut Step, desk: &Desk, change: &Change<'_>) -> Got<()>
+    ensures { Writes (row_statements desk.now change.now) step.old step.new result }
 {
     match change {
-        Change::NewParty { name, role, digest } => add_party(conn, desk, name, *role, digest),
+        Change::NewParty { name, role, digest } => {
+            let party = party_values(desk, name, *role, digest);
+            step.add(ADD_PARTY, &party)
+        }
         Change::NewParcel {
             lot,
             address,
             owner,
-        } => add_parcel(conn, desk, lot, address, *owner),
-        Change::NewOwner { parcel, owner } => set_owner(conn, desk, *parcel, *owner),
-        Change::NewInterest { parcel, party } => add_interest(conn, desk, *parcel, *party),
+        } => {
+            let parcel = parcel_values(desk, lot, address, *owner);
+            step.add(ADD_PARCEL, &parcel)
+        }
+        Change::NewOwner { parcel, owner } => {
+            let pair = pair_values(parcel.get(), owner.get());
+            step.add(SET_OWNER, &pair)
+        }
+        Change::NewInterest { parcel, party } => {
+            let pair = pair_values(parcel.get(), party.get());
+            step.add(ADD_INTEREST, &pair)
+        }
         Change::NewFile {
             state,
             valuation,
             description,
-        } => add_file(conn, desk, state, *valuation, description),
+        } => write_file(step, desk, state, *valuation, description),
         Change::NewRow {
             file,
             state,
             effect,
-        } => make_row(conn, desk, *file, state, effect),
+        } => write_row(step, desk, *file, state, effect),
     }
 }
 
@@ -257,8 +215,38 @@ fn desk_after(desk: &Desk, change: &Change<'_>, day: Day) -> Got<Desk>
     }
 }
 
+/// Writes a change on a day down, of tables with this desk. It fails only where memory is refused, or where there is no number for
+/// one more record of its kind.
+pub fn change_step(alloc: Global, desk: &Desk, change: &Change<'_>, day: Day) -> Got<Step>
+    ensures written { (t : Tables) → desk.now ≡ t.desk
+        → IfOk result (λ step. written_in step ≡ change_statements (changed t change.now day).desk change.now) }
+    ensures named { NamesRow change.now }
+{
+    names_row(change);
+    let after = desk_after(desk, change, day)?;
+    let mut step = Step::new(alloc);
+    write_change(&mut step, &after, change)?;
+    let office = desk_values(&after);
+    step.add(WRITE_DESK, &office)?;
+    Ok(step)
+}
+
+/// Writes down that a party has another digest. It fails only where memory is refused.
+pub fn renewal_step(alloc: Global, party: PartyId, digest: &Digest) -> Got<Step>
+    ensures { IfOk result (λ step. written_in step ≡ renewal_statements (int party ∷ TextValue digest.now ∷ [])) }
+{
+    let mut step = Step::new(alloc);
+    step.add(SET_DIGEST, params![party.get(), digest.as_str()])?;
+    Ok(step)
+}
+
 /// Makes a change that fits on a day, or changes nothing, also over a crash.
-pub fn commit_in<S: Alter>(conn: &mut Idle<S>, change: &Change<'_>, day: Day) -> Got<()>
+pub fn commit_in<S: Alter>(
+    conn: &mut Idle<S>,
+    alloc: Global,
+    change: &Change<'_>,
+    day: Day,
+) -> Got<()>
     ensures made { OverShown S.Store conn.old conn.new
         (λ t. Fits t change.now day → OnOk result (Shows (changed t change.now day) (state S.Store conn.new))) }
     ensures kept { FailureLeavesTables S.Store conn.old conn.new result }
@@ -269,6 +257,6 @@ pub fn commit_in<S: Alter>(conn: &mut Idle<S>, change: &Change<'_>, day: Day) ->
         (λ trees. (db : Database) × Keeps (changed t change.now day) db × (trees ≡ db.trees)) }
 {
     let desk = read_desk(conn)?;
-    let after = desk_after(&desk, change, day)?;
-    make(conn, &after, change)
+    let step = change_step(alloc, &desk, change, day)?;
+    run_steps(conn, alloc, &[step])
 }

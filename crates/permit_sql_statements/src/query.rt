@@ -5,7 +5,7 @@ ghost use Rattle.sqlite.specs.State.{HasCleanDisk, Shown};
 ghost use Rattle.sqlite.specs.Values.{bound};
 ghost use Rattle.sqlite.specs.Held.{state};
 ghost use Rattle.permit_base.specs.declared.words.Edition.TheVariants.{Second};
-ghost use Rattle.permit_sql_statements.specs.Frames.{IsIdle, IsPlainIn, IsQuery, IsRead};
+ghost use Rattle.permit_sql_statements.specs.Frames.{IsIdle, IsPlainIn, IsQuery, IsRead, ReadOutlasts};
 
 use crate::idle::Idle;
 use permit_store::store::{Got, StoreError};
@@ -36,6 +36,7 @@ pub(crate) fn rows_of<S: Alter>(
     ensures shown { HasCleanDisk (state S.Store conn.new)
         → IfOk result (λ rows. Shown sql.now (bound params.now) (state S.Store conn.old) (state S.Store conn.new) rows.items) }
     ensures read { IsPlainIn Second sql.now → IsRead S.Store conn.old conn.new result }
+    ensures outlasts { IsPlainIn Second sql.now → ReadOutlasts S.Store conn.old conn.new }
 {
     match read_all(&mut conn.conn, sql, params) {
         Ok(rows) => Ok(rows),

@@ -11,7 +11,7 @@ ghost use Rattle.permit_model.specs.Tables.{Desk as TheDesk, FileRow as TheRow, 
 ghost use Rattle.permit_sql_rows.specs.Rows.{flag, shown_desk, shown_party, shown_parcel, shown_file, shown_interest, shown_paper};
 ghost use Rattle.permit_sql_rows.specs.Kept.{IsNamed};
 ghost use Rattle.permit_sql_rows.specs.Typed.{IsObject, IsDesk, IsParty, IsParcel, IsFile};
-ghost use Rattle.permit_sql_statements.specs.Frames.{IsRead, OverShown};
+ghost use Rattle.permit_sql_statements.specs.Frames.{IsRead, OverShown, ReadOutlasts};
 
 use crate::idle::Idle;
 use crate::query::rows_of;
@@ -55,6 +55,7 @@ fn digest_rows<S: Alter>(conn: &mut Idle<S>, digest: &Digest) -> Got<Vec<Row>>
     ensures found { OverShown S.Store conn.old conn.new
         (λ t. IfOk result (λ rows. slice_get rows.items 0 ≡ option_map shown_party (find (λ p. bytes_eq p.digest digest.now) t.parties))) }
     ensures read { IsRead S.Store conn.old conn.new result }
+    ensures outlasts { ReadOutlasts S.Store conn.old conn.new }
 {
     rows_of(conn, FIND_PARTY, params![digest.as_str()])
 }
@@ -304,6 +305,7 @@ pub fn find_party<S: Alter>(conn: &mut Idle<S>, digest: &Digest) -> Got<Option<P
     ensures found { OverShown S.Store conn.old conn.new
         (λ t. IfOk result (λ p. p ≡ find (λ p. bytes_eq p.digest digest.now) t.parties)) }
     ensures read { IsRead S.Store conn.old conn.new result }
+    ensures outlasts { ReadOutlasts S.Store conn.old conn.new }
 {
     let rows = digest_rows(conn, digest)?;
     got(first_party(&rows))

@@ -7,11 +7,14 @@ ghost use Rattle.sqlite.specs.Values.{bound};
 ghost use Rattle.permit_model.specs.Renewal.{with_renewed};
 ghost use Rattle.permit_sql_rows.specs.Kept.{Keeps};
 ghost use Rattle.permit_sql_statements.specs.Frames.{IsIdle, IsTransaction, RunsAll};
-ghost use Rattle.permit_sql_statements.specs.Renewing.{renewal_statements, OverRenewal};
+ghost use Rattle.permit_sql_statements.specs.Renewing.{renewal_statements, IsRenewal, OverRenewal};
 
+use crate::idle::Idle;
+use crate::runs::run_one;
 use crate::statements::{Statement, run_all};
 use crate::texts::SET_DIGEST;
 use permit_base::values::Digest;
+use permit_store::store::Got;
 use sqlite::{Alter, Connection, Error, params};
 use sqlite_value::value::ValueRef;
 
@@ -48,4 +51,11 @@ pub fn renew_in<S: Alter>(
         (λ t. (db : _) × Keeps (with_renewed party digest.now t) db × (trees ≡ db.trees))) }
 {
     set_digest(conn, params![party, digest.as_str()])
+}
+
+/// The same over a connection between transactions.
+pub fn renew_party<S: Alter>(conn: &mut Idle<S>, party: u32, digest: &Digest) -> Got<()>
+    ensures { IsRenewal S.Store party digest.now conn.old conn.new result }
+{
+    run_one(conn, SET_DIGEST, params![party, digest.as_str()])
 }

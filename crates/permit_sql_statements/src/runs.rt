@@ -12,7 +12,7 @@ use sqlite::Alter;
 use sqlite_value::value::ValueRef;
 
 /// All statements in turn or none, also over a crash.
-fn run<S: Alter>(conn: &mut Idle<S>, statements: &[Statement<'_>]) -> Got<()>
+pub(crate) fn run<S: Alter>(conn: &mut Idle<S>, statements: &[Statement<'_>]) -> Got<()>
     ensures { IsRun S.Store (map text_and_params statements.now) conn.old conn.new result }
 {
     match run_all(&mut conn.conn, statements) {
@@ -21,60 +21,13 @@ fn run<S: Alter>(conn: &mut Idle<S>, statements: &[Statement<'_>]) -> Got<()>
     }
 }
 
-/// Two statements in turn or none, also over a crash.
-pub(crate) fn run_two<'a, S: Alter>(
+/// One statement or nothing, also over a crash.
+pub(crate) fn run_one<'a, S: Alter>(
     conn: &mut Idle<S>,
-    first: &'a str,
-    one: &'a [ValueRef<'a>],
-    last: &'a str,
-    two: &'a [ValueRef<'a>],
+    text: &'a str,
+    params: &'a [ValueRef<'a>],
 ) -> Got<()>
-    ensures { IsRun S.Store ((first.now, bound one.now) ∷ (last.now, bound two.now) ∷ []) conn.old conn.new result }
+    ensures { IsRun S.Store ((text.now, bound params.now) ∷ []) conn.old conn.new result }
 {
-    run(
-        conn,
-        &[
-            Statement {
-                text: first,
-                params: one,
-            },
-            Statement {
-                text: last,
-                params: two,
-            },
-        ],
-    )
-}
-
-/// Three statements in turn or none, also over a crash.
-pub(crate) fn run_three<'a, S: Alter>(
-    conn: &mut Idle<S>,
-    first: &'a str,
-    one: &'a [ValueRef<'a>],
-    second: &'a str,
-    two: &'a [ValueRef<'a>],
-    last: &'a str,
-    three: &'a [ValueRef<'a>],
-) -> Got<()>
-    ensures { IsRun S.Store
-        ((first.now, bound one.now) ∷ (second.now, bound two.now) ∷ (last.now, bound three.now) ∷ [])
-        conn.old conn.new result }
-{
-    run(
-        conn,
-        &[
-            Statement {
-                text: first,
-                params: one,
-            },
-            Statement {
-                text: second,
-                params: two,
-            },
-            Statement {
-                text: last,
-                params: three,
-            },
-        ],
-    )
+    run(conn, &[Statement { text, params }])
 }

@@ -4,7 +4,6 @@ ghost use Rattle.std.specs.Prelude.{◌≡◌, ◌≤◌, length, IfOk, IfErr, I
 ghost use Rattle.permit_base.specs.Limits.{most_records};
 ghost use Rattle.permit_store.specs.Plain.{AreInPlace};
 ghost use Rattle.permit_store.specs.Counts.{next_count, failed_after};
-ghost use Rattle.permit_store.specs.Renewing.{Renews};
 ghost use Rattle.permit_store.specs.Founding.{founding};
 ghost use Rattle.permit_store.specs.declared.store.OpenError.TheVariants as open_error;
 ghost use Rattle.permit_model.specs.Tables.{Tables, tables};
@@ -29,6 +28,7 @@ use crate::plain::parcels::Parcels;
 use crate::plain::parties::Parties;
 use crate::plain::ready::Ready;
 use crate::plain::select::Selection;
+use crate::renewing::Renewing;
 use crate::rows::{Change, Desk, FileRow, Found, Interest, Paper, Parcel, Party};
 use crate::store::{Got, OpenError, Store, StoreError};
 use permit_base::refusal::{Reason, Refusal};
@@ -112,31 +112,6 @@ impl PlainStore {
             failed: 0,
             commits: 0,
         })
-    }
-
-    /// Gives a party another digest: the tables are then those of the same history in which the party had a token of that
-    /// digest. It refuses a number that no party has as `Record`, and a digest that a party has, be it this one, as
-    /// `NotAdmitted` for `Taken`. With a refusal or a failure the tables are as before.
-    pub fn renew(&mut self, party: PartyId, digest: &Digest) -> Got<Result<(), Refusal>>
-        ensures renewed { (t : Tables) → (⟦<PlainStore as Store>⟧.view self.old).holds t
-            → Renews (⟦<PlainStore as Store>⟧.view self.new).holds party digest.now t result }
-        ensures failed { self.new.failed ≡ failed_after result self.old.failed }
-        ensures handed { self.new.handed ≡ self.old.handed }
-        ensures commits { self.new.commits ≡ self.old.commits }
-    {
-        if self.parties.numbered(party).is_none() {
-            return Ok(Err(Refusal::Record));
-        }
-        if self.parties.with_token(digest).is_some() {
-            return Ok(Err(Refusal::NotAdmitted(Reason::Taken)));
-        }
-        match self.parties.reserve_mark() {
-            Ok(()) => {
-                self.parties.give(party, digest);
-                Ok(Ok(()))
-            }
-            Err(_) => self.fail(),
-        }
     }
 }
 
@@ -401,4 +376,22 @@ impl Memory for PlainStore {
     ghost sure = { λ s. refl };
 
     ghost one = { λ s t u k l. k.desk ∙ sym l.desk };
+}
+
+impl Renewing for PlainStore {
+    fn renew(&mut self, party: PartyId, digest: &Digest) -> Got<Result<(), Refusal>> {
+        if self.parties.numbered(party).is_none() {
+            return Ok(Err(Refusal::Record));
+        }
+        if self.parties.with_token(digest).is_some() {
+            return Ok(Err(Refusal::NotAdmitted(Reason::Taken)));
+        }
+        match self.parties.reserve_mark() {
+            Ok(()) => {
+                self.parties.give(party, digest);
+                Ok(Ok(()))
+            }
+            Err(_) => self.fail(),
+        }
+    }
 }

@@ -20,3 +20,6 @@ returns-clause-found g c t clean there =
 
 pub returns-clause-read : goal.returns-clause-read
 returns-clause-read g c = c.rows_of.ensures.read (plain_second FIND_PARTY.now find_party_plain)
+
+pub returns-clause-outlasts : goal.returns-clause-outlasts
+returns-clause-outlasts g c = c.rows_of.ensures.outlasts (plain_second FIND_PARTY.now find_party_plain)

@@ -1,0 +1,4 @@
+pub mod TablesText
+pub mod Sealing
+pub mod Adding
+pub mod Numbered

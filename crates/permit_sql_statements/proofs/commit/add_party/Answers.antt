@@ -1,8 +1,0 @@
-use Rattle.permit_sql_statements.proofs.Committing.{party_committed}
-use Rattle.permit_sql_statements.proofs.Running.{changed_by}
-use Rattle.permit_sql_statements.proofs.commit.add_party.Goals as goal
-
-pub returns : goal.returns
-returns g c =
-    changed_by g.S.Store (rw (c.party_values-party.ensures, c.desk_values-office.ensures) at c.run_two.ensures)
-    (λ db t k day. party_committed g.S.Store c.args.conn.now db t k day c.args.desk.now c.args.name c.args.role c.args.digest)
