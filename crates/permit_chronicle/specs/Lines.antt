@@ -62,6 +62,7 @@ about_act (act.OnFile file command made) = counted (codes "file") file ++ (about
 
 -- what an entry is about; the founder is party 1
 abbrev pub about : Deed → List ℕ
+about (deed.Begin tables) = []
 about (deed.Found name digest) = counted (codes "party") 1
 about deed.Upgrade = []
 about (deed.RenewToken party digest) = counted (codes "party") party

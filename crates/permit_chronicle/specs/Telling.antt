@@ -28,6 +28,7 @@ role_of roles party = unwrap_or (slice_get roles party) None
 
 -- the roles with the one that an entry tells: the founder is an official
 abbrev pub roles_with : List (Option Role) → Deed → List (Option Role)
+roles_with roles (deed.Begin tables) = roles
 roles_with roles (deed.Found name digest) = slice_set roles 1 (Some Official)
 roles_with roles deed.Upgrade = roles
 roles_with roles (deed.RenewToken party digest) = roles

@@ -21,6 +21,7 @@ act_has_file n (act.OnFile file command made) = file == n
 
 -- whether the file of this number was made, or something was done to it
 abbrev pub has_file : ℕ → Deed → Bool
+has_file n (deed.Begin tables) = false
 has_file n (deed.Found name digest) = false
 has_file n deed.Upgrade = false
 has_file n (deed.RenewToken party digest) = false
@@ -38,6 +39,7 @@ act_has_parcel n (act.OnFile file command made) = false
 
 -- whether the parcel of this number was made, given away, declared or built on
 abbrev pub has_parcel : ℕ → Deed → Bool
+has_parcel n (deed.Begin tables) = false
 has_parcel n (deed.Found name digest) = false
 has_parcel n deed.Upgrade = false
 has_parcel n (deed.RenewToken party digest) = false
@@ -79,6 +81,7 @@ act_has_party n (act.OnFile file command made) = command_has_party n command
 
 -- whether the party of this number did it, or is named in it
 abbrev pub has_party : ℕ → Deed → Bool
+has_party n (deed.Begin tables) = false
 has_party n (deed.Found name digest) = 1 == n
 has_party n deed.Upgrade = false
 has_party n (deed.RenewToken party digest) = party == n

@@ -114,7 +114,7 @@ fn push_about(text: &mut String, deed: &Deed) -> Result<(), AllocError>
 {
     match deed {
         Deed::Found { .. } => push_counted(text, "party", 1),
-        Deed::Upgrade => Ok(()),
+        Deed::Begin { .. } | Deed::Upgrade => Ok(()),
         Deed::RenewToken { party, .. } => push_counted(text, "party", party.get()),
         Deed::Accepted { act, .. } => push_act(text, act),
     }

@@ -42,7 +42,7 @@ pub(crate) fn keep_role(roles: &mut [Option<Role>], deed: &Deed)
 {
     match deed {
         Deed::Found { .. } => set(roles, 1, Role::Official),
-        Deed::Upgrade | Deed::RenewToken { .. } => {}
+        Deed::Begin { .. } | Deed::Upgrade | Deed::RenewToken { .. } => {}
         Deed::Accepted { act, .. } => match act {
             Act::AddParty { role, number, .. } => set(roles, number.get(), *role),
             Act::AddParcel { .. }

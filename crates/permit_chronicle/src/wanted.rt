@@ -36,7 +36,7 @@ fn has_file(file: FileId, deed: &Deed) -> bool
     ensures { result ≡ has_file file deed.now }
 {
     match deed {
-        Deed::Found { .. } | Deed::Upgrade | Deed::RenewToken { .. } => false,
+        Deed::Begin { .. } | Deed::Found { .. } | Deed::Upgrade | Deed::RenewToken { .. } => false,
         Deed::Accepted { act, .. } => act_has_file(file, act),
     }
 }
@@ -58,7 +58,7 @@ fn has_parcel(parcel: ParcelId, deed: &Deed) -> bool
     ensures { result ≡ has_parcel parcel deed.now }
 {
     match deed {
-        Deed::Found { .. } | Deed::Upgrade | Deed::RenewToken { .. } => false,
+        Deed::Begin { .. } | Deed::Found { .. } | Deed::Upgrade | Deed::RenewToken { .. } => false,
         Deed::Accepted { act, .. } => act_has_parcel(parcel, act),
     }
 }
@@ -110,7 +110,7 @@ fn has_party(party: PartyId, deed: &Deed) -> bool
 {
     match deed {
         Deed::Found { .. } => 1 == party.get(),
-        Deed::Upgrade => false,
+        Deed::Begin { .. } | Deed::Upgrade => false,
         Deed::RenewToken { party: named, .. } => *named == party,
         Deed::Accepted { caller, act } => *caller == party || act_has_party(party, act),
     }

@@ -123,7 +123,7 @@ act_read (act.OnFile file command made) h caller day done =
 
 -- no command has the word of what is none
 commands_apart : (a : Action) → (bytes_eq (action_word a) (codes "found") ≡ false) × (bytes_eq (action_word a) (codes "upgrade") ≡ false)
-    × (bytes_eq (action_word a) (codes "renew-token") ≡ false)
+    × (bytes_eq (action_word a) (codes "renew-token") ≡ false) × (bytes_eq (action_word a) (codes "begin") ≡ false)
 commands_apart a = search rules
 
 deed_read : (d : Deed) → IsTrue (is_deed_within d) → (day done : Data)

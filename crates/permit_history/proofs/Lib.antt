@@ -10,3 +10,4 @@ pub mod OneText
 pub mod ToldHistories
 pub mod LineByLine
 pub mod Renewals
+pub mod Beginnings

@@ -19,20 +19,22 @@ use Rattle.permit_history.specs.Told.{deed_told, told_on, told, told_history}
 
 -- ---- a history has no renewal
 
-after-append : (before first later : List Entry) → meant_after before (first ++ later) ≡ meant_after (meant_after before first) later
-after-append before [] later = refl
-after-append before (entry ∷ first) later = after-append (meant_with before entry entry.deed) first later
+after-append : (start before first later : List Entry)
+    → meant_after start before (first ++ later) ≡ meant_after start (meant_after start before first) later
+after-append start before [] later = refl
+after-append start before (entry ∷ first) later = after-append start (meant_with start before entry entry.deed) first later
 
 -- one more entry that was told
-told_last : (es : List Entry) (day caller : ℕ) (made : Option ℕ) (done : model.Deed)
-    → meant (add_last es (option_map (told_on day) (deed_told caller made done))) ≡ add_last (meant es) (option_map (told_on day) (deed_told caller made done))
-told_last es day caller made done = grind (arith, after-append)
+told_last : (start es : List Entry) (day caller : ℕ) (made : Option ℕ) (done : model.Deed)
+    → meant start (add_last es (option_map (told_on day) (deed_told caller made done)))
+    ≡ add_last (meant start es) (option_map (told_on day) (deed_told caller made done))
+told_last start es day caller made done = grind (arith, after-append)
 
-pub meant_told : (h : History) → meant (told_history h) ≡ told_history h
-meant_told [] = refl
-meant_told (entry ∷ before) =
-    told_last (told_history before) entry.day entry.caller entry.number entry.deed
-    ∙ ap (λ es. add_last es (told entry)) (meant_told before)
+pub meant_told : (start : List Entry) (h : History) → meant start (told_history h) ≡ told_history h
+meant_told start [] = refl
+meant_told start (entry ∷ before) =
+    told_last start (told_history before) entry.day entry.caller entry.number entry.deed
+    ∙ ap (λ es. add_last es (told entry)) (meant_told start before)
 
 -- ---- the party's entry is changed
 
@@ -83,6 +85,6 @@ told_renewed party token (entry ∷ last ∷ before) is =
     ap₂ add_last (told_renewed party token (last ∷ before) is.1) (later_renewed party token (last ∷ before) entry entry.deed is.0)
     ∙ map-add_last _ (told_history (last ∷ before)) (told entry)
 
-pub meant_renewed : (party : ℕ) (token : List ℕ) (day : ℕ) (h : History) → IsHistory h
-    → meant (told_history h ++ told_on day (deed.RenewToken party (digest_of token)) ∷ []) ≡ told_history (renewal.renewed party token h)
-meant_renewed party token day h is = grind (arith, after-append, meant_told, told_renewed)
+pub meant_renewed : (start : List Entry) (party : ℕ) (token : List ℕ) (day : ℕ) (h : History) → IsHistory h
+    → meant start (told_history h ++ told_on day (deed.RenewToken party (digest_of token)) ∷ []) ≡ told_history (renewal.renewed party token h)
+meant_renewed start party token day h is = grind (arith, after-append, meant_told, told_renewed)

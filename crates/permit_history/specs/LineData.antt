@@ -55,6 +55,9 @@ founding_body name digest = member (codes "digest") (string digest) (only (codes
 abbrev pub renewal_body : ℕ → List ℕ → Members
 renewal_body party digest = member (codes "digest") (string digest) (only (codes "party") (count party))
 
+abbrev pub begin_body : List ℕ → Members
+begin_body digest = only (codes "tables") (string digest)
+
 -- the body of a command on a file
 abbrev pub command_body : Command → Members
 command_body (command.AssignReviewer party) = only (codes "party") (count party)
@@ -91,6 +94,7 @@ act_body (act.OnFile file command made) = command_body command
 
 -- what the request's body said, with a token's digest in place of the token
 abbrev pub deed_body : Deed → Members
+deed_body (deed.Begin tables) = begin_body tables
 deed_body (deed.Found name digest) = founding_body name digest
 deed_body deed.Upgrade = no_members
 deed_body (deed.RenewToken party digest) = renewal_body party digest
@@ -109,6 +113,7 @@ act_action (act.OnFile file command made) = command_action command
 
 -- the word of what was done: a command's as its answer has it
 abbrev pub done_word : Deed → List ℕ
+done_word (deed.Begin tables) = codes "begin"
 done_word (deed.Found name digest) = codes "found"
 done_word deed.Upgrade = codes "upgrade"
 done_word (deed.RenewToken party digest) = codes "renew-token"
@@ -116,6 +121,7 @@ done_word (deed.Accepted caller act) = action_word (act_action act)
 
 -- the caller's number, and 0 for what is no command
 abbrev pub caller_in : Deed → ℕ
+caller_in (deed.Begin tables) = 0
 caller_in (deed.Found name digest) = 0
 caller_in deed.Upgrade = 0
 caller_in (deed.RenewToken party digest) = 0
@@ -131,6 +137,7 @@ act_id (act.File parcel kind valuation description made) = None
 act_id (act.OnFile file command made) = Some file
 
 abbrev pub id_in : Deed → Option ℕ
+id_in (deed.Begin tables) = None
 id_in (deed.Found name digest) = None
 id_in deed.Upgrade = None
 id_in (deed.RenewToken party digest) = None
@@ -147,6 +154,7 @@ act_number (act.OnFile file command made) = made
 
 -- the founder is party 1
 abbrev pub number_in : Deed → Option ℕ
+number_in (deed.Begin tables) = None
 number_in (deed.Found name digest) = Some 1
 number_in deed.Upgrade = None
 number_in (deed.RenewToken party digest) = None

@@ -165,13 +165,18 @@ renewal_in body =
     (text_at is_digest (codes "digest") body >>= λ digest.
     Some (deed.RenewToken party digest))
 
+-- a beginning with an office that was there already
+abbrev pub beginning_in : Data → Option Deed
+beginning_in body = option_map deed.Begin (text_at is_digest (codes "tables") body)
+
 -- what was done, by its word
 abbrev pub deed_in : List ℕ → Data → Data → Option Deed
 deed_in word line body =
     if bytes_eq word (codes "found") then founding_in body else (
     if bytes_eq word (codes "upgrade") then Some deed.Upgrade else (
-    if bytes_eq word (codes "renew-token") then renewal_in body else
-    accepted_in word line body))
+    if bytes_eq word (codes "renew-token") then renewal_in body else (
+    if bytes_eq word (codes "begin") then beginning_in body else
+    accepted_in word line body)))
 
 -- the entry that a value says
 abbrev pub entry_in : Data → Option Entry

@@ -1,5 +1,7 @@
 -- The history that the entries of a text mean: a party that got another token is meant to have had it from the start.
-use Rattle.std.specs.Prelude.{◌≡◌, ℕ, ◌==◌, if◌then◌else◌, List, [], ◌∷◌, ◌++◌, map}
+-- A text that begins with an office that was there already doesn't say what was before, so its meaning is over that start: the
+-- entries, oldest first, of the history until then. A text without such a line means the same whatever the start is.
+use Rattle.std.specs.Prelude.{◌≡◌, ℕ, ◌==◌, if◌then◌else◌, Bool, true, false, List, [], ◌∷◌, ◌++◌, map}
 use Rattle.permit_model.specs.History.{History}
 use Rattle.permit_history.specs.declared.entry.Act.{Act}
 use Rattle.permit_history.specs.declared.entry.Act.TheVariants as act
@@ -20,6 +22,7 @@ renewed_act party digest (act.OnFile file command made) = act.OnFile file comman
 
 -- what was done, where the party that it made has the digest: the founder is party 1
 abbrev pub renewed_deed : ℕ → List ℕ → Deed → Deed
+renewed_deed party digest (deed.Begin tables) = deed.Begin tables
 renewed_deed party digest (deed.Found name before) = deed.Found name (if 1 == party then digest else before)
 renewed_deed party digest deed.Upgrade = deed.Upgrade
 renewed_deed party digest (deed.RenewToken other given) = deed.RenewToken other given
@@ -29,21 +32,31 @@ renewed_deed party digest (deed.Accepted caller act) = deed.Accepted caller (ren
 abbrev pub renewed_entry : ℕ → List ℕ → Entry → Entry
 renewed_entry party digest entry = record entry { deed = renewed_deed party digest entry.deed }
 
--- what the entries mean with one more: another token changes the entry that made its party, and adds none
-abbrev pub meant_with : List Entry → Entry → Deed → List Entry
-meant_with before entry (deed.RenewToken party digest) = map (renewed_entry party digest) before
-meant_with before entry (deed.Found name digest) = before ++ entry ∷ []
-meant_with before entry deed.Upgrade = before ++ entry ∷ []
-meant_with before entry (deed.Accepted caller act) = before ++ entry ∷ []
+-- what the entries mean with one more: behind a beginning the start is what was, and another token changes the entry that made
+-- its party, and adds none
+abbrev pub meant_with : (start before : List Entry) → Entry → Deed → List Entry
+meant_with start before entry (deed.Begin tables) = start
+meant_with start before entry (deed.RenewToken party digest) = map (renewed_entry party digest) before
+meant_with start before entry (deed.Found name digest) = before ++ entry ∷ []
+meant_with start before entry deed.Upgrade = before ++ entry ∷ []
+meant_with start before entry (deed.Accepted caller act) = before ++ entry ∷ []
 
-abbrev pub meant_after : List Entry → List Entry → List Entry
-meant_after before [] = before
-meant_after before (entry ∷ later) = meant_after (meant_with before entry entry.deed) later
+abbrev pub meant_after : (start before : List Entry) → List Entry → List Entry
+meant_after start before [] = before
+meant_after start before (entry ∷ later) = meant_after start (meant_with start before entry entry.deed) later
 
--- the entries without renewals that these mean
-abbrev pub meant : List Entry → List Entry
-meant entries = meant_after [] entries
+-- the entries without beginnings and renewals that these mean, over the start
+abbrev pub meant : List Entry → List Entry → List Entry
+meant start entries = meant_after start [] entries
 
--- the text tells the history
+-- it is not the line that a text begins with where its office was there already
+abbrev pub begins_none : Deed → Bool
+begins_none (deed.Begin tables) = false
+begins_none (deed.Found name digest) = true
+begins_none deed.Upgrade = true
+begins_none (deed.RenewToken party digest) = true
+begins_none (deed.Accepted caller act) = true
+
+-- the text tells the history, over some start
 abbrev pub Tells : List ℕ → History → Type 0
-Tells text h = (entries : List Entry) × (text ≡ text_of entries) × (meant entries ≡ told_history h)
+Tells text h = (start : List Entry) × (entries : List Entry) × (text ≡ text_of entries) × (meant start entries ≡ told_history h)

@@ -58,6 +58,7 @@ is_act_within (act.OnFile file command number) = is_object_number file && (is_co
 
 -- what was done is within its limits
 abbrev pub is_deed_within : Deed → Bool
+is_deed_within (deed.Begin tables) = is_digest tables
 is_deed_within (deed.Found name digest) = is_text name && is_digest digest
 is_deed_within deed.Upgrade = true
 is_deed_within (deed.RenewToken party digest) = is_object_number party && is_digest digest

@@ -17,6 +17,8 @@ pub struct Entry {
 /// What an entry records. All but the last are no command, and nobody's.
 #[derive(Drop)]
 pub enum Deed {
+    /// A text begins here, with an office that was there already: its tables have a text of this digest.
+    Begin { tables: Digest },
     /// The office was founded, by its first party, an official.
     Found { name: Text, digest: Digest },
     /// The second edition of the inspections was adopted.
@@ -94,6 +96,7 @@ impl Deed {
         ensures { result.now ≡ done_word self.now }
     {
         match self {
+            Deed::Begin { .. } => "begin",
             Deed::Found { .. } => "found",
             Deed::Upgrade => "upgrade",
             Deed::RenewToken { .. } => "renew-token",
@@ -106,7 +109,7 @@ impl Deed {
         ensures { result ≡ caller_in self.now }
     {
         match self {
-            Deed::Found { .. } | Deed::Upgrade | Deed::RenewToken { .. } => 0,
+            Deed::Begin { .. } | Deed::Found { .. } | Deed::Upgrade | Deed::RenewToken { .. } => 0,
             Deed::Accepted { caller, .. } => caller.get(),
         }
     }
@@ -121,7 +124,9 @@ impl Deed {
                 Act::OnFile { file, .. } => Some(file.get()),
                 Act::AddParty { .. } | Act::AddParcel { .. } | Act::File { .. } => None,
             },
-            Deed::Found { .. } | Deed::Upgrade | Deed::RenewToken { .. } => None,
+            Deed::Begin { .. } | Deed::Found { .. } | Deed::Upgrade | Deed::RenewToken { .. } => {
+                None
+            }
         }
     }
 
@@ -131,7 +136,7 @@ impl Deed {
     {
         match self {
             Deed::Found { .. } => Some(1),
-            Deed::Upgrade | Deed::RenewToken { .. } => None,
+            Deed::Begin { .. } | Deed::Upgrade | Deed::RenewToken { .. } => None,
             Deed::Accepted { act, .. } => match act {
                 Act::AddParty { number, .. } => Some(number.get()),
                 Act::AddParcel { number, .. } => Some(number.get()),

@@ -9,8 +9,8 @@ ghost use Rattle.permit_model.specs.Renewal.{renewed};
 ghost use Rattle.permit_model.specs.Machine.{IsHistory};
 ghost use Rattle.permit_history.specs.LineData.{line_of, text_of};
 ghost use Rattle.permit_history.specs.LineRead.{longest_line, reading_of};
-ghost use Rattle.permit_history.specs.Meaning.{Tells};
-ghost use Rattle.permit_history.specs.declared.entry.Deed.TheVariants.{RenewToken};
+ghost use Rattle.permit_history.specs.Meaning.{Tells, begins_none, meant};
+ghost use Rattle.permit_history.specs.declared.entry.Deed.TheVariants.{Begin, RenewToken};
 ghost use Rattle.permit_history.specs.Text.{next_line, GivesInTurn};
 ghost use Rattle.permit_history.specs.Told.{told_on, told_history};
 ghost use Rattle.permit_history.specs.Within.{is_within};
@@ -45,6 +45,15 @@ pub fn a_text_is_read_entry_by_entry()
 /// Each entry of a history is told in its text: one line for each.
 pub fn each_entry_is_told()
     ensures { (h : History) → IsHistory h → length (told_history h) ≡ length h }
+{}
+
+/// The text of a history has no beginning with an office that was there already. Entries without one mean the same over any
+/// start, and such a beginning alone means its start.
+pub fn a_start_is_what_was_before_a_beginning()
+    ensures founded { (h : History) → IsTrue (list_all (λ entry. begins_none entry.deed) (told_history h)) }
+    ensures same { (start other entries : List Entry) → IsTrue (list_all (λ entry. begins_none entry.deed) entries)
+        → meant start entries ≡ meant other entries }
+    ensures begun { (start : List Entry) (day : ℕ) (digest : List ℕ) → meant start (told_on day (Begin digest) ∷ []) ≡ start }
 {}
 
 /// The text of a history tells it. A line with another token of a party behind it makes that the text of the history in which

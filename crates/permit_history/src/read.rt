@@ -7,7 +7,7 @@ ghost use Rattle.serde_json.specs.Read.{read};
 ghost use Rattle.permit_base.specs.Limits.{only_if};
 ghost use Rattle.permit_history.specs.Fields.{said};
 ghost use Rattle.permit_history.specs.LineData.{line_of};
-ghost use Rattle.permit_history.specs.LineRead.{term_in, stop_in, bare_command, text_command_in, command_in, party_in, parcel_in, transfer_in, filing_in, on_file_in, act_in, accepted_in, founding_in, renewal_in, deed_in, entry_in, reading_of};
+ghost use Rattle.permit_history.specs.LineRead.{term_in, stop_in, bare_command, text_command_in, command_in, party_in, parcel_in, transfer_in, filing_in, on_file_in, act_in, accepted_in, founding_in, renewal_in, beginning_in, deed_in, entry_in, reading_of};
 ghost use Rattle.permit_history.specs.Within.{is_within};
 ghost use Rattle.permit_history.specs.Outcome.{ReadsAs, same, SaysAs, IsUnlessMemory};
 
@@ -262,6 +262,14 @@ fn renewal(body: &Value) -> Result<Deed, LineFault>
     Ok(Deed::RenewToken { party, digest })
 }
 
+/// A beginning with an office that was there already.
+fn beginning(body: &Value) -> Result<Deed, LineFault>
+    ensures { ReadsAs same result (beginning_in (view body.now)) }
+{
+    let tables = digest_at(body, "tables")?;
+    Ok(Deed::Begin { tables })
+}
+
 /// What was done, by its word.
 fn deed(alloc: Global, word: &str, line: &Value, body: &Value) -> Result<Deed, LineFault>
     ensures { ReadsAs same result (deed_in word.now (view line.now) (view body.now)) }
@@ -272,6 +280,8 @@ fn deed(alloc: Global, word: &str, line: &Value, body: &Value) -> Result<Deed, L
         Ok(Deed::Upgrade)
     } else if word == "renew-token" {
         renewal(body)
+    } else if word == "begin" {
+        beginning(body)
     } else {
         accepted(alloc, word, line, body)
     }

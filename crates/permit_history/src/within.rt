@@ -151,6 +151,7 @@ fn deed_within(deed: &Deed)
     ensures { IsTrue (is_deed_within deed.now) }
 {
     match deed {
+        Deed::Begin { tables } => digest_within(tables),
         Deed::Found { name, digest } => {
             text_within(name);
             digest_within(digest);

@@ -201,6 +201,7 @@ fn send_body<S: Serializer>(out: &mut S, deed: &Deed) -> Result<(), S::Error>
     ensures { OnOk result (SendsValue (object (deed_body deed.now)) (S.written out.old) (S.written out.new)) }
 {
     match deed {
+        Deed::Begin { tables } => send_text(out, "tables", tables.as_str()),
         Deed::Found { name, digest } => send_founding(out, name, digest),
         Deed::Upgrade => send_nothing(out),
         Deed::RenewToken { party, digest } => send_renewal(out, *party, digest),

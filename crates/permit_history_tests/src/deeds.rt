@@ -8,10 +8,11 @@ use std::alloc::Global;
 use std::test::Fail;
 
 /// The lines of `deeds`, in its order.
-pub const LINES: [&str; 9] = [
+pub const LINES: [&str; 10] = [
     r#"{"body":{"digest":"71c480df93d6ae2f1efad1447c66c9525e316218cf51fc8d9ed832f2daf18b73","name":"Chief"},"caller":0,"day":19700,"done":"found","id":null,"number":1}"#,
     r#"{"body":{},"caller":0,"day":19700,"done":"upgrade","id":null,"number":null}"#,
     r#"{"body":{"digest":"71c480df93d6ae2f1efad1447c66c9525e316218cf51fc8d9ed832f2daf18b73","party":5},"caller":0,"day":19800,"done":"renew-token","id":null,"number":null}"#,
+    r#"{"body":{"tables":"71c480df93d6ae2f1efad1447c66c9525e316218cf51fc8d9ed832f2daf18b73"},"caller":0,"day":19800,"done":"begin","id":null,"number":null}"#,
     r#"{"body":{"digest":"71c480df93d6ae2f1efad1447c66c9525e316218cf51fc8d9ed832f2daf18b73","name":"Sam","role":"public"},"caller":2,"day":19701,"done":"add-party","id":null,"number":5}"#,
     r#"{"body":{"digest":"71c480df93d6ae2f1efad1447c66c9525e316218cf51fc8d9ed832f2daf18b73","name":"Renée \"R\" \\","role":"inspector"},"caller":1,"day":19701,"done":"add-staff","id":null,"number":99999}"#,
     r#"{"body":{"address":"1 Main St","lot":"A-1","owner":5},"caller":2,"day":19701,"done":"add-parcel","id":null,"number":1}"#,
@@ -26,11 +27,12 @@ pub fn deed(alloc: Global, place: usize) -> Result<Entry, Fail> {
         0 => found(alloc),
         1 => entry(19700, Deed::Upgrade),
         2 => renewal(),
-        3 => new_party(alloc, "Sam", Role::Public),
-        4 => new_party(alloc, "Renée \"R\" \\", Role::Inspector),
-        5 => new_parcel(alloc),
-        6 => transfer(),
-        7 => accepted(
+        3 => beginning(),
+        4 => new_party(alloc, "Sam", Role::Public),
+        5 => new_party(alloc, "Renée \"R\" \\", Role::Inspector),
+        6 => new_parcel(alloc),
+        7 => transfer(),
+        8 => accepted(
             4,
             19703,
             Act::Declare {
@@ -53,6 +55,12 @@ fn renewal() -> Result<Entry, Fail> {
     let party = party(5)?;
     let digest = digest()?;
     entry(19800, Deed::RenewToken { party, digest })
+}
+
+/// A beginning with an office whose tables have a text of this digest.
+fn beginning() -> Result<Entry, Fail> {
+    let tables = digest()?;
+    entry(19800, Deed::Begin { tables })
 }
 
 /// A new party: number 5 of the role public, added by party 2, and else the last one, added by party 1.

@@ -18,7 +18,7 @@ const SYNTAX: [&[u8]; 9] = [
 ];
 
 /// Lines in which a member that the entry needs is missing or out of its limits.
-const FIELDS: [&str; 22] = [
+const FIELDS: [&str; 27] = [
     "{}",
     "[]",
     "null",
@@ -41,10 +41,15 @@ const FIELDS: [&str; 22] = [
     r#"{"body":{"name":"Sam","role":"public","token":"public5public5public5"},"caller":2,"day":19701,"done":"add-party","id":null,"number":5}"#,
     r#"{"body":{"digest":"public5public5public5","name":"Sam","role":"public"},"caller":2,"day":19701,"done":"add-party","id":null,"number":5}"#,
     r#"{"body":{"text":""},"caller":2,"day":19701,"done":"return","id":1,"number":5}"#,
+    r#"{"body":{"tables":"71c480df93d6ae2f1efad1447c66c9525e316218cf51fc8d9ed832f2daf18b7"},"caller":0,"day":19800,"done":"begin","id":null,"number":null}"#,
+    r#"{"body":{"tables":"71C480DF93D6AE2F1EFAD1447C66C9525E316218CF51FC8D9ED832F2DAF18B73"},"caller":0,"day":19800,"done":"begin","id":null,"number":null}"#,
+    r#"{"body":{"digest":"71c480df93d6ae2f1efad1447c66c9525e316218cf51fc8d9ed832f2daf18b73"},"caller":0,"day":19800,"done":"begin","id":null,"number":null}"#,
+    r#"{"body":{"tables":"71c480df93d6ae2f1efad1447c66c9525e316218cf51fc8d9ed832f2daf18b730"},"caller":0,"day":19800,"done":"begin","id":null,"number":null}"#,
+    r#"{"body":{"tables":"71c480df93d6ae2f1efad1447c66c9525e316218cf51fc8d9ed832f2daf18b73"},"caller":0,"done":"begin","id":null,"number":null}"#,
 ];
 
 /// Lines that say an entry, but not as its line does.
-const FORM: [&str; 13] = [
+const FORM: [&str; 17] = [
     r#" {"body":{},"caller":0,"day":19700,"done":"upgrade","id":null,"number":null}"#,
     "{\"body\":{},\"caller\":0,\"day\":19700,\"done\":\"upgrade\",\"id\":null,\"number\":null}\r",
     r#"{"body": {},"caller":0,"day":19700,"done":"upgrade","id":null,"number":null}"#,
@@ -58,6 +63,10 @@ const FORM: [&str; 13] = [
     r#"{"body":{"text":"x","days":3},"caller":1,"day":19700,"done":"temporary","id":1,"number":1}"#,
     r#"{"body":{"digest":"71c480df93d6ae2f1efad1447c66c9525e316218cf51fc8d9ed832f2daf18b73","name":"Sam","role":"clerk"},"caller":2,"day":19701,"done":"add-party","id":null,"number":5}"#,
     r#"{"body":{"digest":"71c480df93d6ae2f1efad1447c66c9525e316218cf51fc8d9ed832f2daf18b73","name":"Sam"},"caller":0,"day":19701,"done":"found","id":null,"number":2}"#,
+    r#"{"body":{"tables":"71c480df93d6ae2f1efad1447c66c9525e316218cf51fc8d9ed832f2daf18b73"},"caller":1,"day":19800,"done":"begin","id":null,"number":null}"#,
+    r#"{"body":{"tables":"71c480df93d6ae2f1efad1447c66c9525e316218cf51fc8d9ed832f2daf18b73"},"caller":0,"day":19800,"done":"begin","id":null,"number":1}"#,
+    r#"{"body":{"tables":"71c480df93d6ae2f1efad1447c66c9525e316218cf51fc8d9ed832f2daf18b73"},"caller":0,"day":19800,"done":"begin","id":1,"number":null}"#,
+    r#"{"body":{"digest":"71c480df93d6ae2f1efad1447c66c9525e316218cf51fc8d9ed832f2daf18b73","tables":"71c480df93d6ae2f1efad1447c66c9525e316218cf51fc8d9ed832f2daf18b73"},"caller":0,"day":19800,"done":"begin","id":null,"number":null}"#,
 ];
 
 /// Whether the line is refused for this fault.

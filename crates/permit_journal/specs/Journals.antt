@@ -6,7 +6,7 @@ pub record JournalView (H : Type 0) : Type 0 where
   pub file : H
   -- the bytes of the text
   pub length : ℕ
-  -- whether what stands in the file isn't known any longer
+  -- whether no line is entered any longer: what stands in the file isn't known, or not whether it is the text
   pub is_shut : Bool
 
 -- The length is that of the text, all of which is on the disk. The file has told nothing false.

@@ -35,7 +35,8 @@ fn cut_back<H: HistoryFile>(file: &mut H, to: u64) -> Result<(), FileError>
 /// The file of a history to which lines are added. Contracts see the file, the length of its text, and whether it is shut.
 ///
 /// A line is entered whole and is on the disk, or nothing of it is left. Where what was written of it can't be cut off, the
-/// journal is shut, and stays so: what stands in the file then isn't known.
+/// journal is shut, and stays so: what stands in the file then isn't known. Who doesn't know whether a line belongs to the text
+/// shuts it too.
 ///
 /// The clauses are said of a journal that is settled: its file has told nothing false. No code can tell whether one has.
 #[derive(Drop)]
@@ -77,7 +78,7 @@ impl<H: HistoryFile + Drop> Journal<H> {
         self.length
     }
 
-    /// Whether what stands in the file isn't known any longer.
+    /// Whether no line is entered any longer: what stands in the file isn't known, or not whether it is the text.
     pub fn is_shut(&self) -> bool
         ensures { result ≡ self.now.is_shut }
     {
@@ -133,6 +134,17 @@ impl<H: HistoryFile + Drop> Journal<H> {
         if !self.is_shut {
             self.cut_off(to);
         }
+    }
+
+    /// Shuts the journal over the text as it is. Nothing is written.
+    pub fn shut(&mut self)
+        ensures shut { self.new.is_shut ≡ true }
+        ensures length { self.new.length ≡ self.old.length }
+
+        // What a crash leaves is what it would have left before.
+        ensures file { self.new.file ≡ self.old.file }
+    {
+        self.is_shut = true;
     }
 
     /// The file.

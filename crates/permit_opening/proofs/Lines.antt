@@ -17,7 +17,7 @@ use Rattle.permit_replay.specs.declared.fault.Why.{Why}
 use Rattle.permit_replay.specs.declared.fault.ReplayFault.TheVariants as replay_fault
 use Rattle.permit_replay.specs.declared.replayed.Replayed.{Replayed}
 use Rattle.permit_replay.specs.Against.{against}
-use Rattle.permit_replay.specs.Histories.{HasToken, history_with, history_from, history_by}
+use Rattle.permit_replay.specs.Histories.{Unsaid, HasToken, history_with, history_from, history_by}
 use Rattle.permit_replay.specs.Holding.{Holds, Takes}
 use Rattle.permit_replay.specs.Texts.{StopsAt}
 use Rattle.permit_replay.proofs.Reading.{entry_said, given_more, one_more, replayed_more, stopped_there, tokens_parted}
@@ -38,35 +38,36 @@ within_more [] entry within here = and_from _ _ here refl
 within_more (first ∷ later) entry within here =
     let parts = and_parts (is_within first) _ within in and_from _ _ parts.0 (within_more later entry parts.1 here)
 
-next_more : (token_of : List ℕ → List ℕ) (h : History) (entries : List Entry) (entry : Entry) → AreNext token_of h entries
-    → against token_of (history_from token_of h entries) entry.day entry.deed ≡ None → AreNext token_of h (entries ++ entry ∷ [])
-next_more token_of h [] entry next none = (none, tt)
-next_more token_of h (first ∷ later) entry next none =
-    (next.0, next_more token_of (history_with token_of h first.day first.deed) later entry next.1 none)
+next_more : (unsaid : Unsaid) (h : History) (entries : List Entry) (entry : Entry) → AreNext unsaid h entries
+    → against unsaid (history_from unsaid h entries) entry.day entry.deed ≡ None → AreNext unsaid h (entries ++ entry ∷ [])
+next_more unsaid h [] entry next none = (none, tt)
+next_more unsaid h (first ∷ later) entry next none =
+    (next.0, next_more unsaid (history_with unsaid h first.day first.deed) later entry next.1 none)
 
 -- what the replay of one more entry says
 abbrev TakesEntry : (PlainStore → StoreView) → Replayed → Entry → Result Replayed Why → Type 0
 TakesEntry view before entry result =
-    (token_of : List ℕ → List ℕ) (h : History) → Holds view before h → HasToken token_of entry.deed → Takes view token_of h entry.day entry.deed result
+    (unsaid : Unsaid) (h : History) → Holds view unsaid before h → HasToken unsaid entry.deed → Takes view unsaid h entry.day entry.deed result
 
-pub told_more : (view : PlainStore → StoreView) (bytes : List ℕ) (entries : List Entry) (left : List ℕ) (entry : Entry) (told more : Told)
-    → HasTold view bytes entries left told → AnswersLine (Ok entry) (next_line left) → IsTrue (is_within entry)
+pub told_more : (view : PlainStore → StoreView) (begins : Unsaid → Type 0) (bytes : List ℕ) (entries : List Entry) (left : List ℕ) (entry : Entry) (told more : Told)
+    → HasTold view begins bytes entries left told → AnswersLine (Ok entry) (next_line left) → IsTrue (is_within entry)
     → TakesEntry view told.replayed entry (Ok more.replayed) → more.lines ≡ told.lines + 1 → more.length ≡ told.length + (length (line_of entry) + 1)
-    → HasTold view bytes (entries ++ entry ∷ []) (drop_through 10 left) more
-told_more view bytes entries left entry told more has answer within takes lines size = record {
-  as_far = replayed_more view bytes entries left entry told.replayed more.replayed has.as_far answer takes;
-  next = λ token_of have.
-      let parts = tokens_parted token_of entries entry have in
-      next_more token_of [] entries entry (has.next token_of parts.0) (takes token_of (history_by token_of entries) (has.as_far.held token_of parts.0) parts.1).0;
+    → HasTold view begins bytes (entries ++ entry ∷ []) (drop_through 10 left) more
+told_more view begins bytes entries left entry told more has answer within takes lines size = record {
+  as_far = replayed_more view begins bytes entries left entry told.replayed more.replayed has.as_far answer takes;
+  next = λ unsaid have.
+      let parts = tokens_parted begins unsaid entries entry have in
+      next_more unsaid [] entries entry (has.next unsaid parts.0) (takes unsaid (history_by unsaid entries) (has.as_far.held unsaid parts.0) parts.1).0;
   within = within_more entries entry has.within within;
   lines = lines ∙ ap (λ n. n + 1) has.lines ∙ sym (one_more entries entry);
+  none = λ zero. absurd (omega (arith, lines, zero));
   size = omega (arith, size, has.size, text_more entries entry);
 }
 
-pub stopped_at : (view : PlainStore → StoreView) (bytes : List ℕ) (entries : List Entry) (left : List ℕ) (entry : Entry) (told : Told) (line : ℕ) (why : Why)
-    → HasTold view bytes entries left told → AnswersLine (Ok entry) (next_line left) → line ≡ told.lines + 1
-    → TakesEntry view told.replayed entry (Err why) → StopsAt view bytes (replay_fault.Entry line why)
-stopped_at view bytes entries left entry told line why has answer counted takes = (
+pub stopped_at : (view : PlainStore → StoreView) (begins : Unsaid → Type 0) (bytes : List ℕ) (entries : List Entry) (left : List ℕ) (entry : Entry) (told : Told) (line : ℕ) (why : Why)
+    → HasTold view begins bytes entries left told → AnswersLine (Ok entry) (next_line left) → line ≡ told.lines + 1
+    → TakesEntry view told.replayed entry (Err why) → StopsAt view begins bytes (replay_fault.Entry line why)
+stopped_at view begins bytes entries left entry told line why has answer counted takes = (
   entries,
   left,
   told.replayed,
@@ -74,13 +75,13 @@ stopped_at view bytes entries left entry told line why has answer counted takes 
   counted ∙ ap (λ n. n + 1) has.lines,
   entry,
   entry_said entry (next_line left) answer,
-  stopped_there view bytes entries left entry told.replayed why has.as_far takes,
+  stopped_there view begins bytes entries left entry told.replayed why has.as_far takes,
 )
 
-pub too_long : (view : PlainStore → StoreView) (bytes : List ℕ) (entries : List Entry) (left : List ℕ) (entry : Entry) (told : Told) (size : ℕ)
-    → HasTold view bytes entries left told → AnswersLine (Ok entry) (next_line left) → size ≡ length (line_of entry) + 1
+pub too_long : (view : PlainStore → StoreView) (begins : Unsaid → Type 0) (bytes : List ℕ) (entries : List Entry) (left : List ℕ) (entry : Entry) (told : Told) (size : ℕ)
+    → HasTold view begins bytes entries left told → AnswersLine (Ok entry) (next_line left) → size ≡ length (line_of entry) + 1
     → 2 ^ 64 ≤ told.length + size → 2 ^ 64 ≤ length bytes
-too_long view bytes entries left entry told size has answer of_line over =
+too_long view begins bytes entries left entry told size has answer of_line over =
     let rest = drop_through 10 left in
     let cut : bytes ≡ text_of (entries ++ entry ∷ []) ++ rest =
     gives_only bytes (entries ++ entry ∷ []) rest (given_more bytes entries left entry has.as_far.given answer) in

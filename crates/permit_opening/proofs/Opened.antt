@@ -1,6 +1,6 @@
 -- What a text says of tables that were compared with those of its lines.
-use Rattle.std.proofs.Common.{◌≡◌, ◌≤◌, ◌<◌, ◌⊎◌, inl, inr, refl, sym, ap, ◌∙◌, subst, ℕ, ◌-◌, Bool, true, false, List, [], ◌∷◌, ◌++◌, length, take, None, arith, append-nil, append_assoc}
-use Rattle.std.specs.Prelude.{IsTrue}
+use Rattle.std.proofs.Common.{◌≡◌, ◌≤◌, ◌<◌, ◌⊎◌, inl, inr, refl, sym, ap, ◌∙◌, subst, ℕ, zero, suc, ◌-◌, Bool, true, false, List, [], ◌∷◌, ◌++◌, length, take, Option, None, Some, arith, append-nil, append_assoc}
+use Rattle.std.specs.Prelude.{IfNone, IfSome, IsTrue, is_none}
 use Rattle.std.specs.List.{list_all}
 use Rattle.std.specs.Bool.{Decides}
 use Rattle.std.proofs.lemmas.Bool.{false≢true}
@@ -10,6 +10,8 @@ use Rattle.permit_model.specs.Machine.{IsHistory}
 use Rattle.permit_model.specs.Sound.{IsSoundTables}
 use Rattle.permit_model.specs.Tables.{Tables, tables}
 use Rattle.permit_alike.specs.Alike.{AreAlike}
+use Rattle.permit_alike.specs.Differing.{IsFirstDifference}
+use Rattle.permit_alike.specs.declared.differing.Difference.{Difference}
 use Rattle.permit_store.specs.declared.plain.PlainStore.{PlainStore}
 use Rattle.permit_store.specs.Frames.{StoreView}
 use Rattle.permit_history.specs.declared.entry.Entry.{Entry}
@@ -22,43 +24,43 @@ use Rattle.permit_history.proofs.LineByLine.{gives_all, gives_only}
 use Rattle.permit_replay.specs.declared.fault.ReplayFault.TheVariants as replay_fault
 use Rattle.permit_replay.specs.declared.replayed.Replayed.{Replayed}
 use Rattle.permit_replay.specs.declared.replayed.Replayed.TheVariants as replayed
-use Rattle.permit_replay.specs.Histories.{HaveTokens, history_by}
+use Rattle.permit_replay.specs.Histories.{Unsaid, Completes, history_before, history_by}
 use Rattle.permit_replay.specs.Holding.{Holds}
 use Rattle.permit_replay.specs.Texts.{IsShort, StopsAt}
 use Rattle.permit_opening.specs.declared.compare.Compared.TheVariants as compared
 use Rattle.permit_opening.specs.declared.told.Told.{Told}
-use Rattle.permit_opening.specs.Opening.{HasOneMore, IsAlike, Says, TellOthers, TellTables}
+use Rattle.permit_opening.specs.Opening.{DiffersFirst, HasOneMore, IsAlike, Says, TellOthers, TellTables}
 use Rattle.permit_opening.specs.Telling.{HasTold, IsToldUpTo, IsToldWhole}
 use Rattle.permit_opening.specs.Texts.{AreNext, IsTextOf}
 use Rattle.permit_opening.proofs.Lines.{but_the_last, no_fewer}
-use Rattle.permit_opening.proofs.SoundTables.{sound}
+use Rattle.permit_opening.proofs.SoundTables.{BeginsFine, sound}
 
 -- ---- the text
 
-open_history : (view : PlainStore → StoreView) (as_far : Replayed) (h : History) → (IsShort as_far → ⊥) → Holds view as_far h → IsHistory h
-open_history view replayed.Nothing h opened holds = absurd (opened tt)
-open_history view (replayed.Founded founder) h opened holds = absurd (opened tt)
-open_history view (replayed.Open store) h opened holds = holds.history
+open_history : (view : PlainStore → StoreView) (unsaid : Unsaid) (as_far : Replayed) (h : History) → (IsShort as_far → ⊥) → Holds view unsaid as_far h → IsHistory h
+open_history view unsaid (replayed.Nothing first) h opened holds = absurd (opened tt)
+open_history view unsaid (replayed.Founded founder) h opened holds = absurd (opened tt)
+open_history view unsaid (replayed.Open store) h opened holds = holds.history
 
-text_known : (view : PlainStore → StoreView) (bytes : List ℕ) (entries : List Entry) (left : List ℕ) (told : Told) → HasTold view bytes entries left told
-    → next_line left ≡ None → (IsShort told.replayed → ⊥) → IsTextOf bytes entries left
-text_known view bytes entries left told has end opened = record {
+text_known : (view : PlainStore → StoreView) (begins : Unsaid → Type 0) (bytes : List ℕ) (entries : List Entry) (left : List ℕ) (told : Told) → HasTold view begins bytes entries left told
+    → next_line left ≡ None → (IsShort told.replayed → ⊥) → IsTextOf begins bytes entries left
+text_known view begins bytes entries left told has end opened = record {
   text = gives_only bytes entries left has.as_far.given;
   given = has.as_far.given;
   end = end;
   within = has.within;
   next = has.next;
-  history = λ token_of have. open_history view told.replayed (history_by token_of entries) opened (has.as_far.held token_of have);
+  history = λ unsaid have. open_history view unsaid told.replayed (history_by unsaid entries) opened (has.as_far.held unsaid have);
   told = has.as_far.told;
 }
 
 -- entries within their limits have a text by themselves
-alone : (entries : List Entry) → IsTrue (list_all is_within entries)
-    → ((token_of : List ℕ → List ℕ) → HaveTokens token_of entries → AreNext token_of [] entries)
-    → ((token_of : List ℕ → List ℕ) → HaveTokens token_of entries → IsHistory (history_by token_of entries))
-    → ((token_of : List ℕ → List ℕ) → HaveTokens token_of entries → told_history (history_by token_of entries) ≡ meant entries)
-    → IsTextOf (text_of entries) entries []
-alone entries within next history told = record {
+alone : (begins : Unsaid → Type 0) (entries : List Entry) → IsTrue (list_all is_within entries)
+    → ((unsaid : Unsaid) → Completes begins unsaid entries → AreNext unsaid [] entries)
+    → ((unsaid : Unsaid) → Completes begins unsaid entries → IsHistory (history_by unsaid entries))
+    → ((unsaid : Unsaid) → Completes begins unsaid entries → told_history (history_by unsaid entries) ≡ meant (told_history (history_before unsaid)) entries)
+    → IsTextOf begins (text_of entries) entries []
+alone begins entries within next history told = record {
   text = sym (append-nil (text_of entries));
   given = subst (λ bytes. GivesInTurn bytes entries []) (append-nil (text_of entries)) (gives_all entries [] within);
   end = refl;
@@ -73,117 +75,117 @@ alone entries within next history told = record {
 -- the answer to whether the store has the tables that were replayed
 abbrev Answers : (PlainStore → StoreView) → Replayed → Tables → Bool → Type 0
 Answers view as_far t same =
-    ((h : History) → Holds view as_far h → (IsHistory h → IsSoundTables (tables h)) → Decides same (AreAlike (tables h) t))
-    × ((h : History) → Holds view as_far h → same ≡ true → IsHistory h)
+    ((unsaid : Unsaid) (h : History) → Holds view unsaid as_far h → (IsHistory h → IsSoundTables (tables h)) → Decides same (AreAlike (tables h) t))
+    × (same ≡ true → IsShort as_far → ⊥)
 
-those : (view : PlainStore → StoreView) (bytes : List ℕ) (entries : List Entry) (left : List ℕ) (told : Told) (t : Tables) (same : Bool)
-    → HasTold view bytes entries left told → Answers view told.replayed t same → same ≡ true → TellTables entries t
-those view bytes entries left told t same has answers is = λ token_of have.
-    let h = history_by token_of entries in
-    let held = has.as_far.held token_of have in
-    (answers.1 h held is, (answers.0 h held (sound token_of entries has.within)).0 is)
+those : (view : PlainStore → StoreView) (begins : Unsaid → Type 0) (fine : BeginsFine begins) (bytes : List ℕ) (entries : List Entry) (left : List ℕ) (told : Told) (t : Tables) (same : Bool)
+    → HasTold view begins bytes entries left told → Answers view told.replayed t same → same ≡ true → TellTables begins entries t
+those view begins fine bytes entries left told t same has answers is = λ unsaid have.
+    let h = history_by unsaid entries in
+    let held = has.as_far.held unsaid have in
+    (open_history view unsaid told.replayed h (answers.1 is) held, (answers.0 unsaid h held (sound begins unsaid entries fine have has.within)).0 is)
 
-others : (view : PlainStore → StoreView) (bytes : List ℕ) (entries : List Entry) (left : List ℕ) (told : Told) (t : Tables) (same : Bool)
-    → HasTold view bytes entries left told → Answers view told.replayed t same → same ≡ false → TellOthers entries t
-others view bytes entries left told t same has answers is = λ token_of have alike.
-    let h = history_by token_of entries in
-    let held = has.as_far.held token_of have in
-    absurd (false≢true (sym is ∙ (answers.0 h held (sound token_of entries has.within)).1 alike))
+others : (view : PlainStore → StoreView) (begins : Unsaid → Type 0) (fine : BeginsFine begins) (bytes : List ℕ) (entries : List Entry) (left : List ℕ) (told : Told) (t : Tables) (same : Bool)
+    → HasTold view begins bytes entries left told → Answers view told.replayed t same → same ≡ false → TellOthers begins entries t
+others view begins fine bytes entries left told t same has answers is = λ unsaid have alike.
+    let h = history_by unsaid entries in
+    let held = has.as_far.held unsaid have in
+    absurd (false≢true (sym is ∙ (answers.0 unsaid h held (sound begins unsaid entries fine have has.within)).1 alike))
 
 -- ---- the whole text
 
-pub says_alike : (view : PlainStore → StoreView) (bytes : List ℕ) (told : Told) (t : Tables) (same : Bool) → IsToldWhole view bytes told
-    → Answers view told.replayed t same → same ≡ true → Says bytes t (compared.Alike told.length)
-says_alike view bytes told t same whole answers is =
+pub says_alike : (view : PlainStore → StoreView) (begins : Unsaid → Type 0) (fine : BeginsFine begins) (bytes : List ℕ) (told : Told) (t : Tables) (same : Bool) → IsToldWhole view begins bytes told
+    → Answers view told.replayed t same → same ≡ true → Says begins bytes t (compared.Alike told.length)
+says_alike view begins fine bytes told t same whole answers is =
     let has = whole.2 in (
       whole.0,
       whole.1,
-      text_known view bytes whole.0 whole.1 told whole.2 whole.3 whole.4,
-      those view bytes whole.0 whole.1 told t same whole.2 answers is,
+      text_known view begins bytes whole.0 whole.1 told whole.2 whole.3 whole.4,
+      those view begins fine bytes whole.0 whole.1 told t same whole.2 answers is,
       has.size,
     )
 
+at_least_one : (n : ℕ) → (n ≡ 0 → ⊥) → 1 ≤ n
+at_least_one zero never = absurd (never refl)
+at_least_one (suc n) never = omega arith
+
 -- what is known of the text where its tables are others
-pub text_of_others : (view : PlainStore → StoreView) (bytes : List ℕ) (told : Told) (t : Tables) (same : Bool) → IsToldWhole view bytes told
+pub text_of_others : (view : PlainStore → StoreView) (begins : Unsaid → Type 0) (fine : BeginsFine begins) (bytes : List ℕ) (told : Told) (t : Tables) (same : Bool) → IsToldWhole view begins bytes told
     → Answers view told.replayed t same → same ≡ false
-    → (entries : List Entry) × (left : List ℕ) × IsTextOf bytes entries left × (told.lines ≡ length entries) × TellOthers entries t
-text_of_others view bytes told t same whole answers is =
+    → (entries : List Entry) × (left : List ℕ) × IsTextOf begins bytes entries left × (told.lines ≡ length entries) × (1 ≤ told.lines) × TellOthers begins entries t
+text_of_others view begins fine bytes told t same whole answers is =
     let has = whole.2 in (
       whole.0,
       whole.1,
-      text_known view bytes whole.0 whole.1 told whole.2 whole.3 whole.4,
+      text_known view begins bytes whole.0 whole.1 told whole.2 whole.3 whole.4,
       has.lines,
-      others view bytes whole.0 whole.1 told t same whole.2 answers is,
+      at_least_one told.lines (λ zero. whole.4 (has.none zero)),
+      others view begins fine bytes whole.0 whole.1 told t same whole.2 answers is,
     )
 
 -- ---- the lines before the last
 
 -- the lines that were replayed are those before the last
-pub record IsBefore (view : PlainStore → StoreView) (bytes : List ℕ) (entries : List Entry) (told : Told) : Type 0 where
+pub record IsBefore (view : PlainStore → StoreView) (begins : Unsaid → Type 0) (bytes : List ℕ) (entries : List Entry) (told : Told) : Type 0 where
   pub front : List Entry
   pub last : Entry
   pub rest : List ℕ
   pub is : entries ≡ front ++ last ∷ []
-  pub has : HasTold view bytes front rest told
+  pub has : HasTold view begins bytes front rest told
 
 less_or_same : (a b : ℕ) → a ≤ b → (a < b) ⊎ (a ≡ b)
 less_or_same a b h = grind arith
 
-not_none : (bytes : List ℕ) (entries : List Entry) (left : List ℕ) → IsTextOf bytes entries left → 1 ≤ length entries
-not_none bytes [] left text = absurd (text.history (λ token. token) tt)
-not_none bytes (entry ∷ later) left text = omega arith
-
-before_last : (view : PlainStore → StoreView) (bytes : List ℕ) (entries : List Entry) (left : List ℕ) (told : Told) (lines most : ℕ)
-    → IsTextOf bytes entries left → lines ≡ length entries → most ≡ lines - 1 → IsToldUpTo view most bytes told → IsBefore view bytes entries told
-before_last view bytes entries left told lines most text counted less (front, rest, has, few, end) = by (less_or_same told.lines most few)
+before_last : (view : PlainStore → StoreView) (begins : Unsaid → Type 0) (bytes : List ℕ) (entries : List Entry) (left : List ℕ) (told : Told) (lines most : ℕ)
+    → IsTextOf begins bytes entries left → lines ≡ length entries → 1 ≤ lines → most ≡ lines - 1 → IsToldUpTo view begins most bytes told → IsBefore view begins bytes entries told
+before_last view begins bytes entries left told lines most text counted some less (front, rest, has, few, end) = by (less_or_same told.lines most few)
   where
-    by : (told.lines < most) ⊎ (told.lines ≡ most) → IsBefore view bytes entries told
+    by : (told.lines < most) ⊎ (told.lines ≡ most) → IsBefore view begins bytes entries told
     by (inl early) =
         let never = no_fewer bytes entries front left rest text.given has.as_far.given (end early) in
         absurd (omega (arith, never, early, has.lines, less, counted))
     by (inr all) =
-        let some = not_none bytes entries left text in
         let parts = but_the_last bytes entries front left rest text.given has.as_far.given (omega (arith, some, all, has.lines, less, counted)) in
         record { front = front; last = parts.0; rest = rest; is = parts.1; has = has }
 
-pub says_one_more : (view : PlainStore → StoreView) (bytes : List ℕ) (entries : List Entry) (left : List ℕ) (told : Told) (lines most : ℕ) (t : Tables) (same : Bool)
-    → IsTextOf bytes entries left → lines ≡ length entries → most ≡ lines - 1 → IsToldUpTo view most bytes told → TellOthers entries t
-    → Answers view told.replayed t same → same ≡ true → Says bytes t (compared.OneMore told.length)
-says_one_more view bytes entries left told lines most t same text counted less up_to other answers is =
-    let b = before_last view bytes entries left told lines most text counted less up_to in
-    let tells : TellTables b.front t = those view bytes b.front b.rest told t same b.has answers is in (
+pub says_one_more : (view : PlainStore → StoreView) (begins : Unsaid → Type 0) (fine : BeginsFine begins) (bytes : List ℕ) (entries : List Entry) (left : List ℕ) (told : Told) (lines most : ℕ) (t : Tables) (same : Bool)
+    → IsTextOf begins bytes entries left → lines ≡ length entries → 1 ≤ lines → most ≡ lines - 1 → IsToldUpTo view begins most bytes told → TellOthers begins entries t
+    → Answers view told.replayed t same → same ≡ true → Says begins bytes t (compared.OneMore told.length)
+says_one_more view begins fine bytes entries left told lines most t same text counted some less up_to other answers is =
+    let b = before_last view begins bytes entries left told lines most text counted some less up_to in
+    let tells : TellTables begins b.front t = those view begins fine bytes b.front b.rest told t same b.has answers is in (
       b.front,
       b.last,
       left,
-      subst (λ es. IsTextOf bytes es left) b.is text,
-      subst (λ es. TellOthers es t) b.is other,
-      alone b.front b.has.within b.has.next (λ token_of have. (tells token_of have).0) b.has.as_far.told,
+      subst (λ es. IsTextOf begins bytes es left) b.is text,
+      subst (λ es. TellOthers begins es t) b.is other,
+      alone begins b.front b.has.within b.has.next (λ unsaid have. (tells unsaid have).0) b.has.as_far.told,
       tells,
       b.has.size,
     )
 
-pub says_other : (view : PlainStore → StoreView) (bytes : List ℕ) (entries : List Entry) (left : List ℕ) (told : Told) (lines most : ℕ) (t : Tables) (same : Bool)
-    → IsTextOf bytes entries left → lines ≡ length entries → most ≡ lines - 1 → IsToldUpTo view most bytes told → TellOthers entries t
-    → Answers view told.replayed t same → same ≡ false → Says bytes t compared.Differs
-says_other view bytes entries left told lines most t same text counted less up_to other answers is =
-    let b = before_last view bytes entries left told lines most text counted less up_to in (
+pub says_other : (view : PlainStore → StoreView) (begins : Unsaid → Type 0) (fine : BeginsFine begins) (bytes : List ℕ) (entries : List Entry) (left : List ℕ) (told : Told) (lines most : ℕ) (t : Tables) (same : Bool)
+    → IsTextOf begins bytes entries left → lines ≡ length entries → 1 ≤ lines → most ≡ lines - 1 → IsToldUpTo view begins most bytes told → TellOthers begins entries t
+    → Answers view told.replayed t same → same ≡ false → Says begins bytes t compared.Differs
+says_other view begins fine bytes entries left told lines most t same text counted some less up_to other answers is =
+    let b = before_last view begins bytes entries left told lines most text counted some less up_to in (
       b.front,
       b.last,
       left,
-      subst (λ es. IsTextOf bytes es left) b.is text,
-      subst (λ es. TellOthers es t) b.is other,
-      others view bytes b.front b.rest told t same b.has answers is,
+      subst (λ es. IsTextOf begins bytes es left) b.is text,
+      subst (λ es. TellOthers begins es t) b.is other,
+      others view begins fine bytes b.front b.rest told t same b.has answers is,
     )
 
 -- ---- the end
 
-pub short_there : (view : PlainStore → StoreView) (bytes : List ℕ) (most : ℕ) (told : Told) → IsToldUpTo view most bytes told → told.lines < most
-    → IsShort told.replayed → StopsAt view bytes replay_fault.Short
-short_there view bytes most told (entries, left, has, few, end) early short = (entries, left, told.replayed, has.as_far, end early, short)
+pub short_there : (view : PlainStore → StoreView) (begins : Unsaid → Type 0) (bytes : List ℕ) (most : ℕ) (told : Told) → IsToldUpTo view begins most bytes told → told.lines < most
+    → IsShort told.replayed → StopsAt view begins bytes replay_fault.Short
+short_there view begins bytes most told (entries, left, has, few, end) early short = (entries, left, told.replayed, has.as_far, end early, short)
 
-pub whole_there : (view : PlainStore → StoreView) (bytes : List ℕ) (most : ℕ) (told : Told) → IsToldUpTo view most bytes told → told.lines < most
-    → (IsShort told.replayed → ⊥) → IsToldWhole view bytes told
-whole_there view bytes most told (entries, left, has, few, end) early opened = (entries, left, has, end early, opened)
+pub whole_there : (view : PlainStore → StoreView) (begins : Unsaid → Type 0) (bytes : List ℕ) (most : ℕ) (told : Told) → IsToldUpTo view begins most bytes told → told.lines < most
+    → (IsShort told.replayed → ⊥) → IsToldWhole view begins bytes told
+whole_there view begins bytes most told (entries, left, has, few, end) early opened = (entries, left, has, end early, opened)
 
 -- ---- what is kept
 
@@ -196,12 +198,30 @@ pub whole_length : (entries : List Entry) (bytes left : List ℕ) (size : ℕ) �
     → take size bytes ≡ text_of entries
 whole_length entries bytes left size cut of = ap (take size) cut ∙ take_at (text_of entries) left size (sym of)
 
-pub kept_of_alike : (bytes : List ℕ) (t : Tables) (size : ℕ) → IsAlike bytes t size → IsAlike (take size bytes) t size
-kept_of_alike bytes t size (entries, left, text, tells, of) =
+pub kept_of_alike : (begins : Unsaid → Type 0) (bytes : List ℕ) (t : Tables) (size : ℕ) → IsAlike begins bytes t size → IsAlike begins (take size bytes) t size
+kept_of_alike begins bytes t size (entries, left, text, tells, of) =
     let cut = whole_length entries bytes left size text.text of in
-    (entries, [], subst (λ bs. IsTextOf bs entries []) (sym cut) (alone entries text.within text.next text.history text.told), tells, of)
+    (entries, [], subst (λ bs. IsTextOf begins bs entries []) (sym cut) (alone begins entries text.within text.next text.history text.told), tells, of)
 
-pub kept_of_one_more : (bytes : List ℕ) (t : Tables) (size : ℕ) → HasOneMore bytes t size → IsAlike (take size bytes) t size
-kept_of_one_more bytes t size (entries, last, left, text, other, before, tells, of) =
+pub kept_of_one_more : (begins : Unsaid → Type 0) (bytes : List ℕ) (t : Tables) (size : ℕ) → HasOneMore begins bytes t size → IsAlike begins (take size bytes) t size
+kept_of_one_more begins bytes t size (entries, last, left, text, other, before, tells, of) =
     let cut = whole_length entries bytes _ size (text.text ∙ ap (λ bs. bs ++ left) (text_split entries last) ∙ append_assoc (text_of entries) _ left) of in
-    (entries, [], subst (λ bs. IsTextOf bs entries []) (sym cut) before, tells, of)
+    (entries, [], subst (λ bs. IsTextOf begins bs entries []) (sym cut) before, tells, of)
+
+-- ---- the first place at which they differ
+
+pub none_found : (view : PlainStore → StoreView) (begins : Unsaid → Type 0) (fine : BeginsFine begins) (bytes : List ℕ) (told : Told) (t : Tables) (found : Option Difference) → IsToldWhole view begins bytes told
+    → Answers view told.replayed t (is_none found) → IfNone found ((size : ℕ) × IsAlike begins bytes t size)
+none_found view begins fine bytes told t None whole answers = (told.length, says_alike view begins fine bytes told t true whole answers refl)
+none_found view begins fine bytes told t (Some place) whole answers = tt
+
+pub place_found : (view : PlainStore → StoreView) (begins : Unsaid → Type 0) (bytes : List ℕ) (told : Told) (t : Tables) (found : Option Difference) → IsToldWhole view begins bytes told
+    → ((unsaid : Unsaid) (h : History) → Holds view unsaid told.replayed h → IfSome found (IsFirstDifference (tables h) t)) → IfSome found (DiffersFirst begins bytes t)
+place_found view begins bytes told t None whole said = tt
+place_found view begins bytes told t (Some place) whole said =
+    let has = whole.2 in (
+      whole.0,
+      whole.1,
+      text_known view begins bytes whole.0 whole.1 told whole.2 whole.3 whole.4,
+      λ unsaid have. said unsaid (history_by unsaid whole.0) (has.as_far.held unsaid have),
+    )

@@ -1,5 +1,5 @@
 -- The tables of the history that the entries of a text tell are sound.
-use Rattle.std.proofs.Common.{◌≡◌, ◌≤◌, refl, ℕ, ◌==◌, ◌&&◌, nat_le, Bool, true, false, if◌then◌else◌, List, [], ◌∷◌, Option, None, Some, arith}
+use Rattle.std.proofs.Common.{◌≡◌, ◌≤◌, refl, sym, subst, ℕ, ◌==◌, nat_le, Bool, true, false, if◌then◌else◌, List, [], ◌∷◌, Option, None, Some, arith}
 use Rattle.std.specs.Prelude.{IsTrue}
 use Rattle.std.specs.List.{list_all}
 use Rattle.std.proofs.lemmas.Bool.{and_parts, and_from, leb-true}
@@ -10,17 +10,15 @@ use Rattle.permit_base.specs.declared.request.Command.{Command}
 use Rattle.permit_base.specs.declared.request.Command.TheVariants as command
 use Rattle.permit_base.specs.declared.request.Request.TheVariants.{AddParty, AddParcel, Transfer, Declare, ReadParcel, File, ReadFile, ListFiles, Register}
 use Rattle.permit_base.specs.declared.request.Request.TheVariants.{OnFile}
-use Rattle.permit_model.specs.History.{Deed, Founding, Upgrade, Accepted, Entry, History, last_day}
+use Rattle.permit_model.specs.History.{Deed, Founding, Upgrade, Accepted, History, last_day}
 use Rattle.permit_model.specs.Machine.{IsHistory}
 use Rattle.permit_model.specs.Renewal.{with_token, renewed_deed, renewed}
 use Rattle.permit_model.specs.Sound.{IsSoundTables}
 use Rattle.permit_model.specs.Tables.{tables}
 use Rattle.permit_model.specs.Within as model
 use Rattle.permit_model.specs.Within.{is_deed_within, is_request_within, AreWithinLimits}
-use Rattle.permit_model.proofs.SoundOffice.{desk_sound, numbering_sound, parties_sound, parcels_sound}
-use Rattle.permit_model.proofs.SoundFilings.{filings_sound, stages_sound}
-use Rattle.permit_model.proofs.SoundPapers.{papers_sound}
-use Rattle.permit_model.proofs.SoundRows.{work_sound}
+use Rattle.permit_store.specs.declared.plain.PlainStore.{PlainStore}
+use Rattle.permit_store.specs.Frames.{StoreView}
 use Rattle.permit_history.specs.declared.entry.Act.{Act}
 use Rattle.permit_history.specs.declared.entry.Act.TheVariants as act
 use Rattle.permit_history.specs.declared.entry.Deed.{Deed as TheDeed}
@@ -28,7 +26,11 @@ use Rattle.permit_history.specs.declared.entry.Deed.TheVariants as deed
 use Rattle.permit_history.specs.declared.entry.Entry.{Entry as TheEntry}
 use Rattle.permit_history.specs.Within as told
 use Rattle.permit_history.specs.Within.{is_text, is_within}
-use Rattle.permit_replay.specs.Histories.{request_by, history_with, history_from, history_by}
+use Rattle.permit_replay.specs.declared.beginning.Beginning.{Beginning}
+use Rattle.permit_replay.specs.declared.beginning.Beginning.TheVariants as beginning
+use Rattle.permit_replay.specs.Histories.{Begun, Unsaid, Completes, history_in, history_before, request_by, history_with, history_from, history_by}
+use Rattle.permit_replay.specs.Holding.{IsBeginning}
+use Rattle.permit_replay.proofs.Copied.{sound_tables}
 
 -- ---- what an entry of a text holds
 
@@ -79,13 +81,17 @@ request_kept token_of (act.OnFile file command made) h =
 
 -- ---- the history
 
--- an entry within the limits, on a day that the office takes
-abbrev is_fine : Entry → Bool
-is_fine entry = is_deed_within entry.deed && nat_le entry.day latest_day
+-- what was done is within the limits, on days that the office takes
+pub record IsFine (h : History) : Type 0 where
+  pub within : AreWithinLimits h
+  pub timely : last_day h ≤ latest_day
 
--- each entry of the history is
-abbrev AreFine : History → Type 0
-AreFine h = list_all is_fine h ≡ true
+-- so was what was there before
+abbrev pub BeginsFine : (Unsaid → Type 0) → Type 0
+BeginsFine begins = (unsaid : Unsaid) → begins unsaid → IsFine (history_before unsaid)
+
+none_fine : IsFine []
+none_fine = record { within = refl; timely = omega arith }
 
 -- a deed stays within its limits where its party gets another token
 token_kept : (token : List ℕ) (d : Deed) → is_deed_within d ≡ true → is_deed_within (with_token token d) ≡ true
@@ -110,61 +116,52 @@ deed_kept party token d (Some id) h = by (id == party)
     by true = token_kept token d h
     by false = h
 
-renewed_fine : (party : ℕ) (token : List ℕ) (h : History) → AreFine h → AreFine (renewed party token h)
-renewed_fine party token [] fine = refl
-renewed_fine party token (entry ∷ before) fine =
-    let parts = and_parts (is_fine entry) _ fine in
-    let here = and_parts (is_deed_within entry.deed) _ parts.0 in
-    and_from _ _ (and_from _ _ (deed_kept party token entry.deed entry.number here.0) here.1) (renewed_fine party token before parts.1)
+renewed_within : (party : ℕ) (token : List ℕ) (h : History) → AreWithinLimits h → AreWithinLimits (renewed party token h)
+renewed_within party token [] within = refl
+renewed_within party token (entry ∷ before) within =
+    let parts = and_parts (is_deed_within entry.deed) _ within in
+    and_from _ _ (deed_kept party token entry.deed entry.number parts.0) (renewed_within party token before parts.1)
+
+renewed_fine : (party : ℕ) (token : List ℕ) (h : History) → IsFine h → IsFine (renewed party token h)
+renewed_fine party token [] fine = fine
+renewed_fine party token (entry ∷ before) fine = record { within = renewed_within party token (entry ∷ before) fine.within; timely = fine.timely }
 
 -- one more deed of the day
-deed_fine : (token_of : List ℕ → List ℕ) (h : History) (day : ℕ) (done : TheDeed) → nat_le day latest_day ≡ true → told.is_deed_within done ≡ true
-    → AreFine h → AreFine (history_with token_of h day done)
-deed_fine token_of h day (deed.Found name digest) timely within fine =
+deed_fine : (unsaid : Unsaid) (h : History) (day : ℕ) (done : TheDeed) → IsFine (history_before unsaid) → day ≤ latest_day
+    → told.is_deed_within done ≡ true → IsFine h → IsFine (history_with unsaid h day done)
+deed_fine unsaid h day (deed.Begin tables) start timely within fine = start
+deed_fine unsaid h day (deed.Found name digest) start timely within fine =
     let parts = and_parts (is_text name) _ within in
-    and_from _ _ (and_from _ _ (and_from _ _ (printed name parts.0) parts.1) timely) fine
-deed_fine token_of h day deed.Upgrade timely within fine = and_from _ _ timely fine
-deed_fine token_of h day (deed.RenewToken party digest) timely within fine = renewed_fine party (token_of digest) h fine
-deed_fine token_of h day (deed.Accepted caller a) timely within fine =
+    record { within = and_from _ _ (and_from _ _ (printed name parts.0) parts.1) fine.within; timely = timely }
+deed_fine unsaid h day deed.Upgrade start timely within fine = record { within = fine.within; timely = timely }
+deed_fine unsaid h day (deed.RenewToken party digest) start timely within fine = renewed_fine party (unsaid.token_of digest) h fine
+deed_fine unsaid h day (deed.Accepted caller a) start timely within fine =
     let parts = and_parts (is_object_number caller) _ within in
-    and_from _ _ (and_from _ _ (request_kept token_of a parts.1) timely) fine
+    record { within = and_from _ _ (request_kept unsaid.token_of a parts.1) fine.within; timely = timely }
 
-entries_fine : (token_of : List ℕ → List ℕ) (h : History) (entries : List TheEntry) → list_all is_within entries ≡ true → AreFine h
-    → AreFine (history_from token_of h entries)
-entries_fine token_of h [] within fine = fine
-entries_fine token_of h (entry ∷ later) within fine =
+entries_fine : (unsaid : Unsaid) (h : History) (entries : List TheEntry) → IsFine (history_before unsaid) → list_all is_within entries ≡ true → IsFine h
+    → IsFine (history_from unsaid h entries)
+entries_fine unsaid h [] start within fine = fine
+entries_fine unsaid h (entry ∷ later) start within fine =
     let parts = and_parts (is_within entry) _ within in
     let here = and_parts (is_day entry.day) _ parts.0 in
     let timely = and_parts (nat_le 0 entry.day) _ here.0 in
-    entries_fine token_of (history_with token_of h entry.day entry.deed) later parts.1 (deed_fine token_of h entry.day entry.deed timely.1 here.1 fine)
+    entries_fine unsaid (history_with unsaid h entry.day entry.deed) later start parts.1
+    (deed_fine unsaid h entry.day entry.deed start (leb-true entry.day latest_day timely.1) here.1 fine)
 
 -- ---- its tables
 
-within_limits : (h : History) → AreFine h → AreWithinLimits h
-within_limits [] fine = refl
-within_limits (entry ∷ before) fine =
-    let parts = and_parts (is_fine entry) _ fine in
-    and_from _ _ (and_parts (is_deed_within entry.deed) _ parts.0).0 (within_limits before parts.1)
+begun_fine : (o : Option Begun) (begun : Begun) → o ≡ Some begun → IsFine begun.history → IsFine (history_in o)
+begun_fine o begun same fine = rw same fine
 
-in_time : (h : History) → AreFine h → last_day h ≤ latest_day
-in_time [] fine = omega arith
-in_time (entry ∷ before) fine =
-    let parts = and_parts (is_fine entry) _ fine in
-    leb-true entry.day latest_day (and_parts (is_deed_within entry.deed) _ parts.0).1
+-- a copy of tables is of a history within the limits
+pub begins_fine : (view : PlainStore → StoreView) (beginning : Beginning) → BeginsFine (IsBeginning view beginning)
+begins_fine view beginning.Founding unsaid none = subst (λ o. IsFine (history_in o)) (sym none) none_fine
+begins_fine view (beginning.Copy copy) unsaid (begun, same, of) =
+    begun_fine unsaid.begun begun same (record { within = of.within; timely = of.timely })
 
-pub sound : (token_of : List ℕ → List ℕ) (entries : List TheEntry) → IsTrue (list_all is_within entries) → IsHistory (history_by token_of entries)
-    → IsSoundTables (tables (history_by token_of entries))
-sound token_of entries within is =
-    let h = history_by token_of entries in
-    let fine = entries_fine token_of [] entries within refl in
-    let limits = within_limits h fine in
-    let time = in_time h fine in record {
-      desk = desk_sound h is time;
-      numbering = numbering_sound h is;
-      parties = parties_sound h is limits;
-      parcels = parcels_sound h is limits;
-      filings = filings_sound h is limits;
-      stages = stages_sound h is time;
-      work = work_sound h is limits;
-      papers = papers_sound h is limits;
-    }
+pub sound : (begins : Unsaid → Type 0) (unsaid : Unsaid) (entries : List TheEntry) → BeginsFine begins → Completes begins unsaid entries
+    → IsTrue (list_all is_within entries) → IsHistory (history_by unsaid entries) → IsSoundTables (tables (history_by unsaid entries))
+sound begins unsaid entries start (begun, have) within is =
+    let fine = entries_fine unsaid [] entries (start unsaid begun) within none_fine in
+    sound_tables (history_by unsaid entries) is fine.within fine.timely

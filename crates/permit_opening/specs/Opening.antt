@@ -3,41 +3,49 @@ use Rattle.std.specs.Prelude.{◌≡◌, ℕ, List, [], ◌∷◌, ◌++◌, len
 use Rattle.permit_model.specs.Machine.{IsHistory}
 use Rattle.permit_model.specs.Tables.{Tables, tables}
 use Rattle.permit_alike.specs.Alike.{AreAlike}
+use Rattle.permit_alike.specs.Differing.{IsFirstDifference}
+use Rattle.permit_alike.specs.declared.differing.Difference.{Difference}
 use Rattle.permit_history.specs.declared.entry.Entry.{Entry}
 use Rattle.permit_history.specs.LineData.{text_of}
-use Rattle.permit_replay.specs.Histories.{HaveTokens, history_by}
+use Rattle.permit_replay.specs.Histories.{Unsaid, Completes, history_by}
 use Rattle.permit_opening.specs.declared.compare.Compared.{Compared}
 use Rattle.permit_opening.specs.declared.compare.Compared.TheVariants as compared
 use Rattle.permit_opening.specs.Texts.{IsTextOf}
 
 -- the entries tell a history, and its tables are these
-abbrev pub TellTables : List Entry → Tables → Type 0
-TellTables entries t =
-    (token_of : List ℕ → List ℕ) → HaveTokens token_of entries
-    → IsHistory (history_by token_of entries) × AreAlike (tables (history_by token_of entries)) t
+abbrev pub TellTables : (Unsaid → Type 0) → List Entry → Tables → Type 0
+TellTables begins entries t =
+    (unsaid : Unsaid) → Completes begins unsaid entries
+    → IsHistory (history_by unsaid entries) × AreAlike (tables (history_by unsaid entries)) t
 
 -- the tables of the history that the entries tell are others
-abbrev pub TellOthers : List Entry → Tables → Type 0
-TellOthers entries t = (token_of : List ℕ → List ℕ) → HaveTokens token_of entries → AreAlike (tables (history_by token_of entries)) t → ⊥
+abbrev pub TellOthers : (Unsaid → Type 0) → List Entry → Tables → Type 0
+TellOthers begins entries t = (unsaid : Unsaid) → Completes begins unsaid entries → AreAlike (tables (history_by unsaid entries)) t → ⊥
 
 -- the tables are those that the whole lines of the text tell, and these have so many bytes
-abbrev pub IsAlike : List ℕ → Tables → ℕ → Type 0
-IsAlike bytes t size =
-    (entries : List Entry) × (left : List ℕ) × IsTextOf bytes entries left × TellTables entries t × (size ≡ length (text_of entries))
+abbrev pub IsAlike : (Unsaid → Type 0) → List ℕ → Tables → ℕ → Type 0
+IsAlike begins bytes t size =
+    (entries : List Entry) × (left : List ℕ) × IsTextOf begins bytes entries left × TellTables begins entries t × (size ≡ length (text_of entries))
 
 -- the tables are not those, but those that the lines before the last tell: these are a text by themselves, of so many bytes
-abbrev pub HasOneMore : List ℕ → Tables → ℕ → Type 0
-HasOneMore bytes t size =
-    (entries : List Entry) × (last : Entry) × (left : List ℕ) × IsTextOf bytes (entries ++ last ∷ []) left
-    × TellOthers (entries ++ last ∷ []) t × IsTextOf (text_of entries) entries [] × TellTables entries t × (size ≡ length (text_of entries))
+abbrev pub HasOneMore : (Unsaid → Type 0) → List ℕ → Tables → ℕ → Type 0
+HasOneMore begins bytes t size =
+    (entries : List Entry) × (last : Entry) × (left : List ℕ) × IsTextOf begins bytes (entries ++ last ∷ []) left
+    × TellOthers begins (entries ++ last ∷ []) t × IsTextOf begins (text_of entries) entries [] × TellTables begins entries t × (size ≡ length (text_of entries))
 
 -- the tables are neither
-abbrev pub IsOther : List ℕ → Tables → Type 0
-IsOther bytes t =
-    (entries : List Entry) × (last : Entry) × (left : List ℕ) × IsTextOf bytes (entries ++ last ∷ []) left
-    × TellOthers (entries ++ last ∷ []) t × TellOthers entries t
+abbrev pub IsOther : (Unsaid → Type 0) → List ℕ → Tables → Type 0
+IsOther begins bytes t =
+    (entries : List Entry) × (last : Entry) × (left : List ℕ) × IsTextOf begins bytes (entries ++ last ∷ []) left
+    × TellOthers begins (entries ++ last ∷ []) t × TellOthers begins entries t
 
-abbrev pub Says : List ℕ → Tables → Compared → Type 0
-Says bytes t (compared.Alike size) = IsAlike bytes t size
-Says bytes t (compared.OneMore size) = HasOneMore bytes t size
-Says bytes t compared.Differs = IsOther bytes t
+abbrev pub Says : (Unsaid → Type 0) → List ℕ → Tables → Compared → Type 0
+Says begins bytes t (compared.Alike size) = IsAlike begins bytes t size
+Says begins bytes t (compared.OneMore size) = HasOneMore begins bytes t size
+Says begins bytes t compared.Differs = IsOther begins bytes t
+
+-- at this place they differ first from those that the whole lines of the text tell
+abbrev pub DiffersFirst : (Unsaid → Type 0) → List ℕ → Tables → Difference → Type 0
+DiffersFirst begins bytes t place =
+    (entries : List Entry) × (left : List ℕ) × IsTextOf begins bytes entries left
+    × ((unsaid : Unsaid) → Completes begins unsaid entries → IsFirstDifference (tables (history_by unsaid entries)) t place)

@@ -7,25 +7,26 @@ use Rattle.permit_history.specs.declared.entry.Entry.{Entry}
 use Rattle.permit_history.specs.LineData.{text_of}
 use Rattle.permit_history.specs.Text.{next_line}
 use Rattle.permit_history.specs.Within.{is_within}
-use Rattle.permit_replay.specs.Histories.{HaveTokens}
+use Rattle.permit_replay.specs.Histories.{Unsaid, Completes}
 use Rattle.permit_replay.specs.Texts.{HasReplayed, IsShort}
 use Rattle.permit_opening.specs.declared.told.Told.{Told}
 use Rattle.permit_opening.specs.Texts.{AreNext}
 
 -- the entries are the first of the text, and they were replayed and counted
-pub record HasTold (view : PlainStore → StoreView) (bytes : List ℕ) (entries : List Entry) (left : List ℕ) (told : Told) : Type 0 where
-  pub as_far : HasReplayed view bytes entries left told.replayed
-  pub next : (token_of : List ℕ → List ℕ) → HaveTokens token_of entries → AreNext token_of [] entries
+pub record HasTold (view : PlainStore → StoreView) (begins : Unsaid → Type 0) (bytes : List ℕ) (entries : List Entry) (left : List ℕ) (told : Told) : Type 0 where
+  pub as_far : HasReplayed view begins bytes entries left told.replayed
+  pub next : (unsaid : Unsaid) → Completes begins unsaid entries → AreNext unsaid [] entries
   pub within : IsTrue (list_all is_within entries)
   pub lines : told.lines ≡ length entries
+  pub none : told.lines ≡ 0 → IsShort told.replayed
   pub size : told.length ≡ length (text_of entries)
 
 -- the text was replayed to its end, or so many of its lines, which are the most
-abbrev pub IsToldUpTo : (PlainStore → StoreView) → ℕ → List ℕ → Told → Type 0
-IsToldUpTo view most bytes told =
-    (entries : List Entry) × (left : List ℕ) × HasTold view bytes entries left told × (told.lines ≤ most) × (told.lines < most → next_line left ≡ None)
+abbrev pub IsToldUpTo : (PlainStore → StoreView) → (Unsaid → Type 0) → ℕ → List ℕ → Told → Type 0
+IsToldUpTo view begins most bytes told =
+    (entries : List Entry) × (left : List ℕ) × HasTold view begins bytes entries left told × (told.lines ≤ most) × (told.lines < most → next_line left ≡ None)
 
 -- the text was replayed to its end, and there are tables
-abbrev pub IsToldWhole : (PlainStore → StoreView) → List ℕ → Told → Type 0
-IsToldWhole view bytes told =
-    (entries : List Entry) × (left : List ℕ) × HasTold view bytes entries left told × (next_line left ≡ None) × (IsShort told.replayed → ⊥)
+abbrev pub IsToldWhole : (PlainStore → StoreView) → (Unsaid → Type 0) → List ℕ → Told → Type 0
+IsToldWhole view begins bytes told =
+    (entries : List Entry) × (left : List ℕ) × HasTold view begins bytes entries left told × (next_line left ≡ None) × (IsShort told.replayed → ⊥)

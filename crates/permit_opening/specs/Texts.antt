@@ -12,29 +12,29 @@ use Rattle.permit_history.specs.Text.{next_line, GivesInTurn}
 use Rattle.permit_history.specs.Told.{told_history}
 use Rattle.permit_history.specs.Within.{is_within}
 use Rattle.permit_replay.specs.Against.{against}
-use Rattle.permit_replay.specs.Histories.{HaveTokens, history_with, history_by}
+use Rattle.permit_replay.specs.Histories.{Unsaid, Completes, history_before, history_with, history_by}
 use Rattle.permit_replay.specs.Texts.{StopsAt}
 use Rattle.permit_opening.specs.declared.fault.CompareFault.{CompareFault}
 use Rattle.permit_opening.specs.declared.fault.CompareFault.TheVariants as compare_fault
 
 -- nothing stands against any of the entries behind the history and those before it
-abbrev pub AreNext : (List ℕ → List ℕ) → History → List Entry → Type 0
-AreNext token_of h [] = ⊤
-AreNext token_of h (entry ∷ later) =
-    (against token_of h entry.day entry.deed ≡ None) × AreNext token_of (history_with token_of h entry.day entry.deed) later
+abbrev pub AreNext : Unsaid → History → List Entry → Type 0
+AreNext unsaid h [] = ⊤
+AreNext unsaid h (entry ∷ later) =
+    (against unsaid h entry.day entry.deed ≡ None) × AreNext unsaid (history_with unsaid h entry.day entry.deed) later
 
 -- the whole lines of the text are those of the entries, which tell a history, and this stands behind them
-pub record IsTextOf (bytes : List ℕ) (entries : List Entry) (left : List ℕ) : Type 0 where
+pub record IsTextOf (begins : Unsaid → Type 0) (bytes : List ℕ) (entries : List Entry) (left : List ℕ) : Type 0 where
   pub text : bytes ≡ text_of entries ++ left
   pub given : GivesInTurn bytes entries left
   pub end : next_line left ≡ None
   pub within : IsTrue (list_all is_within entries)
-  pub next : (token_of : List ℕ → List ℕ) → HaveTokens token_of entries → AreNext token_of [] entries
-  pub history : (token_of : List ℕ → List ℕ) → HaveTokens token_of entries → IsHistory (history_by token_of entries)
-  pub told : (token_of : List ℕ → List ℕ) → HaveTokens token_of entries → told_history (history_by token_of entries) ≡ meant entries
+  pub next : (unsaid : Unsaid) → Completes begins unsaid entries → AreNext unsaid [] entries
+  pub history : (unsaid : Unsaid) → Completes begins unsaid entries → IsHistory (history_by unsaid entries)
+  pub told : (unsaid : Unsaid) → Completes begins unsaid entries → told_history (history_by unsaid entries) ≡ meant (told_history (history_before unsaid)) entries
 
 -- Replaying the text stops there. A store that failed says nothing of it.
-abbrev pub StopsAs : (PlainStore → StoreView) → List ℕ → CompareFault → Type 0
-StopsAs view bytes (compare_fault.Text fault) = StopsAt view bytes fault
-StopsAs view bytes compare_fault.Long = 2 ^ 64 ≤ length bytes
-StopsAs view bytes compare_fault.Store = ⊤
+abbrev pub StopsAs : (PlainStore → StoreView) → (Unsaid → Type 0) → List ℕ → CompareFault → Type 0
+StopsAs view begins bytes (compare_fault.Text fault) = StopsAt view begins bytes fault
+StopsAs view begins bytes compare_fault.Long = 2 ^ 64 ≤ length bytes
+StopsAs view begins bytes compare_fault.Store = ⊤

@@ -1,6 +1,6 @@
 //! The comparison of a text with a store.
 
-ghost use Rattle.std.specs.Prelude.{◌≡◌, ℕ, false, List, Some, IfErr, IfNone, IfOk, IfSome, IsTrue, length, take};
+ghost use Rattle.std.specs.Prelude.{◌≡◌, ◌≤◌, ℕ, false, List, Some, IfErr, IfNone, IfOk, IfSome, IsTrue, length, take};
 ghost use Rattle.std.specs.Bool.{Decides};
 ghost use Rattle.permit_base.specs.declared.words.Edition.TheVariants.{First};
 ghost use Rattle.permit_alike.specs.Alike.{AreAlike};
@@ -10,7 +10,10 @@ ghost use Rattle.permit_model.specs.History.{History};
 ghost use Rattle.permit_model.specs.Machine.{IsHistory};
 ghost use Rattle.permit_model.specs.Sound.{IsSoundTables};
 ghost use Rattle.permit_model.specs.Tables.{Tables, tables};
-ghost use Rattle.permit_replay.specs.Holding.{Holds};
+ghost use Rattle.permit_replay.specs.Histories.{Unsaid};
+ghost use Rattle.permit_replay.specs.Holding.{Holds, IsBeginning, StillBegins};
+ghost use Rattle.permit_replay.specs.Texts.{IsShort};
+ghost use Rattle.permit_replay.specs.declared.beginning.Beginning.{Beginning as TheBeginning};
 ghost use Rattle.permit_store.specs.Frames.{OverTables};
 ghost use Rattle.permit_opening.specs.Opening.{IsAlike, IsOther, Says, TellOthers};
 ghost use Rattle.permit_opening.specs.Texts.{IsTextOf, StopsAs};
@@ -19,6 +22,7 @@ use crate::fault::CompareFault;
 use crate::told::{replay_first, replay_whole};
 use permit_alike::compare::are_alike;
 use permit_base::words::Edition;
+use permit_replay::beginning::Beginning;
 use permit_replay::replayed::Replayed;
 use permit_store::plain::PlainStore;
 use permit_store::store::{Got, Store, StoreError};
@@ -41,8 +45,10 @@ impl Compared {
     /// The length to which the text is to be cut, so that its lines are those of the tables, and no part of a line stands behind
     /// them. There is none where the tables are other ones.
     pub fn kept(self) -> Option<u64>
-        ensures alike { (bytes : List ℕ) (t : Tables) → Says bytes t self → IfSome result (λ size. IsAlike (take size bytes) t size) }
-        ensures other { (bytes : List ℕ) (t : Tables) → Says bytes t self → IfNone result (IsOther bytes t) }
+        ensures alike { (beginning : TheBeginning) (bytes : List ℕ) (t : Tables) → Says (IsBeginning ⟦<PlainStore as Store>⟧.view beginning) bytes t self
+            → IfSome result (λ size. IsAlike (IsBeginning ⟦<PlainStore as Store>⟧.view beginning) (take size bytes) t size) }
+        ensures other { (beginning : TheBeginning) (bytes : List ℕ) (t : Tables) → Says (IsBeginning ⟦<PlainStore as Store>⟧.view beginning) bytes t self
+            → IfNone result (IsOther (IsBeginning ⟦<PlainStore as Store>⟧.view beginning) bytes t) }
     {
         match self {
             Compared::Alike { length } => Some(length),
@@ -69,31 +75,35 @@ fn has_first<S: Store>(store: &mut S) -> Got<bool>
 
 /// Whether a store has the tables that were replayed.
 fn has_tables<S: Store>(store: &mut S, replayed: Replayed) -> Got<bool>
-    ensures same { OverTables (S.view store.old) (S.view store.new) (λ t. (h : History) → Holds ⟦<PlainStore as Store>⟧.view replayed h
+    ensures same { OverTables (S.view store.old) (S.view store.new) (λ t. (unsaid : Unsaid) (h : History) → Holds ⟦<PlainStore as Store>⟧.view unsaid replayed h
         → (IsHistory h → IsSoundTables (tables h)) → IsSoundTables t → IfOk result (λ same. Decides same (AreAlike (tables h) t))) }
-    ensures history { (h : History) → Holds ⟦<PlainStore as Store>⟧.view replayed h → IfOk result (λ same. IsTrue same → IsHistory h) }
+    ensures opened { IfOk result (λ same. IsTrue same → IsShort replayed → ⊥) }
     ensures looks { Looks (S.view store.old) (S.view store.new) }
 {
     match replayed {
         Replayed::Open(mut told) => are_alike(&mut told, store),
-        Replayed::Nothing | Replayed::Founded(_) => has_first(store),
+        Replayed::Nothing(_) | Replayed::Founded(_) => has_first(store),
     }
 }
 
-/// What a text says of a store that hasn't the tables of its lines, which are so many.
+/// What a text says of a store that hasn't the tables of its lines, which are so many. It might begin as it may now when these
+/// were read.
 fn compare_before<S: Store, Q: BufRead>(
     alloc: Global,
+    beginning: &mut Beginning,
     store: &mut S,
     again: &mut Q,
     lines: u64,
 ) -> Result<Compared, CompareFault>
-    ensures says { (bytes : List ℕ) (entries : List TheEntry) (left : List ℕ) → Q.remaining again.old ≡ Some bytes → IsTextOf bytes entries left
-        → lines ≡ length entries
-        → OverTables (S.view store.old) (S.view store.new) (λ t. IsSoundTables t → TellOthers entries t → IfOk result (Says bytes t)) }
+    ensures says { (before : TheBeginning) (bytes : List ℕ) (entries : List TheEntry) (left : List ℕ)
+        → StillBegins ⟦<PlainStore as Store>⟧.view before beginning.old → Q.remaining again.old ≡ Some bytes → IsTextOf (IsBeginning ⟦<PlainStore as Store>⟧.view before) bytes entries left
+        → lines ≡ length entries → 1 ≤ lines
+        → OverTables (S.view store.old) (S.view store.new) (λ t. IsSoundTables t → TellOthers (IsBeginning ⟦<PlainStore as Store>⟧.view before) entries t → IfOk result (Says (IsBeginning ⟦<PlainStore as Store>⟧.view before) bytes t)) }
     ensures looks { Looks (S.view store.old) (S.view store.new) }
-    ensures stopped { IfSome (Q.remaining again.old) (λ bytes. IfErr result (StopsAs ⟦<PlainStore as Store>⟧.view bytes)) }
+    ensures stopped { IfSome (Q.remaining again.old) (λ bytes. IfErr result (StopsAs ⟦<PlainStore as Store>⟧.view (IsBeginning ⟦<PlainStore as Store>⟧.view beginning.old) bytes)) }
+    ensures still { StillBegins ⟦<PlainStore as Store>⟧.view beginning.old beginning.new }
 {
-    let told = replay_first(alloc, again, lines.saturating_sub(1))?;
+    let told = replay_first(alloc, beginning, again, lines.saturating_sub(1))?;
     let length = told.length;
     let same = has_tables(store, told.replayed)?;
     if same {
@@ -103,29 +113,32 @@ fn compare_before<S: Store, Q: BufRead>(
     }
 }
 
-/// What the text of a history says of a store's tables. Of the text there are two readings, from its start: the second is read
+/// What the text of a history says of a store's tables, where it may begin so. Of the text there are two readings, from its start: the second is read
 /// only where the tables are not those of the whole text, up to the line before the last.
 ///
 /// A text that is not replayed, or whose lines are the founding alone or none, is a fault, and then it says nothing of the
-/// tables. The store is only read. It keeps the tables of one of the readings at a time, and one line.
+/// tables. The store is only read, and so is what the text may begin with. It keeps the tables of one of the readings at a time,
+/// and one line.
 pub fn compare<S: Store, R: BufRead, Q: BufRead>(
     alloc: Global,
+    beginning: &mut Beginning,
     store: &mut S,
     source: &mut R,
     again: &mut Q,
 ) -> Result<Compared, CompareFault>
     ensures says { (bytes : List ℕ) → R.remaining source.old ≡ Some bytes → Q.remaining again.old ≡ Some bytes
-        → OverTables (S.view store.old) (S.view store.new) (λ t. IsSoundTables t → IfOk result (Says bytes t)) }
+        → OverTables (S.view store.old) (S.view store.new) (λ t. IsSoundTables t → IfOk result (Says (IsBeginning ⟦<PlainStore as Store>⟧.view beginning.old) bytes t)) }
     ensures looks { Looks (S.view store.old) (S.view store.new) }
     ensures stopped { (bytes : List ℕ) → R.remaining source.old ≡ Some bytes → Q.remaining again.old ≡ Some bytes
-        → IfErr result (StopsAs ⟦<PlainStore as Store>⟧.view bytes) }
+        → IfErr result (StopsAs ⟦<PlainStore as Store>⟧.view (IsBeginning ⟦<PlainStore as Store>⟧.view beginning.old) bytes) }
+    ensures still { StillBegins ⟦<PlainStore as Store>⟧.view beginning.old beginning.new }
 {
-    let told = replay_whole(alloc, source)?;
+    let told = replay_whole(alloc, beginning, source)?;
     let (lines, length) = (told.lines, told.length);
     let alike = has_tables(store, told.replayed)?;
     if alike {
         Ok(Compared::Alike { length })
     } else {
-        compare_before(alloc, store, again, lines)
+        compare_before(alloc, beginning, store, again, lines)
     }
 }

@@ -6,8 +6,8 @@ use permit_store::store::StoreError;
 /// Why a text and a store aren't compared. Of the tables it says nothing.
 #[derive(Drop)]
 pub enum CompareFault {
-    /// A call of the store failed, or memory was refused for a row. Or the lines before the last are the founding alone, and the
-    /// store keeps to the first edition, of which no tables are made here.
+    /// A call of the store failed, or memory was refused for a row. Or the lines before the last are the founding alone or none,
+    /// and the store keeps to the first edition, of which no tables are made here.
     Store,
     /// The text is not replayed, or can't be read.
     Text(ReplayFault),

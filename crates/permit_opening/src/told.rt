@@ -7,18 +7,19 @@ ghost use Rattle.permit_history.specs.LineData.{line_of};
 ghost use Rattle.permit_history.specs.Text.{next_line, AnswersLine};
 ghost use Rattle.permit_history.specs.Within.{is_within};
 ghost use Rattle.permit_history.specs.declared.entry.Entry.{Entry as TheEntry};
-ghost use Rattle.permit_model.specs.History.{History};
-ghost use Rattle.permit_replay.specs.Histories.{HasToken};
-ghost use Rattle.permit_replay.specs.Holding.{Holds, Takes};
+ghost use Rattle.permit_replay.specs.Holding.{IsBeginning, StillBegins};
 ghost use Rattle.permit_replay.specs.Texts.{IsShort};
+ghost use Rattle.permit_replay.specs.declared.beginning.Beginning.{Beginning as TheBeginning};
 ghost use Rattle.permit_opening.specs.Telling.{HasTold, IsToldUpTo, IsToldWhole};
 ghost use Rattle.permit_opening.specs.Texts.{StopsAs};
 
 use crate::fault::CompareFault;
 use crate::line::next_entry;
 use permit_history::entry::Entry;
+use permit_history::fault::LineFault;
 use permit_history::text::TextFault;
-use permit_replay::fault::{ReplayFault, Why};
+use permit_replay::beginning::Beginning;
+use permit_replay::fault::ReplayFault;
 use permit_replay::replayed::Replayed;
 use permit_store::plain::PlainStore;
 use permit_store::store::Store;
@@ -36,14 +37,6 @@ pub(crate) struct Told {
     pub(crate) length: u64,
 }
 
-/// Takes an entry that is not asked for again.
-fn take(replayed: Replayed, alloc: Global, entry: Entry) -> Result<Replayed, Why>
-    ensures { (token_of : List ℕ → List ℕ) (h : History) → Holds ⟦<PlainStore as Store>⟧.view replayed h → HasToken token_of entry.deed
-        → Takes ⟦<PlainStore as Store>⟧.view token_of h entry.day entry.deed result }
-{
-    replayed.take(alloc, &entry)
-}
-
 /// The sum, where it is below 18446744073709551616.
 fn added(count: u64, more: u64) -> Option<u64>
     ensures some { IfSome result (λ n. n ≡ count + more) }
@@ -53,13 +46,20 @@ fn added(count: u64, more: u64) -> Option<u64>
 }
 
 /// What the lines tell with one more, whose entry this is and that has so many bytes with its LF.
-fn with_line(told: Told, alloc: Global, entry: Entry, size: usize) -> Result<Told, CompareFault>
-    ensures told { (bytes : List ℕ) (entries : List TheEntry) (left : List ℕ) → HasTold ⟦<PlainStore as Store>⟧.view bytes entries left told
-        → AnswersLine (Ok entry) (next_line left) → IsTrue (is_within entry) → size ≡ length (line_of entry) + 1
-        → IfOk result (HasTold ⟦<PlainStore as Store>⟧.view bytes (entries ++ entry ∷ []) (drop_through 10 left)) }
-    ensures stopped { (bytes : List ℕ) (entries : List TheEntry) (left : List ℕ) → HasTold ⟦<PlainStore as Store>⟧.view bytes entries left told
-        → AnswersLine (Ok entry) (next_line left) → size ≡ length (line_of entry) + 1
-        → IfErr result (StopsAs ⟦<PlainStore as Store>⟧.view bytes) }
+pub(crate) fn add_line(
+    told: Told,
+    alloc: Global,
+    entry: &Entry,
+    size: usize,
+) -> Result<Told, CompareFault>
+    ensures told { (beginning : TheBeginning) (bytes : List ℕ) (entries : List TheEntry) (left : List ℕ)
+        → HasTold ⟦<PlainStore as Store>⟧.view (IsBeginning ⟦<PlainStore as Store>⟧.view beginning) bytes entries left told
+        → AnswersLine (Ok entry.now) (next_line left) → IsTrue (is_within entry.now) → size ≡ length (line_of entry.now) + 1
+        → IfOk result (HasTold ⟦<PlainStore as Store>⟧.view (IsBeginning ⟦<PlainStore as Store>⟧.view beginning) bytes (entries ++ entry.now ∷ []) (drop_through 10 left)) }
+    ensures stopped { (beginning : TheBeginning) (bytes : List ℕ) (entries : List TheEntry) (left : List ℕ)
+        → HasTold ⟦<PlainStore as Store>⟧.view (IsBeginning ⟦<PlainStore as Store>⟧.view beginning) bytes entries left told
+        → AnswersLine (Ok entry.now) (next_line left) → size ≡ length (line_of entry.now) + 1
+        → IfErr result (StopsAs ⟦<PlainStore as Store>⟧.view (IsBeginning ⟦<PlainStore as Store>⟧.view beginning) bytes) }
 {
     let Told {
         replayed,
@@ -72,7 +72,7 @@ fn with_line(told: Told, alloc: Global, entry: Entry, size: usize) -> Result<Tol
     let Some(length) = added(length, size as u64) else {
         return Err(CompareFault::Long);
     };
-    match take(replayed, alloc, entry) {
+    match replayed.take(alloc, entry) {
         Ok(replayed) => Ok(Told {
             replayed,
             lines: line,
@@ -82,21 +82,52 @@ fn with_line(told: Told, alloc: Global, entry: Entry, size: usize) -> Result<Tol
     }
 }
 
+/// The same of an entry that is not asked for again.
+fn with_line(told: Told, alloc: Global, entry: Entry, size: usize) -> Result<Told, CompareFault>
+    ensures told { (beginning : TheBeginning) (bytes : List ℕ) (entries : List TheEntry) (left : List ℕ)
+        → HasTold ⟦<PlainStore as Store>⟧.view (IsBeginning ⟦<PlainStore as Store>⟧.view beginning) bytes entries left told
+        → AnswersLine (Ok entry) (next_line left) → IsTrue (is_within entry) → size ≡ length (line_of entry) + 1
+        → IfOk result (HasTold ⟦<PlainStore as Store>⟧.view (IsBeginning ⟦<PlainStore as Store>⟧.view beginning) bytes (entries ++ entry ∷ []) (drop_through 10 left)) }
+    ensures stopped { (beginning : TheBeginning) (bytes : List ℕ) (entries : List TheEntry) (left : List ℕ)
+        → HasTold ⟦<PlainStore as Store>⟧.view (IsBeginning ⟦<PlainStore as Store>⟧.view beginning) bytes entries left told
+        → AnswersLine (Ok entry) (next_line left) → size ≡ length (line_of entry) + 1
+        → IfErr result (StopsAs ⟦<PlainStore as Store>⟧.view (IsBeginning ⟦<PlainStore as Store>⟧.view beginning) bytes) }
+{
+    add_line(told, alloc, &entry, size)
+}
+
+/// Nothing of a text yet, which may begin so.
+pub(crate) fn start(alloc: Global, beginning: &mut Beginning) -> Result<Told, CompareFault>
+    ensures told { (bytes : List ℕ) → IfOk result (HasTold ⟦<PlainStore as Store>⟧.view (IsBeginning ⟦<PlainStore as Store>⟧.view beginning.old) bytes [] bytes) }
+    ensures stopped { (bytes : List ℕ) → IfErr result (StopsAs ⟦<PlainStore as Store>⟧.view (IsBeginning ⟦<PlainStore as Store>⟧.view beginning.old) bytes) }
+    ensures still { StillBegins ⟦<PlainStore as Store>⟧.view beginning.old beginning.new }
+{
+    match beginning.again(alloc) {
+        Ok(first) => Ok(Told {
+            replayed: Replayed::Nothing(first),
+            lines: 0,
+            length: 0,
+        }),
+        Err(_) => {
+            let fault = LineFault::Memory;
+            Err(CompareFault::Text(ReplayFault::Line { line: 1, fault }))
+        }
+    }
+}
+
 /// Replays the first lines of a text, so many at most, with room for its lines.
 fn replay_in<R: BufRead>(
     alloc: Global,
+    beginning: &mut Beginning,
     source: &mut R,
     most: u64,
     room: &mut Vec<u8>,
 ) -> Result<Told, CompareFault>
-    ensures told { IfSome (R.remaining source.old) (λ bytes. IfOk result (IsToldUpTo ⟦<PlainStore as Store>⟧.view most bytes)) }
-    ensures stopped { IfSome (R.remaining source.old) (λ bytes. IfErr result (StopsAs ⟦<PlainStore as Store>⟧.view bytes)) }
+    ensures told { IfSome (R.remaining source.old) (λ bytes. IfOk result (IsToldUpTo ⟦<PlainStore as Store>⟧.view (IsBeginning ⟦<PlainStore as Store>⟧.view beginning.old) most bytes)) }
+    ensures stopped { IfSome (R.remaining source.old) (λ bytes. IfErr result (StopsAs ⟦<PlainStore as Store>⟧.view (IsBeginning ⟦<PlainStore as Store>⟧.view beginning.old) bytes)) }
+    ensures still { StillBegins ⟦<PlainStore as Store>⟧.view beginning.old beginning.new }
 {
-    let mut told = Told {
-        replayed: Replayed::Nothing,
-        lines: 0,
-        length: 0,
-    };
+    let mut told = start(alloc, beginning)?;
     for line in 0..most {
         match next_entry(alloc, source, room) {
             Ok(Some(entry)) => match with_line(told, alloc, entry, room.len()) {
@@ -121,14 +152,16 @@ fn replay_in<R: BufRead>(
 /// Replays the first lines of a text, so many at most.
 pub(crate) fn replay_first<R: BufRead>(
     alloc: Global,
+    beginning: &mut Beginning,
     source: &mut R,
     most: u64,
 ) -> Result<Told, CompareFault>
-    ensures told { IfSome (R.remaining source.old) (λ bytes. IfOk result (IsToldUpTo ⟦<PlainStore as Store>⟧.view most bytes)) }
-    ensures stopped { IfSome (R.remaining source.old) (λ bytes. IfErr result (StopsAs ⟦<PlainStore as Store>⟧.view bytes)) }
+    ensures told { IfSome (R.remaining source.old) (λ bytes. IfOk result (IsToldUpTo ⟦<PlainStore as Store>⟧.view (IsBeginning ⟦<PlainStore as Store>⟧.view beginning.old) most bytes)) }
+    ensures stopped { IfSome (R.remaining source.old) (λ bytes. IfErr result (StopsAs ⟦<PlainStore as Store>⟧.view (IsBeginning ⟦<PlainStore as Store>⟧.view beginning.old) bytes)) }
+    ensures still { StillBegins ⟦<PlainStore as Store>⟧.view beginning.old beginning.new }
 {
     let mut room = Vec::new(alloc);
-    replay_in(alloc, source, most, &mut room)
+    replay_in(alloc, beginning, source, most, &mut room)
 }
 
 /// Whether there are no tables yet.
@@ -136,17 +169,17 @@ fn is_short(replayed: &Replayed) -> bool
     ensures { Decides result (IsShort replayed.now) }
 {
     match replayed {
-        Replayed::Nothing | Replayed::Founded(_) => true,
+        Replayed::Nothing(_) | Replayed::Founded(_) => true,
         Replayed::Open(_) => false,
     }
 }
 
 /// What a text answers that ends here.
 fn finish(told: Told) -> Result<Told, CompareFault>
-    ensures told { (bytes : List ℕ) → IsToldUpTo ⟦<PlainStore as Store>⟧.view (2 ^ 64 - 1) bytes told
-        → IfOk result (IsToldWhole ⟦<PlainStore as Store>⟧.view bytes) }
-    ensures stopped { (bytes : List ℕ) → IsToldUpTo ⟦<PlainStore as Store>⟧.view (2 ^ 64 - 1) bytes told
-        → IfErr result (StopsAs ⟦<PlainStore as Store>⟧.view bytes) }
+    ensures told { (beginning : TheBeginning) (bytes : List ℕ) → IsToldUpTo ⟦<PlainStore as Store>⟧.view (IsBeginning ⟦<PlainStore as Store>⟧.view beginning) (2 ^ 64 - 1) bytes told
+        → IfOk result (IsToldWhole ⟦<PlainStore as Store>⟧.view (IsBeginning ⟦<PlainStore as Store>⟧.view beginning) bytes) }
+    ensures stopped { (beginning : TheBeginning) (bytes : List ℕ) → IsToldUpTo ⟦<PlainStore as Store>⟧.view (IsBeginning ⟦<PlainStore as Store>⟧.view beginning) (2 ^ 64 - 1) bytes told
+        → IfErr result (StopsAs ⟦<PlainStore as Store>⟧.view (IsBeginning ⟦<PlainStore as Store>⟧.view beginning) bytes) }
 {
     if told.lines == u64::MAX {
         return Err(CompareFault::Text(ReplayFault::Endless));
@@ -158,11 +191,16 @@ fn finish(told: Told) -> Result<Told, CompareFault>
 }
 
 /// Replays a text whole.
-pub(crate) fn replay_whole<R: BufRead>(alloc: Global, source: &mut R) -> Result<Told, CompareFault>
-    ensures told { IfSome (R.remaining source.old) (λ bytes. IfOk result (IsToldWhole ⟦<PlainStore as Store>⟧.view bytes)) }
-    ensures stopped { IfSome (R.remaining source.old) (λ bytes. IfErr result (StopsAs ⟦<PlainStore as Store>⟧.view bytes)) }
+pub(crate) fn replay_whole<R: BufRead>(
+    alloc: Global,
+    beginning: &mut Beginning,
+    source: &mut R,
+) -> Result<Told, CompareFault>
+    ensures told { IfSome (R.remaining source.old) (λ bytes. IfOk result (IsToldWhole ⟦<PlainStore as Store>⟧.view (IsBeginning ⟦<PlainStore as Store>⟧.view beginning.old) bytes)) }
+    ensures stopped { IfSome (R.remaining source.old) (λ bytes. IfErr result (StopsAs ⟦<PlainStore as Store>⟧.view (IsBeginning ⟦<PlainStore as Store>⟧.view beginning.old) bytes)) }
+    ensures still { StillBegins ⟦<PlainStore as Store>⟧.view beginning.old beginning.new }
 {
-    match replay_first(alloc, source, u64::MAX) {
+    match replay_first(alloc, beginning, source, u64::MAX) {
         Ok(told) => finish(told),
         Err(fault) => Err(fault),
     }

@@ -3,6 +3,7 @@
 use crate::texts::{first, length, store};
 use permit_opening::compare::{Compared, compare};
 use permit_opening::fault::CompareFault;
+use permit_replay::beginning::Beginning;
 use permit_replay::fault::ReplayFault;
 use permit_store::plain::PlainStore;
 use std::alloc::Global;
@@ -22,7 +23,8 @@ fn is_said(
 ) -> Result<bool, Fail> {
     let mut source = first(bytes)?;
     let mut again = first(bytes)?;
-    match compare(alloc, store, &mut source, &mut again) {
+    let mut beginning = Beginning::Founding;
+    match compare(alloc, &mut beginning, store, &mut source, &mut again) {
         Ok(compared) => Ok(compared == wanted),
         Err(_) => Ok(false),
     }
@@ -112,7 +114,8 @@ fn an_office_further_than_its_upgrade_differs(rt: HostRuntime) -> Result<(), Fai
 fn is_short(alloc: Global, store: &mut PlainStore, bytes: usize) -> Result<bool, Fail> {
     let mut source = first(bytes)?;
     let mut again = first(bytes)?;
-    let said = compare(alloc, store, &mut source, &mut again);
+    let mut beginning = Beginning::Founding;
+    let said = compare(alloc, &mut beginning, store, &mut source, &mut again);
     Ok(matches!(said, Err(CompareFault::Text(ReplayFault::Short))))
 }
 

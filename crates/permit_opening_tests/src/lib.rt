@@ -1,7 +1,14 @@
-//! Texts that end anywhere in their last lines, compared with tables.
+//! Texts that end anywhere in their last lines, compared with tables, texts of which some words are others, and the seals of
+//! small offices.
 #![tactic(auto)]
 
 #[cfg(test)]
+mod begun;
+#[cfg(test)]
 mod compared;
+#[cfg(test)]
+mod differing;
+#[cfg(test)]
+mod sealed;
 #[cfg(test)]
 mod texts;

@@ -1,5 +1,6 @@
 //! The text of a small office.
 
+use permit_replay::beginning::Beginning;
 use permit_replay::replay;
 use permit_store::plain::PlainStore;
 use std::alloc::Global;
@@ -43,10 +44,16 @@ pub fn first(length: usize) -> Result<&'static [u8], Fail> {
     Ok(text().get(..length).ok_or("so many bytes")?)
 }
 
+/// The text with other words in the places of these.
+pub fn reworded(alloc: Global, from: &'static str, to: &str) -> Result<String, Fail> {
+    Ok(TEXT.replace(alloc, from, to)?)
+}
+
 /// The store that the text's first lines leave, so many.
 pub fn store(alloc: Global, lines: usize) -> Result<PlainStore, Fail> {
     let mut source = first(length(lines))?;
-    match replay(alloc, &mut source) {
+    let mut beginning = Beginning::Founding;
+    match replay(alloc, &mut beginning, &mut source) {
         Ok(store) => Ok(store),
         Err(_) => Err("the lines are not replayed".into()),
     }

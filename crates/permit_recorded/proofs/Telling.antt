@@ -10,9 +10,10 @@ use Rattle.permit_history.specs.Meaning.{Tells, meant_after, meant_with}
 use Rattle.permit_history.specs.Told.{told, told_on, told_history}
 use Rattle.permit_recorded.specs.Planned.{whole_line_of}
 
-after-append : (before first later : List Entry) → meant_after before (first ++ later) ≡ meant_after (meant_after before first) later
-after-append before [] later = refl
-after-append before (entry ∷ first) later = after-append (meant_with before entry entry.deed) first later
+after-append : (start before first later : List Entry)
+    → meant_after start before (first ++ later) ≡ meant_after start (meant_after start before first) later
+after-append start before [] later = refl
+after-append start before (entry ∷ first) later = after-append start (meant_with start before entry entry.deed) first later
 
 text-append : (first : List Entry) (entry : Entry) → text_of (first ++ entry ∷ []) ≡ text_of first ++ whole_line_of entry
 text-append [] entry = refl
@@ -23,8 +24,9 @@ pub tells_more : (text line : List ℕ) (h : History) (e : TheEntry) (day caller
     → told e ≡ Some (told_on day (deed.Accepted caller act)) → line ≡ whole_line_of (told_on day (deed.Accepted caller act)) → Tells (text ++ line) (e ∷ h)
 tells_more text line h e day caller act tells said is =
     let entry = told_on day (deed.Accepted caller act) in (
-      tells.0 ++ entry ∷ [],
-      ap (λ (l : List ℕ). l ++ line) tells.1 ∙ ap (λ (l : List ℕ). text_of tells.0 ++ l) is ∙ sym (text-append tells.0 entry),
-      after-append [] tells.0 (entry ∷ []) ∙ ap (λ (es : List Entry). es ++ entry ∷ []) tells.2
+      tells.0,
+      tells.1 ++ entry ∷ [],
+      ap (λ (l : List ℕ). l ++ line) tells.2 ∙ ap (λ (l : List ℕ). text_of tells.1 ++ l) is ∙ sym (text-append tells.1 entry),
+      after-append tells.0 [] tells.1 (entry ∷ []) ∙ ap (λ (es : List Entry). es ++ entry ∷ []) tells.3
           ∙ sym (ap (add_last (told_history h)) said),
     )

@@ -68,11 +68,17 @@ abbrev pub TellsAfter : {H : Type 0} → (H → List ℕ) → Given → (before 
 TellsAfter text (given.Done number) before after journal = (journal.is_shut ≡ false) × Tells (text journal.file) after
 TellsAfter text reply before after journal = journal.is_shut ≡ false → Tells (text journal.file) before
 
+-- Where the journal isn't as before and isn't shut, a store that is without doubt can be read.
+abbrev pub IsReadable : {H : Type 0} → StoreView → (old new : JournalView H) → Type 0
+IsReadable store old new = new.is_shut ≡ false → store.doubt ≡ 0 → (new ≡ old) ⊎ HasOneDesk store
+
 -- A step of the office: what decides stays, and tables that have counted, unless a command is done, which makes one change of sound tables and
--- leaves them sound; no doubt goes. After any reply but the store's refusal, a store that is without doubt can be read.
+-- leaves them sound; no doubt goes. After any reply but the store's refusal, a store that is without doubt can be read. After any
+-- reply it can, where something was written to the history's file and the journal isn't shut.
 pub record IsRecordedStep {D S H : Type 0} (view : S → StoreView) (day : ℕ) (old new : RecordedView D S H) (reply : Given) : Type 0 where
   pub decider : new.decider ≡ old.decider
   pub kept : OverTables (view old.store) (view new.store) (λ t. HasCounted t → UnlessDone reply ((view new.store).holds t))
   pub made : MakesOne (view old.store) (view new.store) day reply
   pub one : (view new.store).doubt ≡ 0 → IsOwn reply → HasOneDesk (view new.store)
+  pub read : IsReadable (view new.store) old.journal new.journal
   pub doubt : (view old.store).doubt ≤ (view new.store).doubt

@@ -1,6 +1,6 @@
 //! The line that a command will have in the history, before it is done.
 
-ghost use Rattle.std.specs.Prelude.{◌≡◌, ◌+◌, ◌++◌, ◌∷◌, [], ℕ, List, Some, IfOk};
+ghost use Rattle.std.specs.Prelude.{◌≡◌, ◌+◌, ◌++◌, ◌∷◌, [], ℕ, List, Some, IfOk, OnOk};
 ghost use Rattle.permit_base.specs.Digests.{digest_of};
 ghost use Rattle.permit_base.specs.declared.request.Command.{Command as TheCommand};
 ghost use Rattle.permit_base.specs.declared.request.Request.TheVariants as request;
@@ -10,7 +10,7 @@ ghost use Rattle.permit_model.specs.Tables.{tables, desk_of};
 ghost use Rattle.permit_model.specs.Machine.{number_made};
 ghost use Rattle.permit_model.specs.Search.{when};
 ghost use Rattle.permit_model.specs.Work.{makes_paper};
-ghost use Rattle.permit_store.specs.Frames.{OverHistory};
+ghost use Rattle.permit_store.specs.Frames.{HasOneDesk, OverHistory};
 ghost use Rattle.permit_recorded.specs.Planned.{IsLineBehind, OnlyLooks, number_of, whole_line_of};
 
 use crate::copied::{copied, makes_paper};
@@ -120,6 +120,7 @@ fn on_file<S: Store>(store: &mut S, file: FileId, command: &Command) -> Got<Act>
     ensures act { OverHistory (S.view store.old) (S.view store.new) (λ h. IfOk result (λ act.
         act_told (request.OnFile file command.now) (number_made h (request.OnFile file command.now)) ≡ Some act)) }
     ensures looks { OnlyLooks (S.view store.old) (S.view store.new) }
+    ensures one { (S.view store.new).doubt ≡ 0 → OnOk result (HasOneDesk (S.view store.new)) }
 {
     let state = stored(store.state(file)?)?;
     let number = paper_after(command, state.papers())?;
@@ -138,6 +139,7 @@ fn planned_act<S: Store>(store: &mut S, desk: &Desk, request: &Request) -> Got<A
     ensures act { OverHistory (S.view store.old) (S.view store.new) (λ h. desk.now ≡ desk_of h → IfOk result (λ act.
         act_told request.now (number_made h request.now) ≡ Some act)) }
     ensures looks { OnlyLooks (S.view store.old) (S.view store.new) }
+    ensures one { (S.view store.new).doubt ≡ 0 → HasOneDesk (S.view store.old) → OnOk result (HasOneDesk (S.view store.new)) }
 {
     match request {
         Request::AddParty { name, role, token } => new_party(desk, name, *role, token),
@@ -178,6 +180,7 @@ fn whole_line(alloc: Global, entry: Entry) -> Result<Vec<u8>, AllocError>
 fn caller_of<S: Store>(store: &mut S, digest: &Digest) -> Got<PartyId>
     ensures caller { OverHistory (S.view store.old) (S.view store.new) (λ h. IfOk result (λ caller. number_of h digest.now ≡ Some caller)) }
     ensures looks { OnlyLooks (S.view store.old) (S.view store.new) }
+    ensures one { (S.view store.new).doubt ≡ 0 → OnOk result (HasOneDesk (S.view store.new)) }
 {
     match store.party_by_token(digest)? {
         Some(caller) => Ok(caller.id),
@@ -198,6 +201,7 @@ pub(crate) fn planned_line<S: Store>(
     ensures line { OverHistory (S.view store.old) (S.view store.new) (λ h. IfOk result (λ line.
         IsLineBehind h digest.now request.now day line.items)) }
     ensures looks { OnlyLooks (S.view store.old) (S.view store.new) }
+    ensures one { (S.view store.new).doubt ≡ 0 → OnOk result (HasOneDesk (S.view store.new)) }
 {
     let caller = caller_of(store, digest)?;
     let desk = store.desk()?;

@@ -11,7 +11,7 @@ ghost use Rattle.permit_office.specs.Sound.{IsSoundChange, KeepsSound, OnMade};
 ghost use Rattle.permit_office.specs.declared.reply.Reply.TheVariants as given;
 ghost use Rattle.permit_store.specs.Frames.{HasOneDesk, OverHistory, OverTables};
 ghost use Rattle.permit_recorded.specs.Probing.{HasCounted};
-ghost use Rattle.permit_recorded.specs.Recorded.{IsRecordedStep, IsRecording, IsUndone, LeavesText, Records, Stands, TellsAfter};
+ghost use Rattle.permit_recorded.specs.Recorded.{IsReadable, IsRecordedStep, IsRecording, IsUndone, LeavesText, Records, Stands, TellsAfter};
 
 use crate::decider::Decider;
 use crate::entering::enter_and_do;
@@ -69,6 +69,7 @@ fn record<D: Decider, S: Store, H: HistoryFile + Drop>(
     ensures model { OverHistory (S.view store.old) (S.view store.new) (λ h.
         Attempts (S.view store.new).holds result (D.decides decider.now h digest.now request.now day) h) }
     ensures sound { OverTables (S.view store.old) (S.view store.new) (λ t. IsSoundTables t → OnMade result (IsSoundChange (S.view store.new).holds day t)) }
+    ensures read { IsReadable (S.view store.new) journal.old journal.new }
     ensures recording { IsRecording (S.view store.old) (S.view store.new) result }
     ensures own { IfOk result IsOwn }
 {
@@ -81,7 +82,9 @@ fn record<D: Decider, S: Store, H: HistoryFile + Drop>(
 ///
 /// A command is decided first, without a change. Then its line is entered into the history's file and put on the disk, and then
 /// the command is done; its answer comes behind both. Where the line can't be entered, or the command isn't done after all, the
-/// line is taken back. Where that fails the office shuts: each further request is refused for the store, and nothing is done.
+/// line is taken back. Where that fails the office shuts: each further request is refused for the store, and nothing is done. It
+/// shuts too, and the line stays, where the command failed and the store can't be read, since it isn't known then whether the
+/// command is done. An opening finds that out, and cuts a line too many.
 #[derive(Drop)]
 pub struct RecordedOffice<D: Decider, S: Store, H: HistoryFile> {
     decider: D,
@@ -111,6 +114,13 @@ impl<D: Decider + Drop, S: Store + Drop, H: HistoryFile + Drop> RecordedOffice<D
         }
     }
 
+    /// Whether the office is shut: each further request is refused for the store.
+    pub fn is_shut(&self) -> bool
+        ensures { result ≡ self.now.journal.is_shut }
+    {
+        self.journal.is_shut()
+    }
+
     /// The store and the journal.
     pub fn into_parts(self) -> (S, Journal<H>)
         ensures store { result.0 ≡ self.store }
@@ -138,6 +148,7 @@ impl<D: Decider + Drop, S: Store + Drop, H: HistoryFile + Drop> RecordedOffice<D
         ensures sound { OverTables (S.view self.old.store) (S.view self.new.store) (λ t. IsSoundTables t
             → OnMade result (IsSoundChange (S.view self.new.store).holds day t)) }
         ensures one { (S.view self.new.store).doubt ≡ 0 → OnOk result (HasOneDesk (S.view self.new.store)) }
+        ensures read { IsReadable (S.view self.new.store) self.old.journal self.new.journal }
         ensures doubt { (S.view self.old.store).doubt ≤ (S.view self.new.store).doubt }
         ensures own { IfOk result IsOwn }
         ensures decider { self.new.decider ≡ self.old.decider }

@@ -10,6 +10,7 @@ use permit_journal::journal::Journal;
 use permit_office::reply::Reply;
 use permit_policy::{Policy, read_policy};
 use permit_recorded::recorded::RecordedOffice;
+use permit_replay::beginning::Beginning;
 use permit_replay::replay;
 use permit_store::founder::Founder;
 use permit_store::plain::PlainStore;
@@ -256,7 +257,8 @@ pub(crate) fn lines(alloc: Global, count: usize) -> Result<Vec<u8>, Fail> {
 /// Whether the tables of the store are those of the text.
 fn are_told(alloc: Global, store: &mut PlainStore, text: &[u8]) -> Result<bool, Fail> {
     let mut source = text;
-    let Ok(mut replayed) = replay(alloc, &mut source) else {
+    let mut beginning = Beginning::Founding;
+    let Ok(mut replayed) = replay(alloc, &mut beginning, &mut source) else {
         return Err("the text is not replayed".into());
     };
     Ok(are_alike(store, &mut replayed)?)

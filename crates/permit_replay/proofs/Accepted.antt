@@ -25,7 +25,7 @@ use Rattle.permit_history.specs.LineData.{act_number}
 use Rattle.permit_replay.specs.declared.fault.Why.{Why}
 use Rattle.permit_replay.specs.declared.fault.Why.TheVariants as why
 use Rattle.permit_replay.specs.Against.{is_same, against, against_later, against_reply, against_upgrade}
-use Rattle.permit_replay.specs.Histories.{request_by}
+use Rattle.permit_replay.specs.Histories.{Unsaid, request_by}
 use Rattle.permit_store.specs.declared.plain.PlainStore.{PlainStore}
 use Rattle.permit_store.specs.Frames.{StoreView}
 use Rattle.permit_replay.specs.declared.replayed.Replayed.TheVariants as replayed
@@ -116,6 +116,10 @@ longer (last ∷ before) day caller asked number is may = (may, is)
 fails : (w : Why) (said : Option Why) → said ≡ Some w → FailsAs w said
 fails why.Memory said e = tt
 fails why.NoFounding said e = e
+fails why.NoCopy said e = e
+fails why.OtherCopy said e = e
+fails why.CopyDay said e = e
+fails why.SecondBeginning said e = e
 fails why.SecondFounding said e = e
 fails why.FirstEdition said e = e
 fails why.UpgradeDay said e = e
@@ -123,17 +127,17 @@ fails why.SecondUpgrade said e = e
 fails (why.Refused refusal) said e = e
 fails why.Number said e = e
 
-judged : (holds : Tables → Type 0) (token_of : List ℕ → List ℕ) (h : History) (day caller : ℕ) (a : Act) (result : Result Unit Why)
+judged : (holds : Tables → Type 0) (unsaid : Unsaid) (h : History) (day caller : ℕ) (a : Act) (result : Result Unit Why)
     → IsHistory h → edition h ≡ Second
-    → holds (tables (outcome_unjudged h day caller (request_by token_of a)).history)
-    → IsAgainst result (against_later token_of h day (deed.Accepted caller a))
-    → Follows holds token_of h day (deed.Accepted caller a) result
-judged holds token_of h day caller a (Err w) is second held said = fails w _ said
-judged holds token_of h day caller a (Ok taken) is second held said =
-    let d = done h day caller (request_by token_of a) (act_number a) (asks_command token_of a) said in (
+    → holds (tables (outcome_unjudged h day caller (request_by unsaid.token_of a)).history)
+    → IsAgainst result (against_later unsaid h day (deed.Accepted caller a))
+    → Follows holds unsaid h day (deed.Accepted caller a) result
+judged holds unsaid h day caller a (Err w) is second held said = fails w _ said
+judged holds unsaid h day caller a (Ok taken) is second held said =
+    let d = done h day caller (request_by unsaid.token_of a) (act_number a) (asks_command unsaid.token_of a) said in (
       said,
       record {
-        history = longer h day caller (request_by token_of a) (act_number a) is d.accepted;
+        history = longer h day caller (request_by unsaid.token_of a) (act_number a) is d.accepted;
         upgraded = second;
         held = rw d.history at held;
       },
@@ -142,21 +146,21 @@ judged holds token_of h day caller a (Ok taken) is second held said =
 not_own : (reply : Given) → reply ≡ given.Refused refusal.Store → IsOwn reply → ⊥
 not_own reply e own = let stored : is_store_refusal reply ≡ true = ap is_store_refusal e in cc
 
-failed_so : (holds : Tables → Type 0) (token_of : List ℕ → List ℕ) (h : History) (day : ℕ) (done : TheDeed) (result : Result Unit Why)
-    → result ≡ Err why.Memory → Follows holds token_of h day done result
-failed_so holds token_of h day done result e = subst (Follows holds token_of h day done) (sym e) tt
+failed_so : (holds : Tables → Type 0) (unsaid : Unsaid) (h : History) (day : ℕ) (done : TheDeed) (result : Result Unit Why)
+    → result ≡ Err why.Memory → Follows holds unsaid h day done result
+failed_so holds unsaid h day done result e = subst (Follows holds unsaid h day done) (sym e) tt
 
 -- what the office answers to a command decides
-pub follows : (holds : Tables → Type 0) (token_of : List ℕ → List ℕ) (h : History) (day caller : ℕ) (a : Act) (answer : Result Given StoreError)
+pub follows : (holds : Tables → Type 0) (unsaid : Unsaid) (h : History) (day caller : ℕ) (a : Act) (answer : Result Given StoreError)
     (result : Result Unit Why) → IsHistory h → edition h ≡ Second
-    → Attempts holds answer (outcome_unjudged h day caller (request_by token_of a)) h → IfOk answer IsOwn
+    → Attempts holds answer (outcome_unjudged h day caller (request_by unsaid.token_of a)) h → IfOk answer IsOwn
     → IfOk answer (λ reply. IsAgainst result (against_reply (act_number a) (reply_of reply)))
     → IfErr answer (λ e. result ≡ Err why.Memory)
-    → Follows holds token_of h day (deed.Accepted caller a) result
-follows holds token_of h day caller a (Err e) result is second attempt own said failed = failed_so holds token_of h day (deed.Accepted caller a) result failed
-follows holds token_of h day caller a (Ok reply) result is second (inr refused) own said failed = absurd (not_own reply refused.0 own)
-follows holds token_of h day caller a (Ok reply) result is second (inl answered) own said failed =
-    judged holds token_of h day caller a result is second answered.1
+    → Follows holds unsaid h day (deed.Accepted caller a) result
+follows holds unsaid h day caller a (Err e) result is second attempt own said failed = failed_so holds unsaid h day (deed.Accepted caller a) result failed
+follows holds unsaid h day caller a (Ok reply) result is second (inr refused) own said failed = absurd (not_own reply refused.0 own)
+follows holds unsaid h day caller a (Ok reply) result is second (inl answered) own said failed =
+    judged holds unsaid h day caller a result is second answered.1
     (subst (λ (r : Reply). IsAgainst result (against_reply (act_number a) r)) answered.0 said)
 
 -- ---- behind the upgrade
@@ -171,19 +175,19 @@ founded first Upgrade is = absurd is
 founded first (Accepted request) is = absurd is
 
 -- a history with the upgrade has the founding too
-pub behind : (token_of : List ℕ → List ℕ) (h : History) (day : ℕ) (done : TheDeed) → IsHistory h → edition h ≡ Second
-    → against token_of h day done ≡ against_later token_of h day done
-behind token_of [] day done is second = absurd is
-behind token_of (first ∷ []) day done is second = let one = founded first first.deed is in absurd cc
-behind token_of (last ∷ other ∷ before) day done is second = refl
+pub behind : (unsaid : Unsaid) (h : History) (day : ℕ) (done : TheDeed) → IsHistory h → edition h ≡ Second
+    → against unsaid h day done ≡ against_later unsaid h day done
+behind unsaid [] day done is second = absurd is
+behind unsaid (first ∷ []) day done is second = let one = founded first first.deed is in absurd cc
+behind unsaid (last ∷ other ∷ before) day done is second = refl
 
 -- ---- what a store over vectors then holds
 
-pub taken_behind : (view : PlainStore → StoreView) (token_of : List ℕ → List ℕ) (h : History) (day : ℕ) (done : TheDeed) (store : PlainStore) (taken : Unit {0})
-    → IsHistory h → edition h ≡ Second → Follows (view store).holds token_of h day done (Ok taken)
-    → Takes view token_of h day done (Ok (replayed.Open store))
-taken_behind view token_of h day done store taken is second so = (behind token_of h day done is second ∙ so.0, so.1)
+pub taken_behind : (view : PlainStore → StoreView) (unsaid : Unsaid) (h : History) (day : ℕ) (done : TheDeed) (store : PlainStore) (taken : Unit {0})
+    → IsHistory h → edition h ≡ Second → Follows (view store).holds unsaid h day done (Ok taken)
+    → Takes view unsaid h day done (Ok (replayed.Open store))
+taken_behind view unsaid h day done store taken is second so = (behind unsaid h day done is second ∙ so.0, so.1)
 
-pub refused_behind : (view : PlainStore → StoreView) (holds : Tables → Type 0) (token_of : List ℕ → List ℕ) (h : History) (day : ℕ) (done : TheDeed) (w : Why)
-    → IsHistory h → edition h ≡ Second → Follows holds token_of h day done (Err w) → Takes view token_of h day done (Err w)
-refused_behind view holds token_of h day done w is second so = rw (behind token_of h day done is second) so
+pub refused_behind : (view : PlainStore → StoreView) (holds : Tables → Type 0) (unsaid : Unsaid) (h : History) (day : ℕ) (done : TheDeed) (w : Why)
+    → IsHistory h → edition h ≡ Second → Follows holds unsaid h day done (Err w) → Takes view unsaid h day done (Err w)
+refused_behind view holds unsaid h day done w is second so = rw (behind unsaid h day done is second) so

@@ -14,12 +14,14 @@ use Rattle.permit_history.specs.Outcome.{IsUnlessMemory}
 use Rattle.permit_history.specs.Told.{told_history}
 use Rattle.permit_history.specs.Text.{next_line, AnswersLine, GivesInTurn}
 use Rattle.permit_replay.specs.declared.fault.Why.{Why}
+use Rattle.permit_replay.specs.declared.beginning.Beginning.{Beginning}
 use Rattle.permit_replay.specs.declared.fault.ReplayFault.{ReplayFault}
+use Rattle.permit_replay.specs.declared.fault.ReplayFault.TheVariants as replay_fault
 use Rattle.permit_replay.specs.declared.replayed.Replayed.{Replayed}
 use Rattle.permit_replay.specs.declared.replayed.Replayed.TheVariants as replayed
 use Rattle.permit_replay.specs.Against.{against}
-use Rattle.permit_replay.specs.Histories.{HasToken, HaveTokens, history_with, history_from, history_by}
-use Rattle.permit_replay.specs.Holding.{Holds, FailsAs, Takes}
+use Rattle.permit_replay.specs.Histories.{Unsaid, Completes, HasToken, HaveTokens, history_before, history_with, history_from, history_by}
+use Rattle.permit_replay.specs.Holding.{Holds, IsBeginning, FailsAs, Takes}
 use Rattle.permit_replay.specs.Texts.{EndsAs, HasReplayed, IsAtFault, IsReplayed, StopsAt}
 use Rattle.permit_replay.proofs.Telling.{told_with, meant_last}
 
@@ -65,51 +67,55 @@ given_more bytes [] left entry given answer = (
 )
 given_more bytes (first ∷ later) left entry given answer = (given.0, given_more (drop_through 10 bytes) later left entry given.1 answer)
 
-from_more : (token_of : List ℕ → List ℕ) (h : History) (entries : List Entry) (entry : Entry)
-    → history_from token_of h (entries ++ entry ∷ []) ≡ history_with token_of (history_from token_of h entries) entry.day entry.deed
-from_more token_of h [] entry = refl
-from_more token_of h (first ∷ later) entry = from_more token_of (history_with token_of h first.day first.deed) later entry
+from_more : (unsaid : Unsaid) (h : History) (entries : List Entry) (entry : Entry)
+    → history_from unsaid h (entries ++ entry ∷ []) ≡ history_with unsaid (history_from unsaid h entries) entry.day entry.deed
+from_more unsaid h [] entry = refl
+from_more unsaid h (first ∷ later) entry = from_more unsaid (history_with unsaid h first.day first.deed) later entry
 
 -- the history that one entry more tells
-pub told_more : (token_of : List ℕ → List ℕ) (entries : List Entry) (entry : Entry)
-    → history_by token_of (entries ++ entry ∷ []) ≡ history_with token_of (history_by token_of entries) entry.day entry.deed
-told_more token_of entries entry = from_more token_of [] entries entry
+pub told_more : (unsaid : Unsaid) (entries : List Entry) (entry : Entry)
+    → history_by unsaid (entries ++ entry ∷ []) ≡ history_with unsaid (history_by unsaid entries) entry.day entry.deed
+told_more unsaid entries entry = from_more unsaid [] entries entry
 
-pub tokens_parted : (token_of : List ℕ → List ℕ) (entries : List Entry) (entry : Entry) → HaveTokens token_of (entries ++ entry ∷ [])
-    → HaveTokens token_of entries × HasToken token_of entry.deed
-tokens_parted token_of [] entry have = (tt, have.0)
-tokens_parted token_of (first ∷ later) entry have =
-    let parts = tokens_parted token_of later entry have.1 in ((have.0, parts.0), parts.1)
+have_parted : (unsaid : Unsaid) (entries : List Entry) (entry : Entry) → HaveTokens unsaid (entries ++ entry ∷ [])
+    → HaveTokens unsaid entries × HasToken unsaid entry.deed
+have_parted unsaid [] entry have = (tt, have.0)
+have_parted unsaid (first ∷ later) entry have =
+    let parts = have_parted unsaid later entry have.1 in ((have.0, parts.0), parts.1)
+
+pub tokens_parted : (begins : Unsaid → Type 0) (unsaid : Unsaid) (entries : List Entry) (entry : Entry)
+    → Completes begins unsaid (entries ++ entry ∷ []) → Completes begins unsaid entries × HasToken unsaid entry.deed
+tokens_parted begins unsaid entries entry (said, have) = let parts = have_parted unsaid entries entry have in ((said, parts.0), parts.1)
 
 -- what is replayed with it
-pub replayed_more : (view : PlainStore → StoreView) (bytes : List ℕ) (entries : List Entry) (left : List ℕ) (entry : Entry) (before_it after : Replayed)
-    → HasReplayed view bytes entries left before_it → AnswersLine (Ok entry) (next_line left)
-    → ((token_of : List ℕ → List ℕ) (h : History) → Holds view before_it h → HasToken token_of entry.deed → Takes view token_of h entry.day entry.deed (Ok after))
-    → HasReplayed view bytes (entries ++ entry ∷ []) (drop_through 10 left) after
-replayed_more view bytes entries left entry before_it after has answer takes = record {
+pub replayed_more : (view : PlainStore → StoreView) (begins : Unsaid → Type 0) (bytes : List ℕ) (entries : List Entry) (left : List ℕ) (entry : Entry) (before_it after : Replayed)
+    → HasReplayed view begins bytes entries left before_it → AnswersLine (Ok entry) (next_line left)
+    → ((unsaid : Unsaid) (h : History) → Holds view unsaid before_it h → HasToken unsaid entry.deed → Takes view unsaid h entry.day entry.deed (Ok after))
+    → HasReplayed view begins bytes (entries ++ entry ∷ []) (drop_through 10 left) after
+replayed_more view begins bytes entries left entry before_it after has answer takes = record {
   given = given_more bytes entries left entry has.given answer;
-  held = λ token_of have.
-      let parts = tokens_parted token_of entries entry have in
-      subst (Holds view after) (sym (told_more token_of entries entry)) (takes token_of (history_by token_of entries) (has.held token_of parts.0) parts.1).1;
-  told = λ token_of have.
-      let parts = tokens_parted token_of entries entry have in
-      let before = history_by token_of entries in
-      let taken = takes token_of before (has.held token_of parts.0) parts.1 in
-      ap told_history (told_more token_of entries entry)
-      ∙ told_with view before_it token_of before entry.day entry.deed (has.held token_of parts.0) parts.1 taken.0
-      ∙ ap (λ es. meant_with es entry entry.deed) (has.told token_of parts.0)
-      ∙ sym (meant_last entries entry);
+  held = λ unsaid have.
+      let parts = tokens_parted begins unsaid entries entry have in
+      subst (Holds view unsaid after) (sym (told_more unsaid entries entry)) (takes unsaid (history_by unsaid entries) (has.held unsaid parts.0) parts.1).1;
+  told = λ unsaid have.
+      let parts = tokens_parted begins unsaid entries entry have in
+      let before = history_by unsaid entries in
+      let taken = takes unsaid before (has.held unsaid parts.0) parts.1 in
+      ap told_history (told_more unsaid entries entry)
+      ∙ told_with view before_it unsaid before entry.day entry.deed (has.held unsaid parts.0) parts.1 taken.0
+      ∙ ap (λ es. meant_with (told_history (history_before unsaid)) es entry entry.deed) (has.told unsaid parts.0)
+      ∙ sym (meant_last (told_history (history_before unsaid)) entries entry);
 }
 
 -- what stands against it
-pub stopped_there : (view : PlainStore → StoreView) (bytes : List ℕ) (entries : List Entry) (left : List ℕ) (entry : Entry) (before : Replayed) (why : Why)
-    → HasReplayed view bytes entries left before
-    → ((token_of : List ℕ → List ℕ) (h : History) → Holds view before h → HasToken token_of entry.deed → Takes view token_of h entry.day entry.deed (Err why))
-    → (token_of : List ℕ → List ℕ) → HaveTokens token_of (entries ++ entry ∷ [])
-    → FailsAs why (against token_of (history_by token_of entries) entry.day entry.deed)
-stopped_there view bytes entries left entry before why has takes token_of have =
-    let parts = tokens_parted token_of entries entry have in
-    takes token_of (history_by token_of entries) (has.held token_of parts.0) parts.1
+pub stopped_there : (view : PlainStore → StoreView) (begins : Unsaid → Type 0) (bytes : List ℕ) (entries : List Entry) (left : List ℕ) (entry : Entry) (before : Replayed) (why : Why)
+    → HasReplayed view begins bytes entries left before
+    → ((unsaid : Unsaid) (h : History) → Holds view unsaid before h → HasToken unsaid entry.deed → Takes view unsaid h entry.day entry.deed (Err why))
+    → (unsaid : Unsaid) → Completes begins unsaid (entries ++ entry ∷ [])
+    → FailsAs why (against unsaid (history_by unsaid entries) entry.day entry.deed)
+stopped_there view begins bytes entries left entry before why has takes unsaid have =
+    let parts = tokens_parted begins unsaid entries entry have in
+    takes unsaid (history_by unsaid entries) (has.held unsaid parts.0) parts.1
 
 pub one_more : (entries : List Entry) (entry : Entry) → length (entries ++ entry ∷ []) ≡ length entries + 1
 one_more entries entry = omega (arith, length-append entries (entry ∷ []))
@@ -126,19 +132,27 @@ some_at (Some y) P x said e = let same : y ≡ x = cc in subst P same said
 
 -- ---- the end
 
-pub ends_well : (view : PlainStore → StoreView) (bytes : List ℕ) (entries : List Entry) (left : List ℕ) (as_far : Replayed)
-    (result : Result PlainStore ReplayFault) → HasReplayed view bytes entries left as_far → next_line left ≡ None → EndsAs as_far result
-    → IfOk result (IsReplayed view bytes)
-ends_well view bytes entries left replayed.Nothing result has none e = subst (λ r. IfOk r (IsReplayed view bytes)) (sym e) tt
-ends_well view bytes entries left (replayed.Founded founder) result has none e = subst (λ r. IfOk r (IsReplayed view bytes)) (sym e) tt
-ends_well view bytes entries left (replayed.Open store) result has none e =
-    subst (λ r. IfOk r (IsReplayed view bytes)) (sym e) (entries, left, has, none)
+pub ends_well : (view : PlainStore → StoreView) (begins : Unsaid → Type 0) (bytes : List ℕ) (entries : List Entry) (left : List ℕ) (as_far : Replayed)
+    (result : Result PlainStore ReplayFault) → HasReplayed view begins bytes entries left as_far → next_line left ≡ None → EndsAs as_far result
+    → IfOk result (IsReplayed view begins bytes)
+ends_well view begins bytes entries left (replayed.Nothing beginning) result has none e = subst (λ r. IfOk r (IsReplayed view begins bytes)) (sym e) tt
+ends_well view begins bytes entries left (replayed.Founded founder) result has none e = subst (λ r. IfOk r (IsReplayed view begins bytes)) (sym e) tt
+ends_well view begins bytes entries left (replayed.Open store) result has none e =
+    subst (λ r. IfOk r (IsReplayed view begins bytes)) (sym e) (entries, left, has, none)
 
-pub ends_short : (view : PlainStore → StoreView) (bytes : List ℕ) (entries : List Entry) (left : List ℕ) (as_far : Replayed)
-    (result : Result PlainStore ReplayFault) → HasReplayed view bytes entries left as_far → next_line left ≡ None → EndsAs as_far result
-    → IfErr result (StopsAt view bytes)
-ends_short view bytes entries left replayed.Nothing result has none e =
-    subst (λ r. IfErr r (StopsAt view bytes)) (sym e) (entries, left, replayed.Nothing, has, none, tt)
-ends_short view bytes entries left (replayed.Founded founder) result has none e =
-    subst (λ r. IfErr r (StopsAt view bytes)) (sym e) (entries, left, replayed.Founded founder, has, none, tt)
-ends_short view bytes entries left (replayed.Open store) result has none e = subst (λ r. IfErr r (StopsAt view bytes)) (sym e) tt
+pub ends_short : (view : PlainStore → StoreView) (begins : Unsaid → Type 0) (bytes : List ℕ) (entries : List Entry) (left : List ℕ) (as_far : Replayed)
+    (result : Result PlainStore ReplayFault) → HasReplayed view begins bytes entries left as_far → next_line left ≡ None → EndsAs as_far result
+    → IfErr result (StopsAt view begins bytes)
+ends_short view begins bytes entries left (replayed.Nothing beginning) result has none e =
+    subst (λ r. IfErr r (StopsAt view begins bytes)) (sym e) (entries, left, replayed.Nothing beginning, has, none, tt)
+ends_short view begins bytes entries left (replayed.Founded founder) result has none e =
+    subst (λ r. IfErr r (StopsAt view begins bytes)) (sym e) (entries, left, replayed.Founded founder, has, none, tt)
+ends_short view begins bytes entries left (replayed.Open store) result has none e = subst (λ r. IfErr r (StopsAt view begins bytes)) (sym e) tt
+
+-- ---- the start
+
+-- memory was refused before the first line
+pub none_read : (view : PlainStore → StoreView) (beginning : Beginning) (bytes : List ℕ)
+    → StopsAt view (IsBeginning view beginning) bytes (replay_fault.Line 1 line_fault.Memory)
+none_read view beginning bytes =
+    ([], bytes, replayed.Nothing beginning, record { given = refl; held = λ unsaid have. (refl, have.0); told = λ unsaid have. refl }, refl, tt)

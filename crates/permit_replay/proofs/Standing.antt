@@ -13,7 +13,7 @@ use Rattle.permit_history.specs.declared.entry.Deed.{Deed}
 use Rattle.permit_history.specs.declared.entry.Deed.TheVariants as deed
 use Rattle.permit_replay.specs.declared.fault.Why.TheVariants as why
 use Rattle.permit_replay.specs.Against.{is_same, against, against_reply, against_upgrade}
-use Rattle.permit_replay.specs.Histories.{adds_entry, history_with, request_by}
+use Rattle.permit_replay.specs.Histories.{Unsaid, adds_entry, history_with, request_by}
 use Rattle.permit_replay.proofs.Accepted.{numbered}
 
 -- ---- a command
@@ -45,18 +45,19 @@ later_than_zero day h = grind (arith, nat_tests)
 again : (e : Edition) → e ≡ First → (against_upgrade e ≡ None) ⊎ (against_upgrade e ≡ Some why.FirstEdition)
 again e first = inr (ap against_upgrade first)
 
-pub stands : (token_of : List ℕ → List ℕ) (h : History) (day : ℕ) (done : Deed) → IsTrue (adds_entry done) → IsHistory (history_with token_of h day done)
-    → (against token_of h day done ≡ None) ⊎ (against token_of h day done ≡ Some why.FirstEdition)
-stands token_of h day (deed.RenewToken party digest) adds is = absurd (false≢true adds)
-stands token_of [] day (deed.Found name digest) adds is =
+pub stands : (unsaid : Unsaid) (h : History) (day : ℕ) (done : Deed) → IsTrue (adds_entry done) → IsHistory (history_with unsaid h day done)
+    → (against unsaid h day done ≡ None) ⊎ (against unsaid h day done ≡ Some why.FirstEdition)
+stands unsaid h day (deed.Begin tables) adds is = absurd (false≢true adds)
+stands unsaid h day (deed.RenewToken party digest) adds is = absurd (false≢true adds)
+stands unsaid [] day (deed.Found name digest) adds is =
     inl (ap (λ (b : Bool). if b then None else Some why.NoFounding) (later_than_zero day is.0))
-stands token_of [] day deed.Upgrade adds is = absurd is
-stands token_of [] day (deed.Accepted caller act) adds is = absurd is
-stands token_of (first ∷ []) day (deed.Found name digest) adds is = absurd is.0
-stands token_of (first ∷ []) day deed.Upgrade adds is =
+stands unsaid [] day deed.Upgrade adds is = absurd is
+stands unsaid [] day (deed.Accepted caller act) adds is = absurd is
+stands unsaid (first ∷ []) day (deed.Found name digest) adds is = absurd is.0
+stands unsaid (first ∷ []) day deed.Upgrade adds is =
     inl (ap (λ (b : Bool). if b then None else Some why.UpgradeDay) (eq-eqb day first.day is.0.same_day))
-stands token_of (first ∷ []) day (deed.Accepted caller act) adds is = inr refl
-stands token_of (last ∷ other ∷ before) day (deed.Found name digest) adds is = absurd is.0
-stands token_of (last ∷ other ∷ before) day deed.Upgrade adds is = again (edition (last ∷ other ∷ before)) is.0.once
-stands token_of (last ∷ other ∷ before) day (deed.Accepted caller act) adds is =
-    inl (accepted_stands (last ∷ other ∷ before) day caller (request_by token_of act) _ is.0)
+stands unsaid (first ∷ []) day (deed.Accepted caller act) adds is = inr refl
+stands unsaid (last ∷ other ∷ before) day (deed.Found name digest) adds is = absurd is.0
+stands unsaid (last ∷ other ∷ before) day deed.Upgrade adds is = again (edition (last ∷ other ∷ before)) is.0.once
+stands unsaid (last ∷ other ∷ before) day (deed.Accepted caller act) adds is =
+    inl (accepted_stands (last ∷ other ∷ before) day caller (request_by unsaid.token_of act) _ is.0)

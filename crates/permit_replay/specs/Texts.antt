@@ -13,20 +13,20 @@ use Rattle.permit_replay.specs.declared.fault.ReplayFault.{ReplayFault}
 use Rattle.permit_replay.specs.declared.fault.ReplayFault.TheVariants as replay_fault
 use Rattle.permit_replay.specs.declared.replayed.Replayed.{Replayed}
 use Rattle.permit_replay.specs.declared.replayed.Replayed.TheVariants as replayed
-use Rattle.permit_replay.specs.Histories.{HaveTokens, history_by}
+use Rattle.permit_replay.specs.Histories.{Unsaid, Completes, history_before, history_by}
 use Rattle.permit_replay.specs.Against.{against}
 use Rattle.permit_replay.specs.Holding.{Holds, FailsAs}
 
 -- the entries are the first of the text, these bytes stand behind them, and the history that they tell is held
-pub record HasReplayed (view : PlainStore → StoreView) (bytes : List ℕ) (entries : List Entry) (left : List ℕ) (as_far : Replayed) : Type 0 where
+pub record HasReplayed (view : PlainStore → StoreView) (begins : Unsaid → Type 0) (bytes : List ℕ) (entries : List Entry) (left : List ℕ) (as_far : Replayed) : Type 0 where
   pub given : GivesInTurn bytes entries left
-  pub held : (token_of : List ℕ → List ℕ) → HaveTokens token_of entries → Holds view as_far (history_by token_of entries)
-  pub told : (token_of : List ℕ → List ℕ) → HaveTokens token_of entries → told_history (history_by token_of entries) ≡ meant entries
+  pub held : (unsaid : Unsaid) → Completes begins unsaid entries → Holds view unsaid as_far (history_by unsaid entries)
+  pub told : (unsaid : Unsaid) → Completes begins unsaid entries → told_history (history_by unsaid entries) ≡ meant (told_history (history_before unsaid)) entries
 
 -- a text is replayed whole: no line is left behind its entries, and the store holds the tables of the history that they tell
-abbrev pub IsReplayed : (PlainStore → StoreView) → List ℕ → PlainStore → Type 0
-IsReplayed view bytes store =
-    (entries : List Entry) × (left : List ℕ) × HasReplayed view bytes entries left (replayed.Open store) × (next_line left ≡ None)
+abbrev pub IsReplayed : (PlainStore → StoreView) → (Unsaid → Type 0) → List ℕ → PlainStore → Type 0
+IsReplayed view begins bytes store =
+    (entries : List Entry) × (left : List ℕ) × HasReplayed view begins bytes entries left (replayed.Open store) × (next_line left ≡ None)
 
 -- the next line is at fault; that memory was refused says nothing of it
 abbrev pub IsAtFault : LineFault → List ℕ → Type 0
@@ -38,30 +38,30 @@ IsAtFault line_fault.Form left = option_map reading_of (next_line left) ≡ Some
 
 -- there are no tables yet
 abbrev pub IsShort : Replayed → Type 0
-IsShort replayed.Nothing = ⊤
+IsShort (replayed.Nothing first) = ⊤
 IsShort (replayed.Founded founder) = ⊤
 IsShort (replayed.Open store) = ⊥
 
 -- Replaying a text stops at the lowest line that is no entry's or no next entry: the lines before it are those of a history.
 -- Of a text that is too long, and of a source that failed, nothing is said.
-abbrev pub StopsAt : (PlainStore → StoreView) → List ℕ → ReplayFault → Type 0
-StopsAt view bytes (replay_fault.Line line fault) =
-    (entries : List Entry) × (left : List ℕ) × (as_far : Replayed) × HasReplayed view bytes entries left as_far
+abbrev pub StopsAt : (PlainStore → StoreView) → (Unsaid → Type 0) → List ℕ → ReplayFault → Type 0
+StopsAt view begins bytes (replay_fault.Line line fault) =
+    (entries : List Entry) × (left : List ℕ) × (as_far : Replayed) × HasReplayed view begins bytes entries left as_far
     × (line ≡ length entries + 1) × IsAtFault fault left
-StopsAt view bytes (replay_fault.Entry line why) =
-    (entries : List Entry) × (left : List ℕ) × (as_far : Replayed) × HasReplayed view bytes entries left as_far
+StopsAt view begins bytes (replay_fault.Entry line why) =
+    (entries : List Entry) × (left : List ℕ) × (as_far : Replayed) × HasReplayed view begins bytes entries left as_far
     × (line ≡ length entries + 1)
     × (entry : Entry) × (option_map reading_of (next_line left) ≡ Some (Ok entry))
-    × ((token_of : List ℕ → List ℕ) → HaveTokens token_of (entries ++ entry ∷ [])
-    → FailsAs why (against token_of (history_by token_of entries) entry.day entry.deed))
-StopsAt view bytes replay_fault.Short =
-    (entries : List Entry) × (left : List ℕ) × (as_far : Replayed) × HasReplayed view bytes entries left as_far × (next_line left ≡ None)
+    × ((unsaid : Unsaid) → Completes begins unsaid (entries ++ entry ∷ [])
+    → FailsAs why (against unsaid (history_by unsaid entries) entry.day entry.deed))
+StopsAt view begins bytes replay_fault.Short =
+    (entries : List Entry) × (left : List ℕ) × (as_far : Replayed) × HasReplayed view begins bytes entries left as_far × (next_line left ≡ None)
     × IsShort as_far
-StopsAt view bytes replay_fault.Endless = ⊤
-StopsAt view bytes (replay_fault.Source error) = ⊤
+StopsAt view begins bytes replay_fault.Endless = ⊤
+StopsAt view begins bytes (replay_fault.Source error) = ⊤
 
 -- the tables where there are any, and otherwise that the text is short
 abbrev pub EndsAs : Replayed → Result PlainStore ReplayFault → Type 0
-EndsAs replayed.Nothing result = result ≡ Err replay_fault.Short
+EndsAs (replayed.Nothing first) result = result ≡ Err replay_fault.Short
 EndsAs (replayed.Founded founder) result = result ≡ Err replay_fault.Short
 EndsAs (replayed.Open store) result = result ≡ Ok store

@@ -7,8 +7,16 @@ use std::io;
 /// Why an entry is not the next one.
 #[derive(Clone, Copy, PartialEq, Eq)]
 pub enum Why {
-    /// It is the first, and founds no office, or founds one on day 0.
+    /// It is the first, and neither founds an office nor begins with one that was there, or founds one on day 0.
     NoFounding,
+    /// It begins with an office that was there, and no copy of its tables was given.
+    NoCopy,
+    /// It begins with an office that was there, of other tables than the copy.
+    OtherCopy,
+    /// It begins with an office that was there, on another day than the last one of the copy.
+    CopyDay,
+    /// It begins with an office that was there, behind the first entry.
+    SecondBeginning,
     /// It founds an office behind the first entry.
     SecondFounding,
     /// It stands between the founding and the upgrade. Such a history is one, but its tables are of the first edition, and these

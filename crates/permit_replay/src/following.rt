@@ -1,15 +1,17 @@
-//! An entry behind the founding and the upgrade.
+//! Taking an entry behind the founding and the upgrade, on any store.
 
-ghost use Rattle.std.specs.Prelude.{◌≡◌, ℕ, List, IfOk, IfErr, Err};
+ghost use Rattle.std.specs.Prelude.{◌≡◌, ◌≤◌, ℕ, List, IfOk, IfErr, Err};
 ghost use Rattle.permit_base.specs.Digests.{digest_of};
 ghost use Rattle.permit_history.specs.LineData.{act_number};
 ghost use Rattle.permit_history.specs.declared.entry.Deed.TheVariants as deed;
 ghost use Rattle.permit_model.specs.History.{History};
+ghost use Rattle.permit_model.specs.Tables.{Tables};
+ghost use Rattle.permit_store.specs.Frames.{OverTables};
 ghost use Rattle.permit_office.specs.Accepting.{AnswersCommand};
 ghost use Rattle.permit_office.specs.Answers.{reply_of};
 ghost use Rattle.permit_replay.specs.Against.{is_same, against_reply};
-ghost use Rattle.permit_replay.specs.Histories.{HasToken, HasTokenIn};
-ghost use Rattle.permit_replay.specs.Holding.{Follows, HoldsHistory, IsAgainst};
+ghost use Rattle.permit_replay.specs.Histories.{HasToken, HasTokenIn, Unsaid};
+ghost use Rattle.permit_replay.specs.Holding.{Follows, HoldsHistory, IsAgainst, UnlessNumbered};
 ghost use Rattle.permit_replay.specs.declared.fault.Why.TheVariants as why;
 
 use crate::fault::Why;
@@ -18,7 +20,7 @@ use permit_base::values::{Day, Digest, PartyId};
 use permit_history::entry::{Act, Deed};
 use permit_office::accepting::accept;
 use permit_office::reply::Reply;
-use permit_store::plain::PlainStore;
+use permit_store::renewing::Renewing;
 use permit_store::store::{Got, Store};
 
 /// Whether two numbers, or the lack of them, are the same.
@@ -54,7 +56,7 @@ fn judge(answer: Got<Reply>, number: Option<u32>) -> Result<(), Why>
     }
 }
 
-/// Takes a command of the day with this number. After an error the tables may be those with a command that has another number.
+/// Takes a command of the day with this number.
 fn follow_command<S: Store>(
     store: &mut S,
     day: Day,
@@ -63,19 +65,23 @@ fn follow_command<S: Store>(
     number: Option<u32>,
 ) -> Result<(), Why>
     requires { number ≡ act_number act.now }
-    ensures { (S.view store.new).doubt ≡ 0 → (h : History) → HoldsHistory (S.view store.old).holds h
-        → (token_of : List ℕ → List ℕ) → HasTokenIn token_of act.now
-        → Follows (S.view store.new).holds token_of h day (deed.Accepted caller act.now) result }
+    ensures follows { (S.view store.new).doubt ≡ 0 → (h : History) → HoldsHistory (S.view store.old).holds h
+        → (unsaid : Unsaid) → HasTokenIn unsaid.token_of act.now
+        → Follows (S.view store.new).holds unsaid h day (deed.Accepted caller act.now) result }
+    ensures kept { (t : Tables) → (S.view store.old).holds t → UnlessNumbered result ((S.view store.new).holds t) }
+    ensures doubt { (S.view store.old).doubt ≤ (S.view store.new).doubt }
 {
     let answer = accept(store, caller, &recorded(act), day);
     judge(answer, number)
 }
 
 /// Gives a party another token.
-fn follow_renewal(store: &mut PlainStore, party: PartyId, digest: &Digest) -> Result<(), Why>
-    ensures { (h : History) → HoldsHistory (⟦<PlainStore as Store>⟧.view store.old).holds h
-        → (token_of : List ℕ → List ℕ) (day : ℕ) → digest.now ≡ digest_of (token_of digest.now)
-        → Follows (⟦<PlainStore as Store>⟧.view store.new).holds token_of h day (deed.RenewToken party digest.now) result }
+fn follow_renewal<S: Renewing>(store: &mut S, party: PartyId, digest: &Digest) -> Result<(), Why>
+    ensures follows { (S.Store.view store.new).doubt ≡ 0 → (h : History) → HoldsHistory (S.Store.view store.old).holds h
+        → (unsaid : Unsaid) (day : ℕ) → digest.now ≡ digest_of (unsaid.token_of digest.now)
+        → Follows (S.Store.view store.new).holds unsaid h day (deed.RenewToken party digest.now) result }
+    ensures kept { OverTables (S.Store.view store.old) (S.Store.view store.new) (λ t. UnlessNumbered result ((S.Store.view store.new).holds t)) }
+    ensures doubt { (S.Store.view store.old).doubt ≤ (S.Store.view store.new).doubt }
 {
     match store.renew(party, digest) {
         Ok(Ok(())) => Ok(()),
@@ -84,14 +90,18 @@ fn follow_renewal(store: &mut PlainStore, party: PartyId, digest: &Digest) -> Re
     }
 }
 
-/// Takes an entry behind the founding and the upgrade. After an error the tables may be those with a command that has another
-/// number.
-pub(crate) fn follow(store: &mut PlainStore, day: Day, deed: &Deed) -> Result<(), Why>
-    ensures { (h : History) → HoldsHistory (⟦<PlainStore as Store>⟧.view store.old).holds h
-        → (token_of : List ℕ → List ℕ) → HasToken token_of deed.now
-        → Follows (⟦<PlainStore as Store>⟧.view store.new).holds token_of h day deed.now result }
+/// Takes an entry behind the founding and the upgrade on a store that holds the tables of the history before it, where nothing
+/// stands against it. Otherwise it answers why, and the tables are as before, unless a command was done whose number is another
+/// than the entry says.
+pub fn follow<S: Renewing>(store: &mut S, day: Day, deed: &Deed) -> Result<(), Why>
+    ensures follows { (S.Store.view store.new).doubt ≡ 0 → (h : History) → HoldsHistory (S.Store.view store.old).holds h
+        → (unsaid : Unsaid) → HasToken unsaid deed.now
+        → Follows (S.Store.view store.new).holds unsaid h day deed.now result }
+    ensures kept { OverTables (S.Store.view store.old) (S.Store.view store.new) (λ t. UnlessNumbered result ((S.Store.view store.new).holds t)) }
+    ensures doubt { (S.Store.view store.old).doubt ≤ (S.Store.view store.new).doubt }
 {
     match deed {
+        Deed::Begin { .. } => Err(Why::SecondBeginning),
         Deed::Found { .. } => Err(Why::SecondFounding),
         Deed::Upgrade => Err(Why::SecondUpgrade),
         Deed::RenewToken { party, digest } => follow_renewal(store, *party, digest),

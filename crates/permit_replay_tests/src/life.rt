@@ -1,5 +1,6 @@
 //! The text of a life of one file, from the office's founding to the certificate.
 
+use permit_replay::beginning::Beginning;
 use permit_replay::fault::ReplayFault;
 use permit_replay::replay;
 use permit_store::plain::PlainStore;
@@ -77,12 +78,22 @@ pub fn text(alloc: Global, lines: &[&str]) -> Result<Vec<u8>, Fail> {
     Ok(text)
 }
 
-/// What replaying such lines answers.
-pub fn replay_lines(
+/// What replaying such lines answers, which may begin so.
+pub fn replay_from(
     alloc: Global,
+    beginning: &mut Beginning,
     lines: &[&str],
 ) -> Result<Result<PlainStore, ReplayFault>, Fail> {
     let text = text(alloc, lines)?;
     let mut source = text.as_slice();
-    Ok(replay(alloc, &mut source))
+    Ok(replay(alloc, beginning, &mut source))
+}
+
+/// What replaying such lines answers, which found their office.
+pub fn replay_lines(
+    alloc: Global,
+    lines: &[&str],
+) -> Result<Result<PlainStore, ReplayFault>, Fail> {
+    let mut beginning = Beginning::Founding;
+    replay_from(alloc, &mut beginning, lines)
 }

@@ -40,9 +40,13 @@ const REFUSED: &str =
 11 number {"body":{},"caller":3,"day":19711,"done":"start-review","id":1,"number":1}"#;
 
 /// A reason in a word.
-fn word(why: Why) -> &'static str {
+pub fn word(why: Why) -> &'static str {
     match why {
         Why::NoFounding => "no-founding",
+        Why::NoCopy => "no-copy",
+        Why::OtherCopy => "another-copy",
+        Why::CopyDay => "copy-day",
+        Why::SecondBeginning => "second-beginning",
         Why::SecondFounding => "second-founding",
         Why::FirstEdition => "first-edition",
         Why::UpgradeDay => "upgrade-day",

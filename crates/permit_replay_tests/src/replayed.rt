@@ -4,6 +4,7 @@ use crate::life::{life, replay_lines, text};
 use permit_base::values::{Digest, FileId, PaperNumber, ParcelId, PartyId};
 use permit_base::words::{Edition, Kind, PaperSort, Role, Stage};
 use permit_core::state::FileState;
+use permit_replay::beginning::Beginning;
 use permit_replay::fault::ReplayFault;
 use permit_replay::replay;
 use permit_store::plain::PlainStore;
@@ -167,14 +168,21 @@ fn what_stands_behind_the_last_lf_is_no_line(rt: HostRuntime) -> Result<(), Fail
     let mut bytes = text(alloc, first(alloc, 3)?.as_slice())?;
     bytes.extend_from_slice(b"{\"body\"")?;
     let mut source = bytes.as_slice();
-    let mut store = replay(alloc, &mut source).ok().ok_or("a store")?;
+    let mut beginning = Beginning::Founding;
+    let mut store = replay(alloc, &mut beginning, &mut source)
+        .ok()
+        .ok_or("a store")?;
     has_desk(&mut store, 19701, 2, 0, 0)
 }
 
 /// Whether a text is too short to tell of an office.
 fn is_short(alloc: Global, text: &[u8]) -> bool {
     let mut source = text;
-    matches!(&replay(alloc, &mut source), Err(ReplayFault::Short))
+    let mut beginning = Beginning::Founding;
+    matches!(
+        &replay(alloc, &mut beginning, &mut source),
+        Err(ReplayFault::Short)
+    )
 }
 
 #[test]

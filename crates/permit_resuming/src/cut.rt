@@ -4,6 +4,7 @@ ghost use Rattle.std.specs.Prelude.{◌≡◌, Err, IfOk, IsTrue, OnOk, length, 
 ghost use Rattle.permit_alike.specs.Comparing.{Looks};
 ghost use Rattle.permit_model.specs.Sound.{IsSoundTables};
 ghost use Rattle.permit_opening.specs.Opening.{IsOther};
+ghost use Rattle.permit_replay.specs.Holding.{IsBeginning, StillBegins};
 ghost use Rattle.permit_store.specs.Frames.{OverTables};
 ghost use Rattle.permit_resuming.specs.Resuming.{IsCutTo, IsKept};
 ghost use Rattle.permit_resuming.specs.declared.fault.ResumeFault.TheVariants.{Differs};
@@ -12,18 +13,26 @@ use crate::fault::ResumeFault;
 use crate::read::read_whole;
 use permit_journal::file::{FileError, HistoryFile};
 use permit_opening::compare::{Compared, compare};
+use permit_replay::beginning::Beginning;
+use permit_store::plain::PlainStore;
 use permit_store::store::Store;
 use std::alloc::Global;
 
 /// The length to which a text is cut, so that its lines are those of the store's tables.
-fn kept_length<S: Store>(alloc: Global, store: &mut S, text: &[u8]) -> Result<u64, ResumeFault>
-    ensures kept { OverTables (S.view store.old) (S.view store.new) (λ t. IsSoundTables t → IfOk result (IsKept text.now t)) }
-    ensures differs { OverTables (S.view store.old) (S.view store.new) (λ t. IsSoundTables t → result ≡ Err Differs → IsOther text.now t) }
+fn kept_length<S: Store>(
+    alloc: Global,
+    beginning: &mut Beginning,
+    store: &mut S,
+    text: &[u8],
+) -> Result<u64, ResumeFault>
+    ensures kept { OverTables (S.view store.old) (S.view store.new) (λ t. IsSoundTables t → IfOk result (IsKept (IsBeginning ⟦<PlainStore as Store>⟧.view beginning.old) text.now t)) }
+    ensures differs { OverTables (S.view store.old) (S.view store.new) (λ t. IsSoundTables t → result ≡ Err Differs → IsOther (IsBeginning ⟦<PlainStore as Store>⟧.view beginning.old) text.now t) }
     ensures looks { Looks (S.view store.old) (S.view store.new) }
+    ensures still { StillBegins ⟦<PlainStore as Store>⟧.view beginning.old beginning.new }
 {
     let mut source = text;
     let mut again = text;
-    match compare(alloc, store, &mut source, &mut again) {
+    match compare(alloc, beginning, store, &mut source, &mut again) {
         Ok(Compared::Alike { length }) => Ok(length),
         Ok(Compared::OneMore { length }) => Ok(length),
         Ok(Compared::Differs) => Err(ResumeFault::Differs),
@@ -47,19 +56,21 @@ fn cut_to<H: HistoryFile>(file: &mut H, size: usize, kept: u64) -> Result<(), Fi
 /// only read.
 pub(crate) fn cut_to_tables<S: Store, H: HistoryFile>(
     alloc: Global,
+    beginning: &mut Beginning,
     store: &mut S,
     file: &mut H,
 ) -> Result<(), ResumeFault>
     ensures cut { OverTables (S.view store.old) (S.view store.new) (λ t. IsSoundTables t → IsTrue (H.is_clean file.new)
-        → OnOk result (IsCutTo (H.text file.old) t (H.text file.new))) }
+        → OnOk result (IsCutTo (IsBeginning ⟦<PlainStore as Store>⟧.view beginning.old) (H.text file.old) t (H.text file.new))) }
     ensures differs { OverTables (S.view store.old) (S.view store.new) (λ t. IsSoundTables t → IsTrue (H.is_clean file.new)
-        → result ≡ Err Differs → IsOther (H.text file.old) t) }
+        → result ≡ Err Differs → IsOther (IsBeginning ⟦<PlainStore as Store>⟧.view beginning.old) (H.text file.old) t) }
     ensures uncut { result ≡ Err Differs → H.text file.new ≡ H.text file.old }
     ensures looks { Looks (S.view store.old) (S.view store.new) }
+    ensures still { StillBegins ⟦<PlainStore as Store>⟧.view beginning.old beginning.new }
     ensures clean { IsTrue (H.is_clean file.new) → IsTrue (H.is_clean file.old) }
 {
     let text = read_whole(alloc, file)?;
-    let kept = kept_length(alloc, store, text.as_slice())?;
+    let kept = kept_length(alloc, beginning, store, text.as_slice())?;
     cut_to(file, text.len(), kept)?;
     Ok(())
 }

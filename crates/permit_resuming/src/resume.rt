@@ -5,6 +5,7 @@ ghost use Rattle.permit_alike.specs.Comparing.{Looks};
 ghost use Rattle.permit_journal.specs.Journals.{IsSettled};
 ghost use Rattle.permit_model.specs.Sound.{IsSoundTables};
 ghost use Rattle.permit_opening.specs.Opening.{IsOther};
+ghost use Rattle.permit_replay.specs.Holding.{IsBeginning, StillBegins};
 ghost use Rattle.permit_store.specs.Frames.{OverTables};
 ghost use Rattle.permit_resuming.specs.Resuming.{IsCutTo, IsResumed};
 ghost use Rattle.permit_resuming.specs.declared.fault.ResumeFault.TheVariants.{Differs};
@@ -16,6 +17,8 @@ use permit_journal::file::HistoryFile;
 use permit_journal::journal::Journal;
 use permit_recorded::decider::Decider;
 use permit_recorded::recorded::RecordedOffice;
+use permit_replay::beginning::Beginning;
+use permit_store::plain::PlainStore;
 use permit_store::store::Store;
 use std::alloc::Global;
 
@@ -23,55 +26,86 @@ use std::alloc::Global;
 /// nothing is cut. The store is only read.
 fn cut_to_history<S: Store, H: HistoryFile>(
     alloc: Global,
+    beginning: &mut Beginning,
     store: &mut S,
     file: &mut H,
 ) -> Result<(), ResumeFault>
     ensures resumed { OverTables (S.view store.old) (S.view store.new) (λ t. IsSoundTables t → IsTrue (H.is_clean file.new)
-        → OnOk result (IsResumed (H.text file.new) (S.view store.new))) }
+        → OnOk result (IsResumed (IsBeginning ⟦<PlainStore as Store>⟧.view beginning.old) (H.text file.new) (S.view store.new))) }
     ensures cut { OverTables (S.view store.old) (S.view store.new) (λ t. IsSoundTables t → IsTrue (H.is_clean file.new)
-        → OnOk result (IsCutTo (H.text file.old) t (H.text file.new))) }
+        → OnOk result (IsCutTo (IsBeginning ⟦<PlainStore as Store>⟧.view beginning.old) (H.text file.old) t (H.text file.new))) }
     ensures differs { OverTables (S.view store.old) (S.view store.new) (λ t. IsSoundTables t → IsTrue (H.is_clean file.new)
-        → result ≡ Err Differs → IsOther (H.text file.old) t) }
+        → result ≡ Err Differs → IsOther (IsBeginning ⟦<PlainStore as Store>⟧.view beginning.old) (H.text file.old) t) }
     ensures uncut { result ≡ Err Differs → H.text file.new ≡ H.text file.old }
     ensures looks { Looks (S.view store.old) (S.view store.new) }
+    ensures still { StillBegins ⟦<PlainStore as Store>⟧.view beginning.old beginning.new }
 {
-    cut_to_tables(alloc, store, file)
+    cut_to_tables(alloc, beginning, store, file)
 }
 
-/// Opens the office with its history: the file has the text, and the store the tables. A crash left the text at the history of
-/// the tables, or one line further. What stands behind that history is cut off, and what is left is put on the disk. The office
-/// has the store but for orders that no call shows. The text is held in memory once meanwhile.
+/// Cuts the text of the file, which may begin so, to the history of the store's tables, and puts what is left on the disk. A crash left the text at
+/// that history, or one line further; what stands behind is cut off. The text is held in memory once meanwhile.
 ///
-/// Where the tables are other ones nothing is cut. The store is given back with the fault, and was only read. The file is given
-/// back too, unless one of its last two calls failed, for its length and to put it on the disk.
+/// Where the tables are other ones nothing is cut. The store is only read. The file is given back with the fault, unless one of
+/// its last two calls failed, for its length and to put it on the disk.
 ///
 /// What is said of the text is said of a file that has told nothing false. No code can tell whether one has.
+pub fn settle<S: Store, H: HistoryFile + Drop>(
+    alloc: Global,
+    beginning: &mut Beginning,
+    store: &mut S,
+    mut file: H,
+) -> Result<Journal<H>, (Option<H>, ResumeFault)>
+    ensures resumed { IfOk result (λ journal. OverTables (S.view store.old) (S.view store.new) (λ t. IsSoundTables t
+        → IsTrue (H.is_clean journal.file) → IsResumed (IsBeginning ⟦<PlainStore as Store>⟧.view beginning.old) (H.text journal.file) (S.view store.new))) }
+    ensures settled { IfOk result (λ journal. IsTrue (H.is_clean journal.file) → IsSettled H.text H.may_leave H.is_clean journal) }
+    ensures cut { IfOk result (λ journal. OverTables (S.view store.old) (S.view store.new) (λ t. IsSoundTables t
+        → IsTrue (H.is_clean journal.file) → IsCutTo (IsBeginning ⟦<PlainStore as Store>⟧.view beginning.old) (H.text file) t (H.text journal.file))) }
+    ensures looks { Looks (S.view store.old) (S.view store.new) }
+    ensures still { StillBegins ⟦<PlainStore as Store>⟧.view beginning.old beginning.new }
+
+    // Where the tables differ, the file is given back with its whole text.
+    ensures there { IfErr result (λ back. back.1 ≡ Differs → IsTrue (is_some back.0)) }
+    ensures differs { IfErr result (λ back. back.1 ≡ Differs → OverTables (S.view store.old) (S.view store.new) (λ t. IsSoundTables t
+        → IfSome back.0 (λ left. IsTrue (H.is_clean left) → IsOther (IsBeginning ⟦<PlainStore as Store>⟧.view beginning.old) (H.text file) t))) }
+    ensures uncut { IfErr result (λ back. back.1 ≡ Differs → IfSome back.0 (λ left. H.text left ≡ H.text file)) }
+{
+    if let Err(fault) = cut_to_history(alloc, beginning, store, &mut file) {
+        return Err((Some(file), fault));
+    }
+    match Journal::open(file) {
+        Ok(journal) => Ok(journal),
+        Err(_) => Err((None, ResumeFault::File)),
+    }
+}
+
+/// Opens the office with its history, as `settle` does with the text of the file. The office has the store but for orders that
+/// no call shows. Where none is opened, the store is given back, and was only read.
 pub fn resume<D: Decider + Drop, S: Store + Drop, H: HistoryFile + Drop>(
     alloc: Global,
+    beginning: &mut Beginning,
     decider: D,
     mut store: S,
-    mut file: H,
+    file: H,
 ) -> Result<RecordedOffice<D, Unordered<S>, H>, (S, Option<H>, ResumeFault)>
     ensures resumed { IfOk result (λ office. OverTables (S.view store) (S.view office.store.store) (λ t. IsSoundTables t
-        → IsTrue (H.is_clean office.journal.file) → IsResumed (H.text office.journal.file) (S.view office.store.store))) }
+        → IsTrue (H.is_clean office.journal.file) → IsResumed (IsBeginning ⟦<PlainStore as Store>⟧.view beginning.old) (H.text office.journal.file) (S.view office.store.store))) }
     ensures settled { IfOk result (λ office. IsTrue (H.is_clean office.journal.file) → IsSettled H.text H.may_leave H.is_clean office.journal) }
     ensures cut { IfOk result (λ office. OverTables (S.view store) (S.view office.store.store) (λ t. IsSoundTables t
-        → IsTrue (H.is_clean office.journal.file) → IsCutTo (H.text file) t (H.text office.journal.file))) }
+        → IsTrue (H.is_clean office.journal.file) → IsCutTo (IsBeginning ⟦<PlainStore as Store>⟧.view beginning.old) (H.text file) t (H.text office.journal.file))) }
     ensures decider { IfOk result (λ office. office.decider ≡ decider) }
     ensures looks { IfOk result (λ office. Looks (S.view store) (S.view office.store.store)) }
+    ensures still { StillBegins ⟦<PlainStore as Store>⟧.view beginning.old beginning.new }
     ensures given_back { IfErr result (λ back. Looks (S.view store) (S.view back.0)) }
 
     // Where the tables differ, the file is given back with its whole text.
     ensures there { IfErr result (λ back. back.2 ≡ Differs → IsTrue (is_some back.1)) }
     ensures differs { IfErr result (λ back. back.2 ≡ Differs → OverTables (S.view store) (S.view back.0) (λ t. IsSoundTables t
-        → IfSome back.1 (λ left. IsTrue (H.is_clean left) → IsOther (H.text file) t))) }
+        → IfSome back.1 (λ left. IsTrue (H.is_clean left) → IsOther (IsBeginning ⟦<PlainStore as Store>⟧.view beginning.old) (H.text file) t))) }
     ensures uncut { IfErr result (λ back. back.2 ≡ Differs → IfSome back.1 (λ left. H.text left ≡ H.text file)) }
 {
-    if let Err(fault) = cut_to_history(alloc, &mut store, &mut file) {
-        return Err((store, Some(file), fault));
-    }
-    match Journal::open(file) {
+    match settle(alloc, beginning, &mut store, file) {
         Ok(journal) => Ok(RecordedOffice::new(decider, Unordered { store }, journal)),
-        Err(_) => Err((store, None, ResumeFault::File)),
+        Err((file, fault)) => Err((store, file, fault)),
     }
 }

@@ -1,6 +1,7 @@
 //! The scenarios, each told and replayed.
 
 use crate::telling::{Told, founded, serve_script};
+use permit_replay::beginning::Beginning;
 use permit_replay::replay;
 use permit_samples::opening::OPENING;
 use permit_samples::scenarios::{
@@ -15,7 +16,8 @@ use std::test::*;
 /// The tables that a text leaves, as text.
 fn tables_of(alloc: Global, text: &[u8]) -> Result<String, Fail> {
     let mut source = text;
-    match replay(alloc, &mut source) {
+    let mut beginning = Beginning::Founding;
+    match replay(alloc, &mut beginning, &mut source) {
         Ok(mut store) => tables_text(alloc, &mut store),
         Err(_) => Err("the text is not replayed".into()),
     }

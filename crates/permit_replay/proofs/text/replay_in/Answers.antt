@@ -2,9 +2,13 @@ use Rattle.std.proofs.Common.{◌≡◌, ◌∙◌, sym, ap, subst, ◌+◌, [],
 use Rattle.std.specs.Io.BufRead.{drop_through}
 use Rattle.permit_history.specs.Text.{next_line, Answers}
 use Rattle.permit_store.specs.contracts.plain.PlainStoreStore.TheImpl as plain
+use Rattle.permit_replay.specs.Holding.{IsBeginning}
 use Rattle.permit_replay.specs.Texts.{IsAtFault}
-use Rattle.permit_replay.proofs.Reading.{at_fault, ends_short, ends_well, entry_said, if_some, one_more, replayed_more, some_at, stopped_there}
+use Rattle.permit_replay.proofs.Reading.{at_fault, ends_short, ends_well, entry_said, if_some, none_read, one_more, replayed_more, some_at, stopped_there}
 use Rattle.permit_replay.proofs.text.replay_in.Goals as goal
+
+pub returns-in_default-clause-stopped : goal.returns-in_default-clause-stopped
+returns-in_default-clause-stopped g c = if_some (g.R.Read.remaining c.args.source.now) _ (λ bytes e. none_read plain.view-value.it c.args.beginning.now bytes)
 
 pub loop-line-preserved : goal.loop-line-preserved
 loop-line-preserved g c = λ bytes e.
@@ -18,7 +22,7 @@ loop-line-preserved g c = λ bytes e.
       drop_through 10 i.1,
       rest,
       ap (λ n. n + 1) (i.3 ∙ sym (one_more i.0 entry)),
-      replayed_more plain.view-value.it bytes i.0 i.1 entry c.loop-line.replayed c.in-Ok.next i.4 answer c.in-Ok.ensures,
+      replayed_more plain.view-value.it (IsBeginning plain.view-value.it c.args.beginning.now) bytes i.0 i.1 entry c.loop-line.replayed c.in-Ok-take.next i.4 answer c.in-Ok-take.ensures,
     )
 
 pub returns-in-Err-clause-replayed : goal.returns-in-Err-clause-replayed
@@ -39,7 +43,7 @@ returns-in-Err-clause-stopped g c = if_some (g.R.Read.remaining c.args.source.no
       i.3,
       entry,
       entry_said entry (next_line i.1) answer,
-      stopped_there plain.view-value.it bytes i.0 i.1 entry c.loop-line.replayed c.in-Err.why i.4 c.in-Err.ensures,
+      stopped_there plain.view-value.it (IsBeginning plain.view-value.it c.args.beginning.now) bytes i.0 i.1 entry c.loop-line.replayed c.in-Err.why i.4 c.in-Err.ensures,
     ))
 
 pub returns-in-Ok-None-clause-replayed : goal.returns-in-Ok-None-clause-replayed
@@ -48,7 +52,7 @@ returns-in-Ok-None-clause-replayed g c = if_some (g.R.Read.remaining c.args.sour
     let i = c.loop-line.invariant bytes e in
     let said = some_at (g.R.Read.remaining c.loop-line.source) (λ left. Answers (Ok c.in-Ok-None.field-0) (next_line left)) i.1
     c.in-Ok-None.ensures.exact i.2 in
-    ends_well plain.view-value.it bytes i.0 i.1 c.loop-line.replayed c.finish.result i.4 (rw c.in-Ok-None.field-0-is at said) c.finish.ensures)
+    ends_well plain.view-value.it (IsBeginning plain.view-value.it c.args.beginning.now) bytes i.0 i.1 c.loop-line.replayed c.finish.result i.4 (rw c.in-Ok-None.field-0-is at said) c.finish.ensures)
 
 pub returns-in-Ok-None-clause-stopped : goal.returns-in-Ok-None-clause-stopped
 returns-in-Ok-None-clause-stopped g c = if_some (g.R.Read.remaining c.args.source.now) _
@@ -56,7 +60,7 @@ returns-in-Ok-None-clause-stopped g c = if_some (g.R.Read.remaining c.args.sourc
     let i = c.loop-line.invariant bytes e in
     let said = some_at (g.R.Read.remaining c.loop-line.source) (λ left. Answers (Ok c.in-Ok-None.field-0) (next_line left)) i.1
     c.in-Ok-None.ensures.exact i.2 in
-    ends_short plain.view-value.it bytes i.0 i.1 c.loop-line.replayed c.finish.result i.4 (rw c.in-Ok-None.field-0-is at said) c.finish.ensures)
+    ends_short plain.view-value.it (IsBeginning plain.view-value.it c.args.beginning.now) bytes i.0 i.1 c.loop-line.replayed c.finish.result i.4 (rw c.in-Ok-None.field-0-is at said) c.finish.ensures)
 
 pub returns-in-Err-Line-clause-stopped : goal.returns-in-Err-Line-clause-stopped
 returns-in-Err-Line-clause-stopped g c = if_some (g.R.Read.remaining c.args.source.now) _

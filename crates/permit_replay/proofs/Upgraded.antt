@@ -9,14 +9,14 @@ use Rattle.permit_store.specs.Founding.{founding}
 use Rattle.permit_history.specs.declared.entry.Deed.TheVariants as deed
 use Rattle.permit_replay.specs.declared.fault.Why.TheVariants as why
 use Rattle.permit_replay.specs.Against.{against}
-use Rattle.permit_replay.specs.Histories.{history_with}
+use Rattle.permit_replay.specs.Histories.{Unsaid, history_with}
 use Rattle.permit_replay.specs.Holding.{HoldsHistory}
 
 abbrev pub founded : ℕ → List ℕ → List ℕ → History
 founded day name digest = record { caller = 1; day = day; deed = Founding name digest; number = Some 1 } ∷ []
 
-pub upgrade_taken : (holds : Tables → Type 0) (token_of : List ℕ → List ℕ) (h : History) (first day : ℕ) (name digest : List ℕ)
+pub upgrade_taken : (holds : Tables → Type 0) (unsaid : Unsaid) (h : History) (first day : ℕ) (name digest : List ℕ)
     → h ≡ founded first name digest → day ≡ first → IsHistory (founding name digest first) → holds (tables (founding name digest first))
-    → (against token_of h day deed.Upgrade ≡ None) × HoldsHistory holds (history_with token_of h day deed.Upgrade)
-upgrade_taken holds token_of h first day name digest e same is held =
+    → (against unsaid h day deed.Upgrade ≡ None) × HoldsHistory holds (history_with unsaid h day deed.Upgrade)
+upgrade_taken holds unsaid h first day name digest e same is held =
     rw (e, same) (ap (λ (b : Bool). if b then None else Some why.UpgradeDay) (eq-eqb first first refl), record { history = is; upgraded = refl; held = held })
