@@ -4,7 +4,7 @@ use Rattle.std.specs.Bool.{◌==◌}
 use Rattle.clap.specs.Words.{Row, Text, is_simple_and_free}
 use Rattle.permit_args.specs.Blames.{Blames}
 use Rattle.permit_args.specs.Faults.{IsFoundIn, IsNoPlan, IsParserFault, IsUnread, Refuses}
-use Rattle.permit_args.specs.Plans.{IsActOf, IsCheckPolicyOf, IsDatabaseOf, IsImportOf, IsInitOf, IsListOf, IsRegisterOf, IsRenewalOf, IsServeOf}
+use Rattle.permit_args.specs.Plans.{IsActOf, IsBeginningOf, IsCheckDbOf, IsCheckPolicyOf, IsHistoryOf, IsImportOf, IsInitOf, IsListOf, IsRegisterOf, IsRenewalOf, IsReplayOf, IsServeOf, IsUpgradeOf}
 use Rattle.permit_args.specs.Plans.{reader_of, subcommand_in, subcommand_of, IsFoundAs, IsPlanBy, IsPlanFor, IsPlanIn, IsPlanOf}
 use Rattle.permit_args.specs.declared.plan.Plan.{Plan}
 use Rattle.permit_args.specs.declared.plan.Plan.TheVariants as plan
@@ -12,8 +12,8 @@ use Rattle.permit_args.specs.declared.plan.PlanFault.{PlanFault}
 use Rattle.permit_args.specs.declared.plan.PlanFault.TheVariants.{Help, Words, Memory}
 use Rattle.permit_args.specs.declared.plan.Subcommand.{Subcommand}
 use Rattle.permit_args.specs.declared.plan.Subcommand.TheVariants as named
-use Rattle.permit_args.proofs.Simple.{act_simple, check_db_simple, check_policy_simple, import_simple, init_simple, list_simple, program_simple}
-use Rattle.permit_args.proofs.Simple.{register_simple, renew_token_simple, serve_simple, upgrade_simple}
+use Rattle.permit_args.proofs.Simple.{act_simple, begin_history_simple, check_db_simple, check_policy_simple, history_simple, import_simple, init_simple, list_simple, program_simple}
+use Rattle.permit_args.proofs.Simple.{register_simple, renew_token_simple, replay_simple, serve_simple, upgrade_simple}
 use Rattle.permit_args.proofs.Unread.{none_among}
 
 -- what reads the words is simple
@@ -29,6 +29,9 @@ simple_reader (Some named.Serve) = serve_simple
 simple_reader (Some named.Upgrade) = upgrade_simple
 simple_reader (Some named.CheckDb) = check_db_simple
 simple_reader (Some named.RenewToken) = renew_token_simple
+simple_reader (Some named.History) = history_simple
+simple_reader (Some named.Replay) = replay_simple
+simple_reader (Some named.BeginHistory) = begin_history_simple
 
 -- ---- what a subcommand finds
 
@@ -45,9 +48,12 @@ FindsNone named.List rows = NoneIs (IsListOf rows)
 FindsNone named.Register rows = NoneIs (IsRegisterOf rows)
 FindsNone named.Import rows = NoneIs (IsImportOf rows)
 FindsNone named.Serve rows = NoneIs (IsServeOf rows)
-FindsNone named.Upgrade rows = NoneIs (IsDatabaseOf rows)
-FindsNone named.CheckDb rows = NoneIs (IsDatabaseOf rows)
+FindsNone named.Upgrade rows = NoneIs (IsUpgradeOf rows)
+FindsNone named.CheckDb rows = NoneIs (IsCheckDbOf rows)
 FindsNone named.RenewToken rows = NoneIs (IsRenewalOf rows)
+FindsNone named.History rows = NoneIs (IsHistoryOf rows)
+FindsNone named.Replay rows = NoneIs (IsReplayOf rows)
+FindsNone named.BeginHistory rows = NoneIs (IsBeginningOf rows)
 
 module _ (s : Subcommand) (rows : List Row) where
   of_own : (t : Subcommand) → Some t ≡ Some s → FindsNone s rows → FindsNone t rows
@@ -65,6 +71,9 @@ module _ (s : Subcommand) (rows : List Row) where
   none_in (plan.Upgrade x) none is = of_own named.Upgrade is.own none x is.found
   none_in (plan.CheckDb x) none is = of_own named.CheckDb is.own none x is.found
   none_in (plan.RenewToken x) none is = of_own named.RenewToken is.own none x is.found
+  none_in (plan.History x) none is = of_own named.History is.own none x is.found
+  none_in (plan.Replay x) none is = of_own named.Replay is.own none x is.found
+  none_in (plan.BeginHistory x) none is = of_own named.BeginHistory is.own none x is.found
 
   -- where the subcommand finds nothing, it finds no plan
   refused_as : {A : Type 0} (IsOf : A → Type 0) (fault : PlanFault) → (NoneIs IsOf → FindsNone s rows)

@@ -4,9 +4,10 @@ use Rattle.clap.specs.Words.{Row, Text, first_of}
 use Rattle.permit_base.specs.Stages.{is_file_stage}
 use Rattle.permit_base.specs.Words.{stage_word}
 use Rattle.permit_base.specs.declared.words.Stage.{Stage}
-use Rattle.permit_args.specs.Plans.{is_given, most_connections, most_workers, IsCheckOf, IsConnectionsOf, IsCountOf, IsStageOf, IsTokenOf, IsWorkersOf}
+use Rattle.permit_args.specs.Plans.{is_given, most_workers, ArePathsOf, IsCheckOf, IsCountOf, IsOptionalCountOf, IsStageOf, IsTokenOf, IsWorkersOf}
 use Rattle.permit_args.specs.declared.plan.Check.{Check}
 use Rattle.permit_args.specs.declared.plan.Check.TheVariants.{Rules, Dead, Facts}
+use Rattle.permit_args.specs.declared.plan.HistoryPaths.{HistoryPaths}
 use Rattle.permit_args.specs.declared.plan.TokenWords.{TokenWords}
 use Rattle.permit_args.specs.declared.plan.TokenWords.TheVariants.{Given, File}
 
@@ -42,6 +43,12 @@ pub two_tokens : (rows : List Row) (one other : Text) → first_of (codes "token
 two_tokens rows one other token file (Given text) is = let bad : Some other ≡ None = sym file ∙ is.1 in cc
 two_tokens rows one other token file (File path) is = let bad : Some one ≡ None = sym token ∙ is.0 in cc
 
+-- a copy without the text that begins with it is no history's
+pub no_paths : (rows : List Row) (copy : Text) → first_of (codes "history") rows ≡ None → first_of (codes "from") rows ≡ Some copy
+    → (paths : Option HistoryPaths) → ArePathsOf rows paths → ⊥
+no_paths rows copy history from None is = let bad : Some copy ≡ None = sym from ∙ is.1 in cc
+no_paths rows copy history from (Some paths) is = let bad : None ≡ Some paths.text.now = sym history ∙ is.0 in cc
+
 -- ---- counts
 
 -- a count of what is found is one of its text
@@ -62,8 +69,8 @@ some_found greatest (Some text) n is = (text, refl)
 pub workers_of : (rows : List Row) (text : Text) (n : ℕ) → first_of (codes "workers") rows ≡ Some text → IsWorkersOf rows n → IsCountOf most_workers text n
 workers_of rows text n there is = subst (λ o. MatchOption o (n ≡ 4) (λ t. IsCountOf most_workers t n)) there is
 
--- so are the connections
-pub connections_of : (rows : List Row) (text : Text) (x : Option ℕ) → first_of (codes "connections") rows ≡ Some text → IsConnectionsOf rows x
-    → (n : ℕ) × IsCountOf most_connections text n
-connections_of rows text None there is = let bad : Some text ≡ None = sym there ∙ is in cc
-connections_of rows text (Some n) there is = (n, counted most_connections _ text n there is)
+-- where a text is found for a number that may be left out, the number is one of the text
+pub optional_counted : (greatest : ℕ) (found : Option Text) (text : Text) (x : Option ℕ) → found ≡ Some text → IsOptionalCountOf greatest found x
+    → (n : ℕ) × IsCountOf greatest text n
+optional_counted greatest found text None there is = let bad : Some text ≡ None = sym there ∙ is in cc
+optional_counted greatest found text (Some n) there is = (n, counted greatest found text n there is)

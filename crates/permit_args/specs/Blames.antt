@@ -6,12 +6,13 @@ use Rattle.permit_base.specs.Stages.{is_file_stage}
 use Rattle.permit_base.specs.Words.{register_word, stage_word}
 use Rattle.permit_base.specs.declared.words.RegisterKind.{RegisterKind}
 use Rattle.permit_base.specs.declared.words.Stage.{Stage}
-use Rattle.permit_args.specs.Lines.{invalid_line, missing_line, no_subcommand_line, no_token_line, two_checks_line, two_tokens_line}
+use Rattle.permit_args.specs.Lines.{invalid_line, missing_line, no_history_line, no_subcommand_line, no_token_line, record_name, two_checks_line, two_tokens_line}
 use Rattle.permit_args.specs.Plans.{is_given, most_connections, most_workers, IsCountOf}
 use Rattle.permit_args.specs.declared.places.Place.{Place}
 use Rattle.permit_args.specs.declared.places.Place.TheVariants as place
+use Rattle.permit_args.specs.declared.places.RecordKind.TheVariants as kind
 use Rattle.permit_args.specs.declared.plan.Subcommand.{Subcommand}
-use Rattle.permit_args.specs.declared.plan.Subcommand.TheVariants.{CheckPolicy, Init, Act, List as List', Register, Import, Serve, Upgrade, CheckDb, RenewToken}
+use Rattle.permit_args.specs.declared.plan.Subcommand.TheVariants.{CheckPolicy, Init, Act, List as List', Register, Import, Serve, Upgrade, CheckDb, RenewToken, History, Replay, BeginHistory}
 
 -- the option or the word of a place
 abbrev pub name_of : Place → Text
@@ -19,7 +20,7 @@ name_of place.Stage = codes "stage"
 name_of place.Register = codes "name"
 name_of place.Workers = codes "workers"
 name_of place.Connections = codes "connections"
-name_of place.Party = codes "party"
+name_of (place.Record k) = record_name k
 
 -- the text is taken at the place
 abbrev pub IsTakenAt : Place → Text → Type 0
@@ -27,7 +28,7 @@ IsTakenAt place.Stage text = (stage : Stage) × (stage_word stage ≡ text) × I
 IsTakenAt place.Register text = (kind : RegisterKind) × (register_word kind ≡ text)
 IsTakenAt place.Workers text = (n : ℕ) × IsCountOf most_workers text n
 IsTakenAt place.Connections text = (n : ℕ) × IsCountOf most_connections text n
-IsTakenAt place.Party text = (n : ℕ) × IsCountOf most_records text n
+IsTakenAt (place.Record k) text = (n : ℕ) × IsCountOf most_records text n
 
 -- what is found at the place isn't taken there, and the line says so
 pub record BlamesPlace (place : Place) (rows : List Row) (line : Text) : Type 0 where
@@ -50,6 +51,10 @@ BlamesToken rows line =
 abbrev pub BlamesCheck : List Row → Text → Type 0
 BlamesCheck rows line = IsTrue (is_given (codes "dead") rows) × IsSome (first_of (codes "facts") rows) × (line ≡ two_checks_line)
 
+-- a copy of the database is there, and the history that begins with it isn't
+abbrev pub BlamesPaths : List Row → Text → Type 0
+BlamesPaths rows line = (first_of (codes "history") rows ≡ None) × IsSome (first_of (codes "from") rows) × (line ≡ no_history_line)
+
 abbrev pub BlamesOffice : List Row → Text → Type 0
 BlamesOffice rows line = Misses (codes "db") rows line ⊎ (Misses (codes "policy") rows line ⊎ BlamesToken rows line)
 
@@ -58,13 +63,18 @@ abbrev pub Blames : Option Subcommand → List Row → Text → Type 0
 Blames None rows line = line ≡ no_subcommand_line
 Blames (Some CheckPolicy) rows line = Misses (codes "policy") rows line ⊎ BlamesCheck rows line
 Blames (Some Init) rows line = Misses (codes "db") rows line ⊎ (Misses (codes "name") rows line ⊎ BlamesToken rows line)
-Blames (Some Act) rows line = BlamesOffice rows line ⊎ (Misses (codes "method") rows line ⊎ Misses (codes "path") rows line)
+Blames (Some Act) rows line = BlamesOffice rows line ⊎ (Misses (codes "method") rows line ⊎ (Misses (codes "path") rows line
+    ⊎ BlamesPaths rows line))
 Blames (Some List') rows line = BlamesOffice rows line ⊎ BlamesPlace place.Stage rows line
 Blames (Some Register) rows line = BlamesOffice rows line ⊎ (Misses (codes "name") rows line ⊎ BlamesPlace place.Register rows line)
-Blames (Some Import) rows line = BlamesOffice rows line ⊎ Misses (codes "file") rows line
+Blames (Some Import) rows line = BlamesOffice rows line ⊎ (Misses (codes "file") rows line ⊎ BlamesPaths rows line)
 Blames (Some Serve) rows line = Misses (codes "db") rows line ⊎ (Misses (codes "policy") rows line ⊎ (Misses (codes "listen") rows line
-    ⊎ (BlamesPlace place.Workers rows line ⊎ BlamesPlace place.Connections rows line)))
+    ⊎ (BlamesPlace place.Workers rows line ⊎ (BlamesPlace place.Connections rows line ⊎ BlamesPaths rows line))))
 Blames (Some Upgrade) rows line = Misses (codes "db") rows line
-Blames (Some CheckDb) rows line = Misses (codes "db") rows line
+Blames (Some CheckDb) rows line = Misses (codes "db") rows line ⊎ BlamesPaths rows line
 Blames (Some RenewToken) rows line = Misses (codes "db") rows line ⊎ (Misses (codes "party") rows line
-    ⊎ (BlamesPlace place.Party rows line ⊎ BlamesToken rows line))
+    ⊎ (BlamesPlace (place.Record kind.Party) rows line ⊎ (BlamesToken rows line ⊎ BlamesPaths rows line)))
+Blames (Some History) rows line = Misses (codes "history") rows line ⊎ (BlamesPlace (place.Record kind.File) rows line
+    ⊎ (BlamesPlace (place.Record kind.Parcel) rows line ⊎ BlamesPlace (place.Record kind.Party) rows line))
+Blames (Some Replay) rows line = Misses (codes "db") rows line ⊎ Misses (codes "history") rows line
+Blames (Some BeginHistory) rows line = Misses (codes "db") rows line ⊎ Misses (codes "history") rows line

@@ -2,7 +2,15 @@
 use Rattle.std.specs.Prelude.{◌++◌, codes}
 use Rattle.clap.specs.Words.{Text}
 use Rattle.permit_args.specs.declared.places.Place.{Place}
-use Rattle.permit_args.specs.declared.places.Place.TheVariants.{Stage, Register, Workers, Connections, Party}
+use Rattle.permit_args.specs.declared.places.Place.TheVariants.{Stage, Register, Workers, Connections, Record}
+use Rattle.permit_args.specs.declared.places.RecordKind.{RecordKind}
+use Rattle.permit_args.specs.declared.places.RecordKind.TheVariants.{File, Parcel, Party}
+
+-- the option for the number of a file, a parcel or a party
+abbrev pub record_name : RecordKind → Text
+record_name File = codes "file"
+record_name Parcel = codes "parcel"
+record_name Party = codes "party"
 
 -- how the line names a place
 abbrev pub place_name : Place → Text
@@ -10,7 +18,9 @@ place_name Stage = codes "--stage <STAGE>"
 place_name Register = codes "<NAME>"
 place_name Workers = codes "--workers <WORKERS>"
 place_name Connections = codes "--connections <CONNECTIONS>"
-place_name Party = codes "--party <N>"
+place_name (Record File) = codes "--file <N>"
+place_name (Record Parcel) = codes "--parcel <N>"
+place_name (Record Party) = codes "--party <N>"
 
 -- what is taken at a place
 abbrev pub taken_text : Place → Text
@@ -18,7 +28,7 @@ taken_text Stage = codes "filed, review, returned, approved, rejected, issued, w
 taken_text Register = codes "files, deadlines, inspections"
 taken_text Workers = codes "1 to 8"
 taken_text Connections = codes "1 to 99999"
-taken_text Party = codes "1 to 99999"
+taken_text (Record kind) = codes "1 to 99999"
 
 -- an example of it
 abbrev pub example_text : Place → Text
@@ -26,7 +36,9 @@ example_text Stage = codes "--stage review"
 example_text Register = codes "permit register deadlines"
 example_text Workers = codes "--workers 4"
 example_text Connections = codes "--connections 1000"
-example_text Party = codes "--party 2"
+example_text (Record File) = codes "--file 1"
+example_text (Record Parcel) = codes "--parcel 1"
+example_text (Record Party) = codes "--party 2"
 
 -- a value isn't taken at its place
 abbrev pub invalid_line : Place → Text → Text
@@ -50,6 +62,10 @@ two_tokens_line = codes "error: the argument '--token <TOKEN>' cannot be used wi
 -- dead rules and facts
 abbrev pub two_checks_line : Text
 two_checks_line = codes "error: the argument '--dead' cannot be used with '--facts <FACTS>'\n\nFor more information, try '--help'.\n"
+
+-- a copy of the database without the history that begins with it
+abbrev pub no_history_line : Text
+no_history_line = codes "error: the following required arguments were not provided:\n  --history <PATH>\n\nFor more information, try '--help'.\n"
 
 -- no subcommand
 abbrev pub no_subcommand_line : Text

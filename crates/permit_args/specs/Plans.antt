@@ -12,11 +12,15 @@ use Rattle.permit_base.specs.Words.{register_word, stage_word}
 use Rattle.permit_base.specs.declared.words.Stage.{Stage}
 use Rattle.permit_args.specs.declared.plan.Check.{Check}
 use Rattle.permit_args.specs.declared.plan.Check.TheVariants.{Rules, Dead, Facts}
+use Rattle.permit_args.specs.declared.plan.BeginHistoryWords.{BeginHistoryWords}
 use Rattle.permit_args.specs.declared.plan.CheckPolicyWords.{CheckPolicyWords}
-use Rattle.permit_args.specs.declared.plan.DatabaseWords.{DatabaseWords}
+use Rattle.permit_args.specs.declared.plan.CheckDbWords.{CheckDbWords}
 use Rattle.permit_args.specs.declared.plan.DayWords.{DayWords}
+use Rattle.permit_args.specs.declared.plan.HistoryPaths.{HistoryPaths}
+use Rattle.permit_args.specs.declared.plan.HistoryWords.{HistoryWords}
 use Rattle.permit_args.specs.declared.plan.InitWords.{InitWords}
 use Rattle.permit_args.specs.declared.plan.RenewTokenWords.{RenewTokenWords}
+use Rattle.permit_args.specs.declared.plan.ReplayWords.{ReplayWords}
 use Rattle.permit_args.specs.declared.plan.TokenWords.{TokenWords}
 use Rattle.permit_args.specs.declared.plan.TokenWords.TheVariants.{Given, File}
 use Rattle.permit_args.specs.declared.plan.OfficeWords.{OfficeWords}
@@ -25,8 +29,9 @@ use Rattle.permit_args.specs.declared.plan.ListWords.{ListWords}
 use Rattle.permit_args.specs.declared.plan.RegisterWords.{RegisterWords}
 use Rattle.permit_args.specs.declared.plan.ImportWords.{ImportWords}
 use Rattle.permit_args.specs.declared.plan.ServeWords.{ServeWords}
+use Rattle.permit_args.specs.declared.plan.UpgradeWords.{UpgradeWords}
 use Rattle.permit_args.specs.declared.plan.Subcommand.{Subcommand}
-use Rattle.permit_args.specs.declared.plan.Subcommand.TheVariants.{CheckPolicy, Init, Act, List as List', Register, Import, Serve, Upgrade, CheckDb, RenewToken}
+use Rattle.permit_args.specs.declared.plan.Subcommand.TheVariants.{CheckPolicy, Init, Act, List as List', Register, Import, Serve, Upgrade, CheckDb, RenewToken, History, Replay, BeginHistory}
 use Rattle.permit_args.specs.declared.plan.Plan.{Plan}
 use Rattle.permit_args.specs.declared.plan.Plan.TheVariants as plan
 
@@ -56,6 +61,18 @@ required_word name = record (optional_word name) { required = true }
 abbrev pub with_why : App → App
 with_why app = with_rule app (flag (codes "why"))
 
+-- the option for the file of the office's history, where one is kept
+abbrev pub with_history : App → App
+with_history app = with_rule app (optional_option (codes "history"))
+
+-- the option for the copy of the database with which a history begins
+abbrev pub with_copy : App → App
+with_copy app = with_rule app (optional_option (codes "from"))
+
+-- the options for the files of the office's history, where one is kept
+abbrev pub with_paths : App → App
+with_paths app = with_copy (with_history app)
+
 -- the options for the day
 abbrev pub with_days : App → App
 with_days app = with_rule (with_rule app (optional_option (codes "day"))) (optional_option (codes "zone"))
@@ -75,12 +92,12 @@ check_policy_app = with_why (with_rule (with_rule (with_rule (new_app (codes "ch
 
 -- the subcommand that founds an office
 unfoldable pub init_app : App
-init_app = with_why (with_days (with_token (with_rule (with_rule (new_app (codes "init"))
-    (required_option (codes "db"))) (required_option (codes "name")))))
+init_app = with_why (with_history (with_days (with_token (with_rule (with_rule (new_app (codes "init"))
+    (required_option (codes "db"))) (required_option (codes "name"))))))
 
 -- the subcommand that has the office serve one request
 unfoldable pub act_app : App
-act_app = with_rule (with_rule (with_rule (with_office (new_app (codes "act")))
+act_app = with_rule (with_rule (with_rule (with_paths (with_office (new_app (codes "act"))))
     (required_word (codes "method"))) (required_word (codes "path"))) (optional_word (codes "body"))
 
 -- the subcommand that lists files
@@ -93,26 +110,43 @@ register_app = with_rule (with_office (new_app (codes "register"))) (required_wo
 
 -- the subcommand that imports parcels
 unfoldable pub import_app : App
-import_app = with_rule (with_office (new_app (codes "import"))) (required_word (codes "file"))
+import_app = with_rule (with_paths (with_office (new_app (codes "import")))) (required_word (codes "file"))
 
 -- the subcommand that serves the office
 unfoldable pub serve_app : App
-serve_app = with_why (with_rule (with_rule (with_rule (with_days (with_rule (with_rule (new_app (codes "serve"))
-    (required_option (codes "db"))) (required_option (codes "policy"))))
+serve_app = with_why (with_rule (with_rule (with_rule (with_paths (with_days (with_rule (with_rule (new_app (codes "serve"))
+    (required_option (codes "db"))) (required_option (codes "policy")))))
     (required_option (codes "listen"))) (optional_option (codes "workers"))) (optional_option (codes "connections")))
 
 -- the subcommand that says whether a database's tables are sound
 unfoldable pub check_db_app : App
-check_db_app = with_why (with_rule (new_app (codes "check-db")) (required_option (codes "db")))
+check_db_app = with_why (with_copy (with_rule (with_rule (new_app (codes "check-db"))
+    (required_option (codes "db"))) (optional_option (codes "history"))))
 
 -- the subcommand that upgrades a database
 unfoldable pub upgrade_app : App
-upgrade_app = with_why (with_rule (new_app (codes "upgrade")) (required_option (codes "db")))
+upgrade_app = with_why (with_rule (with_rule (new_app (codes "upgrade")) (required_option (codes "db"))) (optional_option (codes "history")))
 
 -- the subcommand that replaces a party's token
 unfoldable pub renew_token_app : App
-renew_token_app = with_why (with_token (with_rule (with_rule (new_app (codes "renew-token"))
-    (required_option (codes "db"))) (required_option (codes "party"))))
+renew_token_app = with_why (with_paths (with_token (with_rule (with_rule (new_app (codes "renew-token"))
+    (required_option (codes "db"))) (required_option (codes "party")))))
+
+-- the subcommand that prints the entries of a history
+unfoldable pub history_app : App
+history_app = with_why (with_rule (with_rule (with_rule (with_rule (with_rule (new_app (codes "history"))
+    (required_option (codes "history"))) (optional_option (codes "file"))) (optional_option (codes "parcel")))
+    (optional_option (codes "party"))) (optional_option (codes "since")))
+
+-- the subcommand that makes an office of a history, or brings one further to it
+unfoldable pub replay_app : App
+replay_app = with_why (with_copy (with_rule (with_rule (new_app (codes "replay"))
+    (required_option (codes "db"))) (required_option (codes "history"))))
+
+-- the subcommand that begins the history of an office
+unfoldable pub begin_history_app : App
+begin_history_app = with_why (with_rule (with_rule (new_app (codes "begin-history"))
+    (required_option (codes "db"))) (required_option (codes "history")))
 
 -- ---- what their words give
 
@@ -134,6 +168,11 @@ abbrev pub IsTokenOf : List Row → TokenWords → Type 0
 IsTokenOf rows (Given text) = (first_of (codes "token") rows ≡ Some text.now) × (first_of (codes "token-file") rows ≡ None)
 IsTokenOf rows (File path) = (first_of (codes "token") rows ≡ None) × (first_of (codes "token-file") rows ≡ Some path.now)
 
+-- the files of a history that were found: the copy stands only beside the text
+abbrev pub ArePathsOf : List Row → Option HistoryPaths → Type 0
+ArePathsOf rows None = (first_of (codes "history") rows ≡ None) × (first_of (codes "from") rows ≡ None)
+ArePathsOf rows (Some paths) = (first_of (codes "history") rows ≡ Some paths.text.now) × (first_of (codes "from") rows ≡ text_of paths.copy)
+
 -- what is said of a policy: its dead rules or how it decides for some facts, not both, and without either its rules
 abbrev pub IsCheckOf : List Row → Check → Type 0
 IsCheckOf rows Rules = (is_given (codes "dead") rows ≡ false) × (first_of (codes "facts") rows ≡ None)
@@ -152,6 +191,7 @@ pub record IsInitOf (rows : List Row) (words : InitWords) : Type 0 where
   pub name : first_of (codes "name") rows ≡ Some words.name.now
   pub token : IsTokenOf rows words.token
   pub days : IsDaysOf rows words.days
+  pub history : first_of (codes "history") rows ≡ text_of words.history
   pub why : is_given (codes "why") rows ≡ words.why
 
 -- the office that was found
@@ -165,6 +205,7 @@ pub record IsOfficeOf (rows : List Row) (words : OfficeWords) : Type 0 where
 -- the request that was found
 pub record IsActOf (rows : List Row) (words : ActWords) : Type 0 where
   pub office : IsOfficeOf rows words.office
+  pub history : ArePathsOf rows words.history
   pub method : first_of (codes "method") rows ≡ Some words.method.now
   pub path : first_of (codes "path") rows ≡ Some words.path.now
   pub body : first_of (codes "body") rows ≡ text_of words.body
@@ -187,6 +228,7 @@ pub record IsRegisterOf (rows : List Row) (words : RegisterWords) : Type 0 where
 -- the import that was found
 pub record IsImportOf (rows : List Row) (words : ImportWords) : Type 0 where
   pub office : IsOfficeOf rows words.office
+  pub history : ArePathsOf rows words.history
   pub file : first_of (codes "file") rows ≡ Some words.file.now
 
 -- a number from 1 to the greatest, as it is written out
@@ -207,24 +249,36 @@ most_connections = 99999
 abbrev pub IsWorkersOf : List Row → ℕ → Type 0
 IsWorkersOf rows workers = MatchOption (first_of (codes "workers") rows) (workers ≡ 4) (λ text. IsCountOf most_workers text workers)
 
+-- a number that may be left out: of the text that was found, or of none
+abbrev pub IsOptionalCountOf : ℕ → Option Text → Option ℕ → Type 0
+IsOptionalCountOf greatest found None = found ≡ None
+IsOptionalCountOf greatest found (Some n) = IsSomeAnd found (λ text. IsCountOf greatest text n)
+
 -- a worker ends after the connections that are given, and without the option never
 abbrev pub IsConnectionsOf : List Row → Option ℕ → Type 0
-IsConnectionsOf rows None = first_of (codes "connections") rows ≡ None
-IsConnectionsOf rows (Some n) = IsSomeAnd (first_of (codes "connections") rows) (λ text. IsCountOf most_connections text n)
+IsConnectionsOf rows connections = IsOptionalCountOf most_connections (first_of (codes "connections") rows) connections
 
 -- the serving that was found
 pub record IsServeOf (rows : List Row) (words : ServeWords) : Type 0 where
   pub db : first_of (codes "db") rows ≡ Some words.db.now
   pub policy : first_of (codes "policy") rows ≡ Some words.policy.now
   pub days : IsDaysOf rows words.days
+  pub history : ArePathsOf rows words.history
   pub listen : first_of (codes "listen") rows ≡ Some words.listen.now
   pub workers : IsWorkersOf rows words.workers
   pub connections : IsConnectionsOf rows words.connections
   pub why : is_given (codes "why") rows ≡ words.why
 
--- the database that was found
-pub record IsDatabaseOf (rows : List Row) (words : DatabaseWords) : Type 0 where
+-- the upgrade that was found
+pub record IsUpgradeOf (rows : List Row) (words : UpgradeWords) : Type 0 where
   pub db : first_of (codes "db") rows ≡ Some words.db.now
+  pub history : first_of (codes "history") rows ≡ text_of words.history
+  pub why : is_given (codes "why") rows ≡ words.why
+
+-- the check that was found
+pub record IsCheckDbOf (rows : List Row) (words : CheckDbWords) : Type 0 where
+  pub db : first_of (codes "db") rows ≡ Some words.db.now
+  pub history : ArePathsOf rows words.history
   pub why : is_given (codes "why") rows ≡ words.why
 
 -- the party's number that was found
@@ -236,6 +290,32 @@ pub record IsRenewalOf (rows : List Row) (words : RenewTokenWords) : Type 0 wher
   pub db : first_of (codes "db") rows ≡ Some words.db.now
   pub party : IsPartyOf rows words.party
   pub token : IsTokenOf rows words.token
+  pub history : ArePathsOf rows words.history
+  pub why : is_given (codes "why") rows ≡ words.why
+
+-- the number of a record that was found under a name, where one was
+abbrev pub IsRecordOf : Text → List Row → Option ℕ → Type 0
+IsRecordOf name rows number = IsOptionalCountOf most_records (first_of name rows) number
+
+-- the entries that were found
+pub record IsHistoryOf (rows : List Row) (words : HistoryWords) : Type 0 where
+  pub history : first_of (codes "history") rows ≡ Some words.history.now
+  pub file : IsRecordOf (codes "file") rows words.file
+  pub parcel : IsRecordOf (codes "parcel") rows words.parcel
+  pub party : IsRecordOf (codes "party") rows words.party
+  pub since : first_of (codes "since") rows ≡ text_of words.since
+  pub why : is_given (codes "why") rows ≡ words.why
+
+-- the replay that was found
+pub record IsReplayOf (rows : List Row) (words : ReplayWords) : Type 0 where
+  pub db : first_of (codes "db") rows ≡ Some words.db.now
+  pub history : ArePathsOf rows (Some words.history)
+  pub why : is_given (codes "why") rows ≡ words.why
+
+-- the beginning of a history that was found
+pub record IsBeginningOf (rows : List Row) (words : BeginHistoryWords) : Type 0 where
+  pub db : first_of (codes "db") rows ≡ Some words.db.now
+  pub history : first_of (codes "history") rows ≡ Some words.history.now
   pub why : is_given (codes "why") rows ≡ words.why
 
 -- ---- the plan
@@ -247,11 +327,20 @@ bare_app = record {
   subs = [];
 }
 
+-- the program with the subcommands that read a policy, found an office and ask it
+unfoldable pub asking_app : App
+asking_app = with_subcommand (with_subcommand (with_subcommand (with_subcommand (with_subcommand bare_app check_policy_app.top) init_app.top)
+    act_app.top) list_app.top) register_app.top
+
+-- and those that bring in parcels, serve an office and look after its database
+unfoldable pub serving_app : App
+serving_app = with_subcommand (with_subcommand (with_subcommand (with_subcommand asking_app import_app.top) serve_app.top) upgrade_app.top)
+    check_db_app.top
+
 -- the program itself, which reads the words where the first names no subcommand
 unfoldable pub program_app : App
-program_app = with_subcommand (with_subcommand (with_subcommand (with_subcommand (with_subcommand (with_subcommand (with_subcommand
-    (with_subcommand (with_subcommand (with_subcommand bare_app check_policy_app.top) init_app.top) act_app.top) list_app.top) register_app.top)
-    import_app.top) serve_app.top) upgrade_app.top) check_db_app.top) renew_token_app.top
+program_app = with_subcommand (with_subcommand (with_subcommand (with_subcommand serving_app renew_token_app.top) history_app.top)
+    replay_app.top) begin_history_app.top
 
 -- the subcommand of a word
 abbrev pub named : Text → Option Subcommand
@@ -265,7 +354,10 @@ named word =
     if bytes_eq word (codes "serve") then Some Serve else (
     if bytes_eq word (codes "upgrade") then Some Upgrade else (
     if bytes_eq word (codes "check-db") then Some CheckDb else (
-    if bytes_eq word (codes "renew-token") then Some RenewToken else None)))))))))
+    if bytes_eq word (codes "renew-token") then Some RenewToken else (
+    if bytes_eq word (codes "history") then Some History else (
+    if bytes_eq word (codes "replay") then Some Replay else (
+    if bytes_eq word (codes "begin-history") then Some BeginHistory else None))))))))))))
 
 -- the subcommand that the first word names
 abbrev pub subcommand_in : List Text → Option Subcommand
@@ -285,6 +377,9 @@ reader_of (Some Serve) = serve_app
 reader_of (Some Upgrade) = upgrade_app
 reader_of (Some CheckDb) = check_db_app
 reader_of (Some RenewToken) = renew_token_app
+reader_of (Some History) = history_app
+reader_of (Some Replay) = replay_app
+reader_of (Some BeginHistory) = begin_history_app
 
 -- the subcommand that a plan is of; the plan to print the name is of none
 abbrev pub subcommand_of : Plan → Option Subcommand
@@ -299,6 +394,9 @@ subcommand_of (plan.Serve serving) = Some Serve
 subcommand_of (plan.Upgrade upgrade) = Some Upgrade
 subcommand_of (plan.CheckDb check) = Some CheckDb
 subcommand_of (plan.RenewToken renewal) = Some RenewToken
+subcommand_of (plan.History entries) = Some History
+subcommand_of (plan.Replay replay) = Some Replay
+subcommand_of (plan.BeginHistory beginning) = Some BeginHistory
 
 -- the plan is what was found
 abbrev pub IsFoundAs : List Row → Plan → Type 0
@@ -310,9 +408,12 @@ IsFoundAs rows (plan.List listing) = IsListOf rows listing
 IsFoundAs rows (plan.Register register) = IsRegisterOf rows register
 IsFoundAs rows (plan.Import imported) = IsImportOf rows imported
 IsFoundAs rows (plan.Serve serving) = IsServeOf rows serving
-IsFoundAs rows (plan.Upgrade upgrade) = IsDatabaseOf rows upgrade
-IsFoundAs rows (plan.CheckDb check) = IsDatabaseOf rows check
+IsFoundAs rows (plan.Upgrade upgrade) = IsUpgradeOf rows upgrade
+IsFoundAs rows (plan.CheckDb check) = IsCheckDbOf rows check
 IsFoundAs rows (plan.RenewToken renewal) = IsRenewalOf rows renewal
+IsFoundAs rows (plan.History entries) = IsHistoryOf rows entries
+IsFoundAs rows (plan.Replay replay) = IsReplayOf rows replay
+IsFoundAs rows (plan.BeginHistory beginning) = IsBeginningOf rows beginning
 
 -- the plan is one of the subcommand, and what was found
 pub record IsPlanIn (s : Subcommand) (rows : List Row) (plan : Plan) : Type 0 where

@@ -3,9 +3,9 @@
 ghost use Rattle.std.specs.Prelude.{◌≡◌, IfOk, Some, codes, false};
 ghost use Rattle.clap.specs.Words.{App, new_app, rule_of};
 ghost use Rattle.permit_args.specs.Commands.{IsCommandOf};
-ghost use Rattle.permit_args.specs.Plans.{act_app, bare_app, check_db_app, check_policy_app, flag, import_app, init_app, list_app, optional_option, optional_word, upgrade_app};
-ghost use Rattle.permit_args.specs.Plans.{program_app, reader_of, register_app, renew_token_app, required_option, required_word, serve_app};
-ghost use Rattle.permit_args.specs.Plans.{with_days, with_office, with_token, with_why};
+ghost use Rattle.permit_args.specs.Plans.{act_app, asking_app, bare_app, begin_history_app, check_db_app, check_policy_app, flag, history_app, import_app, init_app, list_app, optional_option, optional_word, upgrade_app};
+ghost use Rattle.permit_args.specs.Plans.{program_app, reader_of, register_app, renew_token_app, replay_app, required_option, required_word, serve_app, serving_app};
+ghost use Rattle.permit_args.specs.Plans.{with_days, with_history, with_office, with_paths, with_token, with_why};
 
 use crate::plan::Subcommand;
 use clap::{Arg, ArgAction, Command};
@@ -101,6 +101,38 @@ fn with_why<'a>(alloc: Global, command: Command<'a>) -> Result<Command<'a>, Allo
     ))
 }
 
+/// The subcommand with the option for the file of the office's history.
+fn with_history<'a>(alloc: Global, command: Command<'a>) -> Result<Command<'a>, AllocError>
+    ensures { (app : App) → IsCommandOf app command.entry → IfOk result (IsCommandOf (with_history app)) }
+{
+    command.arg(option(
+        alloc,
+        "history",
+        "PATH",
+        "The path of a file in which the office's history is kept; without it none is kept",
+    ))
+}
+
+/// The option for the copy of the database with which a history begins.
+fn copy<'a>(alloc: Global) -> Arg<'a>
+    ensures rule { rule_of result ≡ optional_option (codes "from") }
+    ensures own { result.global ≡ false }
+{
+    option(
+        alloc,
+        "from",
+        "COPY",
+        "The path of the copy of the database that was made when the history was begun by begin-history",
+    )
+}
+
+/// The subcommand with the options for the files of the office's history.
+fn with_paths<'a>(alloc: Global, command: Command<'a>) -> Result<Command<'a>, AllocError>
+    ensures { (app : App) → IsCommandOf app command.entry → IfOk result (IsCommandOf (with_paths app)) }
+{
+    with_history(alloc, command)?.arg(copy(alloc))
+}
+
 /// The subcommand with the words for the day.
 fn with_days<'a>(alloc: Global, command: Command<'a>) -> Result<Command<'a>, AllocError>
     ensures { (app : App) → IsCommandOf app command.entry → IfOk result (IsCommandOf (with_days app)) }
@@ -187,8 +219,8 @@ fn init<'a>(alloc: Global) -> Result<Command<'a>, AllocError>
     )?
     .arg(database(alloc))?
     .arg(required_option(alloc, "name", "NAME", "The first official's name"))?;
-    let command = with_token(alloc, command)?;
-    with_why(alloc, with_days(alloc, command)?)
+    let command = with_days(alloc, with_token(alloc, command)?)?;
+    with_why(alloc, with_history(alloc, command)?)
 }
 
 /// The subcommand that has the office serve one request.
@@ -202,7 +234,7 @@ fn act<'a>(alloc: Global) -> Result<Command<'a>, AllocError>
         "Has the office serve one request, and prints the answer's body",
         "Example: permit act GET /files/1 --db office.db --policy policy.toml --token-file caller.token",
     )?;
-    with_office(alloc, command)?
+    with_paths(alloc, with_office(alloc, command)?)?
         .arg(required_word(alloc, "method", "METHOD", "The request's method"))?
         .arg(required_word(alloc, "path", "PATH", "The request's path"))?
         .arg(word(alloc, "body", "BODY", "The request's body, in JSON"))
@@ -257,7 +289,7 @@ fn import<'a>(alloc: Global) -> Result<Command<'a>, AllocError>
         "Adds the parcels of a file of comma-separated records, and says of each record what became of it",
         "Example: permit import parcels.csv --db office.db --policy policy.toml --token-file caller.token",
     )?;
-    with_office(alloc, command)?.arg(required_word(
+    with_paths(alloc, with_office(alloc, command)?)?.arg(required_word(
         alloc,
         "file",
         "FILE",
@@ -278,7 +310,7 @@ fn serve<'a>(alloc: Global) -> Result<Command<'a>, AllocError>
     )?
     .arg(database(alloc))?
     .arg(policy(alloc))?;
-    let command = with_days(alloc, command)?
+    let command = with_paths(alloc, with_days(alloc, command)?)?
         .arg(required_option(
             alloc,
             "listen",
@@ -311,7 +343,14 @@ fn check_db<'a>(alloc: Global) -> Result<Command<'a>, AllocError>
         "Says whether the tables of a database are sound, and how many parties, parcels and files there are; with --why also the first place that is wrong; changes nothing",
         "Example: permit check-db --db office.db",
     )?
-    .arg(database(alloc))?;
+    .arg(database(alloc))?
+    .arg(option(
+        alloc,
+        "history",
+        "PATH",
+        "The path of a file whose history the tables are to be those of",
+    ))?
+    .arg(copy(alloc))?;
     with_why(alloc, command)
 }
 
@@ -326,7 +365,13 @@ fn upgrade<'a>(alloc: Global) -> Result<Command<'a>, AllocError>
         "Makes of a database of schema version 1 one of version 2, whole or not at all; there is no way back but a backup",
         "Example: permit upgrade --db office.db",
     )?
-    .arg(database(alloc))?;
+    .arg(database(alloc))?
+    .arg(option(
+        alloc,
+        "history",
+        "PATH",
+        "The path of a new file, in which the office's history is kept from then on",
+    ))?;
     with_why(alloc, command)
 }
 
@@ -344,6 +389,93 @@ fn renew_token<'a>(alloc: Global) -> Result<Command<'a>, AllocError>
     .arg(database(alloc))?
     .arg(required_option(alloc, "party", "N", "The party's number, 1 to 99999"))?;
     let command = with_token(alloc, command)?;
+    with_why(alloc, with_paths(alloc, command)?)
+}
+
+/// The subcommand that prints the entries of a history.
+fn history<'a>(alloc: Global) -> Result<Command<'a>, AllocError>
+    ensures { IfOk result (IsCommandOf history_app) }
+{
+    let command = subcommand(
+        alloc,
+        "history",
+        "permit history",
+        "Prints the entries of an office's history, a line each",
+        "Example: permit history --history office.history --file 1",
+    )?
+    .arg(required_option(
+        alloc,
+        "history",
+        "PATH",
+        "The path of a file that has the history",
+    ))?
+    .arg(option(
+        alloc,
+        "file",
+        "N",
+        "Only what was done to this file, 1 to 99999",
+    ))?
+    .arg(option(
+        alloc,
+        "parcel",
+        "N",
+        "Only what was done to this parcel, 1 to 99999",
+    ))?
+    .arg(option(
+        alloc,
+        "party",
+        "N",
+        "Only what this party did, or what names it, 1 to 99999",
+    ))?
+    .arg(option(
+        alloc,
+        "since",
+        "DAY",
+        "Only what was done from this day on, as YYYY-MM-DD",
+    ))?;
+    with_why(alloc, command)
+}
+
+/// The subcommand that makes an office of a history, or brings one further to it.
+fn replay<'a>(alloc: Global) -> Result<Command<'a>, AllocError>
+    ensures { IfOk result (IsCommandOf replay_app) }
+{
+    let command = subcommand(
+        alloc,
+        "replay",
+        "permit replay",
+        "Makes an office in a database of the history of another, or brings one further that is at a beginning of it",
+        "Example: permit replay --history office.history --db standby.db",
+    )?
+    .arg(database(alloc))?
+    .arg(required_option(
+        alloc,
+        "history",
+        "PATH",
+        "The path of a file that has the history",
+    ))?
+    .arg(copy(alloc))?;
+    with_why(alloc, command)
+}
+
+/// The subcommand that begins the history of an office.
+fn begin_history<'a>(alloc: Global) -> Result<Command<'a>, AllocError>
+    ensures { IfOk result (IsCommandOf begin_history_app) }
+{
+    let command = subcommand(
+        alloc,
+        "begin-history",
+        "permit begin-history",
+        "Begins the history of an office that has none, or a new file of it; the tables are to be copied before anything else is done",
+        "Example: permit begin-history --db office.db --history office.history",
+    )?
+    .arg(database(alloc))?
+    .arg(required_option(
+        alloc,
+        "history",
+        "PATH",
+        "The path of a new file, in which the office's history is kept from now on",
+    ))?;
     with_why(alloc, command)
 }
 
@@ -362,6 +494,9 @@ pub(crate) fn command<'a>(alloc: Global, named: Subcommand) -> Result<Command<'a
         Subcommand::Upgrade => upgrade(alloc),
         Subcommand::CheckDb => check_db(alloc),
         Subcommand::RenewToken => renew_token(alloc),
+        Subcommand::History => history(alloc),
+        Subcommand::Replay => replay(alloc),
+        Subcommand::BeginHistory => begin_history(alloc),
     }
 }
 
@@ -379,19 +514,36 @@ fn bare_program<'a>(alloc: Global) -> Result<Command<'a>, AllocError>
     )
 }
 
-/// The program with all its subcommands, for help and for words that begin with none of them.
-pub(crate) fn program<'a>(alloc: Global) -> Result<Command<'a>, AllocError>
-    ensures { IfOk result (IsCommandOf program_app) }
+/// The program with the subcommands that read a policy, found an office and ask it.
+fn asking_program<'a>(alloc: Global) -> Result<Command<'a>, AllocError>
+    ensures { IfOk result (IsCommandOf asking_app) }
 {
     bare_program(alloc)?
         .subcommand(check_policy(alloc)?)?
         .subcommand(init(alloc)?)?
         .subcommand(act(alloc)?)?
         .subcommand(list(alloc)?)?
-        .subcommand(register(alloc)?)?
+        .subcommand(register(alloc)?)
+}
+
+/// The program with the subcommands that bring in parcels, serve an office and look after its database too.
+fn serving_program<'a>(alloc: Global) -> Result<Command<'a>, AllocError>
+    ensures { IfOk result (IsCommandOf serving_app) }
+{
+    asking_program(alloc)?
         .subcommand(import(alloc)?)?
         .subcommand(serve(alloc)?)?
         .subcommand(upgrade(alloc)?)?
-        .subcommand(check_db(alloc)?)?
-        .subcommand(renew_token(alloc)?)
+        .subcommand(check_db(alloc)?)
+}
+
+/// The program with all its subcommands, for help and for words that begin with none of them.
+pub(crate) fn program<'a>(alloc: Global) -> Result<Command<'a>, AllocError>
+    ensures { IfOk result (IsCommandOf program_app) }
+{
+    serving_program(alloc)?
+        .subcommand(renew_token(alloc)?)?
+        .subcommand(history(alloc)?)?
+        .subcommand(replay(alloc)?)?
+        .subcommand(begin_history(alloc)?)
 }

@@ -5,14 +5,14 @@ ghost use Rattle.clap.specs.Words.{first_of, found_of, rows_of};
 ghost use Rattle.permit_base.specs.Limits.{most_records};
 ghost use Rattle.permit_base.specs.Stages.{is_file_stage};
 ghost use Rattle.permit_base.specs.Words.{register_word, stage_word};
-ghost use Rattle.permit_args.specs.Blames.{BlamesCheck, BlamesOffice, BlamesPlace, BlamesToken, Misses};
+ghost use Rattle.permit_args.specs.Blames.{BlamesCheck, BlamesOffice, BlamesPaths, BlamesPlace, BlamesToken, Misses};
 ghost use Rattle.permit_args.specs.Faults.{Refuses};
-ghost use Rattle.permit_args.specs.Lines.{invalid_line};
-ghost use Rattle.permit_args.specs.Plans.{is_given, text_of, IsCheckOf, IsConnectionsOf, IsCountOf, IsDaysOf, IsOfficeOf, IsPartyOf, IsStageOf, IsTokenOf, IsWorkersOf};
+ghost use Rattle.permit_args.specs.Lines.{invalid_line, record_name};
+ghost use Rattle.permit_args.specs.Plans.{is_given, text_of, ArePathsOf, IsCheckOf, IsConnectionsOf, IsCountOf, IsDaysOf, IsOfficeOf, IsRecordOf, IsStageOf, IsTokenOf, IsWorkersOf};
 ghost use Rattle.permit_args.specs.declared.places.Place.TheVariants as place;
 
-use crate::places::{Place, bad, invalid, missing};
-use crate::plan::{Check, DayWords, OfficeWords, PlanFault, TokenWords};
+use crate::places::{Place, RecordKind, bad, invalid, missing};
+use crate::plan::{Check, DayWords, HistoryPaths, OfficeWords, PlanFault, TokenWords};
 use clap::ArgMatches;
 use permit_base::limits::MOST_RECORDS;
 use permit_base::request::FileStage;
@@ -179,12 +179,27 @@ pub(crate) fn connections(alloc: Global, matches: &ArgMatches<'_>) -> Result<Opt
     }
 }
 
-/// The number of the party of this word.
-pub(crate) fn party(alloc: Global, text: &str) -> Result<u32, PlanFault>
+/// The number of the record of this word.
+pub(crate) fn number(alloc: Global, text: &str, kind: RecordKind) -> Result<u32, PlanFault>
     ensures number { IfOk result (IsCountOf most_records text.now) }
-    ensures refused { IfErr result (Refuses (IsCountOf most_records text.now) (λ line. line ≡ invalid_line place.Party text.now)) }
+    ensures refused { IfErr result (Refuses (IsCountOf most_records text.now) (λ line. line ≡ invalid_line (place.Record kind) text.now)) }
 {
-    count(alloc, text, MOST_RECORDS, Place::Party)
+    count(alloc, text, MOST_RECORDS, Place::Record(kind))
+}
+
+/// The number of a record, where the option for it is given.
+pub(crate) fn record(
+    alloc: Global,
+    matches: &ArgMatches<'_>,
+    kind: RecordKind,
+) -> Result<Option<u32>, PlanFault>
+    ensures number { IfOk result (IsRecordOf (record_name kind) (rows_of (found_of matches.now))) }
+    ensures refused { IfErr result (Refuses (IsRecordOf (record_name kind) (rows_of (found_of matches.now))) (BlamesPlace (place.Record kind) (rows_of (found_of matches.now)))) }
+{
+    match value(matches, kind.option()) {
+        Some(text) => Ok(Some(number(alloc, text, kind)?)),
+        None => Ok(None),
+    }
 }
 
 /// What is said of a policy.
@@ -199,6 +214,24 @@ pub(crate) fn check<'a>(alloc: Global, matches: &ArgMatches<'a>) -> Result<Check
         (true, Some(_)) => Err(bad(
             alloc,
             "error: the argument '--dead' cannot be used with '--facts <FACTS>'\n\nFor more information, try '--help'.\n",
+        )),
+    }
+}
+
+/// The files of the office's history, where one is kept: the copy is given only beside the text.
+pub(crate) fn paths<'a>(
+    alloc: Global,
+    matches: &ArgMatches<'a>,
+) -> Result<Option<HistoryPaths<'a>>, PlanFault>
+    ensures found { IfOk result (ArePathsOf (rows_of (found_of matches.now))) }
+    ensures refused { IfErr result (Refuses (ArePathsOf (rows_of (found_of matches.now))) (BlamesPaths (rows_of (found_of matches.now)))) }
+{
+    match (value(matches, "history"), value(matches, "from")) {
+        (Some(text), copy) => Ok(Some(HistoryPaths { text, copy })),
+        (None, None) => Ok(None),
+        (None, Some(_)) => Err(bad(
+            alloc,
+            "error: the following required arguments were not provided:\n  --history <PATH>\n\nFor more information, try '--help'.\n",
         )),
     }
 }

@@ -2,10 +2,31 @@
 
 ghost use Rattle.std.specs.Prelude.{◌≡◌};
 ghost use Rattle.permit_args.specs.Faults.{Says};
-ghost use Rattle.permit_args.specs.Lines.{example_text, invalid_line, missing_line, place_name, taken_text};
+ghost use Rattle.permit_args.specs.Lines.{example_text, invalid_line, missing_line, place_name, record_name, taken_text};
 
 use crate::plan::PlanFault;
 use std::alloc::Global;
+
+/// What has a number that an option may give.
+#[derive(Clone, Copy)]
+pub(crate) enum RecordKind {
+    File,
+    Parcel,
+    Party,
+}
+
+impl RecordKind {
+    /// The option for its number.
+    pub(crate) fn option(self) -> &'static str
+        ensures { result.now ≡ record_name self }
+    {
+        match self {
+            RecordKind::File => "file",
+            RecordKind::Parcel => "parcel",
+            RecordKind::Party => "party",
+        }
+    }
+}
 
 /// A place whose value is tested.
 #[derive(Clone, Copy)]
@@ -18,8 +39,8 @@ pub(crate) enum Place {
     Workers,
     /// After how many connections a worker ends.
     Connections,
-    /// The number of a party.
-    Party,
+    /// The number of a file, a parcel or a party.
+    Record(RecordKind),
 }
 
 impl Place {
@@ -32,7 +53,9 @@ impl Place {
             Place::Register => "<NAME>",
             Place::Workers => "--workers <WORKERS>",
             Place::Connections => "--connections <CONNECTIONS>",
-            Place::Party => "--party <N>",
+            Place::Record(RecordKind::File) => "--file <N>",
+            Place::Record(RecordKind::Parcel) => "--parcel <N>",
+            Place::Record(RecordKind::Party) => "--party <N>",
         }
     }
 
@@ -46,7 +69,7 @@ impl Place {
             }
             Place::Register => "files, deadlines, inspections",
             Place::Workers => "1 to 8",
-            Place::Connections | Place::Party => "1 to 99999",
+            Place::Connections | Place::Record(_) => "1 to 99999",
         }
     }
 
@@ -59,7 +82,9 @@ impl Place {
             Place::Register => "permit register deadlines",
             Place::Workers => "--workers 4",
             Place::Connections => "--connections 1000",
-            Place::Party => "--party 2",
+            Place::Record(RecordKind::File) => "--file 1",
+            Place::Record(RecordKind::Parcel) => "--parcel 1",
+            Place::Record(RecordKind::Party) => "--party 2",
         }
     }
 }

@@ -26,11 +26,17 @@ pub enum Plan<'a> {
     /// Serves the office over TCP.
     Serve(ServeWords<'a>),
     /// Makes of a database of the schema's first version one of the second.
-    Upgrade(DatabaseWords<'a>),
-    /// Says whether a database's tables are sound.
-    CheckDb(DatabaseWords<'a>),
+    Upgrade(UpgradeWords<'a>),
+    /// Says whether a database's tables are sound, and whether they are those of a history.
+    CheckDb(CheckDbWords<'a>),
     /// Replaces a party's token.
     RenewToken(RenewTokenWords<'a>),
+    /// Prints the entries of an office's history.
+    History(HistoryWords<'a>),
+    /// Makes an office in a database of a history, or brings one further to it.
+    Replay(ReplayWords<'a>),
+    /// Begins the history of an office that has none, or a new file of it.
+    BeginHistory(BeginHistoryWords<'a>),
 }
 
 /// The subcommands.
@@ -46,6 +52,9 @@ pub enum Subcommand {
     Upgrade,
     CheckDb,
     RenewToken,
+    History,
+    Replay,
+    BeginHistory,
 }
 
 /// Where a token is.
@@ -88,6 +97,15 @@ pub struct DayWords<'a> {
     pub zone: Option<&'a str>,
 }
 
+/// The files of an office's history.
+#[derive(Clone, Copy, PartialEq, Drop)]
+pub struct HistoryPaths<'a> {
+    /// The path of the file of the history.
+    pub text: &'a str,
+    /// The path of the copy of the database with which the history begins; without one it begins with the founding.
+    pub copy: Option<&'a str>,
+}
+
 /// Who founds an office, where and when.
 #[derive(Clone, Copy, PartialEq, Drop)]
 pub struct InitWords<'a> {
@@ -99,6 +117,8 @@ pub struct InitWords<'a> {
     pub token: TokenWords<'a>,
     /// The founding day.
     pub days: DayWords<'a>,
+    /// The path of the file of the office's history; without one none is kept.
+    pub history: Option<&'a str>,
     /// Whether a failure is explained.
     pub why: bool,
 }
@@ -123,6 +143,8 @@ pub struct OfficeWords<'a> {
 pub struct ActWords<'a> {
     /// The office that is asked.
     pub office: OfficeWords<'a>,
+    /// The files of the office's history; without them none is kept.
+    pub history: Option<HistoryPaths<'a>>,
     /// The request's method.
     pub method: &'a str,
     /// The request's path.
@@ -154,6 +176,8 @@ pub struct RegisterWords<'a> {
 pub struct ImportWords<'a> {
     /// The office that is asked.
     pub office: OfficeWords<'a>,
+    /// The files of the office's history; without them none is kept.
+    pub history: Option<HistoryPaths<'a>>,
     /// The path of the file of records.
     pub file: &'a str,
 }
@@ -167,6 +191,8 @@ pub struct ServeWords<'a> {
     pub policy: &'a str,
     /// The day of all requests; without a date the clock is asked at each of them.
     pub days: DayWords<'a>,
+    /// The files of the office's history; without them none is kept.
+    pub history: Option<HistoryPaths<'a>>,
     /// The address on which connections are taken: a host or its number, and a port.
     pub listen: &'a str,
     /// How many workers serve connections, each one at a time: 1 to 8.
@@ -177,12 +203,25 @@ pub struct ServeWords<'a> {
     pub why: bool,
 }
 
-/// Which database is upgraded or checked.
+/// Which database is upgraded, and where its history begins.
 #[derive(Clone, Copy, PartialEq, Drop)]
-pub struct DatabaseWords<'a> {
+pub struct UpgradeWords<'a> {
     /// The database's path.
     pub db: &'a str,
-    /// Whether a failure is explained; of `check-db` also whether the first place that is wrong is named.
+    /// The path of the new file in which the office's history is begun once it is upgraded; without one none is begun.
+    pub history: Option<&'a str>,
+    /// Whether a failure is explained.
+    pub why: bool,
+}
+
+/// Which database is checked, and beside which history.
+#[derive(Clone, Copy, PartialEq, Drop)]
+pub struct CheckDbWords<'a> {
+    /// The database's path.
+    pub db: &'a str,
+    /// The files of the history that the tables are to be those of.
+    pub history: Option<HistoryPaths<'a>>,
+    /// Whether a failure is explained, and the first place that is wrong is named.
     pub why: bool,
 }
 
@@ -195,6 +234,47 @@ pub struct RenewTokenWords<'a> {
     pub party: u32,
     /// The party's new token.
     pub token: TokenWords<'a>,
+    /// The files of the office's history; without them none is kept.
+    pub history: Option<HistoryPaths<'a>>,
+    /// Whether a failure is explained.
+    pub why: bool,
+}
+
+/// Which history is printed, and which of its entries: those of which all holds that is given.
+#[derive(Clone, Copy, PartialEq, Drop)]
+pub struct HistoryWords<'a> {
+    /// The path of the history's file.
+    pub history: &'a str,
+    /// The number of the file that the entries are about, 1 to 99999.
+    pub file: Option<u32>,
+    /// The number of the parcel that the entries are about, 1 to 99999.
+    pub parcel: Option<u32>,
+    /// The number of the party that the entries are of or name, 1 to 99999.
+    pub party: Option<u32>,
+    /// The date from which on the entries are, not yet read.
+    pub since: Option<&'a str>,
+    /// Whether a failure is explained.
+    pub why: bool,
+}
+
+/// Which database is made of a history, or brought further to it.
+#[derive(Clone, Copy, PartialEq, Drop)]
+pub struct ReplayWords<'a> {
+    /// The database's path, which is made where there is none.
+    pub db: &'a str,
+    /// The files of the history.
+    pub history: HistoryPaths<'a>,
+    /// Whether a failure is explained.
+    pub why: bool,
+}
+
+/// Which office's history is begun, and where.
+#[derive(Clone, Copy, PartialEq, Drop)]
+pub struct BeginHistoryWords<'a> {
+    /// The database's path.
+    pub db: &'a str,
+    /// The path of the new file in which the history is kept from now on.
+    pub history: &'a str,
     /// Whether a failure is explained.
     pub why: bool,
 }

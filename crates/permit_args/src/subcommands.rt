@@ -4,15 +4,18 @@ ghost use Rattle.std.specs.Prelude.{IfErr, IfOk, Some};
 ghost use Rattle.clap.specs.Words.{found_of, rows_of};
 ghost use Rattle.permit_args.specs.Blames.{Blames};
 ghost use Rattle.permit_args.specs.Faults.{Refuses};
-ghost use Rattle.permit_args.specs.Plans.{IsActOf, IsCheckPolicyOf, IsDatabaseOf, IsImportOf, IsInitOf, IsListOf, IsRegisterOf, IsRenewalOf, IsServeOf};
+ghost use Rattle.permit_args.specs.Plans.{IsActOf, IsBeginningOf, IsCheckDbOf, IsCheckPolicyOf, IsHistoryOf, IsImportOf, IsInitOf, IsListOf, IsRegisterOf, IsRenewalOf, IsReplayOf, IsServeOf, IsUpgradeOf};
 ghost use Rattle.permit_args.specs.declared.plan.Subcommand.TheVariants as subcommand;
 
 use crate::found::{
-    check, connections, days, is_given, kind, office, party, required, stage, token, value, workers,
+    check, connections, days, is_given, kind, number, office, paths, record, required, stage,
+    token, value, workers,
 };
+use crate::places::RecordKind;
 use crate::plan::{
-    ActWords, CheckPolicyWords, DatabaseWords, ImportWords, InitWords, ListWords, PlanFault,
-    RegisterWords, RenewTokenWords, ServeWords,
+    ActWords, BeginHistoryWords, CheckDbWords, CheckPolicyWords, HistoryPaths, HistoryWords,
+    ImportWords, InitWords, ListWords, PlanFault, RegisterWords, RenewTokenWords, ReplayWords,
+    ServeWords, UpgradeWords,
 };
 use clap::ArgMatches;
 use std::alloc::Global;
@@ -42,6 +45,7 @@ pub(crate) fn init<'a>(alloc: Global, matches: &ArgMatches<'a>) -> Result<InitWo
         name: required(alloc, matches, "name")?,
         token: token(alloc, matches)?,
         days: days(matches),
+        history: value(matches, "history"),
         why: is_given(matches, "why"),
     })
 }
@@ -53,6 +57,7 @@ pub(crate) fn act<'a>(alloc: Global, matches: &ArgMatches<'a>) -> Result<ActWord
 {
     Ok(ActWords {
         office: office(alloc, matches)?,
+        history: paths(alloc, matches)?,
         method: required(alloc, matches, "method")?,
         path: required(alloc, matches, "path")?,
         body: value(matches, "body"),
@@ -95,6 +100,7 @@ pub(crate) fn import<'a>(
 {
     Ok(ImportWords {
         office: office(alloc, matches)?,
+        history: paths(alloc, matches)?,
         file: required(alloc, matches, "file")?,
     })
 }
@@ -111,6 +117,7 @@ pub(crate) fn serve<'a>(
         db: required(alloc, matches, "db")?,
         policy: required(alloc, matches, "policy")?,
         days: days(matches),
+        history: paths(alloc, matches)?,
         listen: required(alloc, matches, "listen")?,
         workers: workers(alloc, matches)?,
         connections: connections(alloc, matches)?,
@@ -118,16 +125,32 @@ pub(crate) fn serve<'a>(
     })
 }
 
-/// What `upgrade` and `check-db` find.
-pub(crate) fn database<'a>(
+/// What `upgrade` finds.
+pub(crate) fn upgrade<'a>(
     alloc: Global,
     matches: &ArgMatches<'a>,
-) -> Result<DatabaseWords<'a>, PlanFault>
-    ensures found { IfOk result (IsDatabaseOf (rows_of (found_of matches.now))) }
-    ensures refused { IfErr result (Refuses (IsDatabaseOf (rows_of (found_of matches.now))) (Blames (Some subcommand.CheckDb) (rows_of (found_of matches.now)))) }
+) -> Result<UpgradeWords<'a>, PlanFault>
+    ensures found { IfOk result (IsUpgradeOf (rows_of (found_of matches.now))) }
+    ensures refused { IfErr result (Refuses (IsUpgradeOf (rows_of (found_of matches.now))) (Blames (Some subcommand.Upgrade) (rows_of (found_of matches.now)))) }
 {
-    Ok(DatabaseWords {
+    Ok(UpgradeWords {
         db: required(alloc, matches, "db")?,
+        history: value(matches, "history"),
+        why: is_given(matches, "why"),
+    })
+}
+
+/// What `check-db` finds.
+pub(crate) fn check_db<'a>(
+    alloc: Global,
+    matches: &ArgMatches<'a>,
+) -> Result<CheckDbWords<'a>, PlanFault>
+    ensures found { IfOk result (IsCheckDbOf (rows_of (found_of matches.now))) }
+    ensures refused { IfErr result (Refuses (IsCheckDbOf (rows_of (found_of matches.now))) (Blames (Some subcommand.CheckDb) (rows_of (found_of matches.now)))) }
+{
+    Ok(CheckDbWords {
+        db: required(alloc, matches, "db")?,
+        history: paths(alloc, matches)?,
         why: is_given(matches, "why"),
     })
 }
@@ -140,11 +163,63 @@ pub(crate) fn renew_token<'a>(
     ensures found { IfOk result (IsRenewalOf (rows_of (found_of matches.now))) }
     ensures refused { IfErr result (Refuses (IsRenewalOf (rows_of (found_of matches.now))) (Blames (Some subcommand.RenewToken) (rows_of (found_of matches.now)))) }
 {
-    let number = required(alloc, matches, "party")?;
+    let text = required(alloc, matches, "party")?;
     Ok(RenewTokenWords {
         db: required(alloc, matches, "db")?,
-        party: party(alloc, number)?,
+        party: number(alloc, text, RecordKind::Party)?,
         token: token(alloc, matches)?,
+        history: paths(alloc, matches)?,
+        why: is_given(matches, "why"),
+    })
+}
+
+/// What `history` finds.
+pub(crate) fn history<'a>(
+    alloc: Global,
+    matches: &ArgMatches<'a>,
+) -> Result<HistoryWords<'a>, PlanFault>
+    ensures found { IfOk result (IsHistoryOf (rows_of (found_of matches.now))) }
+    ensures refused { IfErr result (Refuses (IsHistoryOf (rows_of (found_of matches.now))) (Blames (Some subcommand.History) (rows_of (found_of matches.now)))) }
+{
+    Ok(HistoryWords {
+        history: required(alloc, matches, "history")?,
+        file: record(alloc, matches, RecordKind::File)?,
+        parcel: record(alloc, matches, RecordKind::Parcel)?,
+        party: record(alloc, matches, RecordKind::Party)?,
+        since: value(matches, "since"),
+        why: is_given(matches, "why"),
+    })
+}
+
+/// What `replay` finds.
+pub(crate) fn replay<'a>(
+    alloc: Global,
+    matches: &ArgMatches<'a>,
+) -> Result<ReplayWords<'a>, PlanFault>
+    ensures found { IfOk result (IsReplayOf (rows_of (found_of matches.now))) }
+    ensures refused { IfErr result (Refuses (IsReplayOf (rows_of (found_of matches.now))) (Blames (Some subcommand.Replay) (rows_of (found_of matches.now)))) }
+{
+    Ok(ReplayWords {
+        db: required(alloc, matches, "db")?,
+        history: HistoryPaths {
+            text: required(alloc, matches, "history")?,
+            copy: value(matches, "from"),
+        },
+        why: is_given(matches, "why"),
+    })
+}
+
+/// What `begin-history` finds.
+pub(crate) fn begin_history<'a>(
+    alloc: Global,
+    matches: &ArgMatches<'a>,
+) -> Result<BeginHistoryWords<'a>, PlanFault>
+    ensures found { IfOk result (IsBeginningOf (rows_of (found_of matches.now))) }
+    ensures refused { IfErr result (Refuses (IsBeginningOf (rows_of (found_of matches.now))) (Blames (Some subcommand.BeginHistory) (rows_of (found_of matches.now)))) }
+{
+    Ok(BeginHistoryWords {
+        db: required(alloc, matches, "db")?,
+        history: required(alloc, matches, "history")?,
         why: is_given(matches, "why"),
     })
 }

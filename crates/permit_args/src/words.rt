@@ -11,7 +11,8 @@ use crate::commands::{command, program};
 use crate::places::bad;
 use crate::plan::{Plan, PlanFault, Subcommand};
 use crate::subcommands::{
-    act, check_policy, database, import, init, list, register, renew_token, serve,
+    act, begin_history, check_db, check_policy, history, import, init, list, register, renew_token,
+    replay, serve, upgrade,
 };
 use clap::error::ErrorKind;
 use clap::{ArgMatches, Command, Error};
@@ -95,9 +96,12 @@ fn plan_of<'a>(
         Subcommand::Register => Ok(Plan::Register(register(alloc, matches)?)),
         Subcommand::Import => Ok(Plan::Import(import(alloc, matches)?)),
         Subcommand::Serve => Ok(Plan::Serve(serve(alloc, matches)?)),
-        Subcommand::Upgrade => Ok(Plan::Upgrade(database(alloc, matches)?)),
-        Subcommand::CheckDb => Ok(Plan::CheckDb(database(alloc, matches)?)),
+        Subcommand::Upgrade => Ok(Plan::Upgrade(upgrade(alloc, matches)?)),
+        Subcommand::CheckDb => Ok(Plan::CheckDb(check_db(alloc, matches)?)),
         Subcommand::RenewToken => Ok(Plan::RenewToken(renew_token(alloc, matches)?)),
+        Subcommand::History => Ok(Plan::History(history(alloc, matches)?)),
+        Subcommand::Replay => Ok(Plan::Replay(replay(alloc, matches)?)),
+        Subcommand::BeginHistory => Ok(Plan::BeginHistory(begin_history(alloc, matches)?)),
     }
 }
 
@@ -129,6 +133,9 @@ fn named(word: &str) -> Option<Subcommand>
         "upgrade" => Some(Subcommand::Upgrade),
         "check-db" => Some(Subcommand::CheckDb),
         "renew-token" => Some(Subcommand::RenewToken),
+        "history" => Some(Subcommand::History),
+        "replay" => Some(Subcommand::Replay),
+        "begin-history" => Some(Subcommand::BeginHistory),
         _ => None,
     }
 }

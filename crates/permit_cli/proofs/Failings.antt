@@ -41,7 +41,7 @@ use Rattle.permit_cli.specs.Doing.{IsRunDay}
 use Rattle.permit_cli.specs.Failing.{FailsAs, FailsIn, FailsOf, FailsOnRunDay, FailsToAct, FailsToCheck, FailsToImport, FailsToList, FailsToListen}
 use Rattle.permit_cli.specs.Failing.{FailsToRegister, IsFactsFailure, IsNoFounder, IsOfStore, IsRefusal, IsUncalled, IsUnfounded, IsUnmade}
 use Rattle.permit_cli.specs.Failing.{IsUnrenewed, IsUnusable, StopsImport}
-use Rattle.permit_cli.specs.Founded.{renewal_failure}
+use Rattle.permit_keeping.specs.Failing.{renewal_failure}
 use Rattle.permit_cli.specs.Questions.{IsAnswered, TellsImport, told_as}
 use Rattle.permit_cli.specs.declared.outcome.Outcome.{Outcome}
 use Rattle.permit_cli.specs.declared.outcome.Outcome.TheVariants as outcome
@@ -192,6 +192,11 @@ imports_fail words token records (question.Import by path from asked) before aft
 imports_fail words token records (question.Import by path from asked) before after why asks (inr failed) =
     inr (subst (λ (p : List ℕ). StopsImport p words.office.why before after why) asks.1
     (subst (λ (w : Bool). StopsImport path.now w before after why) asks.3 failed.2))
+
+-- two things that are said of each failure
+pub both_fail : {A E : Type 0} (P Q : E → Type 0) (result : Result A E) → IfErr result P → IfErr result Q → IfErr result (λ e. P e × Q e)
+both_fail P Q (Ok a) first second = tt
+both_fail P Q (Err e) first second = (first, second)
 
 -- which failures a plan that is known comes to
 pub fails_as : (known planned : Plan) (before after : Option (List ℕ)) (result : Result Outcome Failure) → planned ≡ known →

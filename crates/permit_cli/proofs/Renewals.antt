@@ -15,7 +15,8 @@ use Rattle.permit_sql.specs.Opening.{HasOtherVersion}
 use Rattle.permit_sql.specs.declared.renew.RenewError.{RenewError}
 use Rattle.permit_sql.specs.declared.renew.RenewError.TheVariants as renewal
 use Rattle.permit_subcommands.specs.declared.failure.Failure.{Failure}
-use Rattle.permit_cli.specs.Founded.{renewal_failure, IsRenewedAs}
+use Rattle.permit_keeping.specs.Failing.{renewal_failure}
+use Rattle.permit_cli.specs.Founded.{IsRenewedAs}
 
 -- what is told of an error that is known
 known : (party : ℕ) (token : List ℕ) (db : Database) (is error : RenewError) → error ≡ is → IsRenewedAs party token db (Err (renewal_failure is)) →

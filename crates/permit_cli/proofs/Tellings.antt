@@ -1,9 +1,10 @@
--- What is told of a database's tables.
+-- What is told of a database's tables, and of an office that was brought further.
 use Rattle.std.proofs.Common.{◌≡◌, inl, ℕ, List, Option, Result, Ok, sym, subst}
 use Rattle.permit_model.specs.Tables.{Desk}
+use Rattle.permit_opening.specs.declared.bringing.Brought.{Brought}
 use Rattle.permit_subcommands.specs.Lines.{sound_line, upgraded_line}
 use Rattle.permit_subcommands.specs.declared.failure.Failure.{Failure}
-use Rattle.permit_cli.specs.Telling.{IsTold, PrintsThen}
+use Rattle.permit_cli.specs.Telling.{IsTold, PrintsThen, replayed_line}
 use Rattle.permit_cli.specs.declared.outcome.Outcome.{Outcome}
 use Rattle.permit_cli.specs.declared.outcome.Outcome.TheVariants as outcome
 
@@ -17,4 +18,10 @@ upgraded_told o files text before after result is made printed = subst (λ (o : 
 pub sound_told : (o : Outcome) (desk : Desk) (text : List ℕ) (before after : Option (List ℕ)) (result : Result ℕ Failure) → o ≡ outcome.Sound desk →
     text ≡ sound_line desk → PrintsThen text (Ok 0) before after result → IsTold o before after result
 sound_told o desk text before after result is made printed = subst (λ (o : Outcome). IsTold o before after result) (sym is)
+    (inl (subst (λ (text : List ℕ). PrintsThen text (Ok 0) before after result) made printed))
+
+-- a text that was made of how far an office was brought is printed
+pub replayed_told : (o : Outcome) (brought : Brought) (text : List ℕ) (before after : Option (List ℕ)) (result : Result ℕ Failure) → o ≡ outcome.Replayed brought →
+    text ≡ replayed_line brought → PrintsThen text (Ok 0) before after result → IsTold o before after result
+replayed_told o brought text before after result is made printed = subst (λ (o : Outcome). IsTold o before after result) (sym is)
     (inl (subst (λ (text : List ℕ). PrintsThen text (Ok 0) before after result) made printed))

@@ -94,11 +94,20 @@ abbrev pub IsUpgrade : Outcome → Type 0
 IsUpgrade (outcome.Upgraded files) = Unit {0}
 IsUpgrade _ = ⊥
 
--- sound tables, or a place where one is asked for
+-- sound tables, or a place at which they aren't, or differ from those of a history, where one is asked for
 abbrev pub IsCheck : Bool → Outcome → Type 0
 IsCheck why (outcome.Sound desk) = Unit {0}
 IsCheck why (outcome.Unsound fault) = IsTrue why
+IsCheck why (outcome.Differing place) = IsTrue why
 IsCheck why _ = ⊥
+
+abbrev pub IsBegin : Outcome → Type 0
+IsBegin (outcome.Begun day) = Unit {0}
+IsBegin _ = ⊥
+
+abbrev pub IsReplay : Outcome → Type 0
+IsReplay (outcome.Replayed brought) = Unit {0}
+IsReplay _ = ⊥
 
 -- what comes of the words of `act`, for the caller of the token that they name, and of `register`, on the day of the run
 abbrev pub ActsAs : ActWords → Option (List ℕ) → Option (List ℕ) → Outcome → Type 0
@@ -127,4 +136,7 @@ ComesTo (plan.Import words) before after done = IsImported words.office.why befo
 ComesTo (plan.Serve words) before after done = ServesAs before after done
 ComesTo (plan.Upgrade words) before after done = IsUpgrade done × (after ≡ before)
 ComesTo (plan.CheckDb words) before after done = IsCheck words.why done × (after ≡ before)
+ComesTo (plan.History words) before after done = done ≡ outcome.Told
 ComesTo (plan.RenewToken words) before after done = (done ≡ outcome.Renewed words.party) × (after ≡ before)
+ComesTo (plan.Replay words) before after done = IsReplay done × (after ≡ before)
+ComesTo (plan.BeginHistory words) before after done = IsBegin done × (after ≡ before)

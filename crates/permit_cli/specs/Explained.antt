@@ -10,7 +10,7 @@ use Rattle.permit_args.specs.declared.plan.Plan.TheVariants as plan
 use Rattle.permit_subcommands.specs.Explaining.{day_reason, zone_reason}
 use Rattle.permit_subcommands.specs.declared.failure.Failure.{Failure}
 use Rattle.permit_subcommands.specs.declared.failure.Failure.TheVariants as failure
-use Rattle.permit_cli.specs.Reasons.{reason_line, IsReasonFor}
+use Rattle.permit_cli.specs.Reasons.{history_reason, reason_line, IsReasonFor}
 use Rattle.permit_cli.specs.Telling.{PrintsThen, Silent}
 use Rattle.permit_cli.specs.declared.reason.Reason.{Reason}
 
@@ -27,6 +27,9 @@ asks_why (plan.Serve words) = words.why
 asks_why (plan.Upgrade words) = words.why
 asks_why (plan.CheckDb words) = words.why
 asks_why (plan.RenewToken words) = words.why
+asks_why (plan.History words) = words.why
+asks_why (plan.Replay words) = words.why
+asks_why (plan.BeginHistory words) = words.why
 
 -- which tables a plan wants in its database
 abbrev pub wanted_by : Plan → Edition
@@ -47,6 +50,7 @@ ExplainsPolicy error before after result =
 abbrev pub Explains : Edition → Failure → Option (List ℕ) → Option (List ℕ) → Result ℕ Failure → Type 0
 Explains wanted (failure.Database why) before after result =
     (told : Reason) × IsReasonFor wanted why told × PrintsBefore (reason_line told) (failure.Database why) before after result
+Explains wanted (failure.History why) before after result = PrintsBefore (history_reason why) (failure.History why) before after result
 Explains wanted (failure.Policy error) before after result = ExplainsPolicy error before after result
 Explains wanted failure.Day before after result = PrintsBefore day_reason failure.Day before after result
 Explains wanted failure.Zone before after result = PrintsBefore zone_reason failure.Zone before after result

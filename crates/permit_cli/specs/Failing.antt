@@ -1,5 +1,6 @@
 -- Which failures each plan may come to, whatever its files, the disk and the clock give, and what is written before them.
-use Rattle.std.specs.Prelude.{◌≡◌, ◌⊎◌, ℕ, Bool, false, List, Option, None, Err}
+use Rattle.std.specs.Prelude.{◌≡◌, ◌⊎◌, ℕ, Bool, false, List, Option, None, Err, IsSomeAnd}
+use Rattle.std.specs.Borrow.{Bor}
 use Rattle.permit_base.specs.Texts.{is_token}
 use Rattle.permit_base.specs.declared.refusal.Reason.TheVariants as reason
 use Rattle.permit_base.specs.declared.refusal.Refusal.{Refusal}
@@ -20,6 +21,8 @@ use Rattle.permit_args.specs.declared.plan.Check.{Check}
 use Rattle.permit_args.specs.declared.plan.Check.TheVariants as check
 use Rattle.permit_args.specs.declared.plan.CheckPolicyWords.{CheckPolicyWords}
 use Rattle.permit_args.specs.declared.plan.DayWords.{DayWords}
+use Rattle.permit_args.specs.declared.plan.HistoryPaths.{HistoryPaths}
+use Rattle.permit_args.specs.declared.plan.HistoryWords.{HistoryWords}
 use Rattle.permit_args.specs.declared.plan.ImportWords.{ImportWords}
 use Rattle.permit_args.specs.declared.plan.InitWords.{InitWords}
 use Rattle.permit_args.specs.declared.plan.OfficeWords.{OfficeWords}
@@ -77,6 +80,25 @@ IsUnfounded why = (why ≡ failure.Database opening.Exists) ⊎ IsUnopened why
 -- no token is renewed: there is no such party, a party has the token, or the tables can't be used
 abbrev pub IsUnrenewed : Failure → Type 0
 IsUnrenewed why = (why ≡ plain word.Record) ⊎ ((why ≡ failure.Refused (refused.NotAdmitted reason.Taken)) ⊎ IsUnusable why)
+
+-- ---- of a history
+
+-- the file of a history can't be used, or isn't the office's, or memory ran out
+abbrev pub IsOfHistory : Failure → Type 0
+IsOfHistory (failure.History why) = Unit {0}
+IsOfHistory why = why ≡ plain word.Store
+
+-- its file can't be read, or the copy with which it begins, where one is named
+abbrev pub AreUnread : HistoryPaths → Failure → Type 0
+AreUnread paths why = IsUnread paths.text.now why ⊎ IsSomeAnd paths.copy (λ copy. IsUnread copy.now why)
+
+-- one of these failures, where a history is named
+abbrev pub IsUnkept : Option HistoryPaths → Failure → Type 0
+IsUnkept history why = IsSomeAnd history (λ paths. IsOfHistory why ⊎ AreUnread paths why)
+
+-- no history is begun in a file, where one is named
+abbrev pub IsUnbegun : Option (Bor (List ℕ)) → Failure → Type 0
+IsUnbegun history why = IsSomeAnd history (λ path. IsOfHistory why)
 
 -- ---- of what is asked of an office
 
@@ -167,16 +189,23 @@ IsNoToken words why = (token : List ℕ) × IsTokenOf words token × (why ≡ pl
 abbrev pub FailsToRenew : RenewTokenWords → Failure → Type 0
 FailsToRenew words why = IsTokenFailure words.token why ⊎ (IsNoToken words.token why ⊎ IsUnrenewed why)
 
+-- the day from which on entries are wanted is refused, or the history can't be read, or the output fails
+abbrev pub FailsToTell : HistoryWords → Failure → Type 0
+FailsToTell words why = (why ≡ failure.Day) ⊎ ((IsOfHistory why ⊎ IsUnread words.history.now why) ⊎ (why ≡ failure.Output))
+
 -- which failures a plan may come to, and what is written before
 abbrev pub FailsAs : Plan → Option (List ℕ) → Option (List ℕ) → Failure → Type 0
 FailsAs plan.Name before after why = ⊥
 FailsAs (plan.CheckPolicy words) before after why = FailsToCheck words why × (after ≡ before)
-FailsAs (plan.Init words) before after why = FailsToFound words why × (after ≡ before)
-FailsAs (plan.Act words) before after why = FailsToAct words why × (after ≡ before)
+FailsAs (plan.Init words) before after why = (FailsToFound words why ⊎ IsUnbegun words.history why) × (after ≡ before)
+FailsAs (plan.Act words) before after why = (FailsToAct words why ⊎ IsUnkept words.history why) × (after ≡ before)
 FailsAs (plan.List words) before after why = FailsToList words.office why × (after ≡ before)
 FailsAs (plan.Register words) before after why = FailsToRegister words before after why
-FailsAs (plan.Import words) before after why = FailsToImport words before after why
-FailsAs (plan.Serve words) before after why = FailsToServe words why × SaysWhere before after (Err why)
-FailsAs (plan.Upgrade words) before after why = IsUnusable why × (after ≡ before)
-FailsAs (plan.CheckDb words) before after why = IsUnusable why × (after ≡ before)
-FailsAs (plan.RenewToken words) before after why = FailsToRenew words why × (after ≡ before)
+FailsAs (plan.Import words) before after why = FailsToImport words before after why ⊎ (IsUnkept words.history why × (after ≡ before))
+FailsAs (plan.Serve words) before after why = (FailsToServe words why ⊎ IsUnkept words.history why) × SaysWhere before after (Err why)
+FailsAs (plan.Upgrade words) before after why = (IsUnusable why ⊎ IsUnbegun words.history why) × (after ≡ before)
+FailsAs (plan.CheckDb words) before after why = (IsUnusable why ⊎ IsUnkept words.history why) × (after ≡ before)
+FailsAs (plan.History words) before after why = FailsToTell words why
+FailsAs (plan.RenewToken words) before after why = (FailsToRenew words why ⊎ IsUnkept words.history why) × (after ≡ before)
+FailsAs (plan.Replay words) before after why = (IsUnusable why ⊎ (IsOfHistory why ⊎ AreUnread words.history why)) × (after ≡ before)
+FailsAs (plan.BeginHistory words) before after why = (IsUnusable why ⊎ IsOfHistory why) × (after ≡ before)

@@ -16,8 +16,6 @@ use Rattle.permit_sql_rows.specs.Schema.{empty_schema}
 use Rattle.permit_sql.specs.Found.{KeepsSound, KeepsSoundUnder}
 use Rattle.permit_sql.specs.Opening.{HasOtherVersion}
 use Rattle.permit_sql.specs.Upgrading.{IsUpgraded}
-use Rattle.permit_sql.specs.declared.renew.RenewError.{RenewError}
-use Rattle.permit_sql.specs.declared.renew.RenewError.TheVariants as renewal
 use Rattle.permit_subcommands.specs.declared.failure.Failure.{Failure}
 use Rattle.permit_subcommands.specs.declared.failure.Failure.TheVariants as failure
 use Rattle.permit_cli.specs.declared.outcome.Outcome.{Outcome}
@@ -39,11 +37,6 @@ IsUpgradedAs old new (Err (failure.Database opening.Damaged)) = ¬ KeepsSoundUnd
 IsUpgradedAs old new (Err (failure.Database opening.Version)) = HasOtherVersion First old
 IsUpgradedAs old new (Err (failure.Database opening.Store)) = Unit {0}
 IsUpgradedAs old new (Err _) = ⊥
-
--- why a party has no new token
-abbrev pub renewal_failure : RenewError → Failure
-renewal_failure (renewal.Refused why) = failure.Refused (refused_by why)
-renewal_failure (renewal.Open why) = failure.Database why
 
 -- what stands against giving the party the token, in the tables that the database keeps
 abbrev pub StandsAgainst : ℕ → List ℕ → Database → Option Refusal → Type 0

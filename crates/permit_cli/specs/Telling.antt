@@ -1,8 +1,12 @@
 -- What is printed of an outcome, and the program's status.
-use Rattle.std.specs.Prelude.{◌≡◌, ◌⊎◌, ◌++◌, ℕ, List, Option, Result, Ok, Err, codes, decimal, string_bytes}
+use Rattle.std.specs.Prelude.{◌≡◌, ◌⊎◌, ◌-◌, ◌++◌, ℕ, List, Option, Result, Ok, Err, codes, decimal, string_bytes}
 use Rattle.std.specs.Io.KnownBytes.{Appends}
 use Rattle.permit_import.specs.declared.refused.RefusalWord.TheVariants.{Store}
+use Rattle.permit_alike.specs.declared.differing.Difference.{Difference}
+use Rattle.permit_alike.specs.declared.differing.Difference.TheVariants as place
 use Rattle.permit_answer.specs.AnswerText.{answer_data}
+use Rattle.permit_days.specs.Dates.{IsTextOf}
+use Rattle.permit_opening.specs.declared.bringing.Brought.{Brought}
 use Rattle.permit_store.specs.declared.store.OpenError.TheVariants as opening
 use Rattle.permit_sql.specs.FaultText.{fault_text}
 use Rattle.permit_subcommands.specs.Answering.{Shows}
@@ -14,6 +18,7 @@ use Rattle.permit_subcommands.specs.Listings.{listing_text}
 use Rattle.permit_subcommands.specs.Printing.{Prints}
 use Rattle.permit_subcommands.specs.declared.failure.Failure.{Failure}
 use Rattle.permit_subcommands.specs.declared.failure.Failure.TheVariants as failure
+use Rattle.permit_subcommands.specs.declared.failure.HistoryFailure.TheVariants as history
 use Rattle.permit_cli.specs.declared.outcome.Outcome.{Outcome}
 use Rattle.permit_cli.specs.declared.outcome.Outcome.TheVariants as outcome
 
@@ -40,6 +45,27 @@ as_status (Err why) = Err why
 abbrev pub party_line : ℕ → List ℕ
 party_line party = codes "party " ++ (decimal party ++ codes "\n")
 
+-- how many lines a history has, and how many of them are new in the office that has its tables
+abbrev pub replayed_line : Brought → List ℕ
+replayed_line brought = codes "replayed lines " ++ (decimal brought.lines ++ (codes " new " ++ (decimal (brought.lines - brought.stood) ++ codes "\n")))
+
+-- the first place at which tables differ from those of a history
+abbrev pub difference_line : Difference → List ℕ
+difference_line place.Desk = codes "differs first in the last day or a count\n"
+difference_line (place.Party number) = codes "differs first in party " ++ (decimal number ++ codes "\n")
+difference_line (place.Parcel number) = codes "differs first in parcel " ++ (decimal number ++ codes "\n")
+difference_line place.Interests = codes "differs first in the declared interests\n"
+difference_line (place.File number) = codes "differs first in file " ++ (decimal number ++ codes "\n")
+
+-- the line that a history is begun on a day
+abbrev pub begun_line : List ℕ → List ℕ
+begun_line date = codes "history begun " ++ (date ++ codes "\n")
+
+-- it is printed with the day's date; without memory for it nothing is
+abbrev pub TellsBegun : ℕ → Option (List ℕ) → Option (List ℕ) → Result ℕ Failure → Type 0
+TellsBegun day before after result =
+    ((date : List ℕ) × IsTextOf day date × PrintsThen (begun_line date) (Ok 0) before after result) ⊎ ((result ≡ Err (plain Store)) × (after ≡ before))
+
 -- what is printed of each outcome, and how the run ends; a place that is named is damage
 abbrev pub IsTold : Outcome → Option (List ℕ) → Option (List ℕ) → Result ℕ Failure → Type 0
 IsTold outcome.Name before after result = PrintsThen name_line (Ok 0) before after result
@@ -55,7 +81,12 @@ IsTold (outcome.Listed listing) before after result = MakesAndPrints (listing_te
 IsTold outcome.Registered before after result = Silent (Ok 0) before after result
 IsTold (outcome.Imported tally) before after result = Silent (Ok (import_status tally)) before after result
 IsTold outcome.Ended before after result = Silent (Ok 0) before after result
+IsTold outcome.Told before after result = Silent (Ok 0) before after result
 IsTold (outcome.Renewed party) before after result = PrintsThen (party_line party) (Ok 0) before after result
+IsTold (outcome.Differing place) before after result =
+    MakesAndPrints (difference_line place) (Err (failure.History history.Differs)) before after result
+IsTold (outcome.Begun day) before after result = TellsBegun day before after result
+IsTold (outcome.Replayed brought) before after result = MakesAndPrints (replayed_line brought) (Ok 0) before after result
 
 -- ---- on standard error
 

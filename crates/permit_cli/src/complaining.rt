@@ -11,7 +11,7 @@ use itoa::Buffer;
 use permit_base::words::Word;
 use permit_policy::fault::PolicyError;
 use permit_store::store::OpenError;
-use permit_subcommands::failure::Failure;
+use permit_subcommands::failure::{Failure, HistoryFailure};
 use permit_subcommands::printing::print_text;
 use permit_subcommands::refused::Refused;
 use std::io::Write;
@@ -85,6 +85,23 @@ fn open_word(why: &OpenError) -> &'static str
     }
 }
 
+/// Says on a line why a history can't be used.
+fn say_history<E: Write>(why: HistoryFailure, err: &mut E) -> Result<(), Failure>
+    ensures { Prints (failure_line (failure.History why) ++ codes "\n") (E.contents err.old) (E.contents err.new) result }
+{
+    match why {
+        HistoryFailure::Differs => print_text(err, "history: differs\n"),
+        HistoryFailure::Line(line) => {
+            let mut digits = Buffer::new();
+            print_three(err, "history: line ", digits.format(line), "\n")
+        }
+        HistoryFailure::Short => print_text(err, "history: short\n"),
+        HistoryFailure::Exists => print_text(err, "history: exists\n"),
+        HistoryFailure::Copy => print_text(err, "history: copy\n"),
+        HistoryFailure::Store => print_text(err, "history: store\n"),
+    }
+}
+
 /// Says a failure on a line.
 fn say<E: Write>(failure: &Failure, err: &mut E) -> Result<(), Failure>
     ensures { Prints (failure_line failure.now ++ codes "\n") (E.contents err.old) (E.contents err.new) result }
@@ -95,6 +112,7 @@ fn say<E: Write>(failure: &Failure, err: &mut E) -> Result<(), Failure>
         Failure::Policy(error) => say_policy(error, err),
         Failure::Facts => print_text(err, "facts: unreadable\n"),
         Failure::Database(why) => print_three(err, "database: ", open_word(why), "\n"),
+        Failure::History(why) => say_history(*why, err),
         Failure::Day => print_text(err, "day: unreadable\n"),
         Failure::Zone => print_text(err, "zone: unreadable\n"),
         Failure::Listen(address) => print_three(err, "cannot listen ", address.as_str(), "\n"),

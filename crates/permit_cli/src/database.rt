@@ -47,7 +47,10 @@ fn of_opening(error: Error) -> Failure
 }
 
 /// Opens the database at a path, which is made where there is none.
-fn opened(rt: &HostRuntime, path: &str) -> Result<Connection<FileStore<sqlite::File>>, Failure>
+pub(crate) fn opened(
+    rt: &HostRuntime,
+    path: &str,
+) -> Result<Connection<FileStore<sqlite::File>>, Failure>
     ensures told { IfErr result (λ why. (error : TheError) × (why ≡ opening_failure error)) }
     ensures kind { IfErr result IsUnopened }
 {
@@ -59,7 +62,7 @@ fn opened(rt: &HostRuntime, path: &str) -> Result<Connection<FileStore<sqlite::F
 
 /// Closes a database, whose log is copied into the file then. Where that fails, the log stays beside the file, and what was
 /// accepted stands in it.
-fn closed(conn: Connection<FileStore<sqlite::File>>) {
+pub(crate) fn closed(conn: Connection<FileStore<sqlite::File>>) {
     let _ = conn.close();
 }
 

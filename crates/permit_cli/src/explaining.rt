@@ -7,6 +7,7 @@ ghost use Rattle.permit_cli.specs.Telling.{PrintsThen};
 
 use crate::complaining::print_two;
 use crate::database::reason_at;
+use crate::reason::history_reason;
 use permit_args::plan::Plan;
 use permit_base::words::Edition;
 use permit_policy::fault::PolicyError;
@@ -31,8 +32,12 @@ fn asks_why(plan: &Plan<'_>) -> bool
         Plan::Register(words) => words.office.why,
         Plan::Import(words) => words.office.why,
         Plan::Serve(words) => words.why,
-        Plan::Upgrade(words) | Plan::CheckDb(words) => words.why,
+        Plan::Upgrade(words) => words.why,
+        Plan::CheckDb(words) => words.why,
         Plan::RenewToken(words) => words.why,
+        Plan::History(words) => words.why,
+        Plan::Replay(words) => words.why,
+        Plan::BeginHistory(words) => words.why,
     }
 }
 
@@ -48,29 +53,38 @@ fn wanted_by(plan: &Plan<'_>) -> Edition
 
 /// Whether a plan makes its database.
 fn makes_database(plan: &Plan<'_>) -> bool {
-    matches!(plan, Plan::Init(_))
+    matches!(plan, Plan::Init(_) | Plan::Replay(_))
 }
 
 /// The path of a plan's database; empty where it has none.
 fn database_of<'a>(plan: &Plan<'a>) -> &'a str {
     match plan {
-        Plan::Name | Plan::CheckPolicy(_) => "",
+        Plan::Name | Plan::CheckPolicy(_) | Plan::History(_) => "",
         Plan::Init(words) => words.db,
         Plan::Act(words) => words.office.db,
         Plan::List(words) => words.office.db,
         Plan::Register(words) => words.office.db,
         Plan::Import(words) => words.office.db,
         Plan::Serve(words) => words.db,
-        Plan::Upgrade(words) | Plan::CheckDb(words) => words.db,
+        Plan::Upgrade(words) => words.db,
+        Plan::CheckDb(words) => words.db,
         Plan::RenewToken(words) => words.db,
+        Plan::Replay(words) => words.db,
+        Plan::BeginHistory(words) => words.db,
     }
 }
 
 /// The path of a plan's policy; empty where it has none.
 fn policy_of<'a>(plan: &Plan<'a>) -> &'a str {
     match plan {
-        Plan::Name | Plan::Init(_) | Plan::Upgrade(_) | Plan::CheckDb(_) | Plan::RenewToken(_) =>
-            "",
+        Plan::Name
+        | Plan::Init(_)
+        | Plan::Upgrade(_)
+        | Plan::CheckDb(_)
+        | Plan::RenewToken(_)
+        | Plan::History(_)
+        | Plan::Replay(_)
+        | Plan::BeginHistory(_) => "",
         Plan::CheckPolicy(words) => words.policy,
         Plan::Act(words) => words.office.policy,
         Plan::List(words) => words.office.policy,
@@ -140,6 +154,7 @@ pub(crate) fn explain<O: Write>(
             let reason = reason_at(rt, path, makes, wanted_by(plan), why);
             print_before(out, reason.line(), Failure::Database(why))
         }
+        Failure::History(why) => print_before(out, history_reason(why), Failure::History(why)),
         Failure::Policy(error) => explain_policy(rt, policy_of(plan), error, out),
         Failure::Day => print_before(out, day_reason(), Failure::Day),
         Failure::Zone => print_before(out, zone_reason(), Failure::Zone),

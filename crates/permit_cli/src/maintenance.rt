@@ -20,18 +20,17 @@ ghost use Rattle.permit_subcommands.specs.declared.failure.Failure.TheVariants.{
 ghost use Rattle.permit_cli.specs.Checked.{IsCheckedAs, IsNamedAs};
 ghost use Rattle.permit_cli.specs.Doing.{IsCheck, IsUpgrade};
 ghost use Rattle.permit_cli.specs.Failing.{IsUnfounded, IsUnrenewed, IsUnusable};
-ghost use Rattle.permit_cli.specs.Founded.{renewal_failure, IsFoundedAs, IsRenewedAs, IsUpgradedAs};
+ghost use Rattle.permit_cli.specs.Founded.{IsFoundedAs, IsRenewedAs, IsUpgradedAs};
 
 use crate::outcome::Outcome;
 use permit_base::values::Token;
+use permit_keeping::failing::of_renewing;
 use permit_sql::counts::sound_desk;
-use permit_sql::renew::RenewError;
 use permit_sql::store::SqlStore;
 use permit_sql::why::first_fault;
 use permit_store::founder::Founder;
 use permit_store::store::OpenError;
 use permit_subcommands::failure::Failure;
-use permit_subcommands::refused::Refused;
 use sqlite::{Alter, Connection};
 use std::alloc::Global;
 
@@ -76,16 +75,6 @@ pub(crate) fn upgrade_in<S: Alter + Drop>(
     }
 }
 
-/// Why a party has no new token.
-fn of_renewal(error: RenewError) -> Failure
-    ensures { result ≡ renewal_failure error }
-{
-    match error {
-        RenewError::Refused(why) => Failure::Refused(Refused::from(why)),
-        RenewError::Open(why) => Failure::Database(why),
-    }
-}
-
 /// Gives a party of the office in a database a new token.
 pub(crate) fn renew_in<S: Alter + Drop>(
     alloc: Global,
@@ -107,7 +96,7 @@ pub(crate) fn renew_in<S: Alter + Drop>(
     let mut conn = conn;
     match SqlStore::renew_token(alloc, &mut conn, party, token) {
         Ok(()) => (conn, Ok(Outcome::Renewed(party))),
-        Err(error) => (conn, Err(of_renewal(error))),
+        Err(error) => (conn, Err(of_renewing(error))),
     }
 }
 

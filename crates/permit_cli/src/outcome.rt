@@ -1,8 +1,11 @@
 //! What the program's work came to, and so what is printed.
 
+use permit_alike::differing::Difference;
 use permit_answer::answer::Answer;
+use permit_base::values::Day;
 use permit_import::tally::Tally;
 use permit_office::reply::Listing;
+use permit_opening::bringing::Brought;
 use permit_sql::fault::Fault;
 use permit_store::rows::Desk;
 
@@ -21,6 +24,8 @@ pub enum Outcome {
     Sound(Desk),
     /// They aren't, and this is the first place.
     Unsound(Fault),
+    /// They are sound, and differ from those of a history; this is the first place.
+    Differing(Difference),
     /// The answer to a request.
     Answered(Answer),
     /// The files that may be listed.
@@ -33,4 +38,10 @@ pub enum Outcome {
     Ended,
     /// The party with this number has the new token.
     Renewed(u32),
+    /// The lines of a history are written.
+    Told,
+    /// The office's history is begun, on its last day.
+    Begun(Day),
+    /// The office has the tables of a history.
+    Replayed(Brought),
 }

@@ -1,11 +1,12 @@
-//! Why a database can't be used, in words.
+//! Why a database or a history can't be used, in words.
 
 ghost use Rattle.std.specs.Prelude.{◌≡◌};
-ghost use Rattle.permit_cli.specs.Reasons.{reason_for, reason_line, reason_of_wanted};
+ghost use Rattle.permit_cli.specs.Reasons.{history_reason, reason_for, reason_line, reason_of_wanted};
 
 use crate::standing::Standing;
 use permit_base::words::Edition;
 use permit_store::store::OpenError;
+use permit_subcommands::failure::HistoryFailure;
 
 /// Why a database can't be used, as it is found after the failure.
 #[derive(Clone, Copy, Debug, PartialEq, Eq)]
@@ -106,5 +107,29 @@ pub(crate) fn reason_for(wanted: Edition, why: OpenError, standing: Standing) ->
         Standing::Office(Edition::Second) => Reason::SecondVersion,
         Standing::OtherVersion => Reason::OtherVersion,
         Standing::OtherTables => Reason::OtherTables,
+    }
+}
+
+/// The line for a history that can't be used, without its end.
+pub(crate) fn history_reason(why: HistoryFailure) -> &'static str
+    ensures { result.now ≡ history_reason why }
+{
+    match why {
+        HistoryFailure::Differs => {
+            "the tables are not those that the text tells: something was done without --history, or one of the two is another office's or an older copy"
+        }
+        HistoryFailure::Line(_) => {
+            "that line is no entry of a history, or may not follow those before it"
+        }
+        HistoryFailure::Short => {
+            "the text ends before its second line, so it is no office's history"
+        }
+        HistoryFailure::Exists => "there is a text in the file already",
+        HistoryFailure::Copy => {
+            "the text begins with a copy of the database that begin-history was given: name it by --from, as it was then"
+        }
+        HistoryFailure::Store => {
+            "another program has the file open, it is no regular file or has a second name, there is no right to it, or the disk is full or fails"
+        }
     }
 }

@@ -12,6 +12,7 @@ use permit_base::words::{
     Action, Effect, Kind, PaperSort, RegisterKind, Relation, Role, Stage, Step, Timing, Word,
 };
 use permit_samples::ask::TOKENS;
+use permit_samples::held::Held;
 use permit_samples::makers::token;
 use std::process::Abort;
 use std::test::Fail;
@@ -192,10 +193,10 @@ fn nothing_else_is_read(rt: HostRuntime) {
 
 #[test]
 fn digest_is_that_of_the_standard(rt: HostRuntime) -> Result<(), Fail> {
-    let token = token(rt.alloc(), TOKENS[0])?;
+    let token = Held::new(token(rt.alloc(), TOKENS[0])?);
     let known = "71c480df93d6ae2f1efad1447c66c9525e316218cf51fc8d9ed832f2daf18b73";
-    let again = digest_again(&token);
-    assert!(rt; digest(&token)?.as_str() == known && again == Digest::read(known));
+    let again = digest_again(&token.value);
+    assert!(rt; digest(&token.value)?.as_str() == known && again == Digest::read(known));
     assert!(rt;
         Digest::read("71C480DF93D6AE2F1EFAD1447C66C9525E316218CF51FC8D9ED832F2DAF18B73").is_none()
     );

@@ -4,6 +4,7 @@ use permit_base::words::{Action, Relations, Role, Stage, Timing, Word};
 use permit_policy::decide::decide;
 use permit_policy::facts::Facts;
 use permit_policy::{Policy, read_policy};
+use permit_samples::held::Held;
 use permit_samples::standard::POLICY;
 use std::test::Fail;
 
@@ -81,18 +82,18 @@ fn allowed(policy: &Policy, action: Action, conflict: bool) -> [u8; 4] {
 
 #[test]
 fn staff_with_an_interest(rt: HostRuntime) -> Result<(), Fail> {
-    let policy = read_policy(rt.alloc(), POLICY)?;
+    let policy = Held::new(read_policy(rt.alloc(), POLICY)?);
     assert_eq!(rt; STAFF.len(), Action::all().len());
     for (place, action) in Action::all().iter().enumerate() {
         let word = action.word();
         let (of, without, with) = STAFF.get(place).ok_or("an action without a line")?;
         assert!(rt; of == action, "{word}");
         assert!(rt;
-            allowed(&policy, *action, false).as_slice() == without.as_bytes(),
+            allowed(&policy.value, *action, false).as_slice() == without.as_bytes(),
             "{word}"
         );
         assert!(rt;
-            allowed(&policy, *action, true).as_slice() == with.as_bytes(),
+            allowed(&policy.value, *action, true).as_slice() == with.as_bytes(),
             "{word}"
         );
     }

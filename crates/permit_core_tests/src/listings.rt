@@ -7,6 +7,7 @@ use permit_policy::cell::Cell;
 use permit_policy::masks::compile;
 use permit_policy::read_policy;
 use permit_policy::routes::routes;
+use permit_samples::held::Held;
 use permit_samples::standard::POLICY;
 use std::alloc::Global;
 use std::test::Fail;
@@ -106,9 +107,9 @@ fn filter_of(word: &str) -> Option<Filter> {
 /// The selections of a listing by the role.
 fn listing(alloc: Global, text: &str, role: Role, filter: &str) -> Result<Vec<Route>, Fail> {
     let filter = filter_of(filter).ok_or("a filter")?;
-    let policy = read_policy(alloc, text)?;
-    let masks = compile(alloc, &policy, role, Action::List)?;
-    Ok(routes(alloc, &masks, filter)?)
+    let policy = Held::new(read_policy(alloc, text)?);
+    let masks = Held::new(compile(alloc, &policy.value, role, Action::List)?);
+    Ok(routes(alloc, &masks.value, filter)?)
 }
 
 #[test]
@@ -147,8 +148,8 @@ fn each_selection_opens_the_same_rows(rt: HostRuntime) -> Result<(), Fail> {
 
 #[test]
 fn masks_tell_sets_apart(rt: HostRuntime) -> Result<(), Fail> {
-    let policy = read_policy(rt.alloc(), NOT_OWN)?;
-    let masks = compile(rt.alloc(), &policy, Role::Reviewer, Action::List)?;
+    let policy = Held::new(read_policy(rt.alloc(), NOT_OWN)?);
+    let masks = Held::new(compile(rt.alloc(), &policy.value, Role::Reviewer, Action::List)?);
     let cell = Cell {
         stage: Stage::Review,
         stopped: false,
@@ -162,13 +163,13 @@ fn masks_tell_sets_apart(rt: HostRuntime) -> Result<(), Fail> {
         assigned_inspector: false,
         conflict: true,
     };
-    assert!(rt; masks.may(cell, reviewer));
+    assert!(rt; masks.value.may(cell, reviewer));
     let owner = Relations {
         owner: true,
         ..reviewer
     };
-    assert!(rt; !masks.may(cell, owner));
-    let masks = compile(rt.alloc(), &policy, Role::Reviewer, Action::Read)?;
-    assert!(rt; !masks.may(cell, reviewer));
+    assert!(rt; !masks.value.may(cell, owner));
+    let masks = Held::new(compile(rt.alloc(), &policy.value, Role::Reviewer, Action::Read)?);
+    assert!(rt; !masks.value.may(cell, reviewer));
     Ok(())
 }

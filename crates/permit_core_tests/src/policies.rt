@@ -4,6 +4,7 @@ use permit_base::words::{Action, Relations, Role, Stage, Timing};
 use permit_policy::decide::decide;
 use permit_policy::facts::Facts;
 use permit_policy::{Policy, read_policy};
+use permit_samples::held::Held;
 use std::alloc::Global;
 use std::process::Abort;
 use std::test::Fail;
@@ -288,7 +289,8 @@ fn rules_of(alloc: Global, count: u32) -> Result<String, Fail> {
 #[test]
 fn refuses_more_than_64_rules(rt: HostRuntime) -> Result<(), Fail> {
     let text = rules_of(rt.alloc(), 64)?;
-    assert!(rt; read_policy(rt.alloc(), &text)?.rules() == 64);
+    let policy = Held::new(read_policy(rt.alloc(), &text)?);
+    assert!(rt; policy.value.rules() == 64);
     let text = rules_of(rt.alloc(), 65)?;
     assert!(rt; fault_of(rt.alloc(), &text) == Some((4, 0)));
     Ok(())
@@ -308,9 +310,9 @@ fn decides(rt: &impl Abort, policy: &Policy, facts: &Facts, is_allow: bool, rule
 #[test]
 fn decides_by_its_rules(rt: HostRuntime) -> Result<(), Fail> {
     for (text, rules, facts, is_allow, rule) in DECISIONS {
-        let policy = read_policy(rt.alloc(), text)?;
-        assert!(rt; policy.rules() == rules, "{text}");
-        decides(&rt, &policy, &facts, is_allow, rule);
+        let policy = Held::new(read_policy(rt.alloc(), text)?);
+        assert!(rt; policy.value.rules() == rules, "{text}");
+        decides(&rt, &policy.value, &facts, is_allow, rule);
     }
     Ok(())
 }

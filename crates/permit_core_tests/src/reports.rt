@@ -7,6 +7,7 @@ use permit_policy::explain::{Tried, explain};
 use permit_policy::facts::Facts;
 use permit_policy::key::Key;
 use permit_policy::read_policy;
+use permit_samples::held::Held;
 use permit_samples::standard::POLICY;
 use std::alloc::Global;
 use std::test::Fail;
@@ -142,8 +143,8 @@ const OWN_PLANS: Facts = Facts {
 };
 
 fn dead(alloc: Global, text: &str) -> Result<Vec<RuleName>, Fail> {
-    let policy = read_policy(alloc, text)?;
-    Ok(dead_rules(alloc, &policy)?)
+    let policy = Held::new(read_policy(alloc, text)?);
+    Ok(dead_rules(alloc, &policy.value)?)
 }
 
 /// The names of the dead rules, each with a space behind it.
@@ -157,8 +158,8 @@ fn dead_in(alloc: Global, text: &str) -> Result<String, Fail> {
 }
 
 fn tried(alloc: Global, text: &str) -> Result<Vec<Tried>, Fail> {
-    let policy = read_policy(alloc, text)?;
-    Ok(explain(alloc, &policy, &OWN_PLANS)?)
+    let policy = Held::new(read_policy(alloc, text)?);
+    Ok(explain(alloc, &policy.value, &OWN_PLANS)?)
 }
 
 /// Each rule that was tried, with its failing key or `match`, a line each.

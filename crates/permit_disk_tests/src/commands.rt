@@ -3,6 +3,7 @@
 use permit_office::office::Office;
 use permit_samples::ask::read_ask;
 use permit_samples::exchange::asked;
+use permit_samples::held::Held;
 use permit_samples::offices::{over_vectors, under};
 use permit_samples::opening::OPENING;
 use permit_samples::scenarios::Scenario;
@@ -40,13 +41,27 @@ impl Begin {
 }
 
 /// The answers to commands, and the tables behind them.
-#[derive(Drop)]
 pub(crate) struct Behind {
     pub(crate) answers: String,
     pub(crate) tables: String,
 }
 
+// It is written out, so that who owns one doesn't prove again how each part ends.
+impl Drop for Behind {
+    fn drop(self) {
+        let Behind {
+            answers: _,
+            tables: _,
+        } = self;
+    }
+}
+
 impl Behind {
+    pub(crate) fn into_tables(self) -> String {
+        let Behind { answers: _, tables } = self;
+        tables
+    }
+
     fn copy(&self, alloc: Global) -> Result<Behind, Fail> {
         Ok(Behind {
             answers: String::from_str(alloc, self.answers.as_str())?,
@@ -85,20 +100,52 @@ pub(crate) fn play_before<S: Store + Drop>(
 
 /// An office over vectors, in which nothing fails.
 fn begun(alloc: Global, begin: Begin) -> Result<Office<PlainStore>, Fail> {
-    let mut office = under(alloc, over_vectors(alloc)?, begin.policy())?;
-    play_before(alloc, &mut office, begin)?;
-    Ok(office)
+    let mut office = Held::new(under(alloc, over_vectors(alloc)?, begin.policy())?);
+    play_before(alloc, &mut office.value, begin)?;
+    Ok(office.into_inner())
+}
+
+/// The answers to these requests.
+fn answers_to(
+    alloc: Global,
+    office: &mut Office<PlainStore>,
+    lines: &[&str],
+) -> Result<String, Fail> {
+    let mut answers = String::new(alloc);
+    for line in lines {
+        answers.push_str(asked(alloc, office, &read_ask(line)?)?.as_str())?;
+    }
+    Ok(answers)
+}
+
+/// The tables of an office.
+fn tables_of(alloc: Global, office: Office<PlainStore>) -> Result<String, Fail> {
+    let store = &mut Held::new(office.into_store()).value;
+    tables_text(alloc, store)
 }
 
 /// What is behind these requests.
 fn behind_of(alloc: Global, begin: Begin, lines: &[&str]) -> Result<Behind, Fail> {
-    let mut office = begun(alloc, begin)?;
-    let mut answers = String::new(alloc);
-    for line in lines {
-        answers.push_str(asked(alloc, &mut office, &read_ask(line)?)?.as_str())?;
-    }
-    let tables = tables_text(alloc, &mut office.into_store())?;
+    let mut office = Held::new(begun(alloc, begin)?);
+    let answers = answers_to(alloc, &mut office.value, lines)?;
+    let tables = tables_of(alloc, office.into_inner())?;
     Ok(Behind { answers, tables })
+}
+
+/// What is behind none of these requests, behind the first, behind the first two, and so on.
+fn behind_each(
+    alloc: Global,
+    begin: Begin,
+    requests: &[&'static str],
+) -> Result<Vec<Behind>, Fail> {
+    let mut lines = Vec::new(alloc);
+    let mut behind = Vec::new(alloc);
+    behind.push(behind_of(alloc, begin, lines.as_slice())?)?;
+    for line in requests {
+        lines.push(*line)?;
+        behind.push(behind_of(alloc, begin, lines.as_slice())?)?;
+    }
+    Ok(behind)
 }
 
 /// Whether the numbers are 0, 1, 2 and so on.
@@ -114,14 +161,9 @@ fn are_first(numbers: &[usize]) -> bool {
 impl Commands {
     /// The requests of a scenario that come behind this beginning. Fails where they aren't answered as their scripts want.
     pub(crate) fn new(alloc: Global, begin: Begin, scenario: Scenario) -> Result<Commands, Fail> {
-        play_all(alloc, &mut begun(alloc, begin)?, scenario)?;
+        play_all(alloc, &mut Held::new(begun(alloc, begin)?).value, scenario)?;
         let requests = requests_of(alloc, scenario)?;
-        let mut lines = Vec::new(alloc);
-        let mut behind = vec![in alloc; behind_of(alloc, begin, lines.as_slice())?]?;
-        for line in &requests {
-            lines.push(*line)?;
-            behind.push(behind_of(alloc, begin, lines.as_slice())?)?;
-        }
+        let behind = behind_each(alloc, begin, requests.as_slice())?;
         Ok(Commands {
             begin,
             requests,

@@ -2,7 +2,7 @@
 //! the commands that were acknowledged, or of these and the one in which the disk failed.
 
 use crate::commands::{Begin, Behind, Commands};
-use crate::disks::{Bytes, Fault, Told, Trial, Trouble, failing_files, left_by, untold};
+use crate::disks::{Bytes, Fault, Told, Trouble, failing_files, left_by, untold};
 use crate::trials::{
     Tried, closed, connected, ended, found, outlasts_each, prepared, stored, tables_in,
 };
@@ -12,11 +12,12 @@ use permit_policy::text::read_policy;
 use permit_samples::ask::read_ask;
 use permit_samples::each_change::{FIRST_CHANGES, LATER_CHANGES};
 use permit_samples::exchange::asked;
+use permit_samples::held::Held;
 use permit_samples::scenarios::Scenario;
 use permit_sql::store::SqlStore;
 use permit_store::store::Store;
 use sqlite::{Alter, Connection};
-use sqlite_disk::Files;
+use sqlite_disk::{Disk, Files};
 use std::alloc::Global;
 use std::sync::atomic::Ordering;
 use std::test::Fail;
@@ -25,12 +26,22 @@ use std::test::Fail;
 const REFUSED: &str = "\r\n\r\n{\"refused\":\"store\"}";
 
 /// What a database answered, and the numbers of the commands.
-#[derive(Drop)]
 struct Answered {
     acknowledged: Vec<usize>,
     /// Those and, at its place, the one in which the disk failed.
     with_failed: Vec<usize>,
     answers: String,
+}
+
+// It is written out, so that who owns one doesn't prove again how each part ends.
+impl Drop for Answered {
+    fn drop(self) {
+        let Answered {
+            acknowledged: _,
+            with_failed: _,
+            answers: _,
+        } = self;
+    }
 }
 
 impl Answered {
@@ -48,6 +59,26 @@ impl Answered {
         self.answers.push_str(answer)?;
         Ok(())
     }
+
+    /// Takes the answer to a command. Fails where it is refused for the store and no disk has failed.
+    fn take(
+        &mut self,
+        number: usize,
+        answer: &str,
+        had_failed: bool,
+        told: &Told,
+    ) -> Result<(), Fail> {
+        if !answer.ends_with(REFUSED) {
+            return self.acknowledge(number, answer);
+        }
+        if !told.load(Ordering::SeqCst) {
+            return Err(Fail::new("a command refused without cause"));
+        }
+        if !had_failed {
+            self.with_failed.push(number)?;
+        }
+        Ok(())
+    }
 }
 
 /// Serves the commands. Fails where one is refused for the store and no disk has failed.
@@ -61,13 +92,7 @@ fn serve_all<S: Store + Drop>(
     for (number, line) in commands.requests.iter().enumerate() {
         let had_failed = told.load(Ordering::SeqCst);
         let answer = asked(alloc, office, &read_ask(line)?)?;
-        if !answer.as_str().ends_with(REFUSED) {
-            answered.acknowledge(number, answer.as_str())?;
-        } else if !told.load(Ordering::SeqCst) {
-            return Err(Fail::new("a command refused without cause"));
-        } else if !had_failed {
-            answered.with_failed.push(number)?;
-        }
+        answered.take(number, answer.as_str(), had_failed, told)?;
     }
     Ok(answered)
 }
@@ -79,21 +104,30 @@ pub(crate) enum Reads {
     FromMemory,
 }
 
-/// Opens the office over a store, and serves the commands. The store comes back; nothing was answered where the office wasn't
-/// opened.
+/// What came of the commands.
+#[derive(Drop)]
+enum Outcome {
+    /// No office was opened.
+    Unopened { is_founded: bool },
+    Answered(Answered),
+}
+
+/// Opens the office over a store, and serves the commands. The store comes back.
 fn served<S: Store + Drop>(
     alloc: Global,
     store: S,
     commands: &Commands,
     told: &Told,
-) -> Result<(S, Option<Answered>), Fail> {
-    match Office::open(store, read_policy(alloc, commands.begin.policy())?) {
+) -> Result<(S, Outcome), Fail> {
+    let policy = read_policy(alloc, commands.begin.policy())?;
+    match Office::open(store, policy) {
         Ok(office) => {
-            let mut office = office;
-            let answered = serve_all(alloc, &mut office, commands, told)?;
-            Ok((office.into_store(), Some(answered)))
+            let mut office = Held::new(office);
+            let answered = serve_all(alloc, &mut office.value, commands, told)?;
+            let store = office.into_inner().into_store();
+            Ok((store, Outcome::Answered(answered)))
         }
-        Err((store, _)) => Ok((store, None)),
+        Err((store, _)) => Ok((store, Outcome::Unopened { is_founded: true })),
     }
 }
 
@@ -104,18 +138,21 @@ fn served_in<S: Alter + Drop>(
     reads: Reads,
     commands: &Commands,
     told: &Told,
-) -> Result<(Connection<S>, Option<Answered>), Fail> {
+) -> Result<(Connection<S>, Outcome), Fail> {
     match reads {
         Reads::FromDatabase => {
-            let (store, answered) = served(alloc, store, commands, told)?;
-            Ok((store.into_connection(), answered))
+            let (store, outcome) = served(alloc, store, commands, told)?;
+            Ok((store.into_connection(), outcome))
         }
         Reads::FromMemory => match Mirrored::load(alloc, store) {
             Ok(store) => {
-                let (store, answered) = served(alloc, store, commands, told)?;
-                Ok((store.into_kept().into_connection(), answered))
+                let (store, outcome) = served(alloc, store, commands, told)?;
+                Ok((store.into_kept().into_connection(), outcome))
             }
-            Err((store, _)) => Ok((store.into_connection(), None)),
+            Err((store, _)) => {
+                let outcome = Outcome::Unopened { is_founded: true };
+                Ok((store.into_connection(), outcome))
+            }
         },
     }
 }
@@ -135,10 +172,12 @@ impl Wanted {
             Begin::New => true,
             Begin::Framed | Begin::Opened => false,
         };
+        let acknowledged = commands.behind(alloc, &[])?;
+        let with_failed = commands.behind(alloc, &[])?;
         Ok(Wanted {
             may_be_empty: is_to_found && !is_founded,
-            acknowledged: commands.behind(alloc, &[])?,
-            with_failed: commands.behind(alloc, &[])?,
+            acknowledged,
+            with_failed,
         })
     }
 
@@ -148,10 +187,11 @@ impl Wanted {
         if acknowledged.answers.as_str() != answered.answers.as_str() {
             return Err(Fail::new("other answers than where nothing fails"));
         }
+        let with_failed = commands.behind(alloc, answered.with_failed.as_slice())?;
         Ok(Wanted {
             may_be_empty: false,
             acknowledged,
-            with_failed: commands.behind(alloc, answered.with_failed.as_slice())?,
+            with_failed,
         })
     }
 
@@ -182,68 +222,88 @@ impl Play {
         scenario: Scenario,
         reads: Reads,
     ) -> Result<Play, Fail> {
+        let bytes = bytes_before(alloc, begin)?;
+        let commands = Commands::new(alloc, begin, scenario)?;
         Ok(Play {
             reads,
-            commands: Commands::new(alloc, begin, scenario)?,
-            bytes: match begin {
-                Begin::New => Bytes::none(alloc),
-                Begin::Framed | Begin::Opened => Bytes::of(
-                    alloc,
-                    &closed(prepared(alloc, begin)?),
-                )?,
-            },
+            commands,
+            bytes,
         })
     }
 
-    /// The files in which no office was opened, with what may be found in them. Fails where no disk has failed.
-    fn unopened(
+    /// Plays in a database. It comes back.
+    fn played_in<S: Alter + Drop>(
         &self,
         alloc: Global,
-        files: Files<Trial>,
-        is_founded: bool,
+        conn: Connection<S>,
         told: &Told,
-    ) -> Result<(Files<Trial>, Wanted), Fail> {
-        if !told.load(Ordering::SeqCst) {
-            return Err(Fail::new("an office refused without cause"));
+    ) -> Result<(Connection<S>, Outcome), Fail> {
+        match stored(alloc, conn, self.commands.begin)? {
+            Ok(store) => served_in(alloc, store, self.reads, &self.commands, told),
+            Err(conn) => Ok((conn, Outcome::Unopened { is_founded: false })),
         }
-        Ok((files, Wanted::unopened(alloc, &self.commands, is_founded)?))
     }
 
-    /// Plays over files. They come back, with what may be found in them.
-    fn run(
+    /// Plays over files. They come back.
+    fn played<D: Disk + Drop>(
         &self,
         alloc: Global,
-        files: Files<Trial>,
+        files: Files<D>,
         fault: Fault,
         told: &Told,
-    ) -> Result<(Files<Trial>, Wanted), Fail> {
-        let conn = match connected(alloc, files) {
-            Ok(conn) => conn,
-            Err(files) => return self.unopened(alloc, files, false, told),
-        };
-        let store = match stored(alloc, conn, self.commands.begin)? {
-            Ok(store) => store,
-            Err(conn) => return self.unopened(alloc, ended(conn, fault), false, told),
-        };
-        let (conn, answered) = served_in(alloc, store, self.reads, &self.commands, told)?;
-        let files = ended(conn, fault);
-        match answered {
-            Some(answered) => Ok((files, Wanted::behind(alloc, &self.commands, &answered)?)),
-            None => self.unopened(alloc, files, true, told),
+    ) -> Result<(Files<D>, Outcome), Fail> {
+        match connected(alloc, files) {
+            Ok(conn) => {
+                let (conn, outcome) = self.played_in(alloc, conn, told)?;
+                Ok((ended(conn, fault), outcome))
+            }
+            Err(files) => Ok((files, Outcome::Unopened { is_founded: false })),
         }
     }
+
+    /// What may be found behind an outcome. Fails where no office was opened and no disk has failed.
+    fn wanted(&self, alloc: Global, outcome: Outcome, told: &Told) -> Result<Wanted, Fail> {
+        match outcome {
+            Outcome::Answered(answered) => Wanted::behind(alloc, &self.commands, &answered),
+            Outcome::Unopened { is_founded } => {
+                if !told.load(Ordering::SeqCst) {
+                    return Err(Fail::new("an office refused without cause"));
+                }
+                Wanted::unopened(alloc, &self.commands, is_founded)
+            }
+        }
+    }
+}
+
+/// The bytes of the files in which the commands behind a beginning are played.
+fn bytes_before(alloc: Global, begin: Begin) -> Result<Bytes, Fail> {
+    match begin {
+        Begin::New => Ok(Bytes::none(alloc)),
+        Begin::Framed | Begin::Opened => {
+            let files = closed(prepared(alloc, begin)?);
+            Bytes::of(alloc, &files)
+        }
+    }
+}
+
+/// Fails where the files that are left hold something else than is wanted.
+fn meets(alloc: Global, left: &Bytes, wanted: &Wanted, trouble: Trouble) -> Result<(), Fail> {
+    let tables = tables_in(alloc, found(alloc, left)?)?;
+    if wanted.is_met(tables.as_ref().map(|tables| tables.as_str())) {
+        return Ok(());
+    }
+    Err(Fail::new(format!(in alloc; "{trouble:?}: {tables:?}")?))
 }
 
 impl Tried for Play {
     fn outlasts(&self, alloc: Global, trouble: Trouble) -> Result<bool, Fail> {
         let told = untold(alloc)?;
         let files = failing_files(alloc, &self.bytes, trouble, &told)?;
-        let (files, wanted) = self.run(alloc, files, trouble.fault, &told)?;
-        for left in &left_by(alloc, files, trouble)? {
-            let tables = tables_in(alloc, found(alloc, left)?)?;
-            if !wanted.is_met(tables.as_ref().map(|tables| tables.as_str())) {
-                return Err(Fail::new(format!(in alloc; "{trouble:?}: {tables:?}")?));
-            }
+        let (files, outcome) = self.played(alloc, files, trouble.fault, &told)?;
+        let left = left_by(alloc, files, trouble)?;
+        let wanted = Held::new(self.wanted(alloc, outcome, &told)?);
+        for left in &left {
+            meets(alloc, left, &wanted.value, trouble)?;
         }
         Ok(told.load(Ordering::SeqCst))
     }

@@ -4,6 +4,7 @@ ghost use Rattle.std.specs.Prelude.{◌≡◌, ◌+◌, ◌&&◌, not, false};
 ghost use Rattle.sqlite_disk.specs.Disk.{CountsFault};
 ghost use Rattle.sqlite_disk.specs.Refusal.{finds_no_room};
 
+use permit_samples::held::Held;
 use sqlite_disk::{Crash, Disk, Files, Fuse, Memory, Tally};
 use std::alloc::Global;
 use std::io;
@@ -35,7 +36,6 @@ pub(crate) type Told = Arc<AtomicBool, Global>;
 
 /// A disk that tells when the call comes at which it fails. Where it fails at that call alone, it does so itself; else
 /// the disk that it passes calls on to does.
-#[derive(Drop)]
 pub(crate) struct Telling<D: Disk> {
     inner: D,
     /// How many calls come before the one that fails; None once it came, and for a disk that never fails.
@@ -44,6 +44,20 @@ pub(crate) struct Telling<D: Disk> {
     refused: u64,
     sync_refused: bool,
     told: Told,
+}
+
+// It is written out, so that who owns one doesn't prove again how each part ends.
+impl<D: Disk + Drop> Drop for Telling<D> {
+    fn drop(self) {
+        let Telling {
+            inner: _,
+            before: _,
+            fails_itself: _,
+            refused: _,
+            sync_refused: _,
+            told: _,
+        } = self;
+    }
 }
 
 /// A file in memory under its fuse.
@@ -222,13 +236,15 @@ fn memory(alloc: Global, bytes: &[u8]) -> Result<Memory, Fail> {
 
 /// A file with the bytes that never fails.
 fn sound(alloc: Global, bytes: &[u8], told: &Told) -> Result<Trial, Fail> {
+    let told = Arc::try_clone(told)?;
+    let memory = memory(alloc, bytes)?;
     Ok(Telling {
-        inner: Fuse::new(memory(alloc, bytes)?, u64::MAX),
+        inner: Fuse::new(memory, u64::MAX),
         before: None,
         fails_itself: false,
         refused: 0,
         sync_refused: false,
-        told: Arc::try_clone(told)?,
+        told,
     })
 }
 
@@ -244,23 +260,39 @@ fn failing(
         Fault::Single => (true, u64::MAX),
         Fault::Lasting | Fault::Cut => (false, before),
     };
+    let told = Arc::try_clone(told)?;
+    let memory = memory(alloc, bytes)?;
     Ok(Telling {
-        inner: Fuse::new(memory(alloc, bytes)?, passed),
+        inner: Fuse::new(memory, passed),
         before: Some(before),
         fails_itself,
         refused: 0,
         sync_refused: false,
-        told: Arc::try_clone(told)?,
+        told,
     })
 }
 
 /// Fresh files with the bytes.
 pub(crate) fn sound_files(alloc: Global, bytes: &Bytes) -> Result<Files<Trial>, Fail> {
     let told = untold(alloc)?;
-    Ok(Files {
-        log: sound(alloc, bytes.log.as_slice(), &told)?,
-        db: sound(alloc, bytes.db.as_slice(), &told)?,
-    })
+    let log = sound(alloc, bytes.log.as_slice(), &told)?;
+    let db = sound(alloc, bytes.db.as_slice(), &told)?;
+    Ok(Files { log, db })
+}
+
+/// A file with the bytes that fails with the trouble, if it is the one that does.
+fn troubled(
+    alloc: Global,
+    bytes: &[u8],
+    trouble: Trouble,
+    fails: bool,
+    told: &Told,
+) -> Result<Trial, Fail> {
+    if fails {
+        failing(alloc, bytes, trouble.fault, trouble.before, told)
+    } else {
+        sound(alloc, bytes, told)
+    }
 }
 
 /// Fresh files with the bytes of which one fails.
@@ -270,22 +302,26 @@ pub(crate) fn failing_files(
     trouble: Trouble,
     told: &Told,
 ) -> Result<Files<Trial>, Fail> {
-    let Trouble {
-        fault,
-        is_in_log,
-        before,
-    } = trouble;
-    let (log, db) = (bytes.log.as_slice(), bytes.db.as_slice());
-    if is_in_log {
-        return Ok(Files {
-            log: failing(alloc, log, fault, before, told)?,
-            db: sound(alloc, db, told)?,
-        });
+    let is_in_log = trouble.is_in_log;
+    let log = troubled(alloc, bytes.log.as_slice(), trouble, is_in_log, told)?;
+    let db = troubled(alloc, bytes.db.as_slice(), trouble, !is_in_log, told)?;
+    Ok(Files { log, db })
+}
+
+/// The power is cut at one of the files, at the other one, or at both: it loses what it had not synced.
+fn cut(files: &mut Files<Trial>, is_at_log: bool, is_at_db: bool) {
+    if is_at_log {
+        files.log.inner.crash();
     }
-    Ok(Files {
-        log: sound(alloc, log, told)?,
-        db: failing(alloc, db, fault, before, told)?,
-    })
+    if is_at_db {
+        files.db.inner.crash();
+    }
+}
+
+/// Adds the bytes of files.
+fn push_found(alloc: Global, found: &mut Vec<Bytes>, files: &Files<Trial>) -> Result<(), Fail> {
+    found.push(Bytes::of(alloc, files)?)?;
+    Ok(())
 }
 
 /// What may be found in the files behind a trouble. Where the power was cut, the file that failed has lost what it had not
@@ -295,18 +331,13 @@ pub(crate) fn left_by(
     files: Files<Trial>,
     trouble: Trouble,
 ) -> Result<Vec<Bytes>, Fail> {
-    let mut files = files;
+    let mut files = Held::new(files);
     let mut found = Vec::new(alloc);
     if let Fault::Cut = trouble.fault {
-        if trouble.is_in_log {
-            files.log.inner.crash();
-        } else {
-            files.db.inner.crash();
-        }
-        found.push(Bytes::of(alloc, &files)?)?;
-        files.log.inner.crash();
-        files.db.inner.crash();
+        cut(&mut files.value, trouble.is_in_log, !trouble.is_in_log);
+        push_found(alloc, &mut found, &files.value)?;
+        cut(&mut files.value, true, true);
     }
-    found.push(Bytes::of(alloc, &files)?)?;
+    push_found(alloc, &mut found, &files.value)?;
     Ok(found)
 }

@@ -4,11 +4,12 @@
 
 use crate::commands::{Begin, play_before};
 use crate::disks::{Bytes, Fault, Trial, Trouble, sound_files};
+use permit_samples::held::Held;
 use permit_samples::offices::{founder, office_over};
 use permit_samples::tables::tables_text;
 use permit_sql::store::SqlStore;
 use sqlite::{Alter, Connection, FileStore, Options};
-use sqlite_disk::Files;
+use sqlite_disk::{Disk, Files};
 use std::alloc::Global;
 use std::test::Fail;
 
@@ -29,26 +30,35 @@ fn options() -> Options {
 }
 
 /// The database in the files, or the files where a call failed.
-pub(crate) fn connected(alloc: Global, files: Files<Trial>) -> Result<Conn, Files<Trial>> {
+pub(crate) fn connected<D: Disk + Drop>(
+    alloc: Global,
+    files: Files<D>,
+) -> Result<Connection<FileStore<D>>, Files<D>> {
     if !files.may_be_used() {
         return Err(files);
     }
     match Connection::open_files(alloc, files, options()) {
         Ok(conn) => Ok(conn),
-        Err((_, left)) => Err(left.into_files()),
+        Err((error, left)) => {
+            drop(error);
+            Err(left.into_files())
+        }
     }
 }
 
 /// The files of a database that is closed, or whose closing failed.
-pub(crate) fn closed(conn: Conn) -> Files<Trial> {
+pub(crate) fn closed<D: Disk + Drop>(conn: Connection<FileStore<D>>) -> Files<D> {
     match conn.close_files() {
         Ok(files) => files,
-        Err((_, store)) => store.close(),
+        Err((error, store)) => {
+            drop(error);
+            store.close()
+        }
     }
 }
 
 /// The files of a database that is closed, or of one that was left as it was where the power was cut.
-pub(crate) fn ended(conn: Conn, fault: Fault) -> Files<Trial> {
+pub(crate) fn ended<D: Disk + Drop>(conn: Connection<FileStore<D>>, fault: Fault) -> Files<D> {
     match fault {
         Fault::Cut => conn.into_store().close(),
         Fault::Lasting | Fault::Single => closed(conn),
@@ -61,14 +71,44 @@ pub(crate) fn stored<S: Alter + Drop>(
     conn: Connection<S>,
     begin: Begin,
 ) -> Result<Result<SqlStore<S>, Connection<S>>, Fail> {
-    let store = match begin {
-        Begin::New => SqlStore::create(alloc, conn, &founder(alloc)?),
-        Begin::Framed | Begin::Opened => SqlStore::open(alloc, conn),
-    };
-    Ok(match store {
+    match begin {
+        Begin::New => founded(alloc, conn),
+        Begin::Framed | Begin::Opened => Ok(opened(alloc, conn)),
+    }
+}
+
+/// The store that is founded in a database. Where that was refused, the database.
+fn founded<S: Alter + Drop>(
+    alloc: Global,
+    conn: Connection<S>,
+) -> Result<Result<SqlStore<S>, Connection<S>>, Fail> {
+    let founder = Held::new(founder(alloc)?);
+    match SqlStore::create(alloc, conn, &founder.value) {
+        Ok(store) => Ok(Ok(store)),
+        Err((conn, _)) => Ok(Err(conn)),
+    }
+}
+
+/// The store that is there in a database. Where that was refused, the database.
+fn opened<S: Alter + Drop>(
+    alloc: Global,
+    conn: Connection<S>,
+) -> Result<SqlStore<S>, Connection<S>> {
+    match SqlStore::open(alloc, conn) {
         Ok(store) => Ok(store),
         Err((conn, _)) => Err(conn),
-    })
+    }
+}
+
+/// The database of a new store, behind what comes before the commands.
+fn played_over<S: Alter + Drop>(
+    alloc: Global,
+    store: SqlStore<S>,
+    begin: Begin,
+) -> Result<Connection<S>, Fail> {
+    let mut office = Held::new(office_over(alloc, store, begin.policy())?);
+    play_before(alloc, &mut office.value, begin)?;
+    Ok(office.into_inner().into_store().into_connection())
 }
 
 /// The database of a new office, behind what comes before the commands.
@@ -77,20 +117,23 @@ fn played<S: Alter + Drop>(
     conn: Connection<S>,
     begin: Begin,
 ) -> Result<Connection<S>, Fail> {
-    let store = match stored(alloc, conn, Begin::New)? {
-        Ok(store) => store,
-        Err(_) => return Err(Fail::new("no new store")),
-    };
-    let mut office = office_over(alloc, store, begin.policy())?;
-    play_before(alloc, &mut office, begin)?;
-    Ok(office.into_store().into_connection())
+    match founded(alloc, conn)? {
+        Ok(store) => played_over(alloc, store, begin),
+        Err(conn) => {
+            drop(conn);
+            Err(Fail::new("no new store"))
+        }
+    }
 }
 
 /// The same over disks that don't fail.
 pub(crate) fn prepared(alloc: Global, begin: Begin) -> Result<Conn, Fail> {
     match connected(alloc, sound_files(alloc, &Bytes::none(alloc))?) {
         Ok(conn) => played(alloc, conn, begin),
-        Err(_) => Err(Fail::new("no new database")),
+        Err(files) => {
+            drop(files);
+            Err(Fail::new("no new database"))
+        }
     }
 }
 
@@ -98,21 +141,43 @@ pub(crate) fn prepared(alloc: Global, begin: Begin) -> Result<Conn, Fail> {
 pub(crate) fn found(alloc: Global, bytes: &Bytes) -> Result<Conn, Fail> {
     match connected(alloc, sound_files(alloc, bytes)?) {
         Ok(conn) => Ok(conn),
-        Err(_) => Err(Fail::new("files that can't be opened again")),
+        Err(files) => {
+            drop(files);
+            Err(Fail::new("files that can't be opened again"))
+        }
+    }
+}
+
+/// Whether an office can be founded in a database.
+fn can_be_founded<S: Alter + Drop>(alloc: Global, conn: Connection<S>) -> Result<bool, Fail> {
+    match founded(alloc, conn)? {
+        Ok(store) => {
+            drop(store);
+            Ok(true)
+        }
+        Err(conn) => {
+            drop(conn);
+            Ok(false)
+        }
     }
 }
 
 /// The tables in a database, which are sound. None where there is none of them, so that an office can be founded there.
-pub(crate) fn tables_in(alloc: Global, conn: Conn) -> Result<Option<String>, Fail> {
+pub(crate) fn tables_in<S: Alter + Drop>(
+    alloc: Global,
+    conn: Connection<S>,
+) -> Result<Option<String>, Fail> {
     match SqlStore::open(alloc, conn) {
         Ok(store) => {
-            let mut store = store;
-            Ok(Some(tables_text(alloc, &mut store)?))
+            let store = &mut Held::new(store).value;
+            Ok(Some(tables_text(alloc, store)?))
         }
-        Err((conn, why)) => match SqlStore::create(alloc, conn, &founder(alloc)?) {
-            Ok(_) => Ok(None),
-            Err((_, _)) => Err(why)?,
-        },
+        Err((conn, why)) => {
+            if can_be_founded(alloc, conn)? {
+                return Ok(None);
+            }
+            Err(why)?
+        }
     }
 }
 

@@ -11,6 +11,7 @@ pub mod Counts
 pub mod Queues
 pub mod OfficeSteps
 pub mod Events
+pub mod OneRun
 pub mod OneHistory
 pub mod Errors
 pub mod Doors

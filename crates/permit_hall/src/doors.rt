@@ -6,6 +6,7 @@ ghost use Rattle.permit_wire.specs.declared.service.Dated.{Dated};
 ghost use Rattle.permit_hall.specs.Runs.{Entry};
 ghost use Rattle.permit_hall.specs.Errors.{may_open as is_count, FitsCount};
 ghost use Rattle.permit_hall.specs.OneHistory.{OneHistory};
+ghost use Rattle.permit_hall.specs.OneRun.{OneRun};
 ghost use Rattle.permit_hall.specs.Doors.{HasEnded, AreDoorsServed, Holds, capped};
 ghost use Rattle.permit_hall.specs.Session.{Has, IsSession, IsSamePlace, put_by, got_by};
 
@@ -63,7 +64,7 @@ impl<R: Wait> Service<R> for Session<Asked, Dated> {
 }
 
 /// Serves a connection to its end, which comes with the end of its input, with a reader or a writer that fails, or with
-/// an answer that closes. Faults are answered without the office. Returns how many answers the session has collected in
+/// an answer that closes. Faults are answered without the service. Returns how many answers the session has collected in
 /// all, given how many it had before; at the greatest count the number stays.
 fn serve_connection<I: Read, O: Write, R: Wait>(
     rt: &R,
@@ -138,22 +139,69 @@ fn door_tasks<D: Drop>(alloc: Global, doors: Vec<D>) -> Result<Vec<DoorTask<D>>,
     Ok(all)
 }
 
-/// What a hall over doors leaves: the office, and for each session its door, spent, and how many answers it has
-/// collected, or `None` where its worker could not be started. Then none of its requests was served.
+/// What a hall over doors leaves: the service, and for each session its door, spent, and how many answers it has collected,
+/// or `None` where its worker could not be started. Then none of its requests was served.
+#[derive(Drop)]
+pub struct DoorsEnd<M: Drop, D: Drop> {
+    pub service: M,
+    pub doors: Vec<Option<DoorEnd<D>>>,
+}
+
+/// Serves the connections of doors, one worker a door, 1 to 8 of them, while the calling thread owns the service.
+///
+/// A worker serves its door's connections one after the other: it reads a request, puts it into the intake, collects
+/// its answer and writes it. Faults in reading are answered without the service. The service serves the requests of all
+/// sessions one at a time, in one order, each on a day that the clock gives as it is taken. A connection that fails is
+/// left, and the next one of its door is served. With an error the service comes back as it was, no clock was asked, and
+/// the doors are dropped.
+pub fn run_doors<M, D, C: FnMut() -> Day, R: Threads + Wait + Copy + Drop + Send + 'static>(
+    rt: R,
+    alloc: Global,
+    service: M,
+    doors: Vec<D>,
+    clock: &mut C,
+) -> Result<DoorsEnd<M, D>, (M, HallError)>
+where
+    M: Service<Day> + Drop,
+    D: Door + Drop + Send + 'static,
+    D::In: Drop + Send + 'static,
+    D::Out: Drop + Send + 'static,
+    requires ready { M.ready service }
+    requires clock { C.IsAlwaysCallable clock.old }
+    ensures history { IfOk result (λ end. (served : List (Entry Asked Dated))
+        × OneRun M.did C.step (length doors.items) service end.service clock.old clock.new served
+        × AreDoorsServed D.In.remaining D.Out.contents D.gave D.spent doors.items end.doors.items served) }
+    ensures ready { IfOk result (λ end. M.ready end.service) }
+    ensures opens { IfOk result (λ end. is_count (length doors.items) ≡ true) }
+    ensures back { IfErr result (λ back. back.0 ≡ service) }
+    ensures error { IfErr result (λ back. FitsCount back.1 (is_count (length doors.items))) }
+    ensures unasked { OnErr result (clock.new ≡ clock.old) }
+{
+    if !may_open(doors.len()) {
+        return Err((service, HallError::Count));
+    }
+    let Ok(tasks) = door_tasks(alloc, doors) else {
+        return Err((service, HallError::Memory));
+    };
+    match run_tasks(rt, alloc, service, tasks, clock) {
+        Ok(end) => Ok(DoorsEnd {
+            service: end.service,
+            doors: end.outs,
+        }),
+        Err(error) => Err(error),
+    }
+}
+
+/// What a hall over doors leaves of an office: the office, and of each session what `DoorsEnd` has.
 #[derive(Drop)]
 pub struct HallEnd<S: Store + Drop, D: Drop> {
     pub office: Office<S>,
     pub doors: Vec<Option<DoorEnd<D>>>,
 }
 
-/// Serves the connections of doors, one worker a door, 1 to 8 of them, while the calling thread owns the office.
-///
-/// A worker serves its door's connections one after the other: it reads a request, puts it into the intake, collects
-/// its answer and writes it. Faults in reading are answered without the office. The office serves the requests of all
-/// sessions one at a time, in one order, each on a day that the clock gives as it is taken. A request that is refused
-/// for the store has its refusal at its place, and has changed nothing. A connection that fails is left, and the next
-/// one of its door is served. With an error the office comes back as it was, no clock was asked, and the doors are
-/// dropped.
+/// Serves the connections of doors for an office, as `run_doors` does for any service. A request that is refused for the
+/// store has its refusal at its place, and has changed nothing. With an error the office comes back as it was, no clock
+/// was asked, and the doors are dropped.
 pub fn run_hall<
     S: Store + Drop,
     D,
@@ -179,16 +227,10 @@ where
     ensures error { IfErr result (λ back. FitsCount back.1 (is_count (length doors.items))) }
     ensures unasked { OnErr result (clock.new ≡ clock.old) }
 {
-    if !may_open(doors.len()) {
-        return Err((office, HallError::Count));
-    }
-    let Ok(tasks) = door_tasks(alloc, doors) else {
-        return Err((office, HallError::Memory));
-    };
-    match run_tasks(rt, alloc, office, tasks, clock) {
+    match run_doors(rt, alloc, office, doors, clock) {
         Ok(end) => Ok(HallEnd {
             office: end.service,
-            doors: end.outs,
+            doors: end.doors,
         }),
         Err(error) => Err(error),
     }

@@ -194,6 +194,7 @@ where
     requires clock { C.IsAlwaysCallable clock.old }
     ensures served { IfOk result (λ end. (served : List (Entry Asked Dated))
         × AreServed M.did C.step T.did tasks.items end.outs.items service end.service clock.old clock.new served) }
+    ensures ready { IfOk result (λ end. M.ready end.service) }
     ensures back { IfErr result (λ back. back.0 ≡ service) }
     ensures error { IfErr result (λ back. FitsCount back.1 true) }
     ensures unasked { OnErr result (clock.new ≡ clock.old) }

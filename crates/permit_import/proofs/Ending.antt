@@ -1,14 +1,13 @@
 -- What an import has done where it ends.
 use Rattle.std.proofs.Common.{◌≡◌, ◌≤◌, Bool, ℕ, ◌+◌, List, [], ◌∷◌, ◌++◌, length, inl, inr, refl, sym, subst, arith}
 use Rattle.std.proofs.Common.{length-append}
-use Rattle.std.specs.Prelude.{Option, Ok, Err}
+use Rattle.std.specs.Prelude.{Option, Result, Ok, Err}
 use Rattle.std.proofs.KnownBytes.{Appends-kept, Appends-nil, Appends-trans}
 use Rattle.std.specs.Io.KnownBytes.{Appends}
 use Rattle.csv.specs.declared.reader.Reader.{Reader}
-use Rattle.permit_base.specs.Digests.{digest_of}
-use Rattle.permit_store.specs.Frames.{StoreView}
-use Rattle.permit_office.specs.Office.{OfficeView}
-use Rattle.permit_import.specs.Importing.{EndsOf, Imports}
+use Rattle.permit_base.specs.declared.request.Asked.{Asked}
+use Rattle.permit_wire.specs.declared.service.Dated.{Dated}
+use Rattle.permit_import.specs.Importing.{EndsOf, ImportsBy}
 use Rattle.permit_import.specs.Headings.{IsHeadless}
 use Rattle.permit_import.specs.Lines.{count_line, lines_from, record_lines}
 use Rattle.permit_import.specs.Outcomes.{outcomes_of, tally_of}
@@ -20,20 +19,9 @@ use Rattle.permit_import.specs.declared.fault.ImportFault.{ImportFault}
 use Rattle.permit_import.specs.declared.fault.ImportFault.TheVariants.{FirstRecord, Reading, Memory, Writing}
 use Rattle.permit_import.specs.declared.outcome.Outcome.{Outcome}
 use Rattle.permit_import.specs.declared.tally.Tally.{Tally}
-use Rattle.permit_import.proofs.Progress.{Progress, length-outcomes, more_tried, told_none}
+use Rattle.permit_import.proofs.Progress.{Progress, more_tried, outcomes_each}
 use Rattle.permit_import.proofs.ReadLemmas.{begins}
 use Rattle.permit_import.proofs.WriteLemmas.{wrote_into}
-
--- no record was tried
-untried : {S : Type 0} (view : S → StoreView) (token : List ℕ) (day : ℕ) (asked : Bool) (left before after : Option (List ℕ)) (office : OfficeView S)
-    (fault : ImportFault) → EndsOf asked left before after (Err fault) [] [] → Imports view token day asked left before after office office (Err fault)
-untried view token day asked left before after office fault ends =
-    let told = told_none view office in
-    record { rows = []; replies = []; few = omega arith; steps = told.steps; model = told.model; ends = ends }
-
-pub no_memory : {S : Type 0} (view : S → StoreView) (token : List ℕ) (day : ℕ) (asked : Bool) (left before : Option (List ℕ)) (office : OfficeView S) →
-    Imports view token day asked left before before office office (Err Memory)
-no_memory view token day asked left before office = untried view token day asked left before before office Memory (inl refl, inl (Appends-nil before))
 
 -- how an import ends whose first record isn't that of a parcel list
 headless_ends : (asked : Bool) (left before after : Option (List ℕ)) (fault : ImportFault) → IsHeadless asked left before after fault →
@@ -42,60 +30,6 @@ headless_ends asked left before after FirstRecord headless = (refl, headless)
 headless_ends asked left before after Reading headless = (inl refl, Appends-kept before before after [] (Appends-nil before) headless)
 headless_ends asked left before after Memory headless = (inl refl, inl (Appends-kept before before after [] (Appends-nil before) headless))
 headless_ends asked left before after Writing headless = inr (inr (refl, headless))
-
-pub no_header : {S : Type 0} (view : S → StoreView) (token : List ℕ) (day : ℕ) (asked : Bool) (left before after : Option (List ℕ)) (office : OfficeView S)
-    (fault : ImportFault) → IsHeadless asked left before after fault → Imports view token day asked left before after office office (Err fault)
-no_header view token day asked left before after office fault headless =
-    untried view token day asked left before after office fault (headless_ends asked left before after fault headless)
-
--- all records were tried, and the counts written
-pub ended : {S R : Type 0} (view : S → StoreView) (remaining : R → Option (List ℕ)) (token : List ℕ) (day : ℕ) (asked : Bool) (left before mid after : Option (List ℕ))
-    (old new : OfficeView S) (reader : Reader R) (number : ℕ) (tally : Tally) →
-    (p : Progress view remaining token day asked left before mid old new reader number tally) → number ≤ 1000000 → AreAll left (header ∷ p.rows) →
-    Appends mid after (count_line tally) →
-    Imports view token day asked left before after old new (Ok tally)
-ended view remaining token day asked left before mid after old new reader number tally p few all line =
-    let n : length p.rows + 1 ≡ number = p.count in
-    record {
-      rows = p.rows;
-      replies = p.replies;
-      few = omega arith;
-      steps = p.told.steps;
-      model = p.told.model;
-      ends = (all, p.tally_is, Appends-trans before mid after (lines_from asked 1 (outcomes_of p.rows p.replies)) (count_line tally) p.written line);
-    }
-
--- the reader failed, or too many records stand there
-pub unread : {S R : Type 0} (view : S → StoreView) (remaining : R → Option (List ℕ)) (token : List ℕ) (day : ℕ) (asked : Bool) (left before after : Option (List ℕ))
-    (old new : OfficeView S) (reader : Reader R) (number : ℕ) (tally : Tally) →
-    Progress view remaining token day asked left before after old new reader number tally → number ≤ 1000000 →
-    Imports view token day asked left before after old new (Err Reading)
-unread view remaining token day asked left before after old new reader number tally p few =
-    let n : length p.rows + 1 ≡ number = p.count in
-    record {
-      rows = p.rows;
-      replies = p.replies;
-      few = omega arith;
-      steps = p.told.steps;
-      model = p.told.model;
-      ends = (inr (begins remaining left reader (header ∷ p.rows) p.behind), p.written);
-    }
-
--- memory ran out for a record's values
-pub unmade : {S R : Type 0} (view : S → StoreView) (remaining : R → Option (List ℕ)) (token : List ℕ) (day : ℕ) (asked : Bool) (left before after : Option (List ℕ))
-    (old between new : OfficeView S) (reader : Reader R) (number : ℕ) (tally : Tally) →
-    Progress view remaining token day asked left before after old between reader number tally → number ≤ 1000000 → new ≡ between →
-    Imports view token day asked left before after old new (Err Memory)
-unmade view remaining token day asked left before after old between new reader number tally p few same =
-    let n : length p.rows + 1 ≡ number = p.count in
-    subst (λ o. Imports view token day asked left before after old o (Err Memory)) (sym same) (record {
-      rows = p.rows;
-      replies = p.replies;
-      few = omega arith;
-      steps = p.told.steps;
-      model = p.told.model;
-      ends = (inr (begins remaining left reader (header ∷ p.rows) p.behind), inl p.written);
-    })
 
 -- the line of the last record that was tried stopped short
 line_out : (asked : Bool) (left before mid after : Option (List ℕ)) (rows : List Fields) (told outcomes : List Outcome) (last : Outcome) (number : ℕ) (fault : ImportFault) →
@@ -132,44 +66,80 @@ counts_out asked left before mid after rows outcomes tally Writing begin all wro
 counts_out asked left before mid after rows outcomes tally FirstRecord begin all wrote is short = absurd short
 counts_out asked left before mid after rows outcomes tally Reading begin all wrote is short = absurd short
 
--- a record was tried, and its line stopped short
-pub line_short : {S R : Type 0} (view : S → StoreView) (remaining : R → Option (List ℕ)) (token digest : List ℕ) (day : ℕ) (asked : Bool)
-    (left before mid after : Option (List ℕ)) (old between new : OfficeView S)
-    (reader next : Reader R) (number : ℕ) (tally : Tally) (row : Fields) (outcome : Outcome) (fault : ImportFault) → digest ≡ digest_of token →
-    between.policy ≡ old.policy →
-    (p : Progress view remaining token day asked left before mid old between reader number tally) → number ≤ 999999 →
-    Behind remaining left next (header ∷ (p.rows ++ row ∷ [])) →
-    Tries view digest day row (request_of_record row) between new outcome → StopsShort mid after (record_lines asked number outcome) fault →
-    Imports view token day asked left before after old new (Err fault)
-line_short view remaining token digest day asked left before mid after old between new reader next number tally row outcome fault same policy p few behind tries short =
-    let m = more_tried view token digest day p.rows p.replies row outcome old between new same policy p.told tries in
-    let n : length p.rows + 1 ≡ number = p.count in
-    let longer : length (p.rows ++ row ∷ []) ≡ length p.rows + 1 = length-append p.rows (row ∷ []) in
-    let each : length (outcomes_of p.rows p.replies) ≡ length p.rows = length-outcomes token day p.rows p.replies p.told.each in
-    record {
-      rows = p.rows ++ row ∷ [];
-      replies = m.given;
-      few = omega arith;
-      steps = m.told.steps;
-      model = m.told.model;
-      ends = line_out asked left before mid after (p.rows ++ row ∷ []) (outcomes_of p.rows p.replies) (outcomes_of (p.rows ++ row ∷ []) m.given) outcome number fault
-          (begins remaining left next (header ∷ (p.rows ++ row ∷ [])) behind) p.written m.outcomes (omega arith) short;
-    }
+module _ {T : Type 0} (did : T → Asked → ℕ → Dated → T → Type 0) (token : List ℕ) (day : ℕ) (asked : Bool) (left : Option (List ℕ)) where
+  -- no record was tried
+  untried : (before after : Option (List ℕ)) (service : T) (fault : ImportFault) → EndsOf asked left before after (Err fault) [] [] →
+      ImportsBy did token day asked left before after service service (Err fault)
+  untried before after service fault ends = record { rows = []; replies = []; few = omega arith; run = refl; ends = ends }
 
--- all records were tried, and the line of the counts stopped short
-pub counts_short : {S R : Type 0} (view : S → StoreView) (remaining : R → Option (List ℕ)) (token : List ℕ) (day : ℕ) (asked : Bool) (left before mid after : Option (List ℕ))
-    (old new : OfficeView S)
-    (reader : Reader R) (number : ℕ) (tally : Tally) (fault : ImportFault) →
-    (p : Progress view remaining token day asked left before mid old new reader number tally) → number ≤ 1000000 → AreAll left (header ∷ p.rows) →
-    StopsShort mid after (count_line tally) fault → Imports view token day asked left before after old new (Err fault)
-counts_short view remaining token day asked left before mid after old new reader number tally fault p few all short =
-    let n : length p.rows + 1 ≡ number = p.count in
-    record {
-      rows = p.rows;
-      replies = p.replies;
-      few = omega arith;
-      steps = p.told.steps;
-      model = p.told.model;
-      ends = counts_out asked left before mid after p.rows (outcomes_of p.rows p.replies) tally fault
-          (begins remaining left reader (header ∷ p.rows) p.behind) all p.written p.tally_is short;
-    }
+  pub no_memory : (before : Option (List ℕ)) (service : T) → ImportsBy did token day asked left before before service service (Err Memory)
+  no_memory before service = untried before before service Memory (inl refl, inl (Appends-nil before))
+
+  pub no_header : (before after : Option (List ℕ)) (service : T) (fault : ImportFault) → IsHeadless asked left before after fault →
+      ImportsBy did token day asked left before after service service (Err fault)
+  no_header before after service fault headless = untried before after service fault (headless_ends asked left before after fault headless)
+
+module _ {T R : Type 0} (did : T → Asked → ℕ → Dated → T → Type 0) (remaining : R → Option (List ℕ)) (token : List ℕ) (day : ℕ)
+    (asked : Bool) (left before : Option (List ℕ)) where
+  -- the records so far were tried, and the import ends so
+  ends_there : (mid after : Option (List ℕ)) (old new : T) (reader : Reader R) (number : ℕ) (tally : Tally) (result : Result Tally ImportFault)
+      (p : Progress did remaining token day asked left before mid old new reader number tally) → number ≤ 1000000 →
+      EndsOf asked left before after result p.rows (outcomes_of p.rows p.replies) →
+      ImportsBy did token day asked left before after old new result
+  ends_there mid after old new reader number tally result p few ends =
+      let n : length p.rows + 1 ≡ number = p.count in
+      record { rows = p.rows; replies = p.replies; few = omega arith; run = p.run; ends = ends }
+
+  -- all records were tried, and the counts written
+  pub ended : (mid after : Option (List ℕ)) (old new : T) (reader : Reader R) (number : ℕ) (tally : Tally)
+      (p : Progress did remaining token day asked left before mid old new reader number tally) → number ≤ 1000000 →
+      AreAll left (header ∷ p.rows) → Appends mid after (count_line tally) → ImportsBy did token day asked left before after old new (Ok tally)
+  ended mid after old new reader number tally p few all line = ends_there mid after old new reader number tally (Ok tally) p few
+      (all, p.tally_is, Appends-trans before mid after (lines_from asked 1 (outcomes_of p.rows p.replies)) (count_line tally) p.written line)
+
+  -- the reader failed, or too many records stand there
+  pub unread : (after : Option (List ℕ)) (old new : T) (reader : Reader R) (number : ℕ) (tally : Tally) →
+      Progress did remaining token day asked left before after old new reader number tally → number ≤ 1000000 →
+      ImportsBy did token day asked left before after old new (Err Reading)
+  unread after old new reader number tally p few = ends_there after after old new reader number tally (Err Reading) p few
+      (inr (begins remaining left reader (header ∷ p.rows) p.behind), p.written)
+
+  -- memory ran out for a record's values
+  pub unmade : (after : Option (List ℕ)) (old between new : T) (reader : Reader R) (number : ℕ) (tally : Tally) →
+      Progress did remaining token day asked left before after old between reader number tally → number ≤ 1000000 → new ≡ between →
+      ImportsBy did token day asked left before after old new (Err Memory)
+  unmade after old between new reader number tally p few same =
+      subst (λ o. ImportsBy did token day asked left before after old o (Err Memory)) (sym same)
+      (ends_there after after old between reader number tally (Err Memory) p few
+      (inr (begins remaining left reader (header ∷ p.rows) p.behind), inl p.written))
+
+  -- a record was tried, and its line stopped short
+  pub line_short : (mid after : Option (List ℕ)) (old between new : T) (reader next : Reader R) (number : ℕ) (tally : Tally) (row : Fields)
+      (outcome : Outcome) (fault : ImportFault) (p : Progress did remaining token day asked left before mid old between reader number tally) →
+      number ≤ 999999 → Behind remaining left next (header ∷ (p.rows ++ row ∷ [])) →
+      Tries did token day row (request_of_record row) between new outcome → StopsShort mid after (record_lines asked number outcome) fault →
+      ImportsBy did token day asked left before after old new (Err fault)
+  line_short mid after old between new reader next number tally row outcome fault p few behind tries short =
+      let m = more_tried did token day p.rows p.replies row outcome old between new p.run tries in
+      let n : length p.rows + 1 ≡ number = p.count in
+      let longer : length (p.rows ++ row ∷ []) ≡ length p.rows + 1 = length-append p.rows (row ∷ []) in
+      let each : length (outcomes_of p.rows p.replies) ≡ length p.rows =
+      outcomes_each did remaining token day asked left before mid old between reader number tally p in
+      record {
+        rows = p.rows ++ row ∷ [];
+        replies = m.given;
+        few = omega arith;
+        run = m.run;
+        ends = line_out asked left before mid after (p.rows ++ row ∷ []) (outcomes_of p.rows p.replies)
+            (outcomes_of (p.rows ++ row ∷ []) m.given) outcome number fault
+            (begins remaining left next (header ∷ (p.rows ++ row ∷ [])) behind) p.written m.outcomes (omega arith) short;
+      }
+
+  -- all records were tried, and the line of the counts stopped short
+  pub counts_short : (mid after : Option (List ℕ)) (old new : T) (reader : Reader R) (number : ℕ) (tally : Tally) (fault : ImportFault)
+      (p : Progress did remaining token day asked left before mid old new reader number tally) → number ≤ 1000000 →
+      AreAll left (header ∷ p.rows) → StopsShort mid after (count_line tally) fault →
+      ImportsBy did token day asked left before after old new (Err fault)
+  counts_short mid after old new reader number tally fault p few all short = ends_there mid after old new reader number tally (Err fault) p few
+      (counts_out asked left before mid after p.rows (outcomes_of p.rows p.replies) tally fault
+      (begins remaining left reader (header ∷ p.rows) p.behind) all p.written p.tally_is short)

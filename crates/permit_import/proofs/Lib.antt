@@ -4,3 +4,4 @@ pub mod WriteLemmas
 pub mod HeadingLemmas
 pub mod Progress
 pub mod Ending
+pub mod OfficeRuns

@@ -1,5 +1,5 @@
 -- What is wrong with a record that is refused: the field, and what would be taken there.
-use Rattle.std.specs.Prelude.{ℕ, Bool, false, not, ◌==◌, if◌then◌else◌, List, length, ◌++◌, codes, decimal, Option, None, Some, is_some, option_map, option_and_then, unwrap_or}
+use Rattle.std.specs.Prelude.{ℕ, Bool, false, not, ◌==◌, if◌then◌else◌, List, length, ◌++◌, codes, decimal, Option, None, Some, option_map, option_and_then, unwrap_or}
 use Rattle.csv.specs.Records.{field_at}
 use Rattle.permit_base.specs.Texts.{is_lot, is_printable}
 use Rattle.permit_base.specs.Words.{reason_word}

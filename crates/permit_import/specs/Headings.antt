@@ -1,5 +1,5 @@
 -- What is written of a first record that isn't that of a parcel list.
-use Rattle.std.specs.Prelude.{◌≡◌, ◌⊎◌, ℕ, Bool, true, nat_le, nat_lt, ◌&&◌, if◌then◌else◌, List, [], ◌++◌, codes, map, take, Option, None, Some}
+use Rattle.std.specs.Prelude.{◌≡◌, ℕ, Bool, true, nat_le, nat_lt, ◌&&◌, if◌then◌else◌, List, [], ◌++◌, codes, map, take, Option, None, Some}
 use Rattle.std.specs.Io.KnownBytes.{Appends, Keeps}
 use Rattle.csv.specs.Records.{field_at}
 use Rattle.permit_import.specs.Reading.{LacksHeader}

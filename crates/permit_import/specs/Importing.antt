@@ -1,16 +1,19 @@
 -- What an import does.
 use Rattle.std.specs.Prelude.{◌≡◌, ◌≤◌, ◌⊎◌, ℕ, ◌+◌, Bool, List, [], ◌∷◌, ◌++◌, length, Option, Result, Ok, Err}
 use Rattle.std.specs.Io.KnownBytes.{Appends}
+use Rattle.permit_base.specs.declared.request.Asked.{Asked}
 use Rattle.permit_store.specs.Frames.{StoreView, OverHistory}
 use Rattle.permit_office.specs.Frames.{Steps}
 use Rattle.permit_office.specs.Office.{OfficeView}
 use Rattle.permit_office.specs.Runs.{Ran}
 use Rattle.permit_office.specs.declared.reply.Reply.{Reply}
+use Rattle.permit_wire.specs.declared.service.Dated.{Dated}
 use Rattle.permit_import.specs.Headings.{StopsInHeading, TellsHeading}
 use Rattle.permit_import.specs.Lines.{count_line, lines_from, record_lines}
 use Rattle.permit_import.specs.Outcomes.{outcomes_of, tally_of}
 use Rattle.permit_import.specs.Reading.{AreAll, BeginWith}
 use Rattle.permit_import.specs.Records.{Fields, header, requests_of}
+use Rattle.permit_import.specs.Runs.{Runs}
 use Rattle.permit_import.specs.Written.{WroteInto}
 use Rattle.permit_import.specs.declared.fault.ImportFault.{ImportFault}
 use Rattle.permit_import.specs.declared.fault.ImportFault.TheVariants.{FirstRecord, Reading, Memory, Writing}
@@ -53,8 +56,17 @@ EndsOf asked left before after (Err Writing) rows outcomes =
     ⊎ ((rows ≡ []) × StopsInHeading asked left before after)
 
 -- An import of the bytes that a reader has left, with a writer that held some before and after. It tried these records, at
--- most 999999, and the office gave these replies to those that are requests, each by one step: they and the tables are the
--- machine's over the requests that the store didn't refuse.
+-- most 999999, and the service gave these replies to those that are requests: it served them one after the other, each once.
+pub record ImportsBy {T : Type 0} (did : T → Asked → ℕ → Dated → T → Type 0) (token : List ℕ) (day : ℕ) (asked : Bool)
+    (left before after : Option (List ℕ)) (old new : T) (result : Result Tally ImportFault) : Type 0 where
+  pub rows : List Fields
+  pub replies : List Reply
+  pub few : length rows ≤ 999999
+  pub run : Runs did (requests_of token day rows) replies old new
+  pub ends : EndsOf asked left before after result rows (outcomes_of rows replies)
+
+-- The same by an office, one step for each of those requests: the replies and the tables are the machine's over the requests
+-- that the store didn't refuse.
 pub record Imports {S : Type 0} (view : S → StoreView) (token : List ℕ) (day : ℕ) (asked : Bool) (left before after : Option (List ℕ)) (old new : OfficeView S)
     (result : Result Tally ImportFault) : Type 0 where
   pub rows : List Fields

@@ -5,6 +5,7 @@ pub mod Lines
 pub mod Records
 pub mod Reading
 pub mod Headings
+pub mod Runs
 pub mod Trying
 pub mod Written
 pub mod Importing

@@ -9,26 +9,29 @@ use crate::outcome::Outcome;
 use crate::requests::request_of;
 use crate::why::RecordFault;
 use csv::ByteRecord;
-use permit_base::values::{Day, Digest};
-use permit_office::office::Office;
-use permit_store::store::Store;
+use permit_base::request::Asked;
+use permit_base::values::{Day, Token};
+use permit_wire::service::Service;
 use std::alloc::{AllocError, Global};
 
-/// Has the office add the parcel of a record, by one step. A record that is no request never reaches it.
-pub(crate) fn add<S: Store + Drop>(
+/// Has the service add the parcel of a record, by one request. A record that is no request never reaches it.
+pub(crate) fn add<M: Service<Day>>(
     alloc: Global,
-    office: &mut Office<S>,
-    digest: &Digest,
+    service: &mut M,
+    token: &Token,
     day: Day,
     row: &ByteRecord,
 ) -> Result<Outcome, AllocError>
-    ensures tries { IfOk result (Tries S.view digest.now day (fields_of row.now) (request_of_record (fields_of row.now)) office.old office.new) }
-    ensures err { OnErr result (office.new ≡ office.old) }
+    requires { M.ready service.old }
+    ensures ready { M.ready service.new }
+    ensures tries { IfOk result (Tries M.did token.now day (fields_of row.now) (request_of_record (fields_of row.now)) service.old service.new) }
+    ensures err { OnErr result (service.new ≡ service.old) }
 {
     match request_of(alloc, row)? {
         Some(request) => {
-            let reply = office.step_as(digest, &request, day);
-            Ok(Outcome::of(&reply))
+            let token = token.clone()?;
+            let dated = service.serve(&day, Asked { token, request });
+            Ok(Outcome::of(&dated.reply))
         }
         None => Ok(Outcome::Malformed(RecordFault::of(row))),
     }

@@ -1,7 +1,7 @@
 //! Importing a parcel list.
 
 ghost use Rattle.std.specs.Prelude.{◌≡◌, ◌≤◌};
-ghost use Rattle.permit_import.specs.Importing.{Imports};
+ghost use Rattle.permit_import.specs.Importing.{Imports, ImportsBy};
 
 use crate::adding::add;
 use crate::fault::ImportFault;
@@ -10,10 +10,10 @@ use crate::records::{read_next, records};
 use crate::tally::Tally;
 use crate::writing::{write_counts, write_outcome};
 use csv::ByteRecord;
-use permit_base::digests::digest;
 use permit_base::values::{Day, Token};
 use permit_office::office::Office;
 use permit_store::store::Store;
+use permit_wire::service::Service;
 use std::alloc::Global;
 use std::io::{Read, Write};
 
@@ -23,10 +23,10 @@ const MOST_RECORDS: u32 = 999999;
 /// More bytes than the lines of one record have, or the line of a heading.
 const LINE_ROOM: usize = 384;
 
-/// Imports a parcel list for the caller of the token, on the day.
+/// Imports a parcel list for the caller of the token, on the day, by a service.
 ///
 /// The list is text of comma-separated records, as `csv` reads them by default. The first is exactly `lot`, `address`,
-/// `owner`. Each after it, at most 999999, is one step of the office for a new parcel, and has its line: `K added N`;
+/// `owner`. Each after it, at most 999999, is one request to the service for a new parcel, and has its line: `K added N`;
 /// `K kept` where a parcel of its lot is there already; else `K refused: ..` with the refusal, which is `syntax` for a
 /// record that has another number of fields, a field that is not UTF-8 or a value out of its limits. The line of the
 /// counts stands after them. One record is held at a time, so memory does not grow with the list.
@@ -37,6 +37,41 @@ const LINE_ROOM: usize = 384;
 /// After a fault what was tried before it stands, and the lines of the records that were tried are out. Of the last one's
 /// only a beginning is where the writer failed, and maybe nothing where memory ran out. Where the writer failed inside the
 /// counts, all were tried. A record that the store refuses has that refusal in its line, and the import goes on.
+pub fn import_by<M: Service<Day>, R: Read + Drop, W: Write>(
+    alloc: Global,
+    service: &mut M,
+    token: &Token,
+    day: Day,
+    why: bool,
+    reader: R,
+    out: &mut W,
+) -> Result<Tally, ImportFault>
+    requires { M.ready service.old }
+    ensures imports { ImportsBy M.did token.now day why (R.remaining reader) (W.contents out.old) (W.contents out.new) service.old service.new result }
+    ensures ready { M.ready service.new }
+{
+    let mut line = String::with_capacity(alloc, LINE_ROOM)?;
+    let mut records = records(alloc, reader);
+    let mut row = ByteRecord::new(alloc);
+    read_heading(&mut records, &mut row, out, &mut line, why)?;
+    let mut tally = Tally::new();
+    for number in 1..MOST_RECORDS + 2 {
+        if !read_next(&mut records, &mut row)? {
+            write_counts(out, &mut line, tally)?;
+            return Ok(tally);
+        }
+        if number > MOST_RECORDS {
+            break;
+        }
+        let outcome = add(alloc, service, token, day, &row)?;
+        write_outcome(out, &mut line, why, number, outcome)?;
+        tally.count(outcome);
+    }
+    Err(ImportFault::Reading)
+}
+
+/// Imports a parcel list for the caller of the token, on the day, as `import_by` does, by an office: each record that is a
+/// request is one step of it.
 ///
 /// # Examples
 ///
@@ -60,23 +95,5 @@ pub fn import<S: Store + Drop, R: Read + Drop, W: Write>(
     ensures policy { office.new.policy ≡ office.old.policy }
     ensures doubt { (S.view office.old.store).doubt ≤ (S.view office.new.store).doubt }
 {
-    let digest = digest(token)?;
-    let mut line = String::with_capacity(alloc, LINE_ROOM)?;
-    let mut records = records(alloc, reader);
-    let mut row = ByteRecord::new(alloc);
-    read_heading(&mut records, &mut row, out, &mut line, why)?;
-    let mut tally = Tally::new();
-    for number in 1..MOST_RECORDS + 2 {
-        if !read_next(&mut records, &mut row)? {
-            write_counts(out, &mut line, tally)?;
-            return Ok(tally);
-        }
-        if number > MOST_RECORDS {
-            break;
-        }
-        let outcome = add(alloc, office, &digest, day, &row)?;
-        write_outcome(out, &mut line, why, number, outcome)?;
-        tally.count(outcome);
-    }
-    Err(ImportFault::Reading)
+    import_by(alloc, office, token, day, why, reader, out)
 }

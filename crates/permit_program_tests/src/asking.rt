@@ -57,6 +57,7 @@ fn asked<'x>(
             },
             why: false,
         },
+        history: None,
         method,
         path,
         body: None,

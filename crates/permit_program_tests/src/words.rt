@@ -276,20 +276,85 @@ fn numbers_out_of_range(rt: HostRuntime) -> Result<(), Fail> {
         let line = invalid(rt.alloc(), value, place, taken, example)?;
         told(&rt, rt, &words, 2, "", line.as_str())?;
     }
-    for value in ["0", "100000", "one"] {
-        let words = [
-            "renew-token",
-            "--db",
-            "none.db",
-            "--token",
-            TOKENS[0],
-            "--party",
-            value,
-        ];
-        let line = invalid(rt.alloc(), value, "--party <N>", "1 to 99999", "--party 2")?;
-        told(&rt, rt, &words, 2, "", line.as_str())?;
+    Ok(())
+}
+
+#[test]
+fn numbers_of_no_record(rt: HostRuntime) -> Result<(), Fail> {
+    let renewal = ["renew-token", "--db", "none.db", "--token", TOKENS[0]];
+    let history = ["history", "--history", "none.history"];
+    for (words, option, example) in [
+        (renewal.as_slice(), "--party", "--party 2"),
+        (history.as_slice(), "--party", "--party 2"),
+        (history.as_slice(), "--parcel", "--parcel 1"),
+        (history.as_slice(), "--file", "--file 1"),
+    ] {
+        let place = format!(in rt.alloc(); "{option} <N>")?;
+        for value in ["0", "100000", "one", "01"] {
+            let mut all = Vec::new(rt.alloc());
+            all.extend_from_slice(words)?;
+            all.extend_from_slice(&[option, value])?;
+            let line = invalid(rt.alloc(), value, place.as_str(), "1 to 99999", example)?;
+            told(&rt, rt, &all, 2, "", line.as_str())?;
+        }
     }
     Ok(())
+}
+
+#[test]
+fn a_history_without_its_path(rt: HostRuntime) -> Result<(), Fail> {
+    let wanted =
+        "error: the following required arguments were not provided:\n  --history <PATH>\n\nUsage: permit history --history <PATH>\n\nFor more information, try '--help'.\n";
+    told(&rt, rt, &["history"], 2, "", wanted)?;
+    let wanted =
+        "error: the following required arguments were not provided:\n  --history <PATH>\n\nUsage: permit replay --db <DB> --history <PATH>\n\nFor more information, try '--help'.\n";
+    told(&rt, rt, &["replay", "--db", "none.db"], 2, "", wanted)
+}
+
+#[test]
+fn a_history_that_is_not_kept(rt: HostRuntime) -> Result<(), Fail> {
+    for name in ["list", "register", "check-policy"] {
+        let (status, out, err) = run(&rt, rt, &[name, "--history", "none.history"])?;
+        assert_eq!(rt; (status, out.as_str()), (2, ""));
+        assert!(rt;
+            err.as_str()
+                .starts_with("error: unexpected argument '--history' found")
+        );
+    }
+    Ok(())
+}
+
+#[test]
+fn a_copy_without_a_history(rt: HostRuntime) -> Result<(), Fail> {
+    let wanted = format!(in rt.alloc();
+        "error: the following required arguments were not provided:\n  --history <PATH>{HELP}"
+    )?;
+    let check = ["check-db", "--db", "none.db", "--from", "none.copy"];
+    told(&rt, rt, &check, 2, "", wanted.as_str())?;
+    let renewal = [
+        "renew-token",
+        "--db",
+        "none.db",
+        "--party",
+        "2",
+        "--token-file",
+        "-",
+        "--from",
+        "none.copy",
+    ];
+    told(&rt, rt, &renewal, 2, "", wanted.as_str())
+}
+
+#[test]
+fn a_beginning_of_no_office(rt: HostRuntime) -> Result<(), Fail> {
+    let words = [
+        "begin-history",
+        "--db",
+        "none.db",
+        "--history",
+        "none.history",
+    ];
+    told(&rt, rt, &words, 2, "", "database: store\n")
 }
 
 #[test]

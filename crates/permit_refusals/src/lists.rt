@@ -9,6 +9,7 @@ use permit_hall::error::HallError;
 use permit_hall::lists::{ListsEnd, run_lists};
 use permit_office::office::Office;
 use permit_office::reply::Reply;
+use permit_samples::held::Held;
 use permit_samples::makers::day;
 use permit_store::plain::PlainStore;
 use std::alloc::Global;
@@ -60,27 +61,40 @@ fn print_each(
     Ok(())
 }
 
+/// Prints the answers of each list, and the tables.
+fn print_end(
+    rt: &(impl Print + AllocGlobal),
+    left_out: usize,
+    end: ListsEnd<PlainStore>,
+) -> Result<(), Fail> {
+    let ListsEnd { office, answers } = end;
+    let office = Held::new(office);
+    for replies in answers {
+        print_each(rt, left_out, replies)?;
+    }
+    print_tables(rt, office.into_inner())
+}
+
+/// Prints that there was no memory, and the tables.
+fn print_memory(rt: &(impl Print + AllocGlobal), office: Office<PlainStore>) -> Result<(), Fail> {
+    let office = Held::new(office);
+    println!(rt; "0 memory")?;
+    print_tables(rt, office.into_inner())
+}
+
 /// Runs the hall without the request of the number, and prints the answers and the tables.
 pub fn listed<R>(rt: R, left_out: usize) -> Result<(), Fail>
 where
     R: Threads + Wait + Print + AllocGlobal + Copy + Drop + Send + 'static,
 {
     let alloc = rt.alloc();
-    let (office, on) = (opened(alloc)?, day(19723)?);
-    let lists = vec![in alloc; list(alloc, left_out)?]?;
+    let (office, on) = (Held::new(opened(alloc)?), day(19723)?);
+    let lists = Held::new(vec![in alloc; list(alloc, left_out)?]?);
     println!(rt; "{COUNT}")?;
-    let end = ended(rt, alloc, office, lists, on);
+    let end = Held::new(ended(rt, alloc, office.into_inner(), lists.into_inner(), on));
     println!(rt; "{REST}")?;
-    match end {
-        Ok(ListsEnd { office, answers }) => {
-            for replies in answers {
-                print_each(&rt, left_out, replies)?;
-            }
-            print_tables(&rt, office)
-        }
-        Err((office, _)) => {
-            println!(rt; "0 memory")?;
-            print_tables(&rt, office)
-        }
+    match end.into_inner() {
+        Ok(end) => print_end(&rt, left_out, end),
+        Err((office, _)) => print_memory(&rt, office),
     }
 }

@@ -13,6 +13,7 @@ mod serving;
 
 use lists::listed;
 use others::{hall, imported, made, passed};
+use permit_samples::held::Held;
 use permit_samples::offices::over_vectors;
 use permit_samples::opening::OPENING;
 use permit_samples::script::{play, play_all, requests_of};
@@ -37,9 +38,9 @@ fn number(words: &[String], at: usize) -> usize {
 fn play_each(alloc: Global) -> Result<usize, Fail> {
     let mut count = 0;
     for scenario in scenarios(alloc)?.as_slice() {
-        let mut office = over_vectors(alloc)?;
-        play(alloc, &mut office, OPENING)?;
-        play_all(alloc, &mut office, scenario)?;
+        let mut office = Held::new(over_vectors(alloc)?);
+        play(alloc, &mut office.value, OPENING)?;
+        play_all(alloc, &mut office.value, scenario)?;
         count = requests_of(alloc, scenario)?.len().saturating_add(count);
     }
     Ok(count)

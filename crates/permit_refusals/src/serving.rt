@@ -2,13 +2,14 @@
 
 use permit_answer::answer::Answer;
 use permit_answer::write_reply;
-use permit_base::request::action;
+use permit_base::request::{Asked, action};
 use permit_base::values::Day;
 use permit_http::error::WireError;
 use permit_http::inbox::Inbox;
 use permit_office::office::Office;
 use permit_samples::ask::read_ask;
 use permit_samples::exchange::request;
+use permit_samples::held::Held;
 use permit_samples::makers::day;
 use permit_samples::offices::over_vectors;
 use permit_samples::opening::OPENING;
@@ -57,9 +58,9 @@ pub fn scenarios(alloc: Global) -> Result<Vec<Scenario>, AllocError> {
 
 /// The office of the scenarios after their opening.
 pub fn opened(alloc: Global) -> Result<Office<PlainStore>, Fail> {
-    let mut office = over_vectors(alloc)?;
-    play(alloc, &mut office, OPENING)?;
-    Ok(office)
+    let mut office = Held::new(over_vectors(alloc)?);
+    play(alloc, &mut office.value, OPENING)?;
+    Ok(office.into_inner())
 }
 
 /// How serving ended, in a word.
@@ -86,7 +87,25 @@ pub fn print_answer(
     Ok(())
 }
 
-/// What the office's step answers to a request of bytes. Growths count for the step alone.
+/// What the office's step answers to what is asked. Growths count for the step alone.
+fn replied(
+    rt: &(impl Print + AllocGlobal),
+    office: &mut Office<PlainStore>,
+    asked: Asked,
+    on: Day,
+) -> Result<Answer, Fail> {
+    let asked = Held::new(asked);
+    println!(rt; "{COUNT}")?;
+    let reply = Held::new(office.step(&asked.value, on));
+    println!(rt; "{REST}")?;
+    Ok(Answer::Replied {
+        reply: reply.into_inner(),
+        action: action(&asked.value.request),
+        day: on,
+    })
+}
+
+/// What the office's step answers to a request of bytes.
 fn stepped(
     rt: &(impl Print + AllocGlobal),
     office: &mut Office<PlainStore>,
@@ -96,17 +115,7 @@ fn stepped(
     let mut inbox = Inbox::new();
     let mut reader = bytes;
     match read_request(rt.alloc(), &mut inbox, &mut reader) {
-        Ok(Some(asked)) => {
-            println!(rt; "{COUNT}")?;
-            let reply = office.step(&asked, on);
-            println!(rt; "{REST}")?;
-            let action = action(&asked.request);
-            Ok(Answer::Replied {
-                reply,
-                action,
-                day: on,
-            })
-        }
+        Ok(Some(asked)) => replied(rt, office, asked, on),
         Err(WireError::Fault(fault)) => Ok(Answer::Fault(fault)),
         _ => Err(Fail::new("a whole request")),
     }
@@ -120,9 +129,9 @@ fn step(
     bytes: &[u8],
     on: Day,
 ) -> Result<(), Fail> {
-    let answer = stepped(rt, office, bytes, on)?;
+    let answer = Held::new(stepped(rt, office, bytes, on)?);
     let mut written = Vec::new(rt.alloc());
-    let is_written = write_reply(rt.alloc(), &answer, false, &mut written).is_ok();
+    let is_written = write_reply(rt.alloc(), &answer.value, false, &mut written).is_ok();
     drop(answer);
     let ended = if is_written { "kept" } else { "write-failed" };
     print_answer(rt, number, ended, written)
@@ -157,9 +166,28 @@ pub fn print_tables(
     rt: &(impl Print + AllocGlobal),
     office: Office<PlainStore>,
 ) -> Result<(), Fail> {
-    let text = tables_text(rt.alloc(), &mut office.into_store())?;
+    let mut store = Held::new(office.into_store());
+    let text = tables_text(rt.alloc(), &mut store.value)?;
+    drop(store);
     println!(rt; "{text}")?;
     Ok(())
+}
+
+/// Serves the request of the line, and prints the answer.
+fn serve(
+    rt: &(impl Print + AllocGlobal),
+    office: &mut Office<PlainStore>,
+    way: Way,
+    number: usize,
+    line: &str,
+) -> Result<(), Fail> {
+    let ask = read_ask(line)?;
+    let bytes = request(rt.alloc(), &ask)?;
+    let (bytes, on) = (bytes.as_str().as_bytes(), day(ask.day)?);
+    match way {
+        Way::Step => step(rt, office, number, bytes, on),
+        Way::Bytes => exchange(rt, office, number, bytes, on),
+    }
 }
 
 /// Serves the requests of a scenario in the office after the opening, but that of the number, from 1, which is left out,
@@ -172,20 +200,13 @@ pub fn serve_all(
 ) -> Result<(), Fail> {
     let alloc = rt.alloc();
     let scenario = *scenarios(alloc)?.get(scenario).ok_or("a scenario")?;
-    let mut office = opened(alloc)?;
+    let mut office = Held::new(opened(alloc)?);
     let mut number = 0usize;
     for line in requests_of(alloc, scenario)?.as_slice() {
         number = number.saturating_add(1);
-        if number == left_out {
-            continue;
-        }
-        let ask = read_ask(line)?;
-        let bytes = request(alloc, &ask)?;
-        let (bytes, on) = (bytes.as_str().as_bytes(), day(ask.day)?);
-        match way {
-            Way::Step => step(rt, &mut office, number, bytes, on)?,
-            Way::Bytes => exchange(rt, &mut office, number, bytes, on)?,
+        if number != left_out {
+            serve(rt, &mut office.value, way, number, line)?;
         }
     }
-    print_tables(rt, office)
+    print_tables(rt, office.into_inner())
 }

@@ -1,1 +1,2 @@
 pub mod NoneServed
+pub mod Histories

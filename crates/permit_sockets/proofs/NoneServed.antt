@@ -8,10 +8,8 @@ use Rattle.std.proofs.lemmas.List.Folds.{list_any_at}
 use Rattle.std.proofs.lemmas.Option.{slice_get-get_or, slice_get_cases}
 use Rattle.permit_base.specs.declared.request.Asked.{Asked}
 use Rattle.permit_wire.specs.declared.service.Dated.{Dated}
-use Rattle.permit_store.specs.Frames.{StoreView}
-use Rattle.permit_office.specs.Office.{OfficeView}
 use Rattle.permit_hall.specs.Doors.{AreDoorsServed}
-use Rattle.permit_hall.specs.OneHistory.{OneHistory}
+use Rattle.permit_hall.specs.OneRun.{OneRun}
 use Rattle.permit_hall.specs.Runs.{Entry, requests_of}
 use Rattle.permit_hall.specs.declared.doors.DoorEnd.{DoorEnd}
 
@@ -47,12 +45,13 @@ module _ {In Out D : Type 0} (remaining : In → Option (List ℕ)) (contents : 
         | inr past ↦ absurd (omega (arith, past.0))
       ]
 
-module _ {S X In Out D : Type 0} (view : S → StoreView) (tick : X → ℕ → X → Type 0) (remaining : In → Option (List ℕ)) (contents : Out → Option (List ℕ))
-    (gave : D → Option (In × Out) → D → Type 0) (spent : D → Type 0) (doors : List D) (ends : List (Option (DoorEnd D))) (old new : OfficeView S) (c d : X) where
-  -- the office is as it was, and the clock was not asked
-  pub as_it_was : (served : List (Entry Asked Dated)) × OneHistory view tick (length doors) old new c d served
+module _ {T X In Out D : Type 0} (did : T → Asked → ℕ → Dated → T → Type 0) (tick : X → ℕ → X → Type 0) (remaining : In → Option (List ℕ))
+    (contents : Out → Option (List ℕ)) (gave : D → Option (In × Out) → D → Type 0) (spent : D → Type 0) (doors : List D) (ends : List (Option (DoorEnd D)))
+    (old new : T) (c d : X) where
+  -- the service is as it was, and the clock was not asked
+  pub as_it_was : (served : List (Entry Asked Dated)) × OneRun did tick (length doors) old new c d served
       × AreDoorsServed remaining contents gave spent doors ends served → list_any is_some ends ≡ false → (new ≡ old) × (d ≡ c)
   as_it_was ran none =
       let nothing = none_served remaining contents gave spent doors ends ran.0 ran.2 ran.1.each none in
-      let h = subst (λ es. OneHistory view tick (length doors) old new c d es) nothing ran.1 in
-      (h.run.steps, sym h.days)
+      let h = subst (λ es. OneRun did tick (length doors) old new c d es) nothing ran.1 in
+      (sym h.runs, sym h.days)

@@ -1,4 +1,4 @@
--- How an office ended that was served over TCP.
+-- How serving over TCP ended.
 use Rattle.std.specs.Prelude.{◌≡◌, ℕ, Bool, List, Option, Some, None, is_some, true, false}
 use Rattle.std.specs.List.{list_any}
 use Rattle.permit_base.specs.declared.request.Asked.{Asked}

@@ -1,4 +1,4 @@
-//! Serving an office over TCP.
+//! Serving an office, or another service, over TCP.
 //!
 //! `limits` has the times that a connection may take. `pace` is a connection's reader and writer, which fail once those
 //! are over; `connections` is the door through which a worker takes one connection after the other, until the flag of

@@ -1,4 +1,4 @@
-//! Serving an office over TCP: each worker takes connections for itself.
+//! Serving over TCP: each worker takes connections for itself.
 
 ghost use Rattle.std.specs.Prelude.{◌≡◌, ◌⊎◌, All, IfOk, IfErr, length, List, OnErr, OnOk, is_some};
 ghost use Rattle.std.specs.List.{list_any};
@@ -7,6 +7,7 @@ ghost use Rattle.permit_base.specs.declared.request.Asked.{Asked};
 ghost use Rattle.permit_wire.specs.declared.service.Dated.{Dated};
 ghost use Rattle.permit_hall.specs.Runs.{Entry};
 ghost use Rattle.permit_hall.specs.OneHistory.{OneHistory};
+ghost use Rattle.permit_hall.specs.OneRun.{OneRun};
 ghost use Rattle.permit_subcommands.specs.Failures.{IsUnheard};
 ghost use Rattle.permit_subcommands.specs.declared.failure.Failure.TheVariants.{Output};
 ghost use Rattle.permit_sockets.specs.Ending.{HaveEnded, is_stopped};
@@ -17,10 +18,11 @@ use crate::connections::{Connections, Flag, doors};
 use crate::pace::{AnswerWriter, RequestReader};
 use permit_args::plan::ServeWords;
 use permit_base::values::Day;
-use permit_hall::doors::{Door, DoorEnd, HallEnd, run_hall};
+use permit_hall::doors::{Door, DoorEnd, DoorsEnd, run_doors};
 use permit_office::office::Office;
 use permit_store::store::Store;
 use permit_subcommands::failure::Failure;
+use permit_wire::Service;
 use std::io::{self, Read, Write};
 use std::net::{SocketAddr, TcpListener};
 use std::sync::Wait;
@@ -111,10 +113,55 @@ pub fn any_stopped<R: Drop>(ends: &Ends<R>) -> bool
     ends.iter().any(|end| is_stopped(end))
 }
 
-/// Serves an office until its workers have ended, each by its count of connections or with the connection after which it
+/// Serves a service until its workers have ended, each by its count of connections or with the connection after which it
 /// finds the flag set, on the days of a clock that is asked once for each request as it is taken, and gives it back: what
-/// its clients asked is one history of it. Says how each worker's door ended. With a failure the office is as it was, and
-/// the clock was not asked; that no worker could be started is one.
+/// its clients asked is one run of it. Says how each worker's door ended. With a failure the service is as it was, and the
+/// clock was not asked; that no worker could be started is one.
+pub fn serve_service<M, T, R, O>(
+    rt: &HostRuntime,
+    workers: R,
+    service: M,
+    words: &ServeWords<'_>,
+    today: &mut T,
+    shut: &Flag,
+    out: &mut O,
+) -> (M, Result<Ends<R>, Failure>)
+where
+    M: Service<Day> + Drop,
+    T: FnMut() -> Day,
+    R: Threads + Wait + Copy + Drop + Send + 'static,
+    O: Write,
+    requires ready { M.ready service }
+    requires clock { T.IsAlwaysCallable today.old }
+    ensures run { IfOk result.1 (λ ends. (served : List (Entry Asked Dated))
+        × OneRun M.did T.step words.now.workers service result.0 today.old today.new served
+        × HaveEnded (⟦<RequestReader<HostRuntime> as Read>⟧.remaining) (⟦<AnswerWriter<HostRuntime> as Write>⟧.contents)
+        (⟦<Connections<HostRuntime, R> as Door>⟧.gave) (⟦<Connections<HostRuntime, R> as Door>⟧.spent) words.now.workers words.now.connections
+        (O.contents out.old) (O.contents out.new) ends.items served) }
+    ensures ready { M.ready result.0 }
+    ensures same { OnErr result.1 ((result.0 ≡ service) × (today.new ≡ today.old)) }
+    ensures told { OnOk result.1 (SaysListening (O.contents out.old) (O.contents out.new)) }
+    ensures untold { IfErr result.1 (λ why. (why ≡ Output) ⊎ ((out.new ≡ out.old) ⊎ SaysListening (O.contents out.old) (O.contents out.new))) }
+    ensures fault { IfErr result.1 (λ why. IsUnheard words.now.listen.now why ⊎ (why ≡ Output)) }
+{
+    let doors = match listen(rt, workers, words, shut, out) {
+        Ok(doors) => doors,
+        Err(failure) => return (service, Err(failure)),
+    };
+    match run_doors(workers, rt.alloc(), service, doors, today) {
+        Ok(end) => {
+            let DoorsEnd { service, doors } = end;
+            if any_served(&doors) {
+                (service, Ok(doors))
+            } else {
+                (service, Err(Failure::memory()))
+            }
+        }
+        Err((service, _)) => (service, Err(Failure::memory())),
+    }
+}
+
+/// Serves an office so, as `serve_service` does any service: what its clients asked is one history of it.
 pub fn serve<S, T, R, O>(
     rt: &HostRuntime,
     workers: R,
@@ -140,19 +187,5 @@ where
     ensures untold { IfErr result.1 (λ why. (why ≡ Output) ⊎ ((out.new ≡ out.old) ⊎ SaysListening (O.contents out.old) (O.contents out.new))) }
     ensures fault { IfErr result.1 (λ why. IsUnheard words.now.listen.now why ⊎ (why ≡ Output)) }
 {
-    let doors = match listen(rt, workers, words, shut, out) {
-        Ok(doors) => doors,
-        Err(failure) => return (office, Err(failure)),
-    };
-    match run_hall(workers, rt.alloc(), office, doors, today) {
-        Ok(end) => {
-            let HallEnd { office, doors } = end;
-            if any_served(&doors) {
-                (office, Ok(doors))
-            } else {
-                (office, Err(Failure::memory()))
-            }
-        }
-        Err((office, _)) => (office, Err(Failure::memory())),
-    }
+    serve_service(rt, workers, office, words, today, shut, out)
 }

@@ -1,10 +1,11 @@
 //! Each change, and what a store over a database shows behind it, by each of its reads.
 
 use crate::database::founded;
-use permit_base::values::{Cents, Day, PaperNumber};
+use permit_base::values::{Cents, Day, FileId, Lot, PaperNumber, ParcelId, PartyId, Text};
 use permit_base::words::{Edition, Kind, PaperSort, Role, Word};
 use permit_core::state::FileState;
 use permit_samples::ask::TOKENS;
+use permit_samples::held::Held;
 use permit_samples::makers::{day, digest_of, file, lot, parcel, party, text};
 use permit_store::rows::{Change, NewPaper, RowEffect};
 use permit_store::store::Store;
@@ -123,9 +124,8 @@ fn files_shown<S: Store>(alloc: Global, store: &mut S) -> Result<String, Fail> {
         Some(row) => Some(row.state),
         None => None,
     };
-    let row = count_shown(alloc, row)?;
-    let first = count_shown(alloc, store.state(id)?)?;
-    let second = count_shown(alloc, store.state(file(2)?)?)?;
+    let first = store.state(id)?;
+    let second = store.state(file(2)?)?;
     let paper = match store.papers(id)?.first() {
         Some(paper) if paper.is_open => "open",
         Some(_) => "closed",
@@ -133,6 +133,9 @@ fn files_shown<S: Store>(alloc: Global, store: &mut S) -> Result<String, Fail> {
     };
     let one = store.has_open_notice(id, PaperNumber::new(1).ok_or("a number")?)?;
     let two = store.has_open_notice(id, PaperNumber::new(2).ok_or("a number")?)?;
+    let row = count_shown(alloc, row)?;
+    let first = count_shown(alloc, first)?;
+    let second = count_shown(alloc, second)?;
     let (row, first, second) = (row.as_str(), first.as_str(), second.as_str());
     Ok(format!(in alloc; "file 1: {row} {first}, 2: {second}, notices {paper} {one} {two}")?)
 }
@@ -162,97 +165,139 @@ fn commit<S: Store>(
     shows(alloc, store, wanted)
 }
 
-/// Ada, a clerk, as party 2; lot A-1 as parcel 1 of party 1, which then party 2 owns and in which party 1 has an
-/// interest; and file 1, with a notice that is closed, and a row once more.
-fn changes<S: Store>(alloc: Global, store: &mut S) -> Result<(), Fail> {
-    let (ada, shed, words) = (
-        text(alloc, "Ada")?,
-        text(alloc, "A shed")?,
-        text(alloc, "No footing")?,
-    );
-    let (address, letters) = (text(alloc, "1 Main Street")?, lot(alloc, "A-1")?);
-    let digest = digest_of(alloc, TOKENS[1])?;
-    let (one, two, land, id) = (party(1)?, party(2)?, parcel(1)?, file(1)?);
-    let notice = PaperNumber::new(1).ok_or("a number")?;
-    let changes = [
-        (
-            19701,
-            Change::NewParty {
-                name: &ada,
-                role: Role::Clerk,
-                digest: &digest,
-            },
-        ),
-        (
-            19701,
-            Change::NewParcel {
-                lot: &letters,
-                address: &address,
-                owner: one,
-            },
-        ),
-        (
-            19702,
-            Change::NewOwner {
-                parcel: land,
-                owner: two,
-            },
-        ),
-        (
-            19702,
-            Change::NewInterest {
-                parcel: land,
-                party: one,
-            },
-        ),
-        (
-            19702,
-            Change::NewFile {
-                state: state(0)?,
-                valuation: Cents::new(2_500_000).ok_or("an amount")?,
-                description: &shed,
-            },
-        ),
-        (
-            19703,
-            Change::NewRow {
-                file: id,
-                state: state(1)?,
-                effect: RowEffect::Paper(NewPaper {
-                    author: one,
-                    sort: PaperSort::Notice,
-                    days: 0,
-                    text: Some(&words),
-                    terms: None,
-                }),
-            },
-        ),
-        (
-            19704,
-            Change::NewRow {
-                file: id,
-                state: state(1)?,
-                effect: RowEffect::NoticeClosed(notice),
-            },
-        ),
-        (
-            19705,
-            Change::NewRow {
-                file: id,
-                state: state(1)?,
-                effect: RowEffect::None,
-            },
-        ),
-    ];
-    for ((on, change), wanted) in changes.iter().zip(&SHOWN[1..]) {
-        commit(alloc, store, change, day(*on)?, wanted)?;
+/// The texts of the changes.
+#[derive(Drop)]
+struct Texts {
+    ada: Text,
+    shed: Text,
+    words: Text,
+    address: Text,
+    letters: Lot,
+}
+
+impl Texts {
+    fn new(alloc: Global) -> Result<Texts, Fail> {
+        let ada = text(alloc, "Ada")?;
+        let shed = text(alloc, "A shed")?;
+        let words = text(alloc, "No footing")?;
+        let address = text(alloc, "1 Main Street")?;
+        Ok(Texts {
+            ada,
+            shed,
+            words,
+            address,
+            letters: lot(alloc, "A-1")?,
+        })
     }
-    Ok(())
+}
+
+/// The numbers and states of the changes.
+#[derive(Clone, Copy)]
+struct Numbers {
+    one: PartyId,
+    two: PartyId,
+    land: ParcelId,
+    id: FileId,
+    notice: PaperNumber,
+    valuation: Cents,
+    without_papers: FileState,
+    with_paper: FileState,
+}
+
+impl Numbers {
+    fn new() -> Result<Numbers, Fail> {
+        Ok(Numbers {
+            one: party(1)?,
+            two: party(2)?,
+            land: parcel(1)?,
+            id: file(1)?,
+            notice: PaperNumber::new(1).ok_or("a number")?,
+            valuation: Cents::new(2_500_000).ok_or("an amount")?,
+            without_papers: state(0)?,
+            with_paper: state(1)?,
+        })
+    }
+}
+
+/// Ada, a clerk, as party 2; lot A-1 as parcel 1 of party 1, which then party 2 owns and in which party 1 has an
+/// interest.
+fn people_and_land<S: Store>(
+    alloc: Global,
+    store: &mut S,
+    numbers: &Numbers,
+    texts: &Texts,
+) -> Result<(), Fail> {
+    let digest = digest_of(alloc, TOKENS[1])?;
+    let party = Change::NewParty {
+        name: &texts.ada,
+        role: Role::Clerk,
+        digest: &digest,
+    };
+    commit(alloc, store, &party, day(19701)?, SHOWN[1])?;
+    let parcel = Change::NewParcel {
+        lot: &texts.letters,
+        address: &texts.address,
+        owner: numbers.one,
+    };
+    commit(alloc, store, &parcel, day(19701)?, SHOWN[2])?;
+    let owner = Change::NewOwner {
+        parcel: numbers.land,
+        owner: numbers.two,
+    };
+    commit(alloc, store, &owner, day(19702)?, SHOWN[3])?;
+    let interest = Change::NewInterest {
+        parcel: numbers.land,
+        party: numbers.one,
+    };
+    commit(alloc, store, &interest, day(19702)?, SHOWN[4])
+}
+
+/// File 1, with a notice that is closed, and a row once more.
+fn rows_of_a_file<S: Store>(
+    alloc: Global,
+    store: &mut S,
+    numbers: &Numbers,
+    texts: &Texts,
+) -> Result<(), Fail> {
+    let file = Change::NewFile {
+        state: numbers.without_papers,
+        valuation: numbers.valuation,
+        description: &texts.shed,
+    };
+    commit(alloc, store, &file, day(19702)?, SHOWN[5])?;
+    let paper = Change::NewRow {
+        file: numbers.id,
+        state: numbers.with_paper,
+        effect: RowEffect::Paper(NewPaper {
+            author: numbers.one,
+            sort: PaperSort::Notice,
+            days: 0,
+            text: Some(&texts.words),
+            terms: None,
+        }),
+    };
+    commit(alloc, store, &paper, day(19703)?, SHOWN[6])?;
+    let closed = Change::NewRow {
+        file: numbers.id,
+        state: numbers.with_paper,
+        effect: RowEffect::NoticeClosed(numbers.notice),
+    };
+    commit(alloc, store, &closed, day(19704)?, SHOWN[7])?;
+    let row = Change::NewRow {
+        file: numbers.id,
+        state: numbers.with_paper,
+        effect: RowEffect::None,
+    };
+    commit(alloc, store, &row, day(19705)?, SHOWN[8])
 }
 
 #[test]
 fn each_change_is_shown(rt: HostRuntime) -> Result<(), Fail> {
-    let mut store = founded(rt.alloc())?;
-    shows(rt.alloc(), &mut store, SHOWN[0])?;
-    changes(rt.alloc(), &mut store)
+    let alloc = rt.alloc();
+    let numbers = Numbers::new()?;
+    let texts = Held::new(Texts::new(alloc)?);
+    let store = &mut Held::new(founded(alloc)?).value;
+    shows(alloc, store, SHOWN[0])?;
+    people_and_land(alloc, store, &numbers, &texts.value)?;
+    rows_of_a_file(alloc, store, &numbers, &texts.value)
 }

@@ -1,10 +1,10 @@
 //! Databases whose tables are sound, and that one change damages.
 
-use crate::database::over_database;
+use crate::database::{opened, over_database, refusal_to_open};
 use permit_samples::filing::FILED;
+use permit_samples::held::Held;
 use permit_samples::opening::OPENING;
 use permit_samples::script::play;
-use permit_sql::store::SqlStore;
 use permit_store::store::{OpenError, Store};
 use sqlite::{Connection, MemStore};
 use std::alloc::Global;
@@ -35,29 +35,34 @@ const CHANGES: [(&str, OpenError); 13] = [
 
 /// A database of seven parties, two parcels and one file.
 fn filed(alloc: Global) -> Result<Connection<MemStore>, Fail> {
-    let mut office = over_database(alloc)?;
+    let mut office = Held::new(over_database(alloc)?);
     for script in [OPENING, FILED] {
-        play(alloc, &mut office, script)?;
+        play(alloc, &mut office.value, script)?;
     }
-    Ok(office.into_store().into_connection())
+    Ok(office.into_inner().into_store().into_connection())
+}
+
+/// The counts of a database's desk.
+fn counts(alloc: Global, conn: Connection<MemStore>) -> Result<(u32, u32, u32), Fail> {
+    let mut store = Held::new(opened(alloc, conn)?);
+    let desk = store.value.desk()?;
+    Ok((desk.parties, desk.parcels, desk.files))
+}
+
+/// Why the database of a filing isn't opened once a statement was run in it.
+fn refusal_behind(alloc: Global, statement: &str) -> Result<Option<OpenError>, Fail> {
+    let mut conn = filed(alloc)?;
+    conn.execute(statement, &[])?;
+    Ok(refusal_to_open(alloc, conn))
 }
 
 #[test]
 fn one_change_damages_a_database(rt: HostRuntime) -> Result<(), Fail> {
     let alloc = rt.alloc();
-    match SqlStore::open(alloc, filed(alloc)?) {
-        Ok(store) => {
-            let mut store = store;
-            let desk = store.desk()?;
-            assert_eq!(rt; (desk.parties, desk.parcels, desk.files), (7, 2, 1));
-        }
-        Err((_, why)) => return Err(why)?,
-    }
-    for (statement, wanted) in CHANGES {
-        let mut conn = filed(alloc)?;
-        conn.execute(statement, &[])?;
-        let why = SqlStore::open(alloc, conn).err().map(|refused| refused.1);
-        assert!(rt; why == Some(wanted), "{statement}");
+    assert_eq!(rt; counts(alloc, filed(alloc)?)?, (7, 2, 1));
+    for (statement, wanted) in &CHANGES {
+        let why = refusal_behind(alloc, statement)?;
+        assert!(rt; why == Some(*wanted), "{statement}");
     }
     Ok(())
 }

@@ -3,6 +3,7 @@
 use permit_mirror::indexed::Indexed;
 use permit_mirror::mirrored::Mirrored;
 use permit_office::office::Office;
+use permit_samples::held::Held;
 use permit_samples::offices::{founder, office_over};
 use permit_samples::standard::POLICY;
 use permit_sql::store::SqlStore;
@@ -12,19 +13,63 @@ use sqlite::{Connection, MemStore};
 use std::alloc::Global;
 use std::test::Fail;
 
-/// A founding in a database, or why there is none, with the database.
-pub(crate) fn create(
-    alloc: Global,
-    conn: Connection<MemStore>,
-) -> Result<Result<SqlStore<MemStore>, (Connection<MemStore>, OpenError)>, Fail> {
-    Ok(SqlStore::create(alloc, conn, &founder(alloc)?))
-}
-
 /// A store that was just founded.
 pub(crate) fn founded(alloc: Global) -> Result<SqlStore<MemStore>, Fail> {
-    match create(alloc, Connection::open_in_memory(alloc)?)? {
+    let founder = Held::new(founder(alloc)?);
+    let conn = Connection::open_in_memory(alloc)?;
+    match SqlStore::create(alloc, conn, &founder.value) {
         Ok(store) => Ok(store),
-        Err((_, why)) => Err(why)?,
+        Err((conn, why)) => {
+            drop(conn);
+            Err(why)?
+        }
+    }
+}
+
+/// The store in a database.
+pub(crate) fn opened(
+    alloc: Global,
+    conn: Connection<MemStore>,
+) -> Result<SqlStore<MemStore>, Fail> {
+    match SqlStore::open(alloc, conn) {
+        Ok(store) => Ok(store),
+        Err((conn, why)) => {
+            drop(conn);
+            Err(why)?
+        }
+    }
+}
+
+/// Why there is no founding in a database. None where there is one.
+pub(crate) fn refusal_to_create(
+    alloc: Global,
+    conn: Connection<MemStore>,
+) -> Result<Option<OpenError>, Fail> {
+    let conn = Held::new(conn);
+    let founder = founder(alloc)?;
+    match SqlStore::create(alloc, conn.into_inner(), &founder) {
+        Ok(store) => {
+            drop(store);
+            Ok(None)
+        }
+        Err((conn, why)) => {
+            drop(conn);
+            Ok(Some(why))
+        }
+    }
+}
+
+/// Why a database isn't opened. None where it is.
+pub(crate) fn refusal_to_open(alloc: Global, conn: Connection<MemStore>) -> Option<OpenError> {
+    match SqlStore::open(alloc, conn) {
+        Ok(store) => {
+            drop(store);
+            None
+        }
+        Err((conn, why)) => {
+            drop(conn);
+            Some(why)
+        }
     }
 }
 
@@ -39,6 +84,9 @@ pub(crate) fn over_memory_too(
 ) -> Result<Office<Mirrored<SqlStore<MemStore>, Indexed<PlainStore>>>, Fail> {
     match Mirrored::load(alloc, founded(alloc)?) {
         Ok(store) => office_over(alloc, store, POLICY),
-        Err((_, why)) => Err(why)?,
+        Err((kept, why)) => {
+            drop(kept);
+            Err(why)?
+        }
     }
 }

@@ -1,6 +1,6 @@
 //! Foundings and openings over memory.
 
-use crate::database::{create, founded};
+use crate::database::{founded, refusal_to_create, refusal_to_open};
 use permit_sql::store::SqlStore;
 use permit_store::store::OpenError;
 use sqlite::{Connection, MemStore};
@@ -44,28 +44,49 @@ fn text_of(conn: &mut Connection<MemStore>, query: &str) -> Result<String, Fail>
 /// The official's name in a database once it was opened, or why it isn't opened.
 fn opened(alloc: Global, conn: Connection<MemStore>) -> Result<Result<String, OpenError>, Fail> {
     match SqlStore::open(alloc, conn) {
-        Ok(store) => Ok(Ok(text_of(&mut store.into_connection(), NAME)?)),
-        Err((_, why)) => Ok(Err(why)),
+        Ok(store) => {
+            let mut conn = store.into_connection();
+            Ok(Ok(text_of(&mut conn, NAME)?))
+        }
+        Err((conn, why)) => {
+            drop(conn);
+            Ok(Err(why))
+        }
     }
+}
+
+/// A founded database in which a statement was run, if any.
+fn changed(alloc: Global, statement: Option<&str>) -> Result<Connection<MemStore>, Fail> {
+    let mut conn = founded(alloc)?.into_connection();
+    if let Some(statement) = statement {
+        conn.execute(statement, &[])?;
+    }
+    Ok(conn)
+}
+
+/// Whether the opening of a founded database is as wanted behind a statement, if any.
+fn is_opened_so(
+    alloc: Global,
+    statement: Option<&str>,
+    wanted: Result<&str, OpenError>,
+) -> Result<bool, Fail> {
+    let shown = opened(alloc, changed(alloc, statement)?)?;
+    Ok(match (&shown, wanted) {
+        (Ok(name), Ok(wanted)) => name.as_str() == wanted,
+        (Err(why), Err(wanted)) => *why == wanted,
+        _ => false,
+    })
 }
 
 #[test]
 fn databases_are_opened(rt: HostRuntime) -> Result<(), Fail> {
     let alloc = rt.alloc();
-    for (statement, wanted) in OPENINGS {
-        let mut conn = founded(alloc)?.into_connection();
-        if let Some(statement) = statement {
-            conn.execute(statement, &[])?;
-        }
-        let is_so = match (opened(alloc, conn)?, wanted) {
-            (Ok(name), Ok(wanted)) => name.as_str() == wanted,
-            (Err(why), Err(wanted)) => why == wanted,
-            _ => false,
-        };
+    for (statement, wanted) in &OPENINGS {
+        let is_so = is_opened_so(alloc, *statement, *wanted)?;
         assert!(rt; is_so, "{statement:?}");
     }
-    let none = opened(alloc, Connection::open_in_memory(alloc)?)?;
-    assert!(rt; none.err() == Some(OpenError::Store));
+    let none = Connection::open_in_memory(alloc)?;
+    assert!(rt; refusal_to_open(alloc, none) == Some(OpenError::Store));
     Ok(())
 }
 
@@ -76,9 +97,9 @@ fn a_founding_is_made_once(rt: HostRuntime) -> Result<(), Fail> {
         text_of(&mut conn, DIGEST)?.as_str(),
         "71c480df93d6ae2f1efad1447c66c9525e316218cf51fc8d9ed832f2daf18b73"
     );
-    match create(rt.alloc(), conn)? {
-        Ok(_) => assert!(rt; false),
-        Err((_, why)) => assert_eq!(rt; why, OpenError::Exists),
+    match refusal_to_create(rt.alloc(), conn)? {
+        None => assert!(rt; false),
+        Some(why) => assert_eq!(rt; why, OpenError::Exists),
     }
     Ok(())
 }

@@ -1,8 +1,9 @@
 //! A token that is renewed in a database.
 
-use crate::database::{founded, over_database};
+use crate::database::{founded, opened, over_database};
 use permit_base::refusal::{Reason, Refusal};
 use permit_samples::ask::TOKENS;
+use permit_samples::held::Held;
 use permit_samples::makers::{digest_of, token};
 use permit_samples::opening::OPENING;
 use permit_samples::script::play;
@@ -11,6 +12,7 @@ use permit_sql::store::SqlStore;
 use permit_store::store::{OpenError, Store};
 use sqlite::{Connection, MemStore};
 use std::alloc::Global;
+use std::process::Abort;
 use std::test::Fail;
 
 /// A token that nobody has at first, and one that nobody ever has.
@@ -36,12 +38,31 @@ fn renewal(
     Ok(SqlStore::renew_token(alloc, conn, party, &token(alloc, letters)?))
 }
 
+/// The database of the office behind the opening of the scenarios.
+fn played(alloc: Global) -> Result<Connection<MemStore>, Fail> {
+    let mut office = Held::new(over_database(alloc)?);
+    play(alloc, &mut office.value, OPENING)?;
+    Ok(office.into_inner().into_store().into_connection())
+}
+
+/// Each token is the party's, of a number; nobody's for 0.
+fn are_held(rt: &impl Abort, alloc: Global, store: &mut SqlStore<MemStore>) -> Result<(), Fail> {
+    for (party, letters) in [
+        (1, TOKENS[0]),
+        (2, NEW),
+        (3, TOKENS[2]),
+        (0, TOKENS[1]),
+        (0, OTHER),
+    ] {
+        assert_eq!(rt; holder(alloc, store, letters)?, party);
+    }
+    Ok(())
+}
+
 #[test]
 fn a_renewed_token_is_the_party_s_only_one(rt: HostRuntime) -> Result<(), Fail> {
     let alloc = rt.alloc();
-    let mut office = over_database(alloc)?;
-    play(alloc, &mut office, OPENING)?;
-    let mut conn = office.into_store().into_connection();
+    let mut conn = played(alloc)?;
     assert!(rt; renewal(alloc, &mut conn, 2, NEW)? == Ok(()));
     let taken = Err(RenewError::Refused(Refusal::NotAdmitted(Reason::Taken)));
     for (party, letters) in [(2, NEW), (3, NEW), (3, TOKENS[0])] {
@@ -51,20 +72,8 @@ fn a_renewed_token_is_the_party_s_only_one(rt: HostRuntime) -> Result<(), Fail> 
         let missing = Err(RenewError::Refused(Refusal::Record));
         assert!(rt; renewal(alloc, &mut conn, party, OTHER)? == missing);
     }
-    let mut store = match SqlStore::open(alloc, conn) {
-        Ok(store) => store,
-        Err((_, why)) => return Err(why)?,
-    };
-    for (party, letters) in [
-        (1, TOKENS[0]),
-        (2, NEW),
-        (3, TOKENS[2]),
-        (0, TOKENS[1]),
-        (0, OTHER),
-    ] {
-        assert_eq!(rt; holder(alloc, &mut store, letters)?, party);
-    }
-    Ok(())
+    let store = &mut Held::new(opened(alloc, conn)?).value;
+    are_held(&rt, alloc, store)
 }
 
 #[test]

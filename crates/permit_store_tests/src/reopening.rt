@@ -1,5 +1,6 @@
 //! A store whose files are closed and opened again, over disks in memory.
 
+use permit_samples::held::Held;
 use permit_samples::offices::founder;
 use permit_sql::reopen::reopen;
 use permit_sql::store::SqlStore;
@@ -8,19 +9,32 @@ use sqlite_disk::{Files, Memory};
 use std::alloc::Global;
 use std::test::Fail;
 
-/// A store that was just founded, in files of its own.
-fn founded_in_files(alloc: Global) -> Result<SqlStore<FileStore<Memory>>, Fail> {
+/// An empty database, in files of its own.
+fn in_files(alloc: Global) -> Result<Connection<FileStore<Memory>>, Fail> {
     let files = Files {
         log: Memory::new(alloc),
         db: Memory::new(alloc),
     };
-    let conn = match Connection::open_files(alloc, files, Options::new(1)) {
-        Ok(conn) => conn,
-        Err((_, _)) => return Err(Fail::new("no database")),
-    };
-    match SqlStore::create(alloc, conn, &founder(alloc)?) {
+    match Connection::open_files(alloc, files, Options::new(1)) {
+        Ok(conn) => Ok(conn),
+        Err((error, left)) => {
+            drop(error);
+            drop(left);
+            Err(Fail::new("no database"))
+        }
+    }
+}
+
+/// A store that was just founded, in files of its own.
+fn founded_in_files(alloc: Global) -> Result<SqlStore<FileStore<Memory>>, Fail> {
+    let founder = Held::new(founder(alloc)?);
+    let conn = in_files(alloc)?;
+    match SqlStore::create(alloc, conn, &founder.value) {
         Ok(store) => Ok(store),
-        Err((_, _)) => Err(Fail::new("no store")),
+        Err((conn, _)) => {
+            drop(conn);
+            Err(Fail::new("no store"))
+        }
     }
 }
 

@@ -3,6 +3,7 @@
 
 use crate::database::{over_database, over_memory_too};
 use permit_office::office::Office;
+use permit_samples::held::Held;
 use permit_samples::offices::{over_vectors, under};
 use permit_samples::opening::OPENING;
 use permit_samples::scenarios::{self, UnderPolicy};
@@ -11,23 +12,44 @@ use permit_store::store::Store;
 use std::alloc::Global;
 use std::test::Fail;
 
-/// Plays the opening and scripts, and then one more under another policy, if there is one, and gives the bodies of the
-/// answers. Fails where an answer isn't what is wanted.
+/// Plays the opening and scripts, and gives the bodies of the scripts' answers.
+fn played_first<S: Store + Drop>(
+    alloc: Global,
+    office: &mut Office<S>,
+    scripts: &[&str],
+) -> Result<String, Fail> {
+    play(alloc, office, OPENING)?;
+    let mut bodies = String::new(alloc);
+    for script in scripts {
+        bodies.push_str(play(alloc, office, script)?.as_str())?;
+    }
+    Ok(bodies)
+}
+
+/// Plays one more script under another policy, if there is one, and gives the bodies of the answers.
+fn played_last<S: Store + Drop>(
+    alloc: Global,
+    office: Office<S>,
+    last: Option<&UnderPolicy>,
+) -> Result<String, Fail> {
+    let Some(row) = last else {
+        drop(office);
+        return Ok(String::new(alloc));
+    };
+    let office = &mut Held::new(under(alloc, office, row.policy)?).value;
+    play(alloc, office, row.last)
+}
+
+/// Plays all, and gives the bodies of the answers. Fails where an answer isn't what is wanted.
 fn played<S: Store + Drop>(
     alloc: Global,
-    mut office: Office<S>,
+    office: Office<S>,
     scripts: &[&str],
     last: Option<&UnderPolicy>,
 ) -> Result<String, Fail> {
-    play(alloc, &mut office, OPENING)?;
-    let mut bodies = String::new(alloc);
-    for script in scripts {
-        bodies.push_str(play(alloc, &mut office, script)?.as_str())?;
-    }
-    if let Some(row) = last {
-        let mut office = under(alloc, office, row.policy)?;
-        bodies.push_str(play(alloc, &mut office, row.last)?.as_str())?;
-    }
+    let mut office = Held::new(office);
+    let mut bodies = played_first(alloc, &mut office.value, scripts)?;
+    bodies.push_str(played_last(alloc, office.into_inner(), last)?.as_str())?;
     Ok(bodies)
 }
 

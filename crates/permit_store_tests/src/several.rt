@@ -4,6 +4,7 @@ use crate::database::founded;
 use permit_base::route::By;
 use permit_base::words::{Relation, Timing};
 use permit_samples::found::{Numbers, add_files, filed};
+use permit_samples::held::Held;
 use permit_samples::makers::{day, party};
 use permit_store::store::Store;
 use std::alloc::Global;
@@ -48,12 +49,13 @@ fn sum<S: Store>(
     near: By,
     ahead: By,
 ) -> Result<(usize, u32), Fail> {
+    let (caller, on) = (party(caller)?, day(19860)?);
+    let routes = [filed(near, Timing::Near), filed(ahead, Timing::Ahead)];
     let mut taker = Numbers {
         taken: Vec::new(alloc),
         most: 9,
     };
-    let routes = [filed(near, Timing::Near), filed(ahead, Timing::Ahead)];
-    let all = store.each_of_any(&routes, party(caller)?, day(19860)?, &mut taker)?;
+    let all = store.each_of_any(&routes, caller, on, &mut taker)?;
     if !all {
         return Err("stopped")?;
     }
@@ -67,10 +69,10 @@ fn sum<S: Store>(
 #[test]
 fn several_selections(rt: HostRuntime) -> Result<(), Fail> {
     let alloc = rt.alloc();
-    let mut store = founded(alloc)?;
-    add_files(&mut store, alloc)?;
+    let store = &mut Held::new(founded(alloc)?).value;
+    add_files(store, alloc)?;
     for (place, (caller, near, ahead, count, total)) in SELECTIONS.iter().enumerate() {
-        let given = sum(&mut store, alloc, *caller, *near, *ahead)?;
+        let given = sum(store, alloc, *caller, *near, *ahead)?;
         assert!(rt;
             given == (*count, *total),
             "selection {place} of caller {caller}"

@@ -1,6 +1,7 @@
 //! A database of version 1 that is made one of version 2, and played on.
 
-use crate::database::{founded, over_database};
+use crate::database::{founded, opened, over_database};
+use permit_samples::held::Held;
 use permit_samples::offices::office_over;
 use permit_samples::opening::OPENING;
 use permit_samples::script::play;
@@ -10,6 +11,7 @@ use permit_sql::store::SqlStore;
 use permit_store::store::OpenError;
 use sqlite::{Connection, MemStore};
 use std::alloc::Global;
+use std::process::Abort;
 use std::test::Fail;
 
 /// A query of what the databases of either version show of the desk.
@@ -24,17 +26,33 @@ const REFUSED: [(&str, OpenError); 5] = [
     ("DROP INDEX file_cell", OpenError::Store),
 ];
 
-/// A database of version 1 with a construction whose frame is approved.
-fn of_version_1(alloc: Global) -> Result<Connection<MemStore>, Fail> {
-    let mut office = over_database(alloc)?;
-    for script in [OPENING].iter().chain(BEFORE.iter()) {
-        play(alloc, &mut office, script)?;
+/// A database with a construction whose frame is approved.
+fn played(alloc: Global) -> Result<Connection<MemStore>, Fail> {
+    let mut office = Held::new(over_database(alloc)?);
+    play(alloc, &mut office.value, OPENING)?;
+    for script in BEFORE {
+        play(alloc, &mut office.value, script)?;
     }
-    let mut conn = office.into_store().into_connection();
+    Ok(office.into_inner().into_store().into_connection())
+}
+
+/// The same of version 1.
+fn of_version_1(alloc: Global) -> Result<Connection<MemStore>, Fail> {
+    let mut conn = played(alloc)?;
     for statement in VERSION_1 {
         conn.execute(statement, &[])?;
     }
     Ok(conn)
+}
+
+/// The store in a database is played on.
+fn play_on(alloc: Global, conn: Connection<MemStore>) -> Result<(), Fail> {
+    let store = opened(alloc, conn)?;
+    let office = &mut Held::new(office_over(alloc, store, POLICY)?).value;
+    for script in BEHIND {
+        play(alloc, office, script)?;
+    }
+    Ok(())
 }
 
 /// The text that a query of one row gives.
@@ -51,27 +69,30 @@ fn an_old_office_is_upgraded_once_and_played_on(rt: HostRuntime) -> Result<(), F
     assert_eq!(rt; text_of(&mut conn, DESK)?.as_str(), "2 19820 1");
     assert_eq!(rt; text_of(&mut conn, UPGRADE)?.as_str(), "1 1");
     assert!(rt; SqlStore::upgrade(alloc, &mut conn) == Err(OpenError::Version));
-    let store = match SqlStore::open(alloc, conn) {
-        Ok(store) => store,
-        Err((_, why)) => return Err(why)?,
-    };
-    let mut office = office_over(alloc, store, POLICY)?;
-    for script in BEHIND {
-        play(alloc, &mut office, script)?;
-    }
+    play_on(alloc, conn)
+}
+
+/// A database of version 1 in which a statement was run isn't upgraded, and shows the same desk behind that.
+fn is_refused(
+    rt: &impl Abort,
+    alloc: Global,
+    statement: &str,
+    wanted: OpenError,
+) -> Result<(), Fail> {
+    let mut conn = of_version_1(alloc)?;
+    conn.execute(statement, &[])?;
+    let shown = text_of(&mut conn, DESK)?;
+    let why = SqlStore::upgrade(alloc, &mut conn);
+    assert!(rt; why == Err(wanted), "{statement}");
+    assert_eq!(rt; text_of(&mut conn, DESK)?.as_str(), shown.as_str());
     Ok(())
 }
 
 #[test]
 fn what_is_no_old_office_is_not_upgraded(rt: HostRuntime) -> Result<(), Fail> {
     let alloc = rt.alloc();
-    for (statement, wanted) in REFUSED {
-        let mut conn = of_version_1(alloc)?;
-        conn.execute(statement, &[])?;
-        let shown = text_of(&mut conn, DESK)?;
-        let why = SqlStore::upgrade(alloc, &mut conn);
-        assert!(rt; why == Err(wanted), "{statement}");
-        assert_eq!(rt; text_of(&mut conn, DESK)?.as_str(), shown.as_str());
+    for (statement, wanted) in &REFUSED {
+        is_refused(&rt, alloc, statement, *wanted)?;
     }
     let mut conn = founded(alloc)?.into_connection();
     assert!(rt; SqlStore::upgrade(alloc, &mut conn) == Err(OpenError::Version));

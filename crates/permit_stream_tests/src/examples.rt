@@ -3,15 +3,19 @@
 use permit_answer::answer::Answer;
 use permit_answer::{Outgoing, body, write_reply};
 use permit_base::request::{Asked, Filter, Request};
+use permit_base::values::Day;
 use permit_base::words::RegisterKind;
 use permit_hall::events::{Event, hall_run};
 use permit_http::fault::Fault;
 use permit_import::importing::import;
+use permit_office::office::Office;
 use permit_office::reply::Reply;
 use permit_report::register;
 use permit_samples::ask::TOKENS;
+use permit_samples::held::Held;
 use permit_samples::makers::{day, token};
 use permit_samples::offices::over_vectors;
+use permit_store::plain::PlainStore;
 use std::alloc::Global;
 use std::process::Abort;
 use std::test::Fail;
@@ -25,9 +29,13 @@ fn registers(rt: &impl Abort, alloc: Global) -> Result<(), Fail> {
     Ok(())
 }
 
-fn answers(rt: &impl Abort, alloc: Global) -> Result<(), Fail> {
+fn bodies(rt: &impl Abort, alloc: Global) -> Result<(), Fail> {
     let large = body(alloc, &Answer::Fault(Fault::Large))?;
     assert!(rt; large.as_slice() == b"{\"refused\":\"large\"}".as_slice());
+    Ok(())
+}
+
+fn answers(rt: &impl Abort, alloc: Global) {
     let outgoing = Outgoing::new(alloc, &Answer::Fault(Fault::Caller), true);
     assert!(rt; outgoing.closes());
     assert!(rt; outgoing.as_bytes().starts_with(b"HTTP/1.1 401 "));
@@ -35,12 +43,11 @@ fn answers(rt: &impl Abort, alloc: Global) -> Result<(), Fail> {
     let closes = write_reply(alloc, &Answer::Fault(Fault::Route), false, &mut written);
     assert!(rt; matches!(closes, Ok(false)));
     assert!(rt; written.as_slice().ends_with(b"{\"refused\":\"route\"}"));
-    Ok(())
 }
 
 fn imports(rt: &impl Abort, alloc: Global) -> Result<(), Fail> {
     let (token, day) = (token(alloc, TOKENS[0])?, day(19700)?);
-    let office = &mut over_vectors(alloc)?;
+    let office = &mut Held::new(over_vectors(alloc)?).value;
     let list = b"lot,address,owner\nA-1,1 Main St,1\n".as_slice();
     let mut out = Vec::new(alloc);
     let ended = import(alloc, office, &token, day, false, list, &mut out);
@@ -49,13 +56,21 @@ fn imports(rt: &impl Abort, alloc: Global) -> Result<(), Fail> {
     Ok(())
 }
 
-fn halls(rt: &impl Abort, alloc: Global) -> Result<(), Fail> {
+fn asked(alloc: Global) -> Result<Asked, Fail> {
+    let token = token(alloc, TOKENS[0])?;
     let request = Request::ListFiles {
         filter: Filter::All,
     };
-    let token = token(alloc, TOKENS[0])?;
-    let (asked, day) = (Asked { token, request }, day(19700)?);
-    let office = &mut over_vectors(alloc)?;
+    Ok(Asked { token, request })
+}
+
+fn session(
+    rt: &impl Abort,
+    alloc: Global,
+    office: &mut Office<PlainStore>,
+    asked: Asked,
+    day: Day,
+) -> Result<(), Fail> {
     let events = [Event::Put(0, asked), Event::Take(day), Event::Collect(0)];
     let answers = hall_run(alloc, office, &events)?;
     let [(session, reply)] = answers.as_slice() else {
@@ -65,11 +80,18 @@ fn halls(rt: &impl Abort, alloc: Global) -> Result<(), Fail> {
     Ok(())
 }
 
+fn halls(rt: &impl Abort, alloc: Global) -> Result<(), Fail> {
+    let day = day(19700)?;
+    let office = &mut Held::new(over_vectors(alloc)?).value;
+    session(rt, alloc, office, asked(alloc)?, day)
+}
+
 #[test]
 fn examples_hold(rt: HostRuntime) -> Result<(), Fail> {
     let alloc = rt.alloc();
     registers(&rt, alloc)?;
-    answers(&rt, alloc)?;
+    bodies(&rt, alloc)?;
+    answers(&rt, alloc);
     imports(&rt, alloc)?;
     halls(&rt, alloc)?;
     Ok(())

@@ -8,6 +8,7 @@ use crate::memory_doors::{
 use permit_office::office::Office;
 use permit_samples::ask::{Ask, TOKENS};
 use permit_samples::exchange::{answer, asked, request};
+use permit_samples::held::Held;
 use permit_samples::offices::over_vectors;
 use permit_samples::script::agree;
 use permit_store::plain::PlainStore;
@@ -53,10 +54,11 @@ fn behind_one_door<R: Threads + Wait + Copy + Drop + Send + 'static>(
     };
     let doors = vec![in alloc; door]?;
     let (office, counts) = closed(rt, alloc, over_vectors(alloc)?, doors, calendar)?;
+    let office = Held::new(office);
     let [count] = counts.as_slice() else {
         return Err(Fail::new("one session"));
     };
-    Ok((office, *count))
+    Ok((office.into_inner(), *count))
 }
 
 /// Fails where something else was written.
@@ -80,7 +82,8 @@ fn has_days<R: Threads + Wait + Copy + Drop + Send + 'static>(
     let mut wanted = added(alloc, first, 1)?;
     wanted.push_str(added(alloc, second, 2)?.as_str())?;
     let calendar = midnight_after(requests, TODAY)?;
-    let (_, count) = behind_one_door(rt, alloc, connections, calendar)?;
+    let (office, count) = behind_one_door(rt, alloc, connections, calendar)?;
+    drop(office);
     if count != 2 {
         return Err(Fail::new("the session's count of answers"));
     }
@@ -176,12 +179,13 @@ fn stand<R: Threads + Wait + Copy + Drop + Send + 'static>(
         connections,
         wanted,
     } = cut_answers(rt, alloc, &record, stalls)?;
-    let (mut office, count) = behind_one_door(rt, alloc, connections, always(TODAY)?)?;
+    let (office, count) = behind_one_door(rt, alloc, connections, always(TODAY)?)?;
+    let mut office = Held::new(office);
     if count != 118 {
         return Err(Fail::new("the session's count of answers"));
     }
     is_written(&rt, alloc, &record, wanted.as_str())?;
-    has_parcels(alloc, &mut office, 118)
+    has_parcels(alloc, &mut office.value, 118)
 }
 
 #[test]

@@ -99,7 +99,6 @@ fn is_followed<R: Threads + Wait + Copy + Drop + Send + 'static>(
     alloc: Global,
     case: &Case<'_>,
 ) -> Result<(), Fail> {
-    let office = with_pending_frame(alloc)?;
     let (first, next) = (new_record(alloc)?, new_record(alloc)?);
     let approval = approval_text(alloc, 1)?.into_bytes();
     let bytes = Vec::from_slice(alloc, case.bytes)?;
@@ -110,7 +109,8 @@ fn is_followed<R: Threads + Wait + Copy + Drop + Send + 'static>(
         connections,
         waits_for: None,
     };
-    let counts = collected(rt, alloc, office, vec![in alloc; door]?, always(REQUESTED)?)?;
+    let (doors, calendar) = (vec![in alloc; door]?, always(REQUESTED)?);
+    let counts = collected(rt, alloc, with_pending_frame(alloc)?, doors, calendar)?;
     let (count, after) = if case.approves {
         (2, answer(alloc, "409 Conflict", NOT_ADMITTED)?)
     } else {

@@ -6,6 +6,7 @@ use permit_import::importing::import;
 use permit_import::tally::Tally;
 use permit_office::office::Office;
 use permit_samples::ask::TOKENS;
+use permit_samples::held::Held;
 use permit_samples::makers::{day, parcel, token};
 use permit_samples::offices::over_vectors;
 use permit_samples::opening::OPENING;
@@ -20,9 +21,9 @@ use std::test::Fail;
 const LIST: &str = "lot,address,owner\nB-1,1 High St,5\nB-2,2 High St,99\nB-1,Other,5\n";
 
 /// The office with its seven parties and two parcels.
-fn opened(alloc: Global) -> Result<Office<PlainStore>, Fail> {
-    let mut office = over_vectors(alloc)?;
-    play(alloc, &mut office, OPENING)?;
+fn opened(alloc: Global) -> Result<Held<Office<PlainStore>>, Fail> {
+    let mut office = Held::new(over_vectors(alloc)?);
+    play(alloc, &mut office.value, OPENING)?;
     Ok(office)
 }
 
@@ -54,29 +55,33 @@ fn lines(
 }
 
 /// How many parcels there are.
-fn parcels(office: Office<PlainStore>) -> Result<u32, Fail> {
-    Ok(office.into_store().desk()?.parcels)
+fn parcels(office: Held<Office<PlainStore>>) -> Result<u32, Fail> {
+    let mut store = Held::new(office.into_inner().into_store());
+    Ok(store.value.desk()?.parcels)
 }
 
 /// The address of a parcel.
-fn address_of(alloc: Global, office: Office<PlainStore>, number: u32) -> Result<String, Fail> {
-    let found = office
-        .into_store()
-        .parcel(parcel(number)?)?
-        .ok_or("a parcel")?;
+fn address_of(
+    alloc: Global,
+    office: Held<Office<PlainStore>>,
+    number: u32,
+) -> Result<String, Fail> {
+    let mut store = Held::new(office.into_inner().into_store());
+    let found = Held::new(store.value.parcel(parcel(number)?)?);
+    let found = found.value.as_ref().ok_or("a parcel")?;
     Ok(String::from_str(alloc, found.address.as_str())?)
 }
 
 #[test]
 fn import_twice(rt: HostRuntime) -> Result<(), Fail> {
     let mut office = opened(rt.alloc())?;
-    let (counts, first) = lines(rt.alloc(), &mut office, LIST.as_bytes())?;
+    let (counts, first) = lines(rt.alloc(), &mut office.value, LIST.as_bytes())?;
     assert_eq!(rt;
         first.as_str(),
         "1 added 3\n2 refused: not admitted, person\n3 kept\nadded 1 kept 1 refused 1\n"
     );
     assert_eq!(rt; counts, (1, 1, 1));
-    let (counts, again) = lines(rt.alloc(), &mut office, LIST.as_bytes())?;
+    let (counts, again) = lines(rt.alloc(), &mut office.value, LIST.as_bytes())?;
     assert_eq!(rt;
         again.as_str(),
         "1 kept\n2 refused: not admitted, person\n3 kept\nadded 0 kept 2 refused 1\n"
@@ -89,7 +94,13 @@ fn import_twice(rt: HostRuntime) -> Result<(), Fail> {
 #[test]
 fn import_denied(rt: HostRuntime) -> Result<(), Fail> {
     let mut office = opened(rt.alloc())?;
-    let (ended, lines) = imported(rt.alloc(), &mut office, TOKENS[4], 19700, LIST.as_bytes())?;
+    let (ended, lines) = imported(
+        rt.alloc(),
+        &mut office.value,
+        TOKENS[4],
+        19700,
+        LIST.as_bytes(),
+    )?;
     assert_eq!(rt;
         lines.as_str(),
         "1 refused: denied by default\n2 refused: denied by default\n3 refused: denied by default\nadded 0 kept 0 refused 3\n"
@@ -103,12 +114,18 @@ fn import_denied(rt: HostRuntime) -> Result<(), Fail> {
 fn callers_and_days_are_told(rt: HostRuntime) -> Result<(), Fail> {
     let mut office = opened(rt.alloc())?;
     let list = b"lot,address,owner\nB-1,1 High St,5\n".as_slice();
-    let (_, lines) = imported(rt.alloc(), &mut office, "0000000000000000", 19700, list)?;
+    let (_, lines) = imported(
+        rt.alloc(),
+        &mut office.value,
+        "0000000000000000",
+        19700,
+        list,
+    )?;
     assert_eq!(rt;
         lines.as_str(),
         "1 refused: caller\nadded 0 kept 0 refused 1\n"
     );
-    let (_, lines) = imported(rt.alloc(), &mut office, TOKENS[1], 19699, list)?;
+    let (_, lines) = imported(rt.alloc(), &mut office.value, TOKENS[1], 19699, list)?;
     assert_eq!(rt;
         lines.as_str(),
         "1 refused: clock\nadded 0 kept 0 refused 1\n"
@@ -127,7 +144,13 @@ fn another_first_record_is_a_fault(rt: HostRuntime) -> Result<(), Fail> {
         "B-1,1 High St,5\n",
     ] {
         let mut office = opened(rt.alloc())?;
-        let (ended, lines) = imported(rt.alloc(), &mut office, TOKENS[1], 19700, list.as_bytes())?;
+        let (ended, lines) = imported(
+            rt.alloc(),
+            &mut office.value,
+            TOKENS[1],
+            19700,
+            list.as_bytes(),
+        )?;
         assert!(rt; ended == Err(ImportFault::FirstRecord), "{list}");
         assert!(rt; lines.is_empty());
         assert_eq!(rt; parcels(office)?, 2);
@@ -138,7 +161,7 @@ fn another_first_record_is_a_fault(rt: HostRuntime) -> Result<(), Fail> {
 #[test]
 fn a_list_may_have_no_record_behind_the_first(rt: HostRuntime) -> Result<(), Fail> {
     let mut office = opened(rt.alloc())?;
-    let (_, lines) = lines(rt.alloc(), &mut office, b"lot,address,owner")?;
+    let (_, lines) = lines(rt.alloc(), &mut office.value, b"lot,address,owner")?;
     assert_eq!(rt; lines.as_str(), "added 0 kept 0 refused 0\n");
     Ok(())
 }
@@ -150,7 +173,7 @@ fn a_reader_that_fails_leaves_what_was_tried(rt: HostRuntime) -> Result<(), Fail
         rest: b"lot,address,owner\nB-1,1 High St,5\nB-2,2 Hi",
         fails: true,
     };
-    let (ended, lines) = imported(rt.alloc(), &mut office, TOKENS[1], 19700, reader)?;
+    let (ended, lines) = imported(rt.alloc(), &mut office.value, TOKENS[1], 19700, reader)?;
     assert!(rt; ended == Err(ImportFault::Reading));
     assert_eq!(rt; lines.as_str(), "1 added 3\n");
     assert_eq!(rt; parcels(office)?, 3);
@@ -166,7 +189,7 @@ fn a_writer_that_fails_leaves_what_was_tried(rt: HostRuntime) -> Result<(), Fail
         let mut out = Narrow::new(7, fails_at);
         let ended = import(
             rt.alloc(),
-            &mut office,
+            &mut office.value,
             &token,
             day(19700)?,
             false,
@@ -185,7 +208,7 @@ fn records_out_of_form_are_refused_one_by_one(rt: HostRuntime) -> Result<(), Fai
     let mut office = opened(rt.alloc())?;
     let list =
         b"lot,address,owner\nB-1,1 High St\nB-1,1 High St,5,6\nB-1\nB-1,\xff,5\nb-1,1 High St,5\nB-1,,5\nB-1,1 High St,05\nB-1,1 High St,0\nB-1,1 High St,100000\nB-1,1 High St,+5\nB-1,1 High St,\nB-1,1 High St,5\n";
-    let (counts, lines) = lines(rt.alloc(), &mut office, list)?;
+    let (counts, lines) = lines(rt.alloc(), &mut office.value, list)?;
     assert_eq!(rt;
         lines.as_str(),
         "1 refused: syntax\n2 refused: syntax\n3 refused: syntax\n4 refused: syntax\n5 refused: syntax\n6 refused: syntax\n7 refused: syntax\n8 refused: syntax\n9 refused: syntax\n10 refused: syntax\n11 refused: syntax\n12 added 3\nadded 1 kept 0 refused 11\n"
@@ -198,7 +221,7 @@ fn records_out_of_form_are_refused_one_by_one(rt: HostRuntime) -> Result<(), Fai
 fn quotes_marks_and_empty_lines_are_read_as_such(rt: HostRuntime) -> Result<(), Fail> {
     let mut office = opened(rt.alloc())?;
     let list = b"\xEF\xBB\xBFlot,address,owner\r\n\r\n\"B-1\",\"1, High \"\"St\"\"\",5\r\n\r\n";
-    let (_, lines) = lines(rt.alloc(), &mut office, list)?;
+    let (_, lines) = lines(rt.alloc(), &mut office.value, list)?;
     assert_eq!(rt; lines.as_str(), "1 added 3\nadded 1 kept 0 refused 0\n");
     assert_eq!(rt;
         address_of(rt.alloc(), office, 3)?.as_str(),
@@ -229,7 +252,7 @@ fn each_refusal_is_explained_after_its_line(rt: HostRuntime) -> Result<(), Fail>
     let mut office = opened(rt.alloc())?;
     let list =
         b"lot,address,owner\nB-1,1 High St\nB-1,\xff,5\nb-1,1 High St,5\nB-1,,5\nB-1,1 High St,05\nB-1,1 High St,99\nB-1,1 High St,5\nB-1,Other,5\n";
-    let (whole, lines) = explained(rt.alloc(), &mut office, TOKENS[1], 19700, list)?;
+    let (whole, lines) = explained(rt.alloc(), &mut office.value, TOKENS[1], 19700, list)?;
     assert!(rt; whole);
     assert_eq!(rt;
         lines.as_str(),
@@ -259,7 +282,7 @@ fn what_the_office_refuses_is_explained(rt: HostRuntime) -> Result<(), Fail> {
         ),
     ] {
         let mut office = opened(rt.alloc())?;
-        let (whole, lines) = explained(rt.alloc(), &mut office, letters, number, list)?;
+        let (whole, lines) = explained(rt.alloc(), &mut office.value, letters, number, list)?;
         assert!(rt; whole);
         assert_eq!(rt; lines.as_str(), wanted);
     }
@@ -289,10 +312,10 @@ fn a_heading_that_is_wrong_is_shown(rt: HostRuntime) -> Result<(), Fail> {
         ),
     ] {
         let mut office = opened(rt.alloc())?;
-        let (whole, lines) = explained(rt.alloc(), &mut office, TOKENS[1], 19700, list)?;
+        let (whole, lines) = explained(rt.alloc(), &mut office.value, TOKENS[1], 19700, list)?;
         assert!(rt; !whole);
         assert_eq!(rt; lines.as_str(), wanted);
-        let (ended, fixed) = imported(rt.alloc(), &mut office, TOKENS[1], 19700, list)?;
+        let (ended, fixed) = imported(rt.alloc(), &mut office.value, TOKENS[1], 19700, list)?;
         assert!(rt; ended == Err(ImportFault::FirstRecord));
         assert_eq!(rt; fixed.as_str(), "");
         assert_eq!(rt; parcels(office)?, 2);

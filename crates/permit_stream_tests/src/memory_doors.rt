@@ -3,9 +3,10 @@
 ghost use Rattle.std.specs.Prelude.{◌≡◌, [], ◌∷◌, ◌++◌, MatchOption};
 
 use crate::calendar::Calendar;
-use permit_hall::doors::{Door, HallEnd, run_hall};
+use permit_hall::doors::{Door, DoorEnd, HallEnd, run_hall};
 use permit_hall::error::HallError;
 use permit_office::office::Office;
+use permit_samples::held::Held;
 use permit_store::plain::PlainStore;
 use std::alloc::Global;
 use std::io::{self, ErrorKind, Read, Write};
@@ -183,8 +184,29 @@ pub fn hall<R: Threads + Wait + Copy + Drop + Send + 'static>(
     let mut calendar = calendar;
     match run_hall(rt, alloc, office, doors, &mut || calendar.next()) {
         Ok(end) => Ok(end),
-        Err((_, error)) => Err(error),
+        Err((office, error)) => {
+            drop(office);
+            Err(error)
+        }
     }
+}
+
+/// How many answers the session of each door has collected. Fails where a connection is left.
+fn counts_of<R: Wait + Drop>(
+    alloc: Global,
+    doors: &[Option<DoorEnd<MemoryDoor<R>>>],
+) -> Result<Vec<u64>, Fail> {
+    let mut counts = Vec::new(alloc);
+    for door in doors {
+        let Some(door) = door else {
+            return Err(Fail::new("a session"));
+        };
+        if !door.door.connections.is_empty() {
+            return Err(Fail::new("a door that is spent"));
+        }
+        counts.push(door.collected)?;
+    }
+    Ok(counts)
 }
 
 /// The office, and how many answers the session of each door has collected. Fails where a connection is left.
@@ -195,20 +217,10 @@ pub fn closed<R: Threads + Wait + Copy + Drop + Send + 'static>(
     doors: Vec<MemoryDoor<R>>,
     calendar: Calendar,
 ) -> Result<(Office<PlainStore>, Vec<u64>), Fail> {
-    let Ok(end) = hall(rt, alloc, office, doors, calendar) else {
-        return Err(Fail::new("a hall"));
-    };
-    let mut counts = Vec::new(alloc);
-    for door in end.doors.iter() {
-        let Some(door) = door else {
-            return Err(Fail::new("a session"));
-        };
-        if !door.door.connections.is_empty() {
-            return Err(Fail::new("a door that is spent"));
-        }
-        counts.push(door.collected)?;
-    }
-    Ok((end.office, counts))
+    let HallEnd { office, doors } = hall(rt, alloc, office, doors, calendar)?;
+    let office = Held::new(office);
+    let counts = counts_of(alloc, doors.as_slice())?;
+    Ok((office.into_inner(), counts))
 }
 
 /// How many answers the session of each door has collected. Fails where a connection is left.
@@ -219,6 +231,7 @@ pub fn collected<R: Threads + Wait + Copy + Drop + Send + 'static>(
     doors: Vec<MemoryDoor<R>>,
     calendar: Calendar,
 ) -> Result<Vec<u64>, Fail> {
-    let (_, counts) = closed(rt, alloc, office, doors, calendar)?;
+    let (office, counts) = closed(rt, alloc, office, doors, calendar)?;
+    drop(office);
     Ok(counts)
 }

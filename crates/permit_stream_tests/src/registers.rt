@@ -115,14 +115,9 @@ fn written(
     on: u32,
 ) -> Result<Vec<u8>, Fail> {
     let on = day(on)?;
+    let files = files(alloc, count, state, on)?;
     let mut bytes = Vec::new(alloc);
-    register(
-        kind,
-        on,
-        files(alloc, count, state, on)?.as_slice(),
-        &mut bytes,
-    )
-    .map_err(|_| "write")?;
+    register(kind, on, files.as_slice(), &mut bytes).map_err(|_| "write")?;
     Ok(bytes)
 }
 

@@ -6,6 +6,7 @@ use permit_base::words::Kind;
 use permit_http::fault::Fault;
 use permit_http::inbox::Inbox;
 use permit_office::office::Office;
+use permit_samples::held::Held;
 use permit_samples::makers::day;
 use permit_samples::offices::over_vectors;
 use permit_store::plain::PlainStore;
@@ -97,12 +98,12 @@ fn serve<R: Read + Drop>(
 #[test]
 fn an_unknown_caller_is_answered(rt: HostRuntime) -> Result<(), Fail> {
     let alloc = rt.alloc();
-    let mut office = over_vectors(alloc)?;
+    let office = &mut Held::new(over_vectors(alloc)?).value;
     let mut inbox = Inbox::new();
     let mut paper = Narrow::new(1, 1024);
-    let served = serve(alloc, &mut office, &mut inbox, UNKNOWN, &mut paper)?;
+    let served = serve(alloc, office, &mut inbox, UNKNOWN, &mut paper)?;
     assert!(rt; served == Served::Kept && paper.taken() == REFUSED);
-    let served = serve(alloc, &mut office, &mut inbox, b"".as_slice(), &mut paper)?;
+    let served = serve(alloc, office, &mut inbox, b"".as_slice(), &mut paper)?;
     assert!(rt; served == Served::Ended && paper.taken() == REFUSED);
     Ok(())
 }
@@ -110,7 +111,7 @@ fn an_unknown_caller_is_answered(rt: HostRuntime) -> Result<(), Fail> {
 #[test]
 fn the_hundredth_of_a_hundred_and_one_at_once_closes(rt: HostRuntime) -> Result<(), Fail> {
     let alloc = rt.alloc();
-    let mut office = over_vectors(alloc)?;
+    let office = &mut Held::new(over_vectors(alloc)?).value;
     let mut inbox = Inbox::new();
     let mut sent = Vec::new(alloc);
     for _ in 0..101 {
@@ -121,7 +122,7 @@ fn the_hundredth_of_a_hundred_and_one_at_once_closes(rt: HostRuntime) -> Result<
         let mut paper = Narrow::new(1, 1024);
         let served = serve_one(
             alloc,
-            &mut office,
+            office,
             &mut inbox,
             &mut reader,
             &mut paper,
@@ -139,8 +140,8 @@ fn the_hundredth_of_a_hundred_and_one_at_once_closes(rt: HostRuntime) -> Result<
 
 /// What is written for a parcel that the official adds in an office of its own, and how it is served.
 fn added<R: Read + Drop>(alloc: Global, reader: R, paper: &mut Narrow) -> Result<Served, Fail> {
-    let mut office = over_vectors(alloc)?;
-    serve(alloc, &mut office, &mut Inbox::new(), reader, paper)
+    let office = &mut Held::new(over_vectors(alloc)?).value;
+    serve(alloc, office, &mut Inbox::new(), reader, paper)
 }
 
 #[test]
@@ -159,9 +160,9 @@ fn a_command_in_two_pieces_is_served(rt: HostRuntime) -> Result<(), Fail> {
 
 /// How a command is served whose answer the writer cuts, and then how the same is answered on another connection.
 fn cut(alloc: Global, paper: &mut Narrow, again: &mut Narrow) -> Result<Served, Fail> {
-    let mut office = over_vectors(alloc)?;
-    let served = serve(alloc, &mut office, &mut Inbox::new(), ADDING, paper)?;
-    serve(alloc, &mut office, &mut Inbox::new(), ADDING, again)?;
+    let office = &mut Held::new(over_vectors(alloc)?).value;
+    let served = serve(alloc, office, &mut Inbox::new(), ADDING, paper)?;
+    serve(alloc, office, &mut Inbox::new(), ADDING, again)?;
     Ok(served)
 }
 
@@ -189,7 +190,7 @@ fn a_command_stands_whose_answer_is_cut(rt: HostRuntime) -> Result<(), Fail> {
 #[test]
 fn a_reader_that_stops_is_not_answered(rt: HostRuntime) -> Result<(), Fail> {
     let alloc = rt.alloc();
-    let mut office = over_vectors(alloc)?;
+    let office = &mut Held::new(over_vectors(alloc)?).value;
     for at in 1..FILING.len() {
         for fails in [false, true] {
             let mut inbox = Inbox::new();
@@ -198,7 +199,7 @@ fn a_reader_that_stops_is_not_answered(rt: HostRuntime) -> Result<(), Fail> {
                 fails,
             };
             let mut paper = Narrow::new(1, 1024);
-            let served = serve(alloc, &mut office, &mut inbox, reader, &mut paper)?;
+            let served = serve(alloc, office, &mut inbox, reader, &mut paper)?;
             assert!(rt; served == Served::ReadFailed && paper.taken().is_empty());
             assert!(rt; inbox.is_closed());
         }
@@ -209,11 +210,11 @@ fn a_reader_that_stops_is_not_answered(rt: HostRuntime) -> Result<(), Fail> {
 #[test]
 fn a_writer_that_stops_holds_a_beginning(rt: HostRuntime) -> Result<(), Fail> {
     let alloc = rt.alloc();
-    let mut office = over_vectors(alloc)?;
+    let office = &mut Held::new(over_vectors(alloc)?).value;
     for at in 0..REFUSED.len() {
         let mut inbox = Inbox::new();
         let mut paper = Narrow::new(1, at);
-        let served = serve(alloc, &mut office, &mut inbox, UNKNOWN, &mut paper)?;
+        let served = serve(alloc, office, &mut inbox, UNKNOWN, &mut paper)?;
         assert!(rt; served == Served::WriteFailed && paper.taken() == &REFUSED[..at]);
         assert!(rt; inbox.is_closed());
     }

@@ -14,7 +14,9 @@ use Rattle.permit_import.specs.declared.refused.Refused.TheVariants.{Plain}
 use Rattle.permit_import.specs.declared.refused.RefusalWord.{RefusalWord}
 use Rattle.permit_import.specs.declared.refused.RefusalWord.TheVariants.{Store}
 use Rattle.permit_subcommands.specs.declared.failure.Failure.{Failure}
-use Rattle.permit_subcommands.specs.declared.failure.Failure.TheVariants.{Refused, File, Policy, Facts, Database, Day, Zone, Listen, Output}
+use Rattle.permit_subcommands.specs.declared.failure.Failure.TheVariants.{Refused, File, Policy, Facts, Database, History, Day, Zone, Listen, Output}
+use Rattle.permit_subcommands.specs.declared.failure.HistoryFailure.{HistoryFailure}
+use Rattle.permit_subcommands.specs.declared.failure.HistoryFailure.TheVariants as history
 
 -- the refusal by a word alone
 abbrev pub plain : RefusalWord → Failure
@@ -26,6 +28,14 @@ open_word opening.Version = codes "version"
 open_word opening.Store = codes "store"
 open_word opening.Exists = codes "exists"
 
+abbrev pub history_words : HistoryFailure → List ℕ
+history_words history.Differs = codes "differs"
+history_words (history.Line line) = codes "line " ++ decimal line
+history_words history.Short = codes "short"
+history_words history.Exists = codes "exists"
+history_words history.Copy = codes "copy"
+history_words history.Store = codes "store"
+
 -- the line for a failure
 abbrev pub failure_line : Failure → List ℕ
 failure_line (Refused why) = refused_line why
@@ -33,6 +43,7 @@ failure_line (File path) = codes "cannot read " ++ string_bytes path
 failure_line (Policy error) = codes "policy: fault " ++ decimal (fault_number error.code) ++ codes " at rule " ++ decimal error.rule
 failure_line Facts = codes "facts: unreadable"
 failure_line (Database why) = codes "database: " ++ open_word why
+failure_line (History why) = codes "history: " ++ history_words why
 failure_line Day = codes "day: unreadable"
 failure_line Zone = codes "zone: unreadable"
 failure_line (Listen address) = codes "cannot listen " ++ string_bytes address

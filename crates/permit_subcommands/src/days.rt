@@ -17,8 +17,8 @@ use permit_base::values::Day;
 use permit_days::dates::read_date;
 use permit_days::instants::day_of;
 
-/// The day that a date names.
-fn dated(date: &str) -> Result<Day, Failure>
+/// The day that a date names. A text that is no date of the office's days is refused.
+pub fn dated(date: &str) -> Result<Day, Failure>
     ensures read { IfOk result (λ day. IsTextOf day date.now) }
     ensures every { (day : ℕ) → day ≤ latest_day → IsTextOf day date.now → result ≡ Ok day }
     ensures refused { IfErr result (λ why. why ≡ failure.Day) }

@@ -14,6 +14,23 @@ use std::alloc::{AllocError, Global};
 use std::fmt;
 use std::io::{self, ErrorKind};
 
+/// Why the history of an office can't be used.
+#[derive(Clone, Copy, PartialEq, Eq)]
+pub enum HistoryFailure {
+    /// The office's tables are not those that the text tells.
+    Differs,
+    /// This line of the text is none, or its entry may not follow those before it. Lines are counted from 1 on.
+    Line(u64),
+    /// The text ends before its second line, so it tells of no office.
+    Short,
+    /// Where an office is founded, there is a text already.
+    Exists,
+    /// The text begins with a copy of the office's database, and the copy that is named is another one or none, or none is named.
+    Copy,
+    /// A call of the file failed, or another program has it open.
+    Store,
+}
+
 /// Why the program does not do what its words ask. Printed, it is one line without its end.
 #[derive(Drop)]
 pub enum Failure {
@@ -27,6 +44,8 @@ pub enum Failure {
     Facts,
     /// The database cannot be opened or made.
     Database(OpenError),
+    /// The office's history can't be used.
+    History(HistoryFailure),
     /// The day is no date from 1970-01-01 to the day 100000.
     Day,
     /// The zone is no POSIX rule.
@@ -116,6 +135,7 @@ impl Failure {
             | Failure::Policy(_)
             | Failure::Facts
             | Failure::Database(_)
+            | Failure::History(_)
             | Failure::Day
             | Failure::Zone
             | Failure::Listen(_) => 2,
@@ -155,6 +175,12 @@ impl fmt::Display for Failure {
             Failure::Database(OpenError::Version) => f.write_str("database: version"),
             Failure::Database(OpenError::Store) => f.write_str("database: store"),
             Failure::Database(OpenError::Exists) => f.write_str("database: exists"),
+            Failure::History(HistoryFailure::Differs) => f.write_str("history: differs"),
+            Failure::History(HistoryFailure::Line(line)) => write!(f, "history: line {line}"),
+            Failure::History(HistoryFailure::Short) => f.write_str("history: short"),
+            Failure::History(HistoryFailure::Exists) => f.write_str("history: exists"),
+            Failure::History(HistoryFailure::Copy) => f.write_str("history: copy"),
+            Failure::History(HistoryFailure::Store) => f.write_str("history: store"),
             Failure::Day => f.write_str("day: unreadable"),
             Failure::Zone => f.write_str("zone: unreadable"),
             Failure::Listen(address) => write!(f, "cannot listen {address}"),

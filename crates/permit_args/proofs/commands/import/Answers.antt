@@ -7,4 +7,5 @@ pub returns : goal.returns
 unfolding import_app
 returns c =
     let office = c.in_ok-with_office.ensures _ c.in_ok-command.ensures in
-    IfOk-weaker c.arg.result _ _ (λ r h. added h c.required_word.ensures.own c.required_word.ensures.rule office) c.arg.ensures
+    let paths = c.in_ok-with_paths.ensures _ office in
+    IfOk-weaker c.arg.result _ _ (λ r h. added h c.required_word.ensures.own c.required_word.ensures.rule paths) c.arg.ensures

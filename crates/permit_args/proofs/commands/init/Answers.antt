@@ -7,6 +7,7 @@ unfolding init_app
 returns c =
     let db = added c.in_ok-arg.ensures c.database.ensures.own c.database.ensures.rule c.in_ok-subcommand.ensures in
     let name = added c.in_ok-command.ensures c.required_option.ensures.own c.required_option.ensures.rule db in
-    let token = c.in_ok-command-2.ensures _ name in
-    let days = c.in_ok-with_days.ensures _ token in
-    c.with_why.ensures _ days
+    let token = c.in_ok-with_token.ensures _ name in
+    let days = c.in_ok-command-2.ensures _ token in
+    let history = c.in_ok-with_history.ensures _ days in
+    c.with_why.ensures _ history

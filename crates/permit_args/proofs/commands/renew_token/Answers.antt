@@ -8,4 +8,5 @@ returns c =
     let db = added c.in_ok-arg.ensures c.database.ensures.own c.database.ensures.rule c.in_ok-subcommand.ensures in
     let party = added c.in_ok-command.ensures c.required_option.ensures.own c.required_option.ensures.rule db in
     let token = c.in_ok-command-2.ensures _ party in
-    c.with_why.ensures _ token
+    let paths = c.in_ok-with_paths.ensures _ token in
+    c.with_why.ensures _ paths

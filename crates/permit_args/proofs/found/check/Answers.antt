@@ -1,4 +1,4 @@
-use Rattle.std.proofs.Common.{sym, ◌∙◌, ap, refl}
+use Rattle.std.proofs.Common.{◌∙◌, ap, refl}
 use Rattle.clap.specs.Words.{found_of, rows_of}
 use Rattle.permit_args.specs.Blames.{BlamesCheck}
 use Rattle.permit_args.specs.Plans.{text_of}

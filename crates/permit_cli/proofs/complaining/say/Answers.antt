@@ -34,3 +34,6 @@ pub returns-in-Database : goal.returns-in-Database
 returns-in-Database g c =
     line_said (failure_line c.args.failure.now) (codes "database: ") c.open_word.result.now (codes "\n") _ _ _
     (ap failure_line c.in-Database.is ∙ ap (λ (w : List ℕ). codes "database: " ++ w) (sym c.open_word.ensures)) c.print_three-in-Database.ensures
+
+pub returns-in-History : goal.returns-in-History
+returns-in-History g c = known_said _ (failure.History c.in-History.why) _ _ _ c.in-History.is c.say_history.ensures

@@ -1,5 +1,5 @@
 use Rattle.std.proofs.Common.{◌∙◌}
-use Rattle.permit_cli.proofs.Tellings.{sound_told, upgraded_told}
+use Rattle.permit_cli.proofs.Tellings.{replayed_told, sound_told, upgraded_told}
 use Rattle.permit_cli.proofs.telling.tell.Goals as goal
 
 pub returns-in_ok-upgraded_text-in-Upgraded-clause-told : goal.returns-in_ok-upgraded_text-in-Upgraded-clause-told
@@ -11,3 +11,8 @@ pub returns-in_ok-sound_text-in-Sound-clause-told : goal.returns-in_ok-sound_tex
 returns-in_ok-sound_text-in-Sound-clause-told g c =
     sound_told _ c.in-Sound.desk _ _ _ _ c.in-Sound.is (c.as_str-in-Sound.ensures.value ∙ c.in_ok-sound_text-in-Sound.ensures)
     c.tell_text-in-Sound.ensures
+
+pub returns-in_ok-replayed_text-in-Replayed-clause-told : goal.returns-in_ok-replayed_text-in-Replayed-clause-told
+returns-in_ok-replayed_text-in-Replayed-clause-told g c =
+    replayed_told _ c.in-Replayed.brought _ _ _ _ c.in-Replayed.is (c.as_str-in-Replayed.ensures.value ∙ c.in_ok-replayed_text-in-Replayed.ensures)
+    c.tell_text-in-Replayed.ensures

@@ -1,9 +1,6 @@
-use Rattle.permit_hall.specs.Doors.{HasEnded}
-use Rattle.permit_hall.proofs.Histories.{doors_served}
+use Rattle.permit_hall.proofs.Histories.{one_history}
 use Rattle.permit_hall.proofs.doors.run_hall.Goals as goal
 
-pub returns-in-Ok-run_tasks-clause-history : goal.returns-in-Ok-run_tasks-clause-history
-returns-in-Ok-run_tasks-clause-history g c = let r = c.in-Ok-run_tasks.ensures.served in
-    let done = HasEnded g.D.In.Read.remaining g.D.Out.Write.contents g.D.Door.gave g.D.Door.spent in
-    let both = doors_served g.S.Store.view _ done _ _ _ _ _ _ _ _ c.in-Ok.ensures r.1 in
-    (r.0, both.0, record { count = both.1; each = both.2 })
+pub returns-in-Ok-clause-history : goal.returns-in-Ok-clause-history
+returns-in-Ok-clause-history g c = let r = c.in-Ok.ensures.history in
+    (r.0, one_history g.S.Store.view _ _ _ _ _ _ r.0 r.1, r.2)

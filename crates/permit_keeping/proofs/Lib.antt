@@ -1,0 +1,5 @@
+mod Failures
+mod Opened
+mod Renewed
+mod Served
+pub mod Brought

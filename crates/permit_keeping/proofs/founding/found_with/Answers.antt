@@ -1,0 +1,11 @@
+use Rattle.std.proofs.Common.{List, [], ℕ, refl, sym, subst}
+use Rattle.permit_history.specs.LineData.{text_of}
+use Rattle.permit_journal.specs.Journals.{HasUnlessShut}
+use Rattle.permit_keeping.specs.Founding.{first_entries}
+use Rattle.permit_keeping.proofs.founding.found_with.Goals as goal
+
+pub returns-in-Err-create-clause-back : goal.returns-in-Err-create-clause-back
+returns-in-Err-create-clause-back g c = λ settled.
+    let begun = c.in_default.ensures.begun settled in
+    subst (λ (t : List ℕ). HasUnlessShut g.H.HistoryFile.text g.H.HistoryFile.may_leave g.H.HistoryFile.is_clean c.take_back.new.self c.take_back.new.self.is_shut t)
+    (sym begun.0) (c.take_back.ensures.back begun.1.settled [] (text_of (first_entries c.args.founder.now)) refl begun.1.bytes_there)

@@ -1,0 +1,99 @@
+//! Founding an office with its history.
+
+ghost use Rattle.std.specs.Prelude.{◌≡◌, ◌≢◌, ◌⊎◌, [], Err, IfErr, IfOk, OnErr, OnOk, IsTrue};
+ghost use Rattle.sqlite.specs.State.{HasCleanDisk};
+ghost use Rattle.sqlite.specs.Held.{state};
+ghost use Rattle.permit_journal.specs.Files.{LeavesGrown};
+ghost use Rattle.permit_journal.specs.Journals.{Has, HasUnlessShut, IsSettled};
+ghost use Rattle.permit_history.specs.LineData.{text_of};
+ghost use Rattle.permit_model.specs.Tables.{tables};
+ghost use Rattle.permit_store.specs.Founding.{founding};
+ghost use Rattle.permit_sql_rows.specs.Kept.{Keeps, IsFine};
+ghost use Rattle.permit_subcommands.specs.declared.failure.Failure.TheVariants.{History};
+ghost use Rattle.permit_subcommands.specs.declared.failure.HistoryFailure.TheVariants.{Exists};
+ghost use Rattle.permit_keeping.specs.Failing.{is_unfounded};
+ghost use Rattle.permit_keeping.specs.Founding.{first_entries};
+
+use crate::line::whole_line;
+use permit_history::entry::Deed;
+use permit_journal::file::HistoryFile;
+use permit_journal::journal::Journal;
+use permit_sql::store::SqlStore;
+use permit_store::founder::Founder;
+use permit_subcommands::failure::{Failure, HistoryFailure};
+use sqlite::{Alter, Connection};
+use std::alloc::{AllocError, Global};
+
+/// The lines with which the history of an office begins: that of its founding, and that of the upgrade.
+fn first_lines(alloc: Global, founder: &Founder) -> Result<Vec<u8>, AllocError>
+    ensures { IfOk result (λ text. text.items ≡ text_of (first_entries founder.now)) }
+{
+    let name = founder.name.clone()?;
+    let digest = founder.digest;
+    let mut text = whole_line(alloc, founder.day, Deed::Found { name, digest })?;
+    let upgrade = whole_line(alloc, founder.day, Deed::Upgrade)?;
+    text.extend_from_slice(upgrade.as_slice())?;
+    Ok(text)
+}
+
+/// Begins the text of a history that has none.
+fn begin<H: HistoryFile + Drop>(
+    alloc: Global,
+    journal: &mut Journal<H>,
+    founder: &Founder,
+) -> Result<(), Failure>
+    ensures begun { IsSettled H.text H.may_leave H.is_clean journal.old
+        → OnOk result ((H.text journal.old.file ≡ []) × Has H.text H.may_leave H.is_clean journal.new (text_of (first_entries founder.now))) }
+    ensures back { IsSettled H.text H.may_leave H.is_clean journal.old
+        → OnErr result (HasUnlessShut H.text H.may_leave H.is_clean journal.new journal.new.is_shut (H.text journal.old.file)) }
+    ensures exists { IsSettled H.text H.may_leave H.is_clean journal.old → result ≡ Err (History Exists) → H.text journal.old.file ≢ [] }
+    ensures there { IsSettled H.text H.may_leave H.is_clean journal.old → H.text journal.old.file ≢ [] → result ≡ Err (History Exists) }
+    ensures crash { IsSettled H.text H.may_leave H.is_clean journal.old
+        → LeavesGrown H.leaves (text_of (first_entries founder.now)) (H.text journal.old.file) (H.may_leave journal.new.file) }
+    ensures fails { IfErr result (λ why. IsTrue (is_unfounded why)) }
+{
+    if journal.length() != 0 {
+        return Err(Failure::History(HistoryFailure::Exists));
+    }
+    let lines = first_lines(alloc, founder)?;
+    match journal.enter(lines.as_slice()) {
+        Ok(()) => Ok(()),
+        Err(_) => Err(Failure::History(HistoryFailure::Store)),
+    }
+}
+
+/// Founds an office in a database, and begins its history, whose lines are on the disk before the tables are made. A journal with
+/// a text is refused, and so is a database with a table, as `exists`. With a refusal the database is as it was, and so is the
+/// text, unless the journal is shut.
+pub fn found_with<S: Alter + Drop, H: HistoryFile + Drop>(
+    alloc: Global,
+    conn: Connection<S>,
+    journal: &mut Journal<H>,
+    founder: &Founder,
+) -> (Connection<S>, Result<(), Failure>)
+    ensures founded { OnOk result.1 (HasCleanDisk (state S.Store result.0)
+        → Keeps (tables (founding founder.now.name founder.now.digest founder.now.day)) (state S.Store result.0).now) }
+    ensures begun { IsSettled H.text H.may_leave H.is_clean journal.old
+        → OnOk result.1 (Has H.text H.may_leave H.is_clean journal.new (text_of (first_entries founder.now))) }
+    ensures same { OnErr result.1 (IsFine (state S.Store result.0) → (state S.Store result.0).now ≡ (state S.Store conn).now) }
+    ensures back { IsSettled H.text H.may_leave H.is_clean journal.old
+        → OnErr result.1 (HasUnlessShut H.text H.may_leave H.is_clean journal.new journal.new.is_shut (H.text journal.old.file)) }
+    ensures exists { IsSettled H.text H.may_leave H.is_clean journal.old → result.1 ≡ Err (History Exists) → H.text journal.old.file ≢ [] }
+    ensures there { IsSettled H.text H.may_leave H.is_clean journal.old → H.text journal.old.file ≢ [] → result.1 ≡ Err (History Exists) }
+
+    // A crash leaves the text as it was, with a part of the two lines or both behind it.
+    ensures crash { IsSettled H.text H.may_leave H.is_clean journal.old
+        → LeavesGrown H.leaves (text_of (first_entries founder.now)) (H.text journal.old.file) (H.may_leave journal.new.file) }
+    ensures fails { IfErr result.1 (λ why. IsTrue (is_unfounded why)) }
+{
+    if let Err(why) = begin(alloc, journal, founder) {
+        return (conn, Err(why));
+    }
+    match SqlStore::create(alloc, conn, founder) {
+        Ok(store) => (store.into_connection(), Ok(())),
+        Err((conn, why)) => {
+            journal.take_back(0);
+            (conn, Err(Failure::Database(why)))
+        }
+    }
+}

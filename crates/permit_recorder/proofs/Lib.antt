@@ -1,0 +1,4 @@
+mod Connection
+pub mod Deciding
+pub mod Opened
+pub mod Running

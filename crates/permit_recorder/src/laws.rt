@@ -1,0 +1,31 @@
+//! Laws of serving with a history: functions with nothing to do, whose contracts are the laws.
+
+ghost use Rattle.permit_model.specs.Machine.{step_as};
+ghost use Rattle.permit_model.specs.Policy.{Policy};
+ghost use Rattle.permit_replay.specs.Holding.{IsBeginning};
+ghost use Rattle.permit_replay.specs.declared.beginning.Beginning.{Beginning as TheBeginning};
+ghost use Rattle.permit_recorder.specs.Laws.{GoesOnBehindItsText, KeepsItsHistory};
+ghost use Rattle.permit_recorder.specs.Runs.{KeepsHistories};
+
+use permit_journal::file::HistoryFile;
+use permit_recorded::decider::Decider;
+use permit_store::plain::PlainStore;
+use permit_store::store::Store;
+
+/// Whatever requests an office serves, one after the other, its text tells the history whose tables its store holds, unless its
+/// journal is shut. That history is what the decider makes of the requests that weren't refused for the store. This is said of
+/// an office that was that of a history, as long as its store is without doubt.
+pub fn an_office_keeps_its_history<D: Decider, S: Store, H: HistoryFile>()
+    ensures { KeepsItsHistory D.decides S.view H.text H.may_leave H.is_clean H.leaves }
+{}
+
+/// The same of an office that was opened with its history, whatever that began with: it goes on behind what its text tells.
+pub fn an_opened_office_goes_on<D: Decider, S: Store, H: HistoryFile>()
+    ensures { (beginning : TheBeginning) → GoesOnBehindItsText D.decides S.view H.text H.may_leave H.is_clean H.leaves
+        (IsBeginning ⟦<PlainStore as Store>⟧.view beginning) }
+{}
+
+/// A policy leads from a history to a history, and leaves it but for a command that is done.
+pub fn a_policy_keeps_histories()
+    ensures { (policy : Policy) → KeepsHistories (λ policy h digest asked day. step_as policy h digest asked day) policy }
+{}
