@@ -19,8 +19,9 @@ POLICY = str(TOP / "policies/standard.toml")
 OLD, OLD_FILES = TOP / ".ci/version-1/forty-files.db", 40
 OFFICIAL, DAY, DAY_NUMBER = "abcdefghijklmnopqrstuvwxyz", "2024-01-01", 19723
 ROLE_OF_OFFICIAL = 4
-# What the program says where the database can't be opened, and of a command that the store refuses.
+# What the program says where the database or the history can't be opened, and of a command that the store refuses.
 UNOPENED = (2, "", "database: store\n")
+UNREAD = (2, "", "history: store\n")
 REFUSED = (1, '{"refused":"store"}\n', "refused: store\n")
 # What an office that is served ends with once its database is shut.
 SHUT = (1, "", "refused: store\n")
@@ -47,9 +48,19 @@ def init_words(db):
     return ["init", "--db", db, "--name", "Chief", "--token", OFFICIAL, "--day", DAY]
 
 
+def text_of(db):
+    """The file of the history of an office that keeps one."""
+    return Path(f"{db}.history")
+
+
+def history_of(db):
+    """The words for that file, where it is there."""
+    return ["--history", text_of(db)] if text_of(db).exists() else []
+
+
 def asked(db):
     """The words of every subcommand that asks an office."""
-    return ["--db", db, "--policy", POLICY, "--token", OFFICIAL, "--day", DAY]
+    return ["--db", db, "--policy", POLICY, "--token", OFFICIAL, "--day", DAY, *history_of(db)]
 
 
 def parcel(lot):
@@ -67,14 +78,15 @@ def added(number):
 
 
 def check_db(db):
-    return run("check-db", "--db", db)
+    """The test of the tables, and where there is a history whether they are its own."""
+    return run("check-db", "--db", db, *history_of(db))
 
 
 class Office:
     """The office under `permit serve`, which takes a connection for each request."""
 
     def __init__(self, db, *more, environment=None):
-        words = ["serve", "--db", db, "--policy", POLICY, "--listen", "127.0.0.1:0", "--day", DAY, *more]
+        words = ["serve", "--db", db, "--policy", POLICY, "--listen", "127.0.0.1:0", "--day", DAY, *history_of(db), *more]
         given = {"stdout": subprocess.PIPE, "stderr": subprocess.PIPE, "text": True, "env": environment}
         self.process = subprocess.Popen([PROGRAM, *map(str, words)], **given)
         line = self.process.stdout.readline()
@@ -191,9 +203,10 @@ def want_founding(office):
     want(rows, wanted, "what a founding leaves")
 
 
-def founded(db):
-    """Founds an office, and gives what it keeps."""
-    want(run(*init_words(db)), (0, "party 1\n", ""), "founding")
+def founded(db, history=False):
+    """Founds an office, with a history or without, and gives what it keeps."""
+    more = ["--history", text_of(db)] if history else []
+    want(run(*init_words(db), *more), (0, "party 1\n", ""), "founding")
     office = kept(db)
     want_founding(office)
     return office

@@ -35,7 +35,7 @@ def have(command):
     """Whether a command is there, or can be installed from Debian's package of its name."""
     if shutil.which(command) is None:
         install = ["apt-get", "-o", "DPkg::Lock::Timeout=60", "install", "-y", "--no-install-recommends"]
-        names = {"man": "man-db", "systemd-nspawn": "systemd-container",
+        names = {"man": "man-db", "ip": "iproute2", "sshd": "openssh-server", "systemd-nspawn": "systemd-container",
                  **dict.fromkeys(("systemd-analyze", "systemd-sysusers", "systemd-tmpfiles"), "systemd")}
         try:
             if run(*install, names.get(command, command))[0] != 0:

@@ -6,7 +6,7 @@ import shutil
 from collections import namedtuple
 from pathlib import Path
 
-from disks import (OLD, OLD_FILES, REFUSED, SHUT, UNOPENED, Office, Wrong, add_words, added, asked, check_db, cleared, founded,
+from disks import (OLD, OLD_FILES, REFUSED, SHUT, UNOPENED, UNREAD, Office, Wrong, add_words, added, asked, check_db, cleared, founded,
                    init_words, kept, parcel, run, want, want_founding)
 
 FIRST = "A-0"  # the lot of the first parcel that an office has
@@ -25,10 +25,11 @@ class Parcels:
     # What one call may come to that is refused alone: in one process a sync that failed shuts the database.
     of_one = ("all done", "none done", "one refused", "refused from there on")
 
-    def __init__(self, folder, count):
+    def __init__(self, folder, count, history=False):
         self.lots = [f"L-{number}" for number in range(1, count + 1)]
         self.base = folder / "base.db"
-        founded(self.base)
+        self.name += " with a history" if history else ""
+        founded(self.base, history)
         self.begin()
         self.held = kept(self.base)
 
@@ -38,8 +39,9 @@ class Parcels:
     def prepare(self, folder):
         """The office as it was, with its log."""
         db = cleared(folder)
-        for end in ("", "-wal"):
-            shutil.copy(f"{self.base}{end}", f"{db}{end}")
+        for end in ("", "-wal", ".history"):
+            if Path(f"{self.base}{end}").exists():
+                shutil.copy(f"{self.base}{end}", f"{db}{end}")
         return db
 
     def judge(self, db, answered, extra):
@@ -74,12 +76,12 @@ class Acts(Parcels):
         done, refused, turns = {}, [], []
         for lot in self.lots:
             got = run(*add_words(db, lot), environment=environment)
-            if got in (REFUSED, UNOPENED):
+            if got in (REFUSED, UNOPENED, UNREAD):
                 refused.append(lot)
             else:
                 number = self.number(got)
                 done[number] = lot
-            turns.append(got not in (REFUSED, UNOPENED))
+            turns.append(got not in (REFUSED, UNOPENED, UNREAD))
         return Answered(done, refused, turns)
 
     @staticmethod
@@ -94,8 +96,8 @@ class Import(Parcels):
 
     name = "import"
 
-    def __init__(self, folder, count):
-        super().__init__(folder, count)
+    def __init__(self, folder, count, history=False):
+        super().__init__(folder, count, history)
         self.records = folder / "parcels.csv"
         lines = ",".join(("lot", "address", "owner")), *(",".join(map(str, parcel(lot).values())) for lot in self.lots)
         self.records.write_text("".join(f"{line}\n" for line in lines))
@@ -105,7 +107,7 @@ class Import(Parcels):
 
     def play(self, db, environment=None):
         got = run(*self.words(db), environment=environment)
-        if got == UNOPENED:
+        if got in (UNOPENED, UNREAD):
             return Answered({}, list(self.lots), [False])
         numbers = {int(record): int(number) for record, number in re.findall(r"^(\d+) added (\d+)$", got[1], re.MULTILINE)}
         turns = [record in numbers for record in range(1, len(self.lots) + 1)]
@@ -136,7 +138,8 @@ class Service(Parcels):
     def play(self, db, environment=None):
         office = Office(db, "--workers", "1", "--connections", str(2 * len(self.lots)), environment=environment)
         if not office.serves:
-            want(office.ended(), UNOPENED, "an office that is not served")
+            ended = office.ended()
+            want(ended, UNREAD if ended == UNREAD else UNOPENED, "an office that is not served")
             return Answered({}, list(self.lots), [False])
         done, refused, turns = {}, [], []
         try:
