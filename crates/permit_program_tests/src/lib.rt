@@ -1,21 +1,13 @@
-//! The program through its public calls: the worked rows by `act` on a file, what it prints for its words, what it serves
-//! over TCP, and what it answers in an office over vectors.
+//! The program through its public calls: the worked rows by `act` on a file, what it prints for its words, and what it serves
+//! over TCP.
 #![tactic(auto)]
 
 #[cfg(test)]
-mod asking;
-#[cfg(test)]
-mod examples;
-#[cfg(test)]
 mod listings;
-#[cfg(test)]
-mod policies;
 #[cfg(test)]
 mod program;
 #[cfg(test)]
 mod reasons;
-#[cfg(test)]
-mod registers;
 #[cfg(test)]
 mod renewals;
 #[cfg(test)]
@@ -24,5 +16,7 @@ mod rows;
 mod run;
 #[cfg(test)]
 mod serving;
+#[cfg(test)]
+mod session;
 #[cfg(test)]
 mod words;

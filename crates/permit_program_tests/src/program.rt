@@ -105,29 +105,4 @@ impl Program {
         }
         Ok(bodies)
     }
-
-    /// What the program does for words behind which its files, a party's token and a date are named.
-    pub fn ask<'x, R: Threads + Wait + Copy + Drop + Send + 'static>(
-        &'x self,
-        rt: &HostRuntime,
-        workers: R,
-        words: &[&'x str],
-        token: &'x str,
-        date: &'x str,
-    ) -> Result<(u8, String, String), Fail> {
-        let mut all = Vec::new(rt.alloc());
-        all.extend_from_slice(words)?;
-        let files = [
-            "--db",
-            self.database.as_str(),
-            "--policy",
-            self.policy.as_str(),
-            "--token",
-            token,
-            "--day",
-            date,
-        ];
-        all.extend_from_slice(&files)?;
-        run(rt, workers, all.as_slice())
-    }
 }

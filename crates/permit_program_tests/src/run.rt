@@ -6,6 +6,18 @@ use std::test::Fail;
 use std::thread::Threads;
 
 /// The status of a run on words, and what it printed and complained.
+pub fn run_owned<R: Threads + Wait + Copy + Drop + Send + 'static>(
+    rt: &HostRuntime,
+    workers: R,
+    words: &[String],
+) -> Result<(u8, String, String), Fail> {
+    let mut out = Vec::new(rt.alloc());
+    let mut err = Vec::new(rt.alloc());
+    let status = run_words(rt, workers, words, &mut out, &mut err);
+    Ok((status, text(out)?, text(err)?))
+}
+
+/// The same of words that others hold.
 pub fn run<R: Threads + Wait + Copy + Drop + Send + 'static>(
     rt: &HostRuntime,
     workers: R,
@@ -16,10 +28,7 @@ pub fn run<R: Threads + Wait + Copy + Drop + Send + 'static>(
     for word in words {
         owned.push(String::from_str(alloc, word)?)?;
     }
-    let mut out = Vec::new(alloc);
-    let mut err = Vec::new(alloc);
-    let status = run_words(rt, workers, owned.as_slice(), &mut out, &mut err);
-    Ok((status, text(out)?, text(err)?))
+    run_owned(rt, workers, owned.as_slice())
 }
 
 /// Bytes that are to be text.
@@ -38,17 +47,4 @@ pub fn agrees(
     }
     let (status, out, err) = given;
     Err(Fail::new(format!(in rt.alloc(); "status {status}, printed {out}, complained {err}")?))
-}
-
-/// Fails where the program does something else for words.
-pub fn told<R: Threads + Wait + Copy + Drop + Send + 'static>(
-    rt: &HostRuntime,
-    workers: R,
-    words: &[&str],
-    status: u8,
-    out: &str,
-    err: &str,
-) -> Result<(), Fail> {
-    let (is, printed, complained) = run(rt, workers, words)?;
-    agrees(rt, (is, &printed, &complained), (status, out, err))
 }

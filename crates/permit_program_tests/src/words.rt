@@ -1,314 +1,419 @@
 //! The words of a command line, and what the program prints for them.
 
-use crate::run::{run, told};
-use permit_samples::ask::TOKENS;
+use crate::run::run;
+use crate::session::play;
 use permit_samples::standard::POLICY;
-use std::alloc::Global;
 use std::fs;
 use std::test::Fail;
 
-/// What stands below a line on bad words.
-const HELP: &str = "\n\nFor more information, try '--help'.\n";
+/// A program without words, policies by themselves, and dead rules.
+const POLICIES: &str = r#"
+$
+| permit
+$ --version
+| permit 2.0 (schema 2)
+> [[rule]]
+> name = "a"
+> effect = "deny"
+>
+> [[rule]]
+> name = "b"
+> effect = "allow"
++ good.toml
+$ check-policy --policy good.toml
+| rules 2
+> [[rule]]
+> name = "default"
+> effect = "deny"
++ bad.toml
+$ check-policy --policy bad.toml
+! policy: fault 5 at rule 1
+= 2
+$ check-policy --policy nowhere.toml
+! cannot read nowhere.toml
+= 2
+$ check-policy --dead --policy standard.toml
+| rules 12
+> [[rule]]
+> name = "a"
+> effect = "deny"
+> role = ["clerk"]
+>
+> [[rule]]
+> name = "b"
+> effect = "deny"
+> role = ["public", "reviewer", "inspector", "official"]
+>
+> [[rule]]
+> name = "c"
+> effect = "deny"
++ dead.toml
+$ check-policy --dead --policy dead.toml
+| rules 3
+| dead c
+"#;
 
-/// The stages that `list` takes.
-const STAGES: &str =
-    "filed, review, returned, approved, rejected, issued, working, revoked, finaled, certified, abandoned, lapsed";
+/// Facts, and what a policy says of them.
+const FACTS: &str = r#"
+$ check-policy --policy standard.toml --facts reviewer,assigned-reviewer+owner,approve-plans,review,no,ahead
+| no-conflict relation
+| own-work match
+| decided own-work deny
+$ check-policy --policy standard.toml --facts ''
+! facts: unreadable
+= 2
+$ check-policy --policy standard.toml --facts reviewer
+! facts: unreadable
+= 2
+$ check-policy --policy standard.toml --facts reviewer,,read,review,no,ahead
+! facts: unreadable
+= 2
+$ check-policy --policy standard.toml --facts reviewer,owner+owner,read,review,no,ahead
+! facts: unreadable
+= 2
+$ check-policy --policy standard.toml --facts reviewer,owner+,read,review,no,ahead
+! facts: unreadable
+= 2
+$ check-policy --policy standard.toml --facts reviewer,-+owner,read,review,no,ahead
+! facts: unreadable
+= 2
+$ check-policy --policy standard.toml --facts reviewer,boss,read,review,no,ahead
+! facts: unreadable
+= 2
+$ check-policy --policy standard.toml --facts boss,-,read,review,no,ahead
+! facts: unreadable
+= 2
+$ check-policy --policy standard.toml --facts reviewer,-,frob,review,no,ahead
+! facts: unreadable
+= 2
+$ check-policy --policy standard.toml --facts reviewer,-,read,frob,no,ahead
+! facts: unreadable
+= 2
+$ check-policy --policy standard.toml --facts reviewer,-,read,review,maybe,ahead
+! facts: unreadable
+= 2
+$ check-policy --policy standard.toml --facts reviewer,-,read,review,no,frob
+! facts: unreadable
+= 2
+$ check-policy --policy standard.toml --facts reviewer,-,read,review,no,ahead,
+! facts: unreadable
+= 2
+$ check-policy --policy standard.toml --facts 'reviewer,-,read,review,no, ahead'
+! facts: unreadable
+= 2
+> [[rule]]
+> name = "new"
+> effect = "allow"
+> stage = ["new"]
+> stopped = true
++ stages.toml
+$ check-policy --policy stages.toml --facts public,-,file,new,yes,none
+| new match
+| decided new allow
+$ check-policy --policy stages.toml --facts public,owner,file,office,yes,past
+| new stage
+| decided default deny
+$ check-policy --policy stages.toml --facts public,-,file,new,no,near
+| new stopped
+| decided default deny
+$ check-policy --policy none.toml --dead --facts x
+! error: the argument '--dead' cannot be used with '--facts <FACTS>'
+!
+! For more information, try '--help'.
+= 2
+"#;
 
-/// A policy of two rules.
-const TWO: &str =
-    "[[rule]]\nname = \"a\"\neffect = \"deny\"\n\n[[rule]]\nname = \"b\"\neffect = \"allow\"\n";
+/// A founding, foundings that are refused, and paths without a database.
+const FOUNDINGS: &str = r#"
+$ init --db office.db --name Chief --token abcdefghijklmnopqrstuvwxyz --day 2023-12-09
+| party 1
+$ init --db office.db --name Chief --token abcdefghijklmnopqrstuvwxyz --day 2023-12-09
+! database: exists
+= 2
+$ upgrade --db office.db
+! database: version
+= 2
+$ check-db --db office.db
+| sound parties 1 parcels 0 files 0
+$ init --db none.db --name Chief --token short --day 2023-12-09
+! refused: syntax
+= 1
+$ init --db none.db --name Chief --token abcdefghijklmnopqrstuvwxyz --day 1970-01-01
+! refused: clock
+= 1
+$ init --db none.db --name Chief --token abcdefghijklmnopqrstuvwxyz --day 2023-12-32
+! day: unreadable
+= 2
+$ upgrade --db none.db
+! database: store
+= 2
+$ check-db --db none.db
+! database: store
+= 2
+$ begin-history --db none.db --history none.history
+! database: store
+= 2
+"#;
+
+/// Words that are wanting, and words that exclude one another.
+const MISSING: &str = r#"
+$ frob
+! error: unrecognized subcommand 'frob'
+!
+! Usage: permit <COMMAND>
+!
+! For more information, try '--help'.
+= 2
+$ check-policy
+! error: the following required arguments were not provided:
+!   --policy <POLICY>
+!
+! Usage: permit check-policy --policy <POLICY>
+!
+! For more information, try '--help'.
+= 2
+$ history
+! error: the following required arguments were not provided:
+!   --history <PATH>
+!
+! Usage: permit history --history <PATH>
+!
+! For more information, try '--help'.
+= 2
+$ replay --db none.db
+! error: the following required arguments were not provided:
+!   --history <PATH>
+!
+! Usage: permit replay --db <DB> --history <PATH>
+!
+! For more information, try '--help'.
+= 2
+$ check-db --db none.db --from none.copy
+! error: the following required arguments were not provided:
+!   --history <PATH>
+!
+! For more information, try '--help'.
+= 2
+$ renew-token --db none.db --party 2 --token-file - --from none.copy
+! error: the following required arguments were not provided:
+!   --history <PATH>
+!
+! For more information, try '--help'.
+= 2
+$ list --db none.db --policy none.toml
+! error: the following required arguments were not provided:
+!   <--token <TOKEN>|--token-file <PATH>>
+!
+! For more information, try '--help'.
+= 2
+$ list --db none.db --policy none.toml --token abcdefghijklmnopqrstuvwxyz --token-file -
+! error: the argument '--token <TOKEN>' cannot be used with '--token-file <PATH>'
+!
+! For more information, try '--help'.
+= 2
+"#;
+
+/// Words that name nothing, and numbers out of range.
+const VALUES: &str = r#"
+$ list --db none.db --policy none.toml --token abcdefghijklmnopqrstuvwxyz --stage frob
+! error: invalid value 'frob' for '--stage <STAGE>'
+!   [possible values: filed, review, returned, approved, rejected, issued, working, revoked, finaled, certified, abandoned, lapsed]
+!   [example: --stage review]
+!
+! For more information, try '--help'.
+= 2
+$ list --db none.db --policy none.toml --token abcdefghijklmnopqrstuvwxyz --stage new
+! error: invalid value 'new' for '--stage <STAGE>'
+!   [possible values: filed, review, returned, approved, rejected, issued, working, revoked, finaled, certified, abandoned, lapsed]
+!   [example: --stage review]
+!
+! For more information, try '--help'.
+= 2
+$ list --db none.db --policy none.toml --token abcdefghijklmnopqrstuvwxyz --stage office
+! error: invalid value 'office' for '--stage <STAGE>'
+!   [possible values: filed, review, returned, approved, rejected, issued, working, revoked, finaled, certified, abandoned, lapsed]
+!   [example: --stage review]
+!
+! For more information, try '--help'.
+= 2
+$ register --db none.db --policy none.toml --token abcdefghijklmnopqrstuvwxyz -- frob
+! error: invalid value 'frob' for '<NAME>'
+!   [possible values: files, deadlines, inspections]
+!   [example: permit register deadlines]
+!
+! For more information, try '--help'.
+= 2
+$ serve --db none.db --policy none.toml --listen nowhere --workers 0
+! error: invalid value '0' for '--workers <WORKERS>'
+!   [possible values: 1 to 8]
+!   [example: --workers 4]
+!
+! For more information, try '--help'.
+= 2
+$ serve --db none.db --policy none.toml --listen nowhere --workers 9
+! error: invalid value '9' for '--workers <WORKERS>'
+!   [possible values: 1 to 8]
+!   [example: --workers 4]
+!
+! For more information, try '--help'.
+= 2
+$ serve --db none.db --policy none.toml --listen nowhere --workers 04
+! error: invalid value '04' for '--workers <WORKERS>'
+!   [possible values: 1 to 8]
+!   [example: --workers 4]
+!
+! For more information, try '--help'.
+= 2
+$ serve --db none.db --policy none.toml --listen nowhere --connections 100000
+! error: invalid value '100000' for '--connections <CONNECTIONS>'
+!   [possible values: 1 to 99999]
+!   [example: --connections 1000]
+!
+! For more information, try '--help'.
+= 2
+$ serve --db none.db --policy none.toml --listen nowhere --connections +1
+! error: invalid value '+1' for '--connections <CONNECTIONS>'
+!   [possible values: 1 to 99999]
+!   [example: --connections 1000]
+!
+! For more information, try '--help'.
+= 2
+$ renew-token --db none.db --token abcdefghijklmnopqrstuvwxyz --party 0
+! error: invalid value '0' for '--party <N>'
+!   [possible values: 1 to 99999]
+!   [example: --party 2]
+!
+! For more information, try '--help'.
+= 2
+$ renew-token --db none.db --token abcdefghijklmnopqrstuvwxyz --party 100000
+! error: invalid value '100000' for '--party <N>'
+!   [possible values: 1 to 99999]
+!   [example: --party 2]
+!
+! For more information, try '--help'.
+= 2
+$ renew-token --db none.db --token abcdefghijklmnopqrstuvwxyz --party one
+! error: invalid value 'one' for '--party <N>'
+!   [possible values: 1 to 99999]
+!   [example: --party 2]
+!
+! For more information, try '--help'.
+= 2
+$ renew-token --db none.db --token abcdefghijklmnopqrstuvwxyz --party 01
+! error: invalid value '01' for '--party <N>'
+!   [possible values: 1 to 99999]
+!   [example: --party 2]
+!
+! For more information, try '--help'.
+= 2
+$ history --history none.history --party 0
+! error: invalid value '0' for '--party <N>'
+!   [possible values: 1 to 99999]
+!   [example: --party 2]
+!
+! For more information, try '--help'.
+= 2
+$ history --history none.history --party 100000
+! error: invalid value '100000' for '--party <N>'
+!   [possible values: 1 to 99999]
+!   [example: --party 2]
+!
+! For more information, try '--help'.
+= 2
+$ history --history none.history --party one
+! error: invalid value 'one' for '--party <N>'
+!   [possible values: 1 to 99999]
+!   [example: --party 2]
+!
+! For more information, try '--help'.
+= 2
+$ history --history none.history --party 01
+! error: invalid value '01' for '--party <N>'
+!   [possible values: 1 to 99999]
+!   [example: --party 2]
+!
+! For more information, try '--help'.
+= 2
+$ history --history none.history --parcel 0
+! error: invalid value '0' for '--parcel <N>'
+!   [possible values: 1 to 99999]
+!   [example: --parcel 1]
+!
+! For more information, try '--help'.
+= 2
+$ history --history none.history --parcel 100000
+! error: invalid value '100000' for '--parcel <N>'
+!   [possible values: 1 to 99999]
+!   [example: --parcel 1]
+!
+! For more information, try '--help'.
+= 2
+$ history --history none.history --parcel one
+! error: invalid value 'one' for '--parcel <N>'
+!   [possible values: 1 to 99999]
+!   [example: --parcel 1]
+!
+! For more information, try '--help'.
+= 2
+$ history --history none.history --parcel 01
+! error: invalid value '01' for '--parcel <N>'
+!   [possible values: 1 to 99999]
+!   [example: --parcel 1]
+!
+! For more information, try '--help'.
+= 2
+$ history --history none.history --file 0
+! error: invalid value '0' for '--file <N>'
+!   [possible values: 1 to 99999]
+!   [example: --file 1]
+!
+! For more information, try '--help'.
+= 2
+$ history --history none.history --file 100000
+! error: invalid value '100000' for '--file <N>'
+!   [possible values: 1 to 99999]
+!   [example: --file 1]
+!
+! For more information, try '--help'.
+= 2
+$ history --history none.history --file one
+! error: invalid value 'one' for '--file <N>'
+!   [possible values: 1 to 99999]
+!   [example: --file 1]
+!
+! For more information, try '--help'.
+= 2
+$ history --history none.history --file 01
+! error: invalid value '01' for '--file <N>'
+!   [possible values: 1 to 99999]
+!   [example: --file 1]
+!
+! For more information, try '--help'.
+= 2
+"#;
 
 #[test]
-fn without_words(rt: HostRuntime) -> Result<(), Fail> {
-    let (status, out, err) = run(&rt, rt, &[])?;
-    assert_eq!(rt; (status, out.as_str(), err.as_str()), (0, "permit\n", ""));
-    told(&rt, rt, &["--version"], 0, "permit 2.0 (schema 2)\n", "")
+fn policies(rt: HostRuntime) -> Result<(), Fail> {
+    fs::write(&rt, "standard.toml", POLICY)?;
+    play(&rt, rt, "", POLICIES)?;
+    play(&rt, rt, "", FACTS)
 }
 
 #[test]
-fn a_good_policy(rt: HostRuntime) -> Result<(), Fail> {
-    fs::write(&rt, "good.toml", TWO)?;
-    let (status, out, err) = run(&rt, rt, &["check-policy", "--policy", "good.toml"])?;
-    assert_eq!(rt; (status, out.as_str(), err.as_str()), (0, "rules 2\n", ""));
-    Ok(())
-}
-
-#[test]
-fn a_bad_policy(rt: HostRuntime) -> Result<(), Fail> {
-    fs::write(
-        &rt,
-        "bad.toml",
-        "[[rule]]\nname = \"default\"\neffect = \"deny\"\n",
-    )?;
-    let (status, out, err) = run(&rt, rt, &["check-policy", "--policy", "bad.toml"])?;
-    assert_eq!(rt;
-        (status, out.as_str(), err.as_str()),
-        (2, "", "policy: fault 5 at rule 1\n")
-    );
-    Ok(())
-}
-
-#[test]
-fn no_such_file(rt: HostRuntime) -> Result<(), Fail> {
-    let (status, out, err) = run(&rt, rt, &["check-policy", "--policy", "nowhere.toml"])?;
-    assert_eq!(rt;
-        (status, out.as_str(), err.as_str()),
-        (2, "", "cannot read nowhere.toml\n")
-    );
-    Ok(())
-}
-
-#[test]
-fn a_founding(rt: HostRuntime) -> Result<(), Fail> {
-    let words = [
-        "init",
-        "--db",
-        "office.db",
-        "--name",
-        "Chief",
-        "--token",
-        TOKENS[0],
-        "--day",
-        "2023-12-09",
-    ];
-    let (status, out, err) = run(&rt, rt, &words)?;
-    assert_eq!(rt; (status, out.as_str(), err.as_str()), (0, "party 1\n", ""));
-    let (status, out, err) = run(&rt, rt, &words)?;
-    assert_eq!(rt;
-        (status, out.as_str(), err.as_str()),
-        (2, "", "database: exists\n")
-    );
-    let words = ["upgrade", "--db", "office.db"];
-    told(&rt, rt, &words, 2, "", "database: version\n")?;
-    let words = ["check-db", "--db", "office.db"];
-    let line = "sound parties 1 parcels 0 files 0\n";
-    told(&rt, rt, &words, 0, line, "")
-}
-
-#[test]
-fn a_founding_that_is_refused(rt: HostRuntime) -> Result<(), Fail> {
-    for (token, day, status, line) in [
-        ("short", "2023-12-09", 1, "refused: syntax\n"),
-        (TOKENS[0], "1970-01-01", 1, "refused: clock\n"),
-        (TOKENS[0], "2023-12-32", 2, "day: unreadable\n"),
-    ] {
-        let words = [
-            "init", "--db", "none.db", "--name", "Chief", "--token", token, "--day", day,
-        ];
-        let (is, out, err) = run(&rt, rt, &words)?;
-        assert_eq!(rt; (is, out.as_str(), err.as_str()), (status, "", line));
-    }
-    for name in ["upgrade", "check-db"] {
-        let words = [name, "--db", "none.db"];
-        told(&rt, rt, &words, 2, "", "database: store\n")?;
-    }
+fn foundings(rt: HostRuntime) -> Result<(), Fail> {
+    play(&rt, rt, "", FOUNDINGS)?;
     assert!(rt; !fs::exists(&rt, "none.db")?);
     Ok(())
 }
 
 #[test]
-fn bad_words(rt: HostRuntime) -> Result<(), Fail> {
-    let (status, out, err) = run(&rt, rt, &["frob"])?;
-    let wanted =
-        "error: unrecognized subcommand 'frob'\n\nUsage: permit <COMMAND>\n\nFor more information, try '--help'.\n";
-    assert_eq!(rt; (status, out.as_str(), err.as_str()), (2, "", wanted));
-    let (status, out, err) = run(&rt, rt, &["check-policy"])?;
-    let wanted =
-        "error: the following required arguments were not provided:\n  --policy <POLICY>\n\nUsage: permit check-policy --policy <POLICY>\n\nFor more information, try '--help'.\n";
-    assert_eq!(rt; (status, out.as_str(), err.as_str()), (2, "", wanted));
-    Ok(())
-}
-
-/// A rule for clerks, one for all other roles, and one without a condition.
-const DEAD: &str =
-    "[[rule]]\nname = \"a\"\neffect = \"deny\"\nrole = [\"clerk\"]\n\n[[rule]]\nname = \"b\"\neffect = \"deny\"\nrole = [\"public\", \"reviewer\", \"inspector\", \"official\"]\n\n[[rule]]\nname = \"c\"\neffect = \"deny\"\n";
-
-#[test]
-fn dead_rule(rt: HostRuntime) -> Result<(), Fail> {
-    fs::write(&rt, "standard.toml", POLICY)?;
-    fs::write(&rt, "dead.toml", DEAD)?;
-    let of = |path| ["check-policy", "--dead", "--policy", path];
-    told(&rt, rt, &of("standard.toml"), 0, "rules 12\n", "")?;
-    told(&rt, rt, &of("dead.toml"), 0, "rules 3\ndead c\n", "")
+fn words_that_are_wanting(rt: HostRuntime) -> Result<(), Fail> {
+    play(&rt, rt, "", MISSING)
 }
 
 #[test]
-fn explanation_of_a_denial(rt: HostRuntime) -> Result<(), Fail> {
-    fs::write(&rt, "standard.toml", POLICY)?;
-    let of = |facts| [
-        "check-policy",
-        "--policy",
-        "standard.toml",
-        "--facts",
-        facts,
-    ];
-    let own = "no-conflict relation\nown-work match\ndecided own-work deny\n";
-    told(
-        &rt,
-        rt,
-        &of("reviewer,assigned-reviewer+owner,approve-plans,review,no,ahead"),
-        0,
-        own,
-        "",
-    )?;
-    for facts in [
-        "",
-        "reviewer",
-        "reviewer,,read,review,no,ahead",
-        "reviewer,owner+owner,read,review,no,ahead",
-        "reviewer,owner+,read,review,no,ahead",
-        "reviewer,-+owner,read,review,no,ahead",
-        "reviewer,boss,read,review,no,ahead",
-        "boss,-,read,review,no,ahead",
-        "reviewer,-,frob,review,no,ahead",
-        "reviewer,-,read,frob,no,ahead",
-        "reviewer,-,read,review,maybe,ahead",
-        "reviewer,-,read,review,no,frob",
-        "reviewer,-,read,review,no,ahead,",
-        "reviewer,-,read,review,no, ahead",
-    ] {
-        told(&rt, rt, &of(facts), 2, "", "facts: unreadable\n")?;
-    }
-    Ok(())
-}
-
-#[test]
-fn facts_in_every_stage(rt: HostRuntime) -> Result<(), Fail> {
-    let policy =
-        "[[rule]]\nname = \"new\"\neffect = \"allow\"\nstage = [\"new\"]\nstopped = true\n";
-    fs::write(&rt, "stages.toml", policy)?;
-    let of = |facts| ["check-policy", "--policy", "stages.toml", "--facts", facts];
-    let (match_new, no_rule) = (
-        "new match\ndecided new allow\n",
-        "new stage\ndecided default deny\n",
-    );
-    told(&rt, rt, &of("public,-,file,new,yes,none"), 0, match_new, "")?;
-    told(
-        &rt,
-        rt,
-        &of("public,owner,file,office,yes,past"),
-        0,
-        no_rule,
-        "",
-    )?;
-    let not_stopped = "new stopped\ndecided default deny\n";
-    told(
-        &rt,
-        rt,
-        &of("public,-,file,new,no,near"),
-        0,
-        not_stopped,
-        "",
-    )
-}
-
-/// The line on a value that isn't taken at its place.
-fn invalid(
-    alloc: Global,
-    value: &str,
-    place: &str,
-    taken: &str,
-    example: &str,
-) -> Result<String, Fail> {
-    Ok(format!(in alloc;
-        "error: invalid value '{value}' for '{place}'\n  [possible values: {taken}]\n  [example: {example}]{HELP}"
-    )?)
-}
-
-#[test]
-fn words_that_name_nothing(rt: HostRuntime) -> Result<(), Fail> {
-    let office = [
-        "--db",
-        "none.db",
-        "--policy",
-        "none.toml",
-        "--token",
-        TOKENS[0],
-    ];
-    let stage = ("--stage <STAGE>", STAGES, "--stage review");
-    let register = (
-        "<NAME>",
-        "files, deadlines, inspections",
-        "permit register deadlines",
-    );
-    for (words, value, (place, taken, example)) in [
-        (["list", "--stage"], "frob", stage),
-        (["list", "--stage"], "new", stage),
-        (["list", "--stage"], "office", stage),
-        (["register", "--"], "frob", register),
-    ] {
-        let mut all = Vec::new(rt.alloc());
-        all.push(words[0])?;
-        all.extend_from_slice(&office)?;
-        all.extend_from_slice(&[words[1], value])?;
-        let line = invalid(rt.alloc(), value, place, taken, example)?;
-        told(&rt, rt, &all, 2, "", line.as_str())?;
-    }
-    Ok(())
-}
-
-#[test]
-fn numbers_out_of_range(rt: HostRuntime) -> Result<(), Fail> {
-    let workers = ("--workers <WORKERS>", "1 to 8", "--workers 4");
-    let connections = (
-        "--connections <CONNECTIONS>",
-        "1 to 99999",
-        "--connections 1000",
-    );
-    for (option, value, (place, taken, example)) in [
-        ("--workers", "0", workers),
-        ("--workers", "9", workers),
-        ("--workers", "04", workers),
-        ("--connections", "100000", connections),
-        ("--connections", "+1", connections),
-    ] {
-        let words = [
-            "serve",
-            "--db",
-            "none.db",
-            "--policy",
-            "none.toml",
-            "--listen",
-            "nowhere",
-            option,
-            value,
-        ];
-        let line = invalid(rt.alloc(), value, place, taken, example)?;
-        told(&rt, rt, &words, 2, "", line.as_str())?;
-    }
-    Ok(())
-}
-
-#[test]
-fn numbers_of_no_record(rt: HostRuntime) -> Result<(), Fail> {
-    let renewal = ["renew-token", "--db", "none.db", "--token", TOKENS[0]];
-    let history = ["history", "--history", "none.history"];
-    for (words, option, example) in [
-        (renewal.as_slice(), "--party", "--party 2"),
-        (history.as_slice(), "--party", "--party 2"),
-        (history.as_slice(), "--parcel", "--parcel 1"),
-        (history.as_slice(), "--file", "--file 1"),
-    ] {
-        let place = format!(in rt.alloc(); "{option} <N>")?;
-        for value in ["0", "100000", "one", "01"] {
-            let mut all = Vec::new(rt.alloc());
-            all.extend_from_slice(words)?;
-            all.extend_from_slice(&[option, value])?;
-            let line = invalid(rt.alloc(), value, place.as_str(), "1 to 99999", example)?;
-            told(&rt, rt, &all, 2, "", line.as_str())?;
-        }
-    }
-    Ok(())
-}
-
-#[test]
-fn a_history_without_its_path(rt: HostRuntime) -> Result<(), Fail> {
-    let wanted =
-        "error: the following required arguments were not provided:\n  --history <PATH>\n\nUsage: permit history --history <PATH>\n\nFor more information, try '--help'.\n";
-    told(&rt, rt, &["history"], 2, "", wanted)?;
-    let wanted =
-        "error: the following required arguments were not provided:\n  --history <PATH>\n\nUsage: permit replay --db <DB> --history <PATH>\n\nFor more information, try '--help'.\n";
-    told(&rt, rt, &["replay", "--db", "none.db"], 2, "", wanted)
+fn values_that_are_not_taken(rt: HostRuntime) -> Result<(), Fail> {
+    play(&rt, rt, "", VALUES)
 }
 
 #[test]
@@ -322,65 +427,4 @@ fn a_history_that_is_not_kept(rt: HostRuntime) -> Result<(), Fail> {
         );
     }
     Ok(())
-}
-
-#[test]
-fn a_copy_without_a_history(rt: HostRuntime) -> Result<(), Fail> {
-    let wanted = format!(in rt.alloc();
-        "error: the following required arguments were not provided:\n  --history <PATH>{HELP}"
-    )?;
-    let check = ["check-db", "--db", "none.db", "--from", "none.copy"];
-    told(&rt, rt, &check, 2, "", wanted.as_str())?;
-    let renewal = [
-        "renew-token",
-        "--db",
-        "none.db",
-        "--party",
-        "2",
-        "--token-file",
-        "-",
-        "--from",
-        "none.copy",
-    ];
-    told(&rt, rt, &renewal, 2, "", wanted.as_str())
-}
-
-#[test]
-fn a_beginning_of_no_office(rt: HostRuntime) -> Result<(), Fail> {
-    let words = [
-        "begin-history",
-        "--db",
-        "none.db",
-        "--history",
-        "none.history",
-    ];
-    told(&rt, rt, &words, 2, "", "database: store\n")
-}
-
-#[test]
-fn words_that_exclude_one_another(rt: HostRuntime) -> Result<(), Fail> {
-    let both = [
-        "check-policy",
-        "--policy",
-        "none.toml",
-        "--dead",
-        "--facts",
-        "x",
-    ];
-    let line = format!(in rt.alloc();
-        "error: the argument '--dead' cannot be used with '--facts <FACTS>'{HELP}"
-    )?;
-    told(&rt, rt, &both, 2, "", line.as_str())?;
-    let files = ["list", "--db", "none.db", "--policy", "none.toml"];
-    let none = format!(in rt.alloc();
-        "error: the following required arguments were not provided:\n  <--token <TOKEN>|--token-file <PATH>>{HELP}"
-    )?;
-    told(&rt, rt, &files, 2, "", none.as_str())?;
-    let mut words = Vec::new(rt.alloc());
-    words.extend_from_slice(&files)?;
-    words.extend_from_slice(&["--token", TOKENS[0], "--token-file", "-"])?;
-    let two = format!(in rt.alloc();
-        "error: the argument '--token <TOKEN>' cannot be used with '--token-file <PATH>'{HELP}"
-    )?;
-    told(&rt, rt, &words, 2, "", two.as_str())
 }

@@ -1,6 +1,5 @@
 //! What is printed for a request to an office over vectors, and of an answer that is a refusal.
 
-use crate::run::text;
 use permit_answer::answer::Answer;
 use permit_args::plan::{ActWords, DayWords, OfficeWords, TokenWords};
 use permit_base::refusal::{Reason, Refusal};
@@ -25,6 +24,11 @@ fn office(alloc: Global) -> Result<Office<PlainStore>, Fail> {
         .ok()
         .ok_or("founder")?;
     office_over(alloc, PlainStore::create(alloc, &founder)?, "")
+}
+
+/// Bytes that are to be text.
+fn text(bytes: Vec<u8>) -> Result<String, Fail> {
+    Ok(String::from_utf8(bytes).ok().ok_or("text")?)
 }
 
 /// What is printed of an answer, and the line of the refusal that it is.
