@@ -28,6 +28,7 @@ class Parcels:
     def __init__(self, folder, count, history=False):
         self.lots = [f"L-{number}" for number in range(1, count + 1)]
         self.base = folder / "base.db"
+        self.has_history = history
         self.name += " with a history" if history else ""
         founded(self.base, history)
         self.begin()
@@ -159,10 +160,15 @@ class Service(Parcels):
             office.end()
         return Answered(done, refused, turns)
 
-    @staticmethod
-    def reads(office):
-        """Whether the parcel that was there first is read, else that is refused for the store."""
-        status, answer = office.ask("GET", "/parcels/1")
+    def reads(self, office):
+        """Whether the parcel that was there first is read, else that is refused for the store, or the office has ended: it
+        does so behind the answer to the command in which its history was shut."""
+        try:
+            status, answer = office.ask("GET", "/parcels/1")
+        except Wrong:
+            if self.has_history and office.ends():
+                return False
+            raise
         if status == 200:
             want(json.loads(answer).get("lot"), FIRST, "the parcel that was read")
         else:
