@@ -144,11 +144,11 @@ $ list --db none.db --policy policy.toml --token abcdefghijklmnopqrstuvwxyz --zo
 > [[rule]]
 > name = "x"
 > effect = "alow"
-+ bad.toml
-$ check-policy --policy bad.toml
++ refused.toml
+$ check-policy --policy refused.toml
 ! policy: fault 6 at rule 1
 = 2
-$ check-policy --policy bad.toml --why
+$ check-policy --policy refused.toml --why
 | rule 1 `x`: effect `alow`: allow or deny
 ! policy: fault 6 at rule 1
 = 2
