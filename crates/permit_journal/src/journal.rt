@@ -1,6 +1,6 @@
 //! Entering lines into the file of a history.
 
-ghost use Rattle.std.specs.Prelude.{◌≡◌, ◌≤◌, ◌++◌, ℕ, List, true, length, take, IfOk, IsErr, IsTrue, OnOk, OnErr};
+ghost use Rattle.std.specs.Prelude.{◌≡◌, ◌≤◌, ◌++◌, ℕ, List, true, length, take, IfErr, IfOk, IsErr, IsTrue, OnOk, OnErr};
 ghost use Rattle.permit_journal.specs.Files.{Grown, LeavesGrown, Only};
 ghost use Rattle.permit_journal.specs.Journals.{IsSettled, Has, HasUnlessShut};
 
@@ -32,6 +32,19 @@ fn cut_back<H: HistoryFile>(file: &mut H, to: u64) -> Result<(), FileError>
     file.sync()
 }
 
+/// Puts the text on the disk. How many bytes it has.
+fn put_on_disk<H: HistoryFile>(file: &mut H) -> Result<u64, FileError>
+    ensures length { IfOk result (λ n. IsTrue (H.is_clean file.new) → n ≡ length (H.text file.old)) }
+    ensures durable { OnOk result (Only (H.text file.old) (H.may_leave file.new)) }
+    ensures kept { H.text file.new ≡ H.text file.old }
+    ensures crash { (c : List ℕ) → H.may_leave file.new c → H.may_leave file.old c }
+    ensures clean { IsTrue (H.is_clean file.new) → IsTrue (H.is_clean file.old) }
+{
+    let length = file.length()?;
+    file.sync()?;
+    Ok(length)
+}
+
 /// The file of a history to which lines are added. Contracts see the file, the length of its text, and whether it is shut.
 ///
 /// A line is entered whole and is on the disk, or nothing of it is left. Where what was written of it can't be cut off, the
@@ -55,20 +68,25 @@ impl<H: HistoryFile> Model for Journal<H> {
 }
 
 impl<H: HistoryFile + Drop> Journal<H> {
-    /// A journal over the file, whose text is put on the disk. Where a call of the file fails, there is none.
-    pub fn open(mut file: H) -> Result<Journal<H>, FileError>
+    /// A journal over the file, whose text is put on the disk. Where a call of the file fails, the file is given back, with its
+    /// text as it was.
+    pub fn open(mut file: H) -> Result<Journal<H>, H>
         ensures settled { IfOk result (λ journal. IsTrue (H.is_clean journal.file) → Has H.text H.may_leave H.is_clean journal (H.text file)) }
         ensures kept { IfOk result (λ journal. H.text journal.file ≡ H.text file) }
         ensures crash { IfOk result (λ journal. (c : List ℕ) → H.may_leave journal.file c → H.may_leave file c) }
         ensures clean { IfOk result (λ journal. IsTrue (H.is_clean journal.file) → IsTrue (H.is_clean file)) }
+        ensures back { IfErr result (λ left. H.text left ≡ H.text file) }
+        ensures left { IfErr result (λ left. (c : List ℕ) → H.may_leave left c → H.may_leave file c) }
+        ensures doubt { IfErr result (λ left. IsTrue (H.is_clean left) → IsTrue (H.is_clean file)) }
     {
-        let length = file.length()?;
-        file.sync()?;
-        Ok(Journal {
-            file,
-            length,
-            is_shut: false,
-        })
+        match put_on_disk(&mut file) {
+            Ok(length) => Ok(Journal {
+                file,
+                length,
+                is_shut: false,
+            }),
+            Err(_) => Err(file),
+        }
     }
 
     /// The bytes of the text.

@@ -10,7 +10,7 @@ use Rattle.permit_model.specs.Machine.{Done, Outcome, entry_of}
 use Rattle.permit_recorded.specs.Planned.{number_of}
 use Rattle.permit_model.specs.Sound.{IsSoundTables}
 use Rattle.permit_model.specs.Tables.{Tables}
-use Rattle.permit_history.specs.Meaning.{Tells}
+use Rattle.permit_history.specs.declared.entry.Entry.{Entry}
 use Rattle.permit_journal.specs.Files.{Only}
 use Rattle.permit_journal.specs.Journals.{JournalView, HasUnlessShut}
 use Rattle.permit_office.specs.Answers.{Attempts, reply_of}
@@ -22,7 +22,7 @@ use Rattle.permit_store.specs.Changes.{changed}
 use Rattle.permit_store.specs.Frames.{StoreView}
 use Rattle.permit_store.specs.declared.store.StoreError.{StoreError}
 use Rattle.permit_recorded.specs.Probing.{HasCounted}
-use Rattle.permit_recorded.specs.Recorded.{LeavesText, Records, TellsAfter}
+use Rattle.permit_recorded.specs.Recorded.{LeavesText, Records, TellsAfter, TellsOver}
 use Rattle.permit_recorded.proofs.Telling.{tells_more}
 
 has_unless : {H : Type 0} (text : H → List ℕ) (may_leave : H → List ℕ → Type 0) (is_clean : H → Bool) (journal : JournalView H) (shut : Bool) (before : List ℕ)
@@ -31,13 +31,14 @@ has_unless text may_leave is_clean journal true before has unshut = cc
 has_unless text may_leave is_clean journal false before has unshut = has.bytes_there
 
 module _ {H : Type 0} (text : H → List ℕ) (may_leave : H → List ℕ → Type 0) (is_clean : H → Bool) (holds : Tables → Type 0) (outcome : Outcome) (h : History)
-    (digest : List ℕ) (asked : Request) (day : ℕ) (before : List ℕ) (journal : JournalView H) where
-  kept : Tells before h → HasUnlessShut text may_leave is_clean journal journal.is_shut before → journal.is_shut ≡ false → Tells (text journal.file) h
-  kept tells has unshut = subst (λ (l : List ℕ). Tells l h) (sym (has_unless text may_leave is_clean journal journal.is_shut before has unshut)) tells
+    (digest : List ℕ) (asked : Request) (day : ℕ) (before : List ℕ) (journal : JournalView H) (start : List Entry) where
+  kept : TellsOver start before h → HasUnlessShut text may_leave is_clean journal journal.is_shut before → journal.is_shut ≡ false
+      → TellsOver start (text journal.file) h
+  kept tells has unshut = subst (λ (l : List ℕ). TellsOver start l h) (sym (has_unless text may_leave is_clean journal journal.is_shut before has unshut)) tells
 
   -- behind a failure
-  pub failed_tells : (e : StoreError) → Records text may_leave is_clean (Err e) h digest asked day before journal → Tells before h
-      → TellsAfter text (given.Refused refusal.Store) h outcome.history journal
+  pub failed_tells : (e : StoreError) → Records text may_leave is_clean (Err e) h digest asked day before journal → TellsOver start before h
+      → TellsAfter text start (given.Refused refusal.Store) h outcome.history journal
   failed_tells e has tells = kept tells has
 
   done_reply : (number : Option ℕ) → Attempts holds (Ok (given.Done number)) outcome h
@@ -48,16 +49,16 @@ module _ {H : Type 0} (text : H → List ℕ) (may_leave : H → List ℕ → Ty
   -- behind a reply
   pub replied_tells : ((id : ℕ) (number : Option ℕ) → number_of h digest ≡ Some id → outcome.reply ≡ Done number → outcome.history ≡ entry_of h day id asked ∷ h)
       → (reply : Given) → Attempts holds (Ok reply) outcome h
-      → Records text may_leave is_clean (Ok reply) h digest asked day before journal → Tells before h
-      → TellsAfter text reply h outcome.history journal
+      → Records text may_leave is_clean (Ok reply) h digest asked day before journal → TellsOver start before h
+      → TellsAfter text start reply h outcome.history journal
   replied_tells adding (given.Done number) attempt records tells =
       let behind = records.1 in
       let has = records.2 in
       let adds = adding behind.caller number behind.known (sym (done_reply number attempt)) in
-      let told = tells_more before records.0 h (entry_of h day behind.caller asked) day behind.caller behind.act tells behind.told_so behind.line_is in (
+      let told = tells_more start before records.0 h (entry_of h day behind.caller asked) day behind.caller behind.act tells behind.told_so behind.line_is in (
         has.settled.is_open,
-        subst (λ (after : History). Tells (text journal.file) after) (sym adds)
-            (subst (λ (l : List ℕ). Tells l (entry_of h day behind.caller asked ∷ h)) (sym has.bytes_there) told),
+        subst (λ (after : History). TellsOver start (text journal.file) after) (sym adds)
+            (subst (λ (l : List ℕ). TellsOver start l (entry_of h day behind.caller asked ∷ h)) (sym has.bytes_there) told),
       )
   replied_tells adding (given.Parcel parcel) attempt has tells = kept tells has
   replied_tells adding (given.File file papers) attempt has tells = kept tells has

@@ -6,9 +6,10 @@ use Rattle.permit_history.specs.declared.entry.Act.{Act}
 use Rattle.permit_history.specs.declared.entry.Deed.TheVariants as deed
 use Rattle.permit_history.specs.declared.entry.Entry.{Entry}
 use Rattle.permit_history.specs.LineData.{line_of, text_of}
-use Rattle.permit_history.specs.Meaning.{Tells, meant_after, meant_with}
+use Rattle.permit_history.specs.Meaning.{meant_after, meant_with}
 use Rattle.permit_history.specs.Told.{told, told_on, told_history}
 use Rattle.permit_recorded.specs.Planned.{whole_line_of}
+use Rattle.permit_recorded.specs.Recorded.{TellsOver}
 
 after-append : (start before first later : List Entry)
     → meant_after start before (first ++ later) ≡ meant_after start (meant_after start before first) later
@@ -20,13 +21,12 @@ text-append [] entry = refl
 text-append (e ∷ first) entry =
     ap (λ (later : List ℕ). line_of e ++ 10 ∷ later) (text-append first entry) ∙ sym (append_assoc (line_of e) (10 ∷ text_of first) (whole_line_of entry))
 
-pub tells_more : (text line : List ℕ) (h : History) (e : TheEntry) (day caller : ℕ) (act : Act) → Tells text h
-    → told e ≡ Some (told_on day (deed.Accepted caller act)) → line ≡ whole_line_of (told_on day (deed.Accepted caller act)) → Tells (text ++ line) (e ∷ h)
-tells_more text line h e day caller act tells said is =
+pub tells_more : (start : List Entry) (text line : List ℕ) (h : History) (e : TheEntry) (day caller : ℕ) (act : Act) → TellsOver start text h
+    → told e ≡ Some (told_on day (deed.Accepted caller act)) → line ≡ whole_line_of (told_on day (deed.Accepted caller act)) → TellsOver start (text ++ line) (e ∷ h)
+tells_more start text line h e day caller act tells said is =
     let entry = told_on day (deed.Accepted caller act) in (
-      tells.0,
-      tells.1 ++ entry ∷ [],
-      ap (λ (l : List ℕ). l ++ line) tells.2 ∙ ap (λ (l : List ℕ). text_of tells.1 ++ l) is ∙ sym (text-append tells.1 entry),
-      after-append tells.0 [] tells.1 (entry ∷ []) ∙ ap (λ (es : List Entry). es ++ entry ∷ []) tells.3
+      tells.0 ++ entry ∷ [],
+      ap (λ (l : List ℕ). l ++ line) tells.1 ∙ ap (λ (l : List ℕ). text_of tells.0 ++ l) is ∙ sym (text-append tells.0 entry),
+      after-append start [] tells.0 (entry ∷ []) ∙ ap (λ (es : List Entry). es ++ entry ∷ []) tells.2
           ∙ sym (ap (add_last (told_history h)) said),
     )

@@ -3,7 +3,10 @@ use Rattle.std.specs.Prelude.{◌≡◌, ◌≤◌, ◌⊎◌, ℕ, Bool, false,
 use Rattle.permit_base.specs.declared.request.Request.{Request}
 use Rattle.permit_model.specs.History.{History}
 use Rattle.permit_model.specs.Tables.{Tables}
-use Rattle.permit_history.specs.Meaning.{Tells}
+use Rattle.permit_history.specs.declared.entry.Entry.{Entry}
+use Rattle.permit_history.specs.LineData.{text_of}
+use Rattle.permit_history.specs.Meaning.{meant}
+use Rattle.permit_history.specs.Told.{told_history}
 use Rattle.permit_journal.specs.Journals.{JournalView, IsSettled, Has, HasUnlessShut}
 use Rattle.permit_office.specs.Frames.{UnlessMade}
 use Rattle.permit_office.specs.declared.reply.Reply.{Reply as Given}
@@ -62,11 +65,15 @@ IsUndone reply = ⊤
 abbrev pub Stands : {H : Type 0} → (H → List ℕ) → (H → List ℕ → Type 0) → (H → Bool) → JournalView H → Type 0
 Stands text may_leave is_clean journal = journal.is_shut ≡ false → IsSettled text may_leave is_clean journal
 
--- After a command that is done the text tells the history with it, and the journal isn't shut. After any other reply it tells the
--- history of before, unless the journal is shut.
-abbrev pub TellsAfter : {H : Type 0} → (H → List ℕ) → Given → (before after : History) → JournalView H → Type 0
-TellsAfter text (given.Done number) before after journal = (journal.is_shut ≡ false) × Tells (text journal.file) after
-TellsAfter text reply before after journal = journal.is_shut ≡ false → Tells (text journal.file) before
+-- The text tells the history over this start, which is the history of before where the text begins with an office that was there.
+abbrev pub TellsOver : List Entry → List ℕ → History → Type 0
+TellsOver start text h = (entries : List Entry) × (text ≡ text_of entries) × (meant start entries ≡ told_history h)
+
+-- After a command that is done the text tells the history with it, over the same start, and the journal isn't shut. After any other
+-- reply it tells the history of before, unless the journal is shut.
+abbrev pub TellsAfter : {H : Type 0} → (H → List ℕ) → List Entry → Given → (before after : History) → JournalView H → Type 0
+TellsAfter text start (given.Done number) before after journal = (journal.is_shut ≡ false) × TellsOver start (text journal.file) after
+TellsAfter text start reply before after journal = journal.is_shut ≡ false → TellsOver start (text journal.file) before
 
 -- Where the journal isn't as before and isn't shut, a store that is without doubt can be read.
 abbrev pub IsReadable : {H : Type 0} → StoreView → (old new : JournalView H) → Type 0

@@ -3,7 +3,7 @@
 ghost use Rattle.std.specs.Prelude.{◌≡◌, ◌≤◌, ℕ, List, None, Some, Ok, true, false, IfOk, IfSome, IsErr, OnOk};
 ghost use Rattle.permit_base.specs.declared.refusal.Refusal.TheVariants as refusal;
 ghost use Rattle.permit_journal.specs.Journals.{IsSettled};
-ghost use Rattle.permit_history.specs.Meaning.{Tells};
+ghost use Rattle.permit_history.specs.declared.entry.Entry.{Entry as TheEntry};
 ghost use Rattle.permit_model.specs.Sound.{IsSoundTables};
 ghost use Rattle.permit_office.specs.Answers.{Answers, Attempts, IsOwn};
 ghost use Rattle.permit_office.specs.Frames.{UnlessMade};
@@ -11,7 +11,7 @@ ghost use Rattle.permit_office.specs.Sound.{IsSoundChange, KeepsSound, OnMade};
 ghost use Rattle.permit_office.specs.declared.reply.Reply.TheVariants as given;
 ghost use Rattle.permit_store.specs.Frames.{HasOneDesk, OverHistory, OverTables};
 ghost use Rattle.permit_recorded.specs.Probing.{HasCounted};
-ghost use Rattle.permit_recorded.specs.Recorded.{IsReadable, IsRecordedStep, IsRecording, IsUndone, LeavesText, Records, Stands, TellsAfter};
+ghost use Rattle.permit_recorded.specs.Recorded.{IsReadable, IsRecordedStep, IsRecording, IsUndone, LeavesText, Records, Stands, TellsAfter, TellsOver};
 
 use crate::decider::Decider;
 use crate::entering::enter_and_do;
@@ -175,16 +175,16 @@ impl<D: Decider + Drop, S: Store + Drop, H: HistoryFile + Drop> RecordedOffice<D
     /// history's file failed.
     ///
     /// Where the text told the history, it tells it afterwards: behind a command that is done with the command's line, and
-    /// behind any other reply as it was, unless the journal is shut. This is said of a journal that is settled: its file has told
-    /// nothing false.
+    /// behind any other reply as it was, unless the journal is shut. Where it begins with an office that was there, it tells it
+    /// over the same start. This is said of a journal that is settled: its file has told nothing false.
     pub fn step_as(&mut self, alloc: Global, digest: &Digest, request: &Request, day: Day) -> Reply
         ensures model { OverHistory (S.view self.old.store) (S.view self.new.store) (λ h.
             Answers (S.view self.new.store).holds result (D.decides self.old.decider h digest.now request.now day) h) }
         ensures sound { KeepsSound (S.view self.old.store) (S.view self.new.store) }
         ensures step { IsRecordedStep S.view day self.old self.new result }
         ensures told { IsSettled H.text H.may_leave H.is_clean self.old.journal → OverHistory (S.view self.old.store) (S.view self.new.store) (λ h.
-            Tells (H.text self.old.journal.file) h
-            → TellsAfter H.text result h (D.decides self.old.decider h digest.now request.now day).history self.new.journal) }
+            (start : List TheEntry) → TellsOver start (H.text self.old.journal.file) h
+            → TellsAfter H.text start result h (D.decides self.old.decider h digest.now request.now day).history self.new.journal) }
         ensures stands { Stands H.text H.may_leave H.is_clean self.old.journal → Stands H.text H.may_leave H.is_clean self.new.journal }
 
         // Once it is shut nothing is done.
