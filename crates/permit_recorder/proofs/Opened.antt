@@ -4,7 +4,8 @@ use Rattle.permit_base.specs.declared.request.Request.{Request}
 use Rattle.permit_model.specs.History.{History}
 use Rattle.permit_model.specs.Machine.{Outcome}
 use Rattle.permit_alike.specs.Alike.{unordered}
-use Rattle.permit_replay.specs.Histories.{Unsaid, history_by}
+use Rattle.permit_history.specs.Told.{told_history}
+use Rattle.permit_replay.specs.Histories.{Unsaid, history_before, history_by}
 use Rattle.permit_store.specs.Frames.{StoreView}
 use Rattle.permit_recorder.specs.Laws.{GoesOnBehindItsText}
 use Rattle.permit_recorder.proofs.Running.{keeps_its_history}
@@ -13,5 +14,6 @@ pub goes_on : {D S H : Type 0} (decides : D → History → List ℕ → Request
     (may_leave : H → List ℕ → Type 0) (is_clean : H → Bool) (leaves : List ℕ → List ℕ → Type 0)
     (begins : Unsaid → Type 0) → GoesOnBehindItsText decides view text may_leave is_clean leaves begins
 goes_on decides view text may_leave is_clean leaves begins = λ office resumed unsaid keeps settled completes.
-    keeps_its_history decides (λ s. unordered (view s.store)) text may_leave is_clean leaves office (history_by unsaid resumed.entries) keeps
+    keeps_its_history decides (λ s. unordered (view s.store)) text may_leave is_clean leaves (told_history (history_before unsaid)) office
+    (history_by unsaid resumed.entries) keeps
     (record { has = resumed.has unsaid completes; settled = settled })

@@ -7,14 +7,14 @@ use Rattle.permit_base.specs.declared.request.Request.{Request}
 use Rattle.permit_model.specs.History.{History}
 use Rattle.permit_model.specs.Machine.{IsHistory, Outcome}
 use Rattle.permit_model.specs.Tables.{tables}
-use Rattle.permit_history.specs.Meaning.{Tells}
+use Rattle.permit_history.specs.declared.entry.Entry.{Entry}
 use Rattle.permit_journal.specs.Journals.{IsSettled, JournalView}
 use Rattle.permit_office.specs.Answers.{Answers, is_store_refusal, reply_of}
 use Rattle.permit_office.specs.Frames.{UnlessDone}
 use Rattle.permit_office.specs.declared.reply.Reply.{Reply as Given}
 use Rattle.permit_office.specs.declared.reply.Reply.TheVariants as given
 use Rattle.permit_store.specs.Frames.{StoreView}
-use Rattle.permit_recorded.specs.Recorded.{RecordedView, TellsAfter}
+use Rattle.permit_recorded.specs.Recorded.{RecordedView, TellsAfter, TellsOver}
 use Rattle.permit_recorder.specs.Laws.{KeepsItsHistory}
 use Rattle.permit_recorder.specs.Runs.{AreReplies, Exchange, IsLeftWith, KeepsHistories, Runs, history_behind, history_with, is_done, outcome_for}
 use Rattle.permit_recorder.specs.Serving.{ServesWithHistory}
@@ -24,18 +24,18 @@ was_open : (before after : Bool) → (before ≡ true → after ≡ before) → 
 was_open true after same unshut = sym (same refl) ∙ unshut
 was_open false after same unshut = refl
 
-module _ {D S H : Type 0} (view : S → StoreView) (text : H → List ℕ) (may_leave : H → List ℕ → Type 0) (is_clean : H → Bool) where
+module _ {D S H : Type 0} (view : S → StoreView) (text : H → List ℕ) (may_leave : H → List ℕ → Type 0) (is_clean : H → Bool) (start : List Entry) where
   -- ---- behind one request
 
   module _ (t : RecordedView D S H) (outcome : Outcome) (h : History) where
     abbrev IsAfter : Bool → Given → Type 0
     IsAfter b reply =
-        IsLeftWith view text may_leave is_clean t (if b then h else outcome.history) × ((reply_of reply ≡ outcome.reply) ⊎ IsTrue (is_store_refusal reply))
+        IsLeftWith view text may_leave is_clean start t (if b then h else outcome.history) × ((reply_of reply ≡ outcome.reply) ⊎ IsTrue (is_store_refusal reply))
 
     -- where the history stays
     stays : IsHistory h → (view t.store).holds (tables h)
-        → (t.journal.is_shut ≡ false → Tells (text t.journal.file) h × IsSettled text may_leave is_clean t.journal)
-        → IsLeftWith view text may_leave is_clean t h
+        → (t.journal.is_shut ≡ false → TellsOver start (text t.journal.file) h × IsSettled text may_leave is_clean t.journal)
+        → IsLeftWith view text may_leave is_clean start t h
     stays is held stands = record {
       history = is;
       held = held;
@@ -48,18 +48,18 @@ module _ {D S H : Type 0} (view : S → StoreView) (text : H → List ℕ) (may_
     undone : (reply : Given) (b : Bool) → is_store_refusal reply ≡ b → is_done (reply_of reply) ≡ false
         → IsHistory h → (is_done outcome.reply ≡ false → outcome.history ≡ h)
         → Answers (view t.store).holds reply outcome h → (view t.store).holds (tables h)
-        → (t.journal.is_shut ≡ false → Tells (text t.journal.file) h × IsSettled text may_leave is_clean t.journal) → IsAfter b reply
+        → (t.journal.is_shut ≡ false → TellsOver start (text t.journal.file) h × IsSettled text may_leave is_clean t.journal) → IsAfter b reply
     undone reply true refused not is leaves answers held stands = (stays is held stands, inr refused)
     undone reply false refused not is leaves (inl a) held stands =
         let same : outcome.history ≡ h = leaves (ap is_done (sym a.0) ∙ not) in (
-          subst (λ (k : History). IsLeftWith view text may_leave is_clean t k) (sym same) (stays is held stands),
+          subst (λ (k : History). IsLeftWith view text may_leave is_clean start t k) (sym same) (stays is held stands),
           inl a.0,
         )
     undone reply false refused not is leaves (inr a) held stands =
         let no : true ≡ false = sym (ap is_store_refusal a.0) ∙ refused in cc
 
     abbrev TellsOpen : Given → Type 0
-    TellsOpen reply = t.journal.is_shut ≡ false → TellsAfter text reply h outcome.history t.journal × IsSettled text may_leave is_clean t.journal
+    TellsOpen reply = t.journal.is_shut ≡ false → TellsAfter text start reply h outcome.history t.journal × IsSettled text may_leave is_clean t.journal
 
     after : (reply : Given) → IsHistory h → IsHistory outcome.history → (is_done outcome.reply ≡ false → outcome.history ≡ h)
         → Answers (view t.store).holds reply outcome h → UnlessDone reply ((view t.store).holds (tables h)) → TellsOpen reply
@@ -93,45 +93,47 @@ module _ {D S H : Type 0} (decides : D → History → List ℕ → Request → 
   abbrev Serves : Asked → ℕ → Given → RecordedView D S H → RecordedView D S H → Type 0
   Serves = ServesWithHistory decides view text may_leave is_clean leaves
 
-  abbrev IsLeft : RecordedView D S H → History → Type 0
+  abbrev IsLeft : List Entry → RecordedView D S H → History → Type 0
   IsLeft = IsLeftWith view text may_leave is_clean
 
-  one_more : (s : RecordedView D S H) (e : Exchange) (t : RecordedView D S H) (h : History) → KeepsHistories decides s.decider → IsLeft s h
+  one_more : (start : List Entry) (s : RecordedView D S H) (e : Exchange) (t : RecordedView D S H) (h : History) → KeepsHistories decides s.decider
+      → IsLeft start s h
       → Serves e.asked e.day e.reply s t → (view t.store).doubt ≡ 0
-      → IsLeft t (history_with decides s.decider e h)
+      → IsLeft start t (history_with decides s.decider e h)
       × ((reply_of e.reply ≡ (outcome_for decides s.decider h e.asked e.day).reply) ⊎ IsTrue (is_store_refusal e.reply))
-  one_more s e t h keeps left serves sure =
+  one_more start s e t h keeps left serves sure =
       let digest = digest_of e.asked.token in
-      after view text may_leave is_clean t (outcome_for decides s.decider h e.asked e.day) h e.reply left.history
+      after view text may_leave is_clean start t (outcome_for decides s.decider h e.asked e.day) h e.reply left.history
       (keeps.keeps h digest e.asked.request e.day left.history) (keeps.leaves h digest e.asked.request e.day)
       (serves.model sure h left.history left.held) (serves.step.kept sure (tables h) left.held refl)
       (λ unshut.
       let before = left.stands (was_open s.journal.is_shut t.journal.is_shut (λ shut. ap (λ (j : JournalView H). j.is_shut) (serves.shut shut).1) unshut) in
-      (serves.told before.settled sure h left.history left.held before.has.told, serves.stands (λ _. before.settled) unshut))
+      (serves.told before.settled sure h left.history left.held start before.has.told, serves.stands (λ _. before.settled) unshut))
 
   doubt_along : (s : RecordedView D S H) (es : List Exchange) (t : RecordedView D S H) → Runs Serves s es t → (view s.store).doubt ≤ (view t.store).doubt
   doubt_along s [] t run = let e = ap (λ (o : RecordedView D S H). (view o.store).doubt) run in omega (arith, e)
   doubt_along s (e ∷ es) t run = let a = run.1.step.doubt in let b = doubt_along run.0 es t run.2 in omega (arith, a, b)
 
-  run_keeps : (s : RecordedView D S H) (es : List Exchange) (t : RecordedView D S H) (h : History) → KeepsHistories decides s.decider → IsLeft s h
+  run_keeps : (start : List Entry) (s : RecordedView D S H) (es : List Exchange) (t : RecordedView D S H) (h : History)
+      → KeepsHistories decides s.decider → IsLeft start s h
       → Runs Serves s es t → (view t.store).doubt ≡ 0
-      → IsLeft t (history_behind decides s.decider es h) × AreReplies decides s.decider es h
-  run_keeps s [] t h keeps left run sure = (subst (λ (o : RecordedView D S H). IsLeft o h) run left, tt)
-  run_keeps s (e ∷ es) t h keeps left run sure =
+      → IsLeft start t (history_behind decides s.decider es h) × AreReplies decides s.decider es h
+  run_keeps start s [] t h keeps left run sure = (subst (λ (o : RecordedView D S H). IsLeft start o h) run left, tt)
+  run_keeps start s (e ∷ es) t h keeps left run sure =
       let u = run.0 in
       let serves = run.1 in
       let later = doubt_along u es t run.2 in
       let none : (view u.store).doubt ≡ 0 = omega (arith, later, sure) in
-      let one = one_more s e u h keeps left serves none in
+      let one = one_more start s e u h keeps left serves none in
       let same : u.decider ≡ s.decider = serves.step.decider in
       let behind = history_with decides s.decider e h in
-      let more = run_keeps u es t behind (subst (λ (d : D). KeepsHistories decides d) (sym same) keeps) one.0 run.2 sure in (
-        subst (λ (d : D). IsLeft t (history_behind decides d es behind)) same more.0,
+      let more = run_keeps start u es t behind (subst (λ (d : D). KeepsHistories decides d) (sym same) keeps) one.0 run.2 sure in (
+        subst (λ (d : D). IsLeft start t (history_behind decides d es behind)) same more.0,
         (one.1, subst (λ (d : D). AreReplies decides d es behind) same more.1),
       )
 
   -- the office is that of its history at the beginning
   pub keeps_its_history : KeepsItsHistory decides view text may_leave is_clean leaves
-  keeps_its_history = λ office h keeps of es after run sure.
-      let ran = run_keeps office es after h keeps (record { history = of.has.history; held = of.has.held; stands = λ unshut. of }) run sure in
+  keeps_its_history = λ start office h keeps of es after run sure.
+      let ran = run_keeps start office es after h keeps (record { history = of.has.history; held = of.has.held; stands = λ unshut. of }) run sure in
       record { left = ran.0; replies = ran.1 }

@@ -6,6 +6,7 @@ use Rattle.permit_base.specs.declared.request.Request.{Request}
 use Rattle.permit_model.specs.History.{History}
 use Rattle.permit_model.specs.Machine.{Done, IsHistory, Outcome, Reply}
 use Rattle.permit_model.specs.Tables.{tables}
+use Rattle.permit_history.specs.declared.entry.Entry.{Entry}
 use Rattle.permit_journal.specs.Journals.{IsSettled}
 use Rattle.permit_office.specs.Answers.{is_store_refusal, reply_of}
 use Rattle.permit_office.specs.declared.reply.Reply.{Reply as Given}
@@ -60,10 +61,11 @@ module _ {D : Type 0} (decides : D → History → List ℕ → Request → ℕ 
 
 -- ---- the office and its history
 
-module _ {D S H : Type 0} (view : S → StoreView) (text : H → List ℕ) (may_leave : H → List ℕ → Type 0) (is_clean : H → Bool) where
-  -- the office is that of the history: its store holds the tables, its text tells the history, and its journal is settled
+module _ {D S H : Type 0} (view : S → StoreView) (text : H → List ℕ) (may_leave : H → List ℕ → Type 0) (is_clean : H → Bool) (start : List Entry) where
+  -- the office is that of the history: its store holds the tables, its text tells the history over the start, and its journal is
+  -- settled
   pub record IsOf (office : RecordedView D S H) (h : History) : Type 0 where
-    pub has : HasHistory (text office.journal.file) (view office.store) h
+    pub has : HasHistory start (text office.journal.file) (view office.store) h
     pub settled : IsSettled text may_leave is_clean office.journal
 
   -- its store holds the history's tables, and unless the journal is shut the office is that of the history

@@ -6,14 +6,14 @@ use Rattle.permit_base.specs.declared.request.Asked.{Asked}
 use Rattle.permit_base.specs.declared.request.Request.{Request}
 use Rattle.permit_model.specs.History.{History}
 use Rattle.permit_model.specs.Machine.{Outcome}
-use Rattle.permit_history.specs.Meaning.{Tells}
+use Rattle.permit_history.specs.declared.entry.Entry.{Entry}
 use Rattle.permit_journal.specs.Journals.{IsSettled}
 use Rattle.permit_office.specs.Answers.{Answers}
 use Rattle.permit_office.specs.Sound.{KeepsSound}
 use Rattle.permit_office.specs.declared.reply.Reply.{Reply as Given}
 use Rattle.permit_office.specs.declared.reply.Reply.TheVariants as given
 use Rattle.permit_store.specs.Frames.{StoreView, OverHistory}
-use Rattle.permit_recorded.specs.Recorded.{IsRecordedStep, LeavesText, RecordedView, Stands, TellsAfter}
+use Rattle.permit_recorded.specs.Recorded.{IsRecordedStep, LeavesText, RecordedView, Stands, TellsAfter, TellsOver}
 use Rattle.permit_wire.specs.declared.service.Dated.{Dated}
 
 module _ {D S H : Type 0} (decides : D → History → List ℕ → Request → ℕ → Outcome) (view : S → StoreView) (text : H → List ℕ)
@@ -24,9 +24,10 @@ module _ {D S H : Type 0} (decides : D → History → List ℕ → Request → 
     pub model : OverHistory (view old.store) (view new.store) (λ h. Answers (view new.store).holds reply (decides old.decider h digest asked day) h)
     pub sound : KeepsSound (view old.store) (view new.store)
     pub step : IsRecordedStep view day old new reply
-    -- where the text told the history, it tells it afterwards: with a command that is done
-    pub told : IsSettled text may_leave is_clean old.journal → OverHistory (view old.store) (view new.store) (λ h. Tells (text old.journal.file) h
-        → TellsAfter text reply h (decides old.decider h digest asked day).history new.journal)
+    -- where the text told the history, it tells it afterwards, over the same start: with a command that is done
+    pub told : IsSettled text may_leave is_clean old.journal → OverHistory (view old.store) (view new.store) (λ h.
+        (start : List Entry) → TellsOver start (text old.journal.file) h
+        → TellsAfter text start reply h (decides old.decider h digest asked day).history new.journal)
     pub stands : Stands text may_leave is_clean old.journal → Stands text may_leave is_clean new.journal
     -- once it is shut nothing is done
     pub shut : old.journal.is_shut ≡ true → (reply ≡ given.Refused refusal.Store) × (new.journal ≡ old.journal)

@@ -1,1 +1,2 @@
 mod Resumed
+mod Cutting

@@ -22,7 +22,7 @@ resumed_by begins bytes entries left text store t of tells is held = record {
   has = λ unsaid have. record {
     history = of.history unsaid have;
     held = (t, held, alike_back (tables (history_by unsaid entries)) t (tells unsaid have).1);
-    told = (told_history (history_before unsaid), entries, is, sym (of.told unsaid have));
+    told = (entries, is, sym (of.told unsaid have));
   };
   meant_is = λ unsaid have. sym (of.told unsaid have);
 }

@@ -1,12 +1,12 @@
 //! Cutting the text of a history's file to the history of a store's tables.
 
-ghost use Rattle.std.specs.Prelude.{◌≡◌, Err, IfOk, IsTrue, OnOk, length, take};
+ghost use Rattle.std.specs.Prelude.{◌≡◌, ◌⊎◌, ℕ, List, Err, false, IfErr, IfOk, IsTrue, OnErr, OnOk, length, take};
 ghost use Rattle.permit_alike.specs.Comparing.{Looks};
 ghost use Rattle.permit_model.specs.Sound.{IsSoundTables};
 ghost use Rattle.permit_opening.specs.Opening.{IsOther};
 ghost use Rattle.permit_replay.specs.Holding.{IsBeginning, StillBegins};
 ghost use Rattle.permit_store.specs.Frames.{OverTables};
-ghost use Rattle.permit_resuming.specs.Resuming.{IsCutTo, IsKept};
+ghost use Rattle.permit_resuming.specs.Resuming.{HasPart, is_of_file, IsCutTo, IsKept, IsPartlyCut, StopsBy};
 ghost use Rattle.permit_resuming.specs.declared.fault.ResumeFault.TheVariants.{Differs};
 
 use crate::fault::ResumeFault;
@@ -29,6 +29,8 @@ fn kept_length<S: Store>(
     ensures differs { OverTables (S.view store.old) (S.view store.new) (λ t. IsSoundTables t → result ≡ Err Differs → IsOther (IsBeginning ⟦<PlainStore as Store>⟧.view beginning.old) text.now t) }
     ensures looks { Looks (S.view store.old) (S.view store.new) }
     ensures still { StillBegins ⟦<PlainStore as Store>⟧.view beginning.old beginning.new }
+    ensures of_text { IfErr result (λ why. is_of_file why ≡ false) }
+    ensures stopped { IfErr result (StopsBy ⟦<PlainStore as Store>⟧.view (IsBeginning ⟦<PlainStore as Store>⟧.view beginning.old) text.now) }
 {
     let mut source = text;
     let mut again = text;
@@ -40,12 +42,18 @@ fn kept_length<S: Store>(
     }
 }
 
-/// Cuts the text, which has so many bytes, to a length, unless that is its own.
+/// Cuts the text, which has so many bytes, to a length, unless that is its own. The whole text is put on the disk before, so
+/// that a crash leaves no less than what is kept.
 fn cut_to<H: HistoryFile>(file: &mut H, size: usize, kept: u64) -> Result<(), FileError>
     ensures cut { size ≡ length (H.text file.old) → OnOk result (H.text file.new ≡ take kept (H.text file.old)) }
+    ensures part { size ≡ length (H.text file.old)
+        → OnErr result ((H.text file.new ≡ H.text file.old) ⊎ HasPart H.leaves (H.text file.old) kept (H.text file.new)) }
+    ensures crash { size ≡ length (H.text file.old)
+        → (c : List ℕ) → H.may_leave file.new c → H.may_leave file.old c ⊎ HasPart H.leaves (H.text file.old) kept c }
     ensures clean { H.is_clean file.new ≡ H.is_clean file.old }
 {
     if kept < size as u64 {
+        file.sync()?;
         file.cut(kept)
     } else {
         Ok(())
@@ -64,7 +72,15 @@ pub(crate) fn cut_to_tables<S: Store, H: HistoryFile>(
         → OnOk result (IsCutTo (IsBeginning ⟦<PlainStore as Store>⟧.view beginning.old) (H.text file.old) t (H.text file.new))) }
     ensures differs { OverTables (S.view store.old) (S.view store.new) (λ t. IsSoundTables t → IsTrue (H.is_clean file.new)
         → result ≡ Err Differs → IsOther (IsBeginning ⟦<PlainStore as Store>⟧.view beginning.old) (H.text file.old) t) }
-    ensures uncut { result ≡ Err Differs → H.text file.new ≡ H.text file.old }
+    ensures uncut { IfErr result (λ why. is_of_file why ≡ false → H.text file.new ≡ H.text file.old) }
+    ensures unmoved { IfErr result (λ why. is_of_file why ≡ false → (c : List ℕ) → H.may_leave file.new c → H.may_leave file.old c) }
+    ensures part { OverTables (S.view store.old) (S.view store.new) (λ t. IsSoundTables t → IsTrue (H.is_clean file.new)
+        → OnErr result (IsPartlyCut (IsBeginning ⟦<PlainStore as Store>⟧.view beginning.old) H.leaves (H.text file.old) t (H.text file.new))) }
+    ensures crash { OverTables (S.view store.old) (S.view store.new) (λ t. IsSoundTables t → IsTrue (H.is_clean file.new)
+        → (c : List ℕ) → H.may_leave file.new c
+        → H.may_leave file.old c ⊎ IsPartlyCut (IsBeginning ⟦<PlainStore as Store>⟧.view beginning.old) H.leaves (H.text file.old) t c) }
+    ensures stopped { IsTrue (H.is_clean file.new)
+        → IfErr result (StopsBy ⟦<PlainStore as Store>⟧.view (IsBeginning ⟦<PlainStore as Store>⟧.view beginning.old) (H.text file.old)) }
     ensures looks { Looks (S.view store.old) (S.view store.new) }
     ensures still { StillBegins ⟦<PlainStore as Store>⟧.view beginning.old beginning.new }
     ensures clean { IsTrue (H.is_clean file.new) → IsTrue (H.is_clean file.old) }

@@ -1,13 +1,13 @@
 //! The opening.
 
-ghost use Rattle.std.specs.Prelude.{◌≡◌, Err, is_some, IfErr, IfOk, IfSome, IsTrue, OnOk};
+ghost use Rattle.std.specs.Prelude.{◌≡◌, ◌⊎◌, ℕ, List, Err, false, IfErr, IfOk, IsTrue, OnErr, OnOk};
 ghost use Rattle.permit_alike.specs.Comparing.{Looks};
 ghost use Rattle.permit_journal.specs.Journals.{IsSettled};
 ghost use Rattle.permit_model.specs.Sound.{IsSoundTables};
 ghost use Rattle.permit_opening.specs.Opening.{IsOther};
 ghost use Rattle.permit_replay.specs.Holding.{IsBeginning, StillBegins};
 ghost use Rattle.permit_store.specs.Frames.{OverTables};
-ghost use Rattle.permit_resuming.specs.Resuming.{IsCutTo, IsResumed};
+ghost use Rattle.permit_resuming.specs.Resuming.{is_of_file, IsCutTo, IsPartlyCut, IsResumed, StopsBy};
 ghost use Rattle.permit_resuming.specs.declared.fault.ResumeFault.TheVariants.{Differs};
 
 use crate::cut::cut_to_tables;
@@ -36,7 +36,15 @@ fn cut_to_history<S: Store, H: HistoryFile>(
         → OnOk result (IsCutTo (IsBeginning ⟦<PlainStore as Store>⟧.view beginning.old) (H.text file.old) t (H.text file.new))) }
     ensures differs { OverTables (S.view store.old) (S.view store.new) (λ t. IsSoundTables t → IsTrue (H.is_clean file.new)
         → result ≡ Err Differs → IsOther (IsBeginning ⟦<PlainStore as Store>⟧.view beginning.old) (H.text file.old) t) }
-    ensures uncut { result ≡ Err Differs → H.text file.new ≡ H.text file.old }
+    ensures uncut { IfErr result (λ why. is_of_file why ≡ false → H.text file.new ≡ H.text file.old) }
+    ensures unmoved { IfErr result (λ why. is_of_file why ≡ false → (c : List ℕ) → H.may_leave file.new c → H.may_leave file.old c) }
+    ensures part { OverTables (S.view store.old) (S.view store.new) (λ t. IsSoundTables t → IsTrue (H.is_clean file.new)
+        → OnErr result (IsPartlyCut (IsBeginning ⟦<PlainStore as Store>⟧.view beginning.old) H.leaves (H.text file.old) t (H.text file.new))) }
+    ensures crash { OverTables (S.view store.old) (S.view store.new) (λ t. IsSoundTables t → IsTrue (H.is_clean file.new)
+        → (c : List ℕ) → H.may_leave file.new c
+        → H.may_leave file.old c ⊎ IsPartlyCut (IsBeginning ⟦<PlainStore as Store>⟧.view beginning.old) H.leaves (H.text file.old) t c) }
+    ensures stopped { IsTrue (H.is_clean file.new)
+        → IfErr result (StopsBy ⟦<PlainStore as Store>⟧.view (IsBeginning ⟦<PlainStore as Store>⟧.view beginning.old) (H.text file.old)) }
     ensures looks { Looks (S.view store.old) (S.view store.new) }
     ensures still { StillBegins ⟦<PlainStore as Store>⟧.view beginning.old beginning.new }
 {
@@ -46,8 +54,9 @@ fn cut_to_history<S: Store, H: HistoryFile>(
 /// Cuts the text of the file, which may begin so, to the history of the store's tables, and puts what is left on the disk. A crash left the text at
 /// that history, or one line further; what stands behind is cut off. The text is held in memory once meanwhile.
 ///
-/// Where the tables are other ones nothing is cut. The store is only read. The file is given back with the fault, unless one of
-/// its last two calls failed, for its length and to put it on the disk.
+/// Where the tables are other ones, or the text isn't compared with them, nothing is cut. The store is only read. The file is
+/// given back with the fault. Where a call of it failed, its text is as it was, or has those lines with a part of what stood
+/// behind them, and a crash leaves no less.
 ///
 /// What is said of the text is said of a file that has told nothing false. No code can tell whether one has.
 pub fn settle<S: Store, H: HistoryFile + Drop>(
@@ -55,7 +64,7 @@ pub fn settle<S: Store, H: HistoryFile + Drop>(
     beginning: &mut Beginning,
     store: &mut S,
     mut file: H,
-) -> Result<Journal<H>, (Option<H>, ResumeFault)>
+) -> Result<Journal<H>, (H, ResumeFault)>
     ensures resumed { IfOk result (λ journal. OverTables (S.view store.old) (S.view store.new) (λ t. IsSoundTables t
         → IsTrue (H.is_clean journal.file) → IsResumed (IsBeginning ⟦<PlainStore as Store>⟧.view beginning.old) (H.text journal.file) (S.view store.new))) }
     ensures settled { IfOk result (λ journal. IsTrue (H.is_clean journal.file) → IsSettled H.text H.may_leave H.is_clean journal) }
@@ -64,18 +73,26 @@ pub fn settle<S: Store, H: HistoryFile + Drop>(
     ensures looks { Looks (S.view store.old) (S.view store.new) }
     ensures still { StillBegins ⟦<PlainStore as Store>⟧.view beginning.old beginning.new }
 
-    // Where the tables differ, the file is given back with its whole text.
-    ensures there { IfErr result (λ back. back.1 ≡ Differs → IsTrue (is_some back.0)) }
+    // Where the tables differ, the file is given back with its whole text, and so is a text that isn't compared with them.
     ensures differs { IfErr result (λ back. back.1 ≡ Differs → OverTables (S.view store.old) (S.view store.new) (λ t. IsSoundTables t
-        → IfSome back.0 (λ left. IsTrue (H.is_clean left) → IsOther (IsBeginning ⟦<PlainStore as Store>⟧.view beginning.old) (H.text file) t))) }
-    ensures uncut { IfErr result (λ back. back.1 ≡ Differs → IfSome back.0 (λ left. H.text left ≡ H.text file)) }
+        → IsTrue (H.is_clean back.0) → IsOther (IsBeginning ⟦<PlainStore as Store>⟧.view beginning.old) (H.text file) t)) }
+    ensures uncut { IfErr result (λ back. is_of_file back.1 ≡ false → H.text back.0 ≡ H.text file) }
+    ensures unmoved { IfErr result (λ back. is_of_file back.1 ≡ false → (c : List ℕ) → H.may_leave back.0 c → H.may_leave file c) }
+    ensures stopped { IfErr result (λ back. IsTrue (H.is_clean back.0)
+        → StopsBy ⟦<PlainStore as Store>⟧.view (IsBeginning ⟦<PlainStore as Store>⟧.view beginning.old) (H.text file) back.1) }
+
+    // Where a call of the file failed, it is whole, or cut in part, and a crash leaves the one or the other.
+    ensures part { IfErr result (λ back. OverTables (S.view store.old) (S.view store.new) (λ t. IsSoundTables t → IsTrue (H.is_clean back.0)
+        → IsPartlyCut (IsBeginning ⟦<PlainStore as Store>⟧.view beginning.old) H.leaves (H.text file) t (H.text back.0))) }
+    ensures crash { IfErr result (λ back. OverTables (S.view store.old) (S.view store.new) (λ t. IsSoundTables t → IsTrue (H.is_clean back.0)
+        → (c : List ℕ) → H.may_leave back.0 c → H.may_leave file c ⊎ IsPartlyCut (IsBeginning ⟦<PlainStore as Store>⟧.view beginning.old) H.leaves (H.text file) t c)) }
 {
     if let Err(fault) = cut_to_history(alloc, beginning, store, &mut file) {
-        return Err((Some(file), fault));
+        return Err((file, fault));
     }
     match Journal::open(file) {
         Ok(journal) => Ok(journal),
-        Err(_) => Err((None, ResumeFault::File)),
+        Err(file) => Err((file, ResumeFault::File)),
     }
 }
 
@@ -87,7 +104,7 @@ pub fn resume<D: Decider + Drop, S: Store + Drop, H: HistoryFile + Drop>(
     decider: D,
     mut store: S,
     file: H,
-) -> Result<RecordedOffice<D, Unordered<S>, H>, (S, Option<H>, ResumeFault)>
+) -> Result<RecordedOffice<D, Unordered<S>, H>, (S, H, ResumeFault)>
     ensures resumed { IfOk result (λ office. OverTables (S.view store) (S.view office.store.store) (λ t. IsSoundTables t
         → IsTrue (H.is_clean office.journal.file) → IsResumed (IsBeginning ⟦<PlainStore as Store>⟧.view beginning.old) (H.text office.journal.file) (S.view office.store.store))) }
     ensures settled { IfOk result (λ office. IsTrue (H.is_clean office.journal.file) → IsSettled H.text H.may_leave H.is_clean office.journal) }
@@ -98,11 +115,19 @@ pub fn resume<D: Decider + Drop, S: Store + Drop, H: HistoryFile + Drop>(
     ensures still { StillBegins ⟦<PlainStore as Store>⟧.view beginning.old beginning.new }
     ensures given_back { IfErr result (λ back. Looks (S.view store) (S.view back.0)) }
 
-    // Where the tables differ, the file is given back with its whole text.
-    ensures there { IfErr result (λ back. back.2 ≡ Differs → IsTrue (is_some back.1)) }
+    // Where the tables differ, the file is given back with its whole text, and so is a text that isn't compared with them.
     ensures differs { IfErr result (λ back. back.2 ≡ Differs → OverTables (S.view store) (S.view back.0) (λ t. IsSoundTables t
-        → IfSome back.1 (λ left. IsTrue (H.is_clean left) → IsOther (IsBeginning ⟦<PlainStore as Store>⟧.view beginning.old) (H.text file) t))) }
-    ensures uncut { IfErr result (λ back. back.2 ≡ Differs → IfSome back.1 (λ left. H.text left ≡ H.text file)) }
+        → IsTrue (H.is_clean back.1) → IsOther (IsBeginning ⟦<PlainStore as Store>⟧.view beginning.old) (H.text file) t)) }
+    ensures uncut { IfErr result (λ back. is_of_file back.2 ≡ false → H.text back.1 ≡ H.text file) }
+    ensures unmoved { IfErr result (λ back. is_of_file back.2 ≡ false → (c : List ℕ) → H.may_leave back.1 c → H.may_leave file c) }
+    ensures stopped { IfErr result (λ back. IsTrue (H.is_clean back.1)
+        → StopsBy ⟦<PlainStore as Store>⟧.view (IsBeginning ⟦<PlainStore as Store>⟧.view beginning.old) (H.text file) back.2) }
+
+    // Where a call of the file failed, it is whole, or cut in part, and a crash leaves the one or the other.
+    ensures part { IfErr result (λ back. OverTables (S.view store) (S.view back.0) (λ t. IsSoundTables t → IsTrue (H.is_clean back.1)
+        → IsPartlyCut (IsBeginning ⟦<PlainStore as Store>⟧.view beginning.old) H.leaves (H.text file) t (H.text back.1))) }
+    ensures crash { IfErr result (λ back. OverTables (S.view store) (S.view back.0) (λ t. IsSoundTables t → IsTrue (H.is_clean back.1)
+        → (c : List ℕ) → H.may_leave back.1 c → H.may_leave file c ⊎ IsPartlyCut (IsBeginning ⟦<PlainStore as Store>⟧.view beginning.old) H.leaves (H.text file) t c)) }
 {
     match settle(alloc, beginning, &mut store, file) {
         Ok(journal) => Ok(RecordedOffice::new(decider, Unordered { store }, journal)),

@@ -15,3 +15,6 @@ returns-in-Ok-OneMore-clause-kept g c doubt t held sound =
 pub returns-in-Ok-Differs-clause-differs : goal.returns-in-Ok-Differs-clause-differs
 returns-in-Ok-Differs-clause-differs g c doubt t held sound differs =
     subst (Says (IsBeginning plain.view-value.it c.args.beginning.now) c.args.text.now t) c.in-Ok-Differs.field-0-is (c.in-Ok-Differs.ensures.says c.args.text.now refl refl doubt t held sound)
+
+pub returns-in-Err-clause-stopped : goal.returns-in-Err-clause-stopped
+returns-in-Err-clause-stopped g c = c.in-Err.ensures.stopped c.args.text.now refl refl
