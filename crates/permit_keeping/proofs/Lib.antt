@@ -2,4 +2,5 @@ mod Failures
 mod Opened
 mod Renewed
 mod Served
+mod Surviving
 pub mod Brought

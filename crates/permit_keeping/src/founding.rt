@@ -1,7 +1,7 @@
 //! Founding an office with its history.
 
 ghost use Rattle.std.specs.Prelude.{◌≡◌, ◌≢◌, ◌⊎◌, [], Err, IfErr, IfOk, OnErr, OnOk, IsTrue};
-ghost use Rattle.sqlite.specs.State.{HasCleanDisk};
+ghost use Rattle.sqlite.specs.State.{HasCleanDisk, Survives};
 ghost use Rattle.sqlite.specs.Held.{state};
 ghost use Rattle.permit_journal.specs.Files.{LeavesGrown};
 ghost use Rattle.permit_journal.specs.Journals.{Has, HasUnlessShut, IsSettled};
@@ -81,9 +81,11 @@ pub fn found_with<S: Alter + Drop, H: HistoryFile + Drop>(
     ensures exists { IsSettled H.text H.may_leave H.is_clean journal.old → result.1 ≡ Err (History Exists) → H.text journal.old.file ≢ [] }
     ensures there { IsSettled H.text H.may_leave H.is_clean journal.old → H.text journal.old.file ≢ [] → result.1 ≡ Err (History Exists) }
 
-    // A crash leaves the text as it was, with a part of the two lines or both behind it.
+    // A crash leaves the text as it was, with a part of the two lines or both behind it, and the database as it was or founded.
     ensures crash { IsSettled H.text H.may_leave H.is_clean journal.old
         → LeavesGrown H.leaves (text_of (first_entries founder.now)) (H.text journal.old.file) (H.may_leave journal.new.file) }
+    ensures survives { Survives (state S.Store conn) (state S.Store result.0)
+        (λ trees. (db : _) × Keeps (tables (founding founder.now.name founder.now.digest founder.now.day)) db × (trees ≡ db.trees)) }
     ensures fails { IfErr result.1 (λ why. IsTrue (is_unfounded why)) }
 {
     if let Err(why) = begin(alloc, journal, founder) {

@@ -1,14 +1,15 @@
 //! A new token for a party of an office that is opened with its history.
 
 ghost use Rattle.std.specs.Prelude.{◌≡◌, ◌++◌, ℕ, List, None, length, IfErr, IfOk, OnErr, OnOk, IsTrue};
-ghost use Rattle.sqlite.specs.State.{HasCleanDisk};
+ghost use Rattle.sqlite.specs.State.{HasCleanDisk, Survives};
 ghost use Rattle.sqlite.specs.Held.{state};
 ghost use Rattle.permit_base.specs.Digests.{digest_of};
 ghost use Rattle.permit_journal.specs.Files.{LeavesGrown};
 ghost use Rattle.permit_journal.specs.Journals.{Has, HasUnlessShut, IsSettled};
 ghost use Rattle.permit_model.specs.Renewal.{against_renewal, with_renewed};
 ghost use Rattle.permit_sql_rows.specs.Kept.{IsFine, Keeps};
-ghost use Rattle.permit_sql.specs.Renewing.{OverKept};
+ghost use Rattle.permit_sql.specs.Found.{KeepsSound};
+ghost use Rattle.permit_sql.specs.Renewing.{IsRenewed, OverKept};
 ghost use Rattle.permit_keeping.specs.Failing.{is_unopened, is_unrenewed};
 ghost use Rattle.permit_keeping.specs.Opening.{StillKeepsSound};
 ghost use Rattle.permit_keeping.specs.Renewing.{renewal_line, RenewsWith, SettlesWith};
@@ -133,9 +134,11 @@ pub fn renew_with<S: Alter + Drop, H: HistoryFile + Drop>(
     ensures back { IsSettled H.text H.may_leave H.is_clean journal.old
         → OnErr result.1 (HasUnlessShut H.text H.may_leave H.is_clean journal.new journal.new.is_shut (H.text journal.old.file)) }
 
-    // A crash leaves the text as it was, with a part of the line or all of it behind it.
+    // A crash leaves the text as it was, with a part of the line or all of it behind it, and the database as it was or renewed.
     ensures crash { IsSettled H.text H.may_leave H.is_clean journal.old
         → LeavesGrown H.leaves (renewal_line day party (digest_of token.now)) (H.text journal.old.file) (H.may_leave journal.new.file) }
+    ensures survives { Survives (state S.Store conn) (state S.Store result.0)
+        (λ trees. KeepsSound (state S.Store conn).now × IsRenewed party (digest_of token.now) (state S.Store conn).now trees) }
     ensures fails { IfErr result.1 (λ why. IsTrue (is_unrenewed why)) }
 {
     let before = journal.length();
