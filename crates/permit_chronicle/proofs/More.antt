@@ -12,7 +12,7 @@ use Rattle.permit_history.specs.Text.{next_line, AnswersLine, GivesInTurn}
 use Rattle.permit_report.specs.Outgoing.{WroteFront}
 use Rattle.permit_report.proofs.Writes.{front_of_both}
 use Rattle.permit_chronicle.specs.declared.wanted.Wanted.{Wanted}
-use Rattle.permit_chronicle.specs.Telling.{HasTold, StopsAt, part, roles_with, told_from}
+use Rattle.permit_chronicle.specs.Telling.{HasTold, StopsAt, WritesSome, part, roles_with, told_from}
 use Rattle.permit_chronicle.specs.declared.fault.ChronicleFault.{ChronicleFault}
 use Rattle.permit_chronicle.specs.declared.fault.ChronicleFault.TheVariants.{Memory, Output}
 
@@ -51,6 +51,23 @@ told_more wanted roles (first ∷ later) entry =
     ap (λ text. part wanted roles first ++ text) (told_more wanted (roles_with roles first.deed) later entry)
     ∙ sym (append_assoc (part wanted roles first) _ _)
 
+module _ (wanted : Wanted) (roles : List (Option Role)) (entries : List Entry) (entry : Entry) (old mid new : Option (List ℕ)) where
+  -- one line more
+  pub lines_more : Appends old mid (told_from wanted roles entries) → Appends mid new (part wanted (roles_by roles entries) entry)
+      → Appends old new (told_from wanted roles (entries ++ entry ∷ []))
+  lines_more has wrote =
+      subst (λ text. Appends old new text) (sym (told_more wanted roles entries entry))
+      (Appends-trans old mid new (told_from wanted roles entries) (part wanted (roles_by roles entries) entry) has wrote)
+
+  -- and a beginning of it
+  pub some_more : Appends old mid (told_from wanted roles entries) → WroteFront mid new (part wanted (roles_by roles entries) entry)
+      → WritesSome wanted roles old new
+  some_more has wrote = (
+    entries ++ entry ∷ [],
+    inr (subst (λ text. WroteFront old new text) (sym (told_more wanted roles entries entry))
+        (front_of_both old mid new (told_from wanted roles entries) (part wanted (roles_by roles entries) entry) has wrote)),
+  )
+
 -- ---- both
 
 module _ (wanted : Wanted) (roles : List (Option Role)) (bytes : List ℕ) where
@@ -63,8 +80,7 @@ module _ (wanted : Wanted) (roles : List (Option Role)) (bytes : List ℕ) where
       → HasTold wanted roles bytes (entries ++ entry ∷ []) (drop_through 10 left) old new
   has_more entries left entry old mid new has answer wrote = record {
     given = given_more bytes entries left entry has.given answer;
-    written = subst (λ text. Appends old new text) (sym (told_more wanted roles entries entry))
-        (Appends-trans old mid new (told_from wanted roles entries) (part wanted (roles_by roles entries) entry) has.written wrote);
+    written = lines_more wanted roles entries entry old mid new has.written wrote;
   }
 
   -- a beginning of what the entry adds is written

@@ -1,5 +1,5 @@
 -- The lines of the entries of a text that are wanted.
-use Rattle.std.specs.Prelude.{◌≡◌, ℕ, ◌+◌, if◌then◌else◌, List, [], ◌∷◌, ◌++◌, length, replicate, slice_get, slice_set, Option, None, Some, unwrap_or, Ok, Err}
+use Rattle.std.specs.Prelude.{◌≡◌, ◌⊎◌, ℕ, ◌+◌, if◌then◌else◌, List, [], ◌∷◌, ◌++◌, length, replicate, slice_get, slice_set, Option, None, Some, unwrap_or, Ok, Err}
 use Rattle.std.specs.Io.KnownBytes.{Appends}
 use Rattle.permit_base.specs.declared.words.Role.{Role}
 use Rattle.permit_base.specs.declared.words.Role.TheVariants.{Official}
@@ -47,6 +47,15 @@ part wanted roles entry = if is_wanted wanted entry then line (role_of roles (ca
 abbrev pub told_from : Wanted → List (Option Role) → List Entry → List ℕ
 told_from wanted roles [] = []
 told_from wanted roles (entry ∷ later) = part wanted roles entry ++ told_from wanted (roles_with roles entry.deed) later
+
+-- known bytes grew by the lines of some entries, of those that are wanted
+abbrev pub WritesLines : Wanted → List (Option Role) → Option (List ℕ) → Option (List ℕ) → Type 0
+WritesLines wanted roles old new = (entries : List Entry) × Appends old new (told_from wanted roles entries)
+
+-- they grew by such lines, or by a beginning of such
+abbrev pub WritesSome : Wanted → List (Option Role) → Option (List ℕ) → Option (List ℕ) → Type 0
+WritesSome wanted roles old new =
+    (entries : List Entry) × (Appends old new (told_from wanted roles entries) ⊎ WroteFront old new (told_from wanted roles entries))
 
 -- ---- where it ends
 

@@ -4,7 +4,7 @@ ghost use Rattle.std.specs.Prelude.{◌≡◌, ◌⊎◌, IfErr, IfSome, OnErr, 
 ghost use Rattle.std.specs.Io.KnownBytes.{Appends};
 ghost use Rattle.permit_report.specs.Outgoing.{WroteFront};
 ghost use Rattle.permit_chronicle.specs.Lines.{line};
-ghost use Rattle.permit_chronicle.specs.Telling.{IsTold, StopsAt, no_roles, part, roles_with};
+ghost use Rattle.permit_chronicle.specs.Telling.{IsTold, StopsAt, WritesLines, WritesSome, no_roles, part, roles_with};
 ghost use Rattle.permit_chronicle.specs.declared.fault.ChronicleFault.TheVariants.{Memory, Output};
 
 use crate::fault::ChronicleFault;
@@ -87,6 +87,8 @@ fn tell_in<R: BufRead, W: Write>(
 ) -> Result<(), ChronicleFault>
     ensures told { IfSome (R.remaining source.old) (λ bytes. OnOk result (IsTold wanted.now roles.old bytes (W.contents out.old) (W.contents out.new))) }
     ensures stopped { IfSome (R.remaining source.old) (λ bytes. IfErr result (StopsAt wanted.now roles.old bytes (W.contents out.old) (W.contents out.new))) }
+    ensures lines { OnOk result (WritesLines wanted.now roles.old (W.contents out.old) (W.contents out.new)) }
+    ensures some { OnErr result (WritesSome wanted.now roles.old (W.contents out.old) (W.contents out.new)) }
 {
     for line in 1..u64::MAX {
         match next_entry(alloc, source, room) {
@@ -116,6 +118,10 @@ pub fn tell<R: BufRead, W: Write>(
 ) -> Result<(), ChronicleFault>
     ensures told { IfSome (R.remaining source.old) (λ bytes. OnOk result (IsTold wanted.now no_roles bytes (W.contents out.old) (W.contents out.new))) }
     ensures stopped { IfSome (R.remaining source.old) (λ bytes. IfErr result (StopsAt wanted.now no_roles bytes (W.contents out.old) (W.contents out.new))) }
+
+    // Whatever the source gives, nothing but lines of wanted entries is written.
+    ensures lines { OnOk result (WritesLines wanted.now no_roles (W.contents out.old) (W.contents out.new)) }
+    ensures some { OnErr result (WritesSome wanted.now no_roles (W.contents out.old) (W.contents out.new)) }
 {
     let Ok(mut roles) = no_roles(alloc) else {
         return Err(ChronicleFault::Memory);
