@@ -34,6 +34,8 @@ use Rattle.permit_cli.specs.declared.outcome.Outcome.{Outcome}
 use Rattle.permit_cli.specs.declared.outcome.Outcome.TheVariants as outcome
 use Rattle.permit_cli.specs.declared.question.Question.{Question}
 use Rattle.permit_cli.specs.declared.question.Question.TheVariants as question
+use Rattle.permit_chronicle.specs.Telling.{WritesLines as TellsLines, no_roles}
+use Rattle.permit_chronicle.specs.declared.wanted.Wanted.{Wanted}
 
 -- the clock's day in the zone of a rule
 abbrev pub IsClockDayIn : List ℕ → ℕ → Type 0
@@ -136,7 +138,7 @@ ComesTo (plan.Import words) before after done = IsImported words.office.why befo
 ComesTo (plan.Serve words) before after done = ServesAs before after done
 ComesTo (plan.Upgrade words) before after done = IsUpgrade done × (after ≡ before)
 ComesTo (plan.CheckDb words) before after done = IsCheck words.why done × (after ≡ before)
-ComesTo (plan.History words) before after done = done ≡ outcome.Told
+ComesTo (plan.History words) before after done = (done ≡ outcome.Told) × ((wanted : Wanted) × TellsLines wanted no_roles before after)
 ComesTo (plan.RenewToken words) before after done = (done ≡ outcome.Renewed words.party) × (after ≡ before)
 ComesTo (plan.Replay words) before after done = IsReplay done × (after ≡ before)
 ComesTo (plan.BeginHistory words) before after done = IsBegin done × (after ≡ before)

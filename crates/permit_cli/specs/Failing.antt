@@ -45,6 +45,8 @@ use Rattle.permit_cli.specs.Doing.{IsRunDay}
 use Rattle.permit_cli.specs.Served.{SaysWhere}
 use Rattle.permit_cli.specs.declared.question.Question.{Question}
 use Rattle.permit_cli.specs.declared.question.Question.TheVariants as question
+use Rattle.permit_chronicle.specs.Telling.{WritesSome as TellsSome, no_roles}
+use Rattle.permit_chronicle.specs.declared.wanted.Wanted.{Wanted}
 
 -- ---- of a policy
 
@@ -205,7 +207,8 @@ FailsAs (plan.Import words) before after why = FailsToImport words before after 
 FailsAs (plan.Serve words) before after why = (FailsToServe words why ⊎ IsUnkept words.history why) × SaysWhere before after (Err why)
 FailsAs (plan.Upgrade words) before after why = (IsUnusable why ⊎ IsUnbegun words.history why) × (after ≡ before)
 FailsAs (plan.CheckDb words) before after why = (IsUnusable why ⊎ IsUnkept words.history why) × (after ≡ before)
-FailsAs (plan.History words) before after why = FailsToTell words why
+FailsAs (plan.History words) before after why =
+    FailsToTell words why × ((after ≡ before) ⊎ ((wanted : Wanted) × TellsSome wanted no_roles before after))
 FailsAs (plan.RenewToken words) before after why = (FailsToRenew words why ⊎ IsUnkept words.history why) × (after ≡ before)
 FailsAs (plan.Replay words) before after why = (IsUnusable why ⊎ (IsOfHistory why ⊎ AreUnread words.history why)) × (after ≡ before)
 FailsAs (plan.BeginHistory words) before after why = (IsUnusable why ⊎ IsOfHistory why) × (after ≡ before)

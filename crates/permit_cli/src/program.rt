@@ -522,8 +522,8 @@ fn tell_history<O: Write>(
     words: &HistoryWords<'_>,
     out: &mut O,
 ) -> Result<Outcome, Failure>
-    ensures tells { IfOk result (λ done. done ≡ Outcome.Told) }
-    ensures fails { IfErr result (FailsToTell words.now) }
+    ensures tells { IfOk result (ComesTo (Plan.History words.now) (O.contents out.old) (O.contents out.new)) }
+    ensures fails { IfErr result (FailsAs (Plan.History words.now) (O.contents out.old) (O.contents out.new)) }
 {
     match wanted(words) {
         Ok(wanted) => tell_at(rt, words.history, &wanted, out),

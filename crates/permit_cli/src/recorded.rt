@@ -2,6 +2,7 @@
 //! generic over them.
 
 ghost use Rattle.std.specs.Prelude.{◌≡◌, ◌⊎◌, true, IfErr, IfOk};
+ghost use Rattle.permit_chronicle.specs.Telling.{WritesLines, WritesSome, no_roles};
 ghost use Rattle.permit_subcommands.specs.Failures.{IsUnread};
 ghost use Rattle.permit_subcommands.specs.declared.failure.Failure.TheVariants.{Output};
 ghost use Rattle.permit_cli.specs.Doing.{IsAnswerTo, IsBegin, IsCheck, IsImported, IsReplay, IsUpgrade};
@@ -421,8 +422,9 @@ pub(crate) fn tell_at<O: Write>(
     wanted: &Wanted,
     out: &mut O,
 ) -> Result<Outcome, Failure>
-    ensures tells { IfOk result (λ done. done ≡ Outcome.Told) }
-    ensures fails { IfErr result (λ why. (IsOfHistory why ⊎ IsUnread path.now why) ⊎ (why ≡ Output)) }
+    ensures tells { IfOk result (λ done. (done ≡ Outcome.Told) × WritesLines wanted.now no_roles (O.contents out.old) (O.contents out.new)) }
+    ensures fails { IfErr result (λ why. ((IsOfHistory why ⊎ IsUnread path.now why) ⊎ (why ≡ Output))
+        × ((O.contents out.new ≡ O.contents out.old) ⊎ WritesSome wanted.now no_roles (O.contents out.old) (O.contents out.new))) }
 {
     let mut source = reading_at(rt, path)?;
     match tell(rt.alloc(), &mut source, wanted, out) {
