@@ -1,5 +1,5 @@
 -- The lines of the entries of a text that are wanted.
-use Rattle.std.specs.Prelude.{◌≡◌, ◌⊎◌, ℕ, ◌+◌, if◌then◌else◌, List, [], ◌∷◌, ◌++◌, length, replicate, slice_get, slice_set, Option, None, Some, unwrap_or, Ok, Err}
+use Rattle.std.specs.Prelude.{◌≡◌, ◌⊎◌, ◌≤◌, ◌^◌, ℕ, ◌+◌, if◌then◌else◌, List, [], ◌∷◌, ◌++◌, length, replicate, slice_get, slice_set, Option, None, Some, unwrap_or, Ok, Err}
 use Rattle.std.specs.Io.KnownBytes.{Appends}
 use Rattle.permit_base.specs.declared.words.Role.{Role}
 use Rattle.permit_base.specs.declared.words.Role.TheVariants.{Official}
@@ -70,7 +70,8 @@ IsTold wanted roles bytes old new =
     (entries : List Entry) × (left : List ℕ) × HasTold wanted roles bytes entries left old new × (next_line left ≡ None)
 
 -- Telling a text stops at the lowest line that is no entry's, or at a failure. The lines of the entries before it are written. Where a
--- write failed, a beginning of the next line is.
+-- write failed, a beginning of the next line is. A text that is told to have no end begins with so many entries that the next lines
+-- have no number of 64 bits.
 abbrev pub StopsAt : Wanted → List (Option Role) → List ℕ → Option (List ℕ) → Option (List ℕ) → ChronicleFault → Type 0
 StopsAt wanted roles bytes old new (fault.Line line why) =
     (entries : List Entry) × (left : List ℕ) × HasTold wanted roles bytes entries left old new × (line ≡ length entries + 1)
@@ -79,4 +80,5 @@ StopsAt wanted roles bytes old new (fault.Source error) = (entries : List Entry)
 StopsAt wanted roles bytes old new fault.Output =
     (entries : List Entry) × (left : List ℕ) × GivesInTurn bytes entries left × WroteFront old new (told_from wanted roles entries)
 StopsAt wanted roles bytes old new fault.Memory = (entries : List Entry) × (left : List ℕ) × HasTold wanted roles bytes entries left old new
-StopsAt wanted roles bytes old new fault.Endless = (entries : List Entry) × (left : List ℕ) × HasTold wanted roles bytes entries left old new
+StopsAt wanted roles bytes old new fault.Endless =
+    (entries : List Entry) × (left : List ℕ) × HasTold wanted roles bytes entries left old new × (2 ^ 64 ≤ length entries + 2)

@@ -110,6 +110,17 @@ fn tell_in<R: BufRead, W: Write>(
 /// It stops at the lowest line that is no entry's, and where a call of the source or the output fails or memory is refused; what
 /// stands before is written then. What stands behind the last LF is no line. It keeps the parties' roles and one line, never the
 /// entries.
+///
+/// # Examples
+///
+/// ```
+/// let line = r#"{"body":{},"caller":0,"day":19700,"done":"upgrade","id":null,"number":null}"#;
+/// let text = format!(in alloc; "{line}\n")?;
+/// let (mut source, mut out) = (text.as_bytes(), Vec::new(alloc));
+/// let ended = tell(alloc, &mut source, wanted, &mut out);
+/// assert!(rt; ended.is_ok());
+/// assert!(rt; out.as_slice() == b"2023-12-09 - upgrade\n".as_slice());
+/// ```
 pub fn tell<R: BufRead, W: Write>(
     alloc: Global,
     source: &mut R,

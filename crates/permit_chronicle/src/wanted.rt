@@ -118,6 +118,22 @@ fn has_party(party: PartyId, deed: &Deed) -> bool
 
 impl Wanted {
     /// Whether an entry is wanted.
+    ///
+    /// # Examples
+    ///
+    /// ```
+    /// let all = Wanted {
+    ///     since: None,
+    ///     file: None,
+    ///     parcel: None,
+    ///     party: None,
+    /// };
+    /// let since = Some(day_behind);
+    /// let later = Wanted { since, ..all };
+    /// let deed = Deed::Upgrade;
+    /// let upgrade = Entry { day, deed };
+    /// assert!(rt; all.is_wanted(&upgrade) && !later.is_wanted(&upgrade));
+    /// ```
     pub fn is_wanted(&self, entry: &Entry) -> bool
         ensures { result ≡ is_wanted self.now entry.now }
     {

@@ -58,7 +58,8 @@ module _ (view : PlainStore → StoreView) (before after : Unsaid → Type 0) (s
   )
   stops_before bytes (compare_fault.Text replay_fault.Short) (entries, left, as_far, has, end, short) =
       (entries, left, as_far, replayed_before bytes entries left as_far has, end, short)
-  stops_before bytes (compare_fault.Text replay_fault.Endless) stops = tt
+  stops_before bytes (compare_fault.Text replay_fault.Endless) (entries, left, as_far, has, many) =
+      (entries, left, as_far, replayed_before bytes entries left as_far has, many)
   stops_before bytes (compare_fault.Text (replay_fault.Source error)) stops = tt
   stops_before bytes compare_fault.Long stops = stops
   stops_before bytes compare_fault.Store stops = tt

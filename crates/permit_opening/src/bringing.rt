@@ -347,6 +347,15 @@ fn bring_in<S: Batching, R: BufRead>(
 ///
 /// Where the tables are those of no first lines that have the upgrade, it is a fault and they are as before. It looks at a copy of
 /// the tables in memory, and keeps that, the tables of the lines that were read, and the lines that aren't done yet.
+///
+/// # Examples
+///
+/// ```
+/// let mut kept = Unordered { store };
+/// let (mut source, mut beginning) = (text.as_bytes(), Beginning::Founding);
+/// let brought = bring(alloc, &mut beginning, &mut kept, &mut source);
+/// assert!(rt; matches!(brought, Ok(Brought { stood: 2, lines: 3 })));
+/// ```
 pub fn bring<S: Batching, R: BufRead>(
     alloc: Global,
     beginning: &mut Beginning,

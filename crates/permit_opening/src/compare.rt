@@ -119,6 +119,18 @@ fn compare_before<S: Store, Q: BufRead>(
 /// A text that is not replayed, or whose lines are the founding alone or none, is a fault, and then it says nothing of the
 /// tables. The store is only read, and so is what the text may begin with. It keeps the tables of one of the readings at a time,
 /// and one line.
+///
+/// # Examples
+///
+/// ```
+/// let (mut source, mut again) = (text.as_bytes(), text.as_bytes());
+/// let mut beginning = Beginning::Founding;
+/// let Ok(compared) = compare(alloc, &mut beginning, &mut store, &mut source, &mut again) else {
+///     return Err(Fail::new("not compared"));
+/// };
+/// let length = text.len() as u64;
+/// assert!(rt; compared == Compared::Alike { length });
+/// ```
 pub fn compare<S: Store, R: BufRead, Q: BufRead>(
     alloc: Global,
     beginning: &mut Beginning,

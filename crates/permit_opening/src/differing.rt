@@ -48,6 +48,15 @@ fn first_from<S: Store>(store: &mut S, replayed: Replayed) -> Got<Option<Differe
 /// A store that keeps to the first edition differs at the desk. A text that is not replayed, or whose lines are the founding
 /// alone or none, is a fault, and then it says nothing of the tables. The store is only read, and so is what the text may begin
 /// with.
+///
+/// # Examples
+///
+/// ```
+/// let other = text.replace(alloc, "\"Rae\"", "\"Ray\"")?;
+/// let (mut source, mut beginning) = (other.as_bytes(), Beginning::Founding);
+/// let found = difference(alloc, &mut beginning, &mut store, &mut source);
+/// assert!(rt; matches!(found, Ok(Some(Difference::Party(2)))));
+/// ```
 pub fn difference<S: Store, R: BufRead>(
     alloc: Global,
     beginning: &mut Beginning,

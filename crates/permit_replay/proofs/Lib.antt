@@ -6,3 +6,4 @@ pub mod Renewed
 pub mod Standing
 pub mod Telling
 pub mod Leaving
+pub mod Counted

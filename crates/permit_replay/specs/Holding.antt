@@ -7,6 +7,7 @@ use Rattle.permit_model.specs.Machine.{IsHistory}
 use Rattle.permit_model.specs.Tables.{Tables, tables}
 use Rattle.permit_model.specs.Within.{AreWithinLimits}
 use Rattle.permit_store.specs.declared.plain.PlainStore.{PlainStore}
+use Rattle.permit_store.specs.Counts.{next_count}
 use Rattle.permit_store.specs.Frames.{StoreView}
 use Rattle.permit_history.specs.declared.entry.Deed.{Deed}
 use Rattle.permit_replay.specs.declared.beginning.Beginning.{Beginning}
@@ -77,6 +78,11 @@ Takes view unsaid h day done (Err why) = FailsAs why (against unsaid h day done)
 abbrev pub Follows : (Tables → Type 0) → Unsaid → History → ℕ → Deed → Result Unit Why → Type 0
 Follows holds unsaid h day done (Ok taken) = (against_later unsaid h day done ≡ None) × HoldsHistory holds (history_with unsaid h day done)
 Follows holds unsaid h day done (Err why) = FailsAs why (against_later unsaid h day done)
+
+-- the count of a store's failed calls after an entry was followed: that memory was refused is said where a call failed, and nowhere else
+abbrev pub failed_count : Result Unit Why → ℕ → ℕ
+failed_count (Err why.Memory) n = next_count n
+failed_count result n = n
 
 -- after an error, unless a command was done whose number is another than the entry says
 abbrev pub UnlessNumbered : Result Unit Why → Type 0 → Type 0

@@ -1,5 +1,5 @@
 -- What replaying a text answers.
-use Rattle.std.specs.Prelude.{◌≡◌, ℕ, ◌+◌, List, [], ◌∷◌, ◌++◌, length, None, Some, option_map, Result, Ok, Err, ⊤}
+use Rattle.std.specs.Prelude.{◌≡◌, ◌≤◌, ◌^◌, ℕ, ◌+◌, List, [], ◌∷◌, ◌++◌, length, None, Some, option_map, Result, Ok, Err, ⊤}
 use Rattle.permit_store.specs.declared.plain.PlainStore.{PlainStore}
 use Rattle.permit_store.specs.Frames.{StoreView}
 use Rattle.permit_history.specs.declared.entry.Entry.{Entry}
@@ -43,7 +43,8 @@ IsShort (replayed.Founded founder) = ⊤
 IsShort (replayed.Open store) = ⊥
 
 -- Replaying a text stops at the lowest line that is no entry's or no next entry: the lines before it are those of a history.
--- Of a text that is too long, and of a source that failed, nothing is said.
+-- A text that is told to have no end begins with so many entries that the next lines have no number of 64 bits. Of a source that
+-- failed nothing is said.
 abbrev pub StopsAt : (PlainStore → StoreView) → (Unsaid → Type 0) → List ℕ → ReplayFault → Type 0
 StopsAt view begins bytes (replay_fault.Line line fault) =
     (entries : List Entry) × (left : List ℕ) × (as_far : Replayed) × HasReplayed view begins bytes entries left as_far
@@ -57,7 +58,8 @@ StopsAt view begins bytes (replay_fault.Entry line why) =
 StopsAt view begins bytes replay_fault.Short =
     (entries : List Entry) × (left : List ℕ) × (as_far : Replayed) × HasReplayed view begins bytes entries left as_far × (next_line left ≡ None)
     × IsShort as_far
-StopsAt view begins bytes replay_fault.Endless = ⊤
+StopsAt view begins bytes replay_fault.Endless =
+    (entries : List Entry) × (left : List ℕ) × (as_far : Replayed) × HasReplayed view begins bytes entries left as_far × (2 ^ 64 ≤ length entries + 2)
 StopsAt view begins bytes (replay_fault.Source error) = ⊤
 
 -- the tables where there are any, and otherwise that the text is short

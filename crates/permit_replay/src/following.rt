@@ -6,12 +6,13 @@ ghost use Rattle.permit_history.specs.LineData.{act_number};
 ghost use Rattle.permit_history.specs.declared.entry.Deed.TheVariants as deed;
 ghost use Rattle.permit_model.specs.History.{History};
 ghost use Rattle.permit_model.specs.Tables.{Tables};
+ghost use Rattle.permit_store.specs.Counts.{failed_after};
 ghost use Rattle.permit_store.specs.Frames.{OverTables};
 ghost use Rattle.permit_office.specs.Accepting.{AnswersCommand};
 ghost use Rattle.permit_office.specs.Answers.{reply_of};
 ghost use Rattle.permit_replay.specs.Against.{is_same, against_reply};
 ghost use Rattle.permit_replay.specs.Histories.{HasToken, HasTokenIn, Unsaid};
-ghost use Rattle.permit_replay.specs.Holding.{Follows, HoldsHistory, IsAgainst, UnlessNumbered};
+ghost use Rattle.permit_replay.specs.Holding.{Follows, HoldsHistory, IsAgainst, UnlessNumbered, failed_count};
 ghost use Rattle.permit_replay.specs.declared.fault.Why.TheVariants as why;
 
 use crate::fault::Why;
@@ -39,6 +40,7 @@ fn judge(answer: Got<Reply>, number: Option<u32>) -> Result<(), Why>
     requires { IfOk answer AnswersCommand }
     ensures answered { IfOk answer (λ reply. IsAgainst result (against_reply number (reply_of reply))) }
     ensures failed { IfErr answer (λ e. result ≡ Err why.Memory) }
+    ensures counted { (n : ℕ) → failed_count result n ≡ failed_after answer n }
 {
     match &answer {
         Ok(Reply::Done { number: made }) => {
@@ -70,6 +72,7 @@ fn follow_command<S: Store>(
         → Follows (S.view store.new).holds unsaid h day (deed.Accepted caller act.now) result }
     ensures kept { (t : Tables) → (S.view store.old).holds t → UnlessNumbered result ((S.view store.new).holds t) }
     ensures doubt { (S.view store.old).doubt ≤ (S.view store.new).doubt }
+    ensures failed { (S.view store.new).failed ≡ failed_count result (S.view store.old).failed }
 {
     let answer = accept(store, caller, &recorded(act), day);
     judge(answer, number)
@@ -82,6 +85,7 @@ fn follow_renewal<S: Renewing>(store: &mut S, party: PartyId, digest: &Digest) -
         → Follows (S.Store.view store.new).holds unsaid h day (deed.RenewToken party digest.now) result }
     ensures kept { OverTables (S.Store.view store.old) (S.Store.view store.new) (λ t. UnlessNumbered result ((S.Store.view store.new).holds t)) }
     ensures doubt { (S.Store.view store.old).doubt ≤ (S.Store.view store.new).doubt }
+    ensures failed { (S.Store.view store.new).failed ≡ failed_count result (S.Store.view store.old).failed }
 {
     match store.renew(party, digest) {
         Ok(Ok(())) => Ok(()),
@@ -93,12 +97,23 @@ fn follow_renewal<S: Renewing>(store: &mut S, party: PartyId, digest: &Digest) -
 /// Takes an entry behind the founding and the upgrade on a store that holds the tables of the history before it, where nothing
 /// stands against it. Otherwise it answers why, and the tables are as before, unless a command was done whose number is another
 /// than the entry says.
+///
+/// # Examples
+///
+/// ```
+/// let renewal = Deed::RenewToken { party, digest };
+/// assert!(rt; follow(&mut store, day, &renewal).is_ok());
+/// assert!(rt; store.party_by_token(&digest)?.is_some());
+/// let again = follow(&mut store, day, &Deed::Upgrade);
+/// assert!(rt; matches!(again, Err(Why::SecondUpgrade)));
+/// ```
 pub fn follow<S: Renewing>(store: &mut S, day: Day, deed: &Deed) -> Result<(), Why>
     ensures follows { (S.Store.view store.new).doubt ≡ 0 → (h : History) → HoldsHistory (S.Store.view store.old).holds h
         → (unsaid : Unsaid) → HasToken unsaid deed.now
         → Follows (S.Store.view store.new).holds unsaid h day deed.now result }
     ensures kept { OverTables (S.Store.view store.old) (S.Store.view store.new) (λ t. UnlessNumbered result ((S.Store.view store.new).holds t)) }
     ensures doubt { (S.Store.view store.old).doubt ≤ (S.Store.view store.new).doubt }
+    ensures failed { (S.Store.view store.new).failed ≡ failed_count result (S.Store.view store.old).failed }
 {
     match deed {
         Deed::Begin { .. } => Err(Why::SecondBeginning),

@@ -101,6 +101,19 @@ impl Replayed {
     /// replayed is gone.
     ///
     /// A command is tested in the order caller, clock, record, not admitted, number.
+    ///
+    /// # Examples
+    ///
+    /// ```
+    /// let deed = Deed::Found { name, digest };
+    /// let nothing = Replayed::Nothing(Beginning::Founding);
+    /// let Ok(founded) = nothing.take(alloc, &Entry { day, deed }) else {
+    ///     return Err(Fail::new("no founding"));
+    /// };
+    /// let deed = Deed::Upgrade;
+    /// let opened = founded.take(alloc, &Entry { day, deed });
+    /// assert!(rt; matches!(opened, Ok(Replayed::Open(_))));
+    /// ```
     pub fn take(self, alloc: Global, entry: &Entry) -> Result<Replayed, Why>
         ensures { (unsaid : Unsaid) (h : History) → Holds ⟦<PlainStore as Store>⟧.view unsaid self h → HasToken unsaid entry.now.deed
             → Takes ⟦<PlainStore as Store>⟧.view unsaid h entry.now.day entry.now.deed result }

@@ -74,6 +74,17 @@ fn replay_in<R: BufRead>(
 ///
 /// What the text may begin with is only read: where there are tables, they are copied. Where memory is refused for that, the
 /// fault is one of the first line.
+///
+/// # Examples
+///
+/// ```
+/// let text = format!(in alloc; "{FOUND}\n{UPGRADE}\n{ADD_CLERK}\n")?;
+/// let (mut source, mut beginning) = (text.as_bytes(), Beginning::Founding);
+/// let Ok(mut store) = replay(alloc, &mut beginning, &mut source) else {
+///     return Err(Fail::new("no tables"));
+/// };
+/// assert!(rt; store.desk()?.parties == 2);
+/// ```
 pub fn replay<R: BufRead>(
     alloc: Global,
     beginning: &mut Beginning,

@@ -56,3 +56,8 @@ returns-in-Err-clause-some g c =
     some_more c.args.wanted.now c.args.roles.now j.0 entry _ _ _ j.2
     (subst (λ roles. WroteFront (g.W.Write.contents c.loop-line.out) (g.W.Write.contents c.tell_entry.new.out) (part c.args.wanted.now roles entry)) j.1
     c.in-Err.ensures.front)
+
+pub returns-clause-stopped : goal.returns-clause-stopped
+returns-clause-stopped g c = if_some (g.R.Read.remaining c.args.source.now) _
+    (λ bytes e.
+    let i = c.loop-line.invariant.0 bytes e in (i.0, i.1, i.5, omega (arith, i.3, c.loop-line-test.false)))

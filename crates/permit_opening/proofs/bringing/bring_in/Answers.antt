@@ -140,3 +140,10 @@ returns-clause-left g c = λ bytes e t held there sound.
     let has = it.4 in
     on_the_way (IsBeginning plain.view-value.it c.args.beginning.now) bytes it.0 c.loop-line.course.waiting.items it.1 c.loop-line.course.stood t
     (plain.view-value.it c.loop-line.course.there) (g.S.Store.view c.loop-line.store) (g.S.Store.view c.loop-line.store) has.as_far.given (it.5 t there sound held) (λ u holds. holds)
+
+pub returns-clause-stopped : goal.returns-clause-stopped
+returns-clause-stopped g c = if_some (g.R.Read.remaining c.args.source.now) _
+    (λ bytes e.
+    let it = c.loop-line.invariant.1 bytes e in
+    let has = it.4 in
+    inr (it.0, it.1, c.loop-line.course.told.replayed, has.as_far, omega (arith, it.3, has.lines, c.loop-line-test.false)))

@@ -1,4 +1,4 @@
-use Rattle.std.proofs.Common.{◌∙◌, ap, ◌+◌}
+use Rattle.std.proofs.Common.{◌∙◌, ap, ◌+◌, arith}
 use Rattle.permit_store.specs.contracts.plain.PlainStoreStore.TheImpl as plain
 use Rattle.permit_replay.specs.Holding.{IsBeginning}
 use Rattle.permit_opening.proofs.Lines.{stopped_at, told_more, too_long}
@@ -18,3 +18,7 @@ returns-in-Ok-clause-told c = λ beginning bytes entries left has answer within 
 pub returns-in-Err-clause-stopped : goal.returns-in-Err-clause-stopped
 returns-in-Err-clause-stopped c = λ beginning bytes entries left has answer of_line.
     stopped_at plain.view-value.it (IsBeginning plain.view-value.it beginning) bytes entries left c.args.entry.now c.args.told c.in-Some.line c.in-Err.why has answer c.in-Some.ensures.some c.in-Err.ensures
+
+pub returns-in_default-clause-stopped : goal.returns-in_default-clause-stopped
+returns-in_default-clause-stopped c = λ beginning bytes entries left has answer of_line.
+    (entries, left, c.args.told.replayed, has.as_far, omega (arith, has.lines, c.in_default.ensures.none))

@@ -1,5 +1,7 @@
+use Rattle.std.proofs.Common.{◌∙◌, sym}
 use Rattle.permit_replay.specs.Histories.{new_token}
 use Rattle.permit_replay.proofs.Accepted.{follows}
+use Rattle.permit_replay.proofs.Counted.{counted}
 use Rattle.permit_replay.proofs.Leaving.{left_by}
 use Rattle.permit_replay.proofs.following.follow_command.Goals as goal
 
@@ -14,3 +16,6 @@ returns-clause-follows g c = λ doubt h has unsaid token.
 pub returns-clause-kept : goal.returns-clause-kept
 returns-clause-kept g c = λ t held.
     left_by c.args.number c.accept-answer.result c.judge.result _ c.judge.ensures.answered (c.accept-answer.ensures.attempt.kept t held)
+
+pub returns-clause-failed : goal.returns-clause-failed
+returns-clause-failed g c = counted c.recorded.result c.accept-answer.result _ _ c.accept-answer.ensures.attempt.failed ∙ sym (c.judge.ensures.counted _)

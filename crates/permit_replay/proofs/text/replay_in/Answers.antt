@@ -1,4 +1,4 @@
-use Rattle.std.proofs.Common.{◌≡◌, ◌∙◌, sym, ap, subst, ◌+◌, [], ◌∷◌, ◌++◌, Some, Ok, Err}
+use Rattle.std.proofs.Common.{◌≡◌, ◌∙◌, sym, ap, subst, ◌+◌, [], ◌∷◌, ◌++◌, Some, Ok, Err, arith}
 use Rattle.std.specs.Io.BufRead.{drop_through}
 use Rattle.permit_history.specs.Text.{next_line, Answers}
 use Rattle.permit_store.specs.contracts.plain.PlainStoreStore.TheImpl as plain
@@ -70,3 +70,8 @@ returns-in-Err-Line-clause-stopped g c = if_some (g.R.Read.remaining c.args.sour
     c.in-Err-Line.ensures.exact i.2 in
     let answer = rw c.in-Err-Line.field-0-is at said in
     (i.0, i.1, c.loop-line.replayed, i.4, i.3, subst (λ f. IsAtFault f i.1) (sym c.in-Err-Line.fault-is) (at_fault c.in-Err-Line.fault i.1 answer)))
+
+pub returns-clause-stopped : goal.returns-clause-stopped
+returns-clause-stopped g c = if_some (g.R.Read.remaining c.args.source.now) _
+    (λ bytes e.
+    let i = c.loop-line.invariant bytes e in (i.0, i.1, c.loop-line.replayed, i.4, omega (arith, i.3, c.loop-line-test.false)))
