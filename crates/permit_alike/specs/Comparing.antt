@@ -1,6 +1,8 @@
 -- What comparing two stores says.
-use Rattle.std.specs.Prelude.{◌≡◌, ◌≤◌, ℕ, Option, None, Some}
+use Rattle.std.specs.Prelude.{◌≡◌, ◌≤◌, ◌⊎◌, ℕ, Option, None, Some}
+use Rattle.permit_base.specs.declared.words.Edition.TheVariants.{First}
 use Rattle.permit_model.specs.Tables.{State, Tables}
+use Rattle.permit_store.specs.Counts.{next_count}
 use Rattle.permit_store.specs.Frames.{StoreView}
 use Rattle.permit_alike.specs.declared.compare.Table.{Table}
 use Rattle.permit_alike.specs.declared.compare.Table.TheVariants as table
@@ -17,6 +19,32 @@ pub record Looks (old new : StoreView) : Type 0 where
 abbrev pub OverBoth : (old new old_other new_other : StoreView) → (Tables → Tables → Type 0) → Type 0
 OverBoth old new old_other new_other said =
     new.doubt ≡ 0 → new_other.doubt ≡ 0 → (t u : Tables) → old.holds t → old_other.holds u → said t u
+
+-- ---- calls that failed
+
+-- no call of the store failed
+abbrev pub NoneFailed : (old new : StoreView) → Type 0
+NoneFailed old new = new.failed ≡ old.failed
+
+-- exactly one call of the store failed
+abbrev pub OneFailed : (old new : StoreView) → Type 0
+OneFailed old new = new.failed ≡ next_count old.failed
+
+-- no call of either store failed
+abbrev pub NeitherFailed : (old new old_other new_other : StoreView) → Type 0
+NeitherFailed old new old_other new_other = NoneFailed old new × NoneFailed old_other new_other
+
+-- exactly one call failed: one of the first store, or one of the second
+abbrev pub EitherFailed : (old new old_other new_other : StoreView) → Type 0
+EitherFailed old new old_other new_other =
+    (OneFailed old new × NoneFailed old_other new_other) ⊎ (NoneFailed old new × OneFailed old_other new_other)
+
+-- exactly one call failed, or else none, and the tables of the first store are of the first edition
+abbrev pub FailedForCause : (old new old_other new_other : StoreView) → Tables → Type 0
+FailedForCause old new old_other new_other t =
+    EitherFailed old new old_other new_other ⊎ ((t.desk.edition ≡ First) × NeitherFailed old new old_other new_other)
+
+-- ---- places
 
 -- the two have the same row of a table under this number
 abbrev pub HaveSameRow : Table → Tables → Tables → ℕ → Type 0

@@ -1,13 +1,15 @@
 //! The comparison of two stores, row by row.
 
-ghost use Rattle.std.specs.Prelude.{◌≡◌, IfOk, IfSome, is_none};
+ghost use Rattle.std.specs.Prelude.{◌≡◌, ◌≤◌, IfOk, IfSome, IsTrue, OnErr, OnOk, is_none};
 ghost use Rattle.std.specs.Bool.{Decides};
 ghost use Rattle.std.specs.List.{list_all};
-ghost use Rattle.permit_model.specs.Sound.{IsSoundTables};
+ghost use Rattle.permit_base.specs.Limits.{most_records};
+ghost use Rattle.permit_model.specs.Sound.{IsSoundTables, has_few_records};
+ghost use Rattle.permit_store.specs.Counts.{failed_after};
 ghost use Rattle.permit_store.specs.Frames.{OverTables};
 ghost use Rattle.permit_store.specs.Interests.{DeclareSame, is_declared};
 ghost use Rattle.permit_alike.specs.Alike.{AreAlike};
-ghost use Rattle.permit_alike.specs.Comparing.{Finds, HaveSameRow, Looks, OverBoth};
+ghost use Rattle.permit_alike.specs.Comparing.{EitherFailed, FailedForCause, Finds, HaveSameRow, Looks, NeitherFailed, OverBoth};
 ghost use Rattle.permit_alike.specs.Differing.{FirstOther, HaveSameFile, HaveSameParcel, HaveSameParty, IsFirstDifference};
 
 use crate::differing::Difference;
@@ -30,6 +32,8 @@ fn have_same_party<A: Store, B: Store>(first: &mut A, second: &mut B, id: PartyI
         (λ t u. IfOk result (λ same. Decides same (HaveSameParty t u id))) }
     ensures first { Looks (A.view first.old) (A.view first.new) }
     ensures second { Looks (B.view second.old) (B.view second.new) }
+    ensures answered { OnOk result (NeitherFailed (A.view first.old) (A.view first.new) (B.view second.old) (B.view second.new)) }
+    ensures failed { OnErr result (EitherFailed (A.view first.old) (A.view first.new) (B.view second.old) (B.view second.new)) }
 {
     let one = first.party(id)?;
     let other = second.party(id)?;
@@ -42,6 +46,8 @@ fn have_same_parcel<A: Store, B: Store>(first: &mut A, second: &mut B, id: Parce
         (λ t u. IfOk result (λ same. Decides same (HaveSameParcel t u id))) }
     ensures first { Looks (A.view first.old) (A.view first.new) }
     ensures second { Looks (B.view second.old) (B.view second.new) }
+    ensures answered { OnOk result (NeitherFailed (A.view first.old) (A.view first.new) (B.view second.old) (B.view second.new)) }
+    ensures failed { OnErr result (EitherFailed (A.view first.old) (A.view first.new) (B.view second.old) (B.view second.new)) }
 {
     let one = first.parcel(id)?;
     let other = second.parcel(id)?;
@@ -54,6 +60,8 @@ fn have_same_file<A: Store, B: Store>(first: &mut A, second: &mut B, id: FileId)
         (λ t u. IfOk result (λ same. Decides same (HaveSameFile t u id))) }
     ensures first { Looks (A.view first.old) (A.view first.new) }
     ensures second { Looks (B.view second.old) (B.view second.new) }
+    ensures answered { OnOk result (NeitherFailed (A.view first.old) (A.view first.new) (B.view second.old) (B.view second.new)) }
+    ensures failed { OnErr result (EitherFailed (A.view first.old) (A.view first.new) (B.view second.old) (B.view second.new)) }
 {
     let one = first.file(id)?;
     let other = second.file(id)?;
@@ -76,6 +84,9 @@ fn have_same_row<A: Store, B: Store>(
         (λ t u. IfOk result (λ same. Decides same (HaveSameRow table t u number))) }
     ensures first { Looks (A.view first.old) (A.view first.new) }
     ensures second { Looks (B.view second.old) (B.view second.new) }
+    ensures answered { OnOk result (NeitherFailed (A.view first.old) (A.view first.new) (B.view second.old) (B.view second.new)) }
+    ensures failed { 1 ≤ number → number ≤ most_records →
+        OnErr result (EitherFailed (A.view first.old) (A.view first.new) (B.view second.old) (B.view second.new)) }
 {
     match table {
         Table::Parties => match PartyId::new(number) {
@@ -104,6 +115,9 @@ fn first_other_row<A: Store, B: Store>(
         (λ t u. IfOk result (FirstOther count (HaveSameRow table t u))) }
     ensures first { Looks (A.view first.old) (A.view first.new) }
     ensures second { Looks (B.view second.old) (B.view second.new) }
+    ensures answered { OnOk result (NeitherFailed (A.view first.old) (A.view first.new) (B.view second.old) (B.view second.new)) }
+    ensures failed { count ≤ most_records →
+        OnErr result (EitherFailed (A.view first.old) (A.view first.new) (B.view second.old) (B.view second.new)) }
 {
     for place in 0..count {
         let number = place + 1;
@@ -120,6 +134,7 @@ fn has_declared<S: Store>(store: &mut S, interests: &[Interest]) -> Got<bool>
     ensures declared { OverTables (S.view store.old) (S.view store.new) (λ t. IfOk result (λ all.
         all ≡ list_all (λ i. is_declared i.parcel i.party t.interests) interests.now)) }
     ensures looks { Looks (S.view store.old) (S.view store.new) }
+    ensures failed { (S.view store.new).failed ≡ failed_after result (S.view store.old).failed }
 {
     for interest in interests {
         let declared = store.interest(interest.parcel, interest.party)?;
@@ -136,6 +151,8 @@ fn have_same_interests<A: Store, B: Store>(first: &mut A, second: &mut B) -> Got
         (λ t u. IfOk result (λ same. Decides same (DeclareSame t.interests u.interests))) }
     ensures first { Looks (A.view first.old) (A.view first.new) }
     ensures second { Looks (B.view second.old) (B.view second.new) }
+    ensures answered { OnOk result (NeitherFailed (A.view first.old) (A.view first.new) (B.view second.old) (B.view second.new)) }
+    ensures failed { OnErr result (EitherFailed (A.view first.old) (A.view first.new) (B.view second.old) (B.view second.new)) }
 {
     let one = first.interests()?;
     let there = has_declared(second, &one)?;
@@ -157,6 +174,9 @@ fn first_behind_desk<A: Store, B: Store>(
         (λ t u. desk.now ≡ t.desk → t.desk ≡ u.desk → IfOk result (Finds t u)) }
     ensures first { Looks (A.view first.old) (A.view first.new) }
     ensures second { Looks (B.view second.old) (B.view second.new) }
+    ensures answered { OnOk result (NeitherFailed (A.view first.old) (A.view first.new) (B.view second.old) (B.view second.new)) }
+    ensures failed { IsTrue (has_few_records desk.now) →
+        OnErr result (EitherFailed (A.view first.old) (A.view first.new) (B.view second.old) (B.view second.new)) }
 {
     let party = first_other_row(first, second, Table::Parties, desk.parties)?;
     if let Some(number) = party {
@@ -179,7 +199,17 @@ fn first_behind_desk<A: Store, B: Store>(
 
 /// The first place at which two stores differ, in the order of the desk, the parties, the parcels, the interests and the
 /// files, each by its number. There is none where they hold the same tables, but for orders that no call shows. It fails where
-/// a call of a store fails, and where the first store still keeps to the first edition.
+/// a call of a store fails, and where the first store still keeps to the first edition. Of sound tables it fails nowhere else.
+///
+/// # Examples
+///
+/// ```
+/// let mut copy = PlainStore::load(alloc, &mut store)?;
+/// let renewed = copy.renew(party, &digest)?;
+/// assert!(rt; renewed.is_ok());
+/// let found = first_difference(&mut store, &mut copy)?;
+/// assert!(rt; found == Some(Difference::Party(party.get())));
+/// ```
 pub fn first_difference<A: Store, B: Store>(
     first: &mut A,
     second: &mut B,
@@ -190,6 +220,9 @@ pub fn first_difference<A: Store, B: Store>(
         IfOk result (λ found. IfSome found (IsFirstDifference t u))) }
     ensures first { Looks (A.view first.old) (A.view first.new) }
     ensures second { Looks (B.view second.old) (B.view second.new) }
+    ensures answered { OnOk result (NeitherFailed (A.view first.old) (A.view first.new) (B.view second.old) (B.view second.new)) }
+    ensures failed { OverBoth (A.view first.old) (A.view first.new) (B.view second.old) (B.view second.new) (λ t u.
+        IsSoundTables t → OnErr result (FailedForCause (A.view first.old) (A.view first.new) (B.view second.old) (B.view second.new) t)) }
 {
     let one = first.desk()?;
     let other = second.desk()?;
@@ -204,12 +237,23 @@ pub fn first_difference<A: Store, B: Store>(
 }
 
 /// Whether two stores hold the same tables, but for orders that no call shows: each row of each table is compared. It fails
-/// where a call of a store fails, and where the first store still keeps to the first edition.
+/// where a call of a store fails, and where the first store still keeps to the first edition. Of sound tables it fails nowhere
+/// else.
+///
+/// # Examples
+///
+/// ```
+/// let mut copy = PlainStore::load(alloc, &mut store)?;
+/// assert!(rt; are_alike(&mut store, &mut copy)?);
+/// ```
 pub fn are_alike<A: Store, B: Store>(first: &mut A, second: &mut B) -> Got<bool>
     ensures alike { OverBoth (A.view first.old) (A.view first.new) (B.view second.old) (B.view second.new) (λ t u.
         IsSoundTables t → IsSoundTables u → IfOk result (λ alike. Decides alike (AreAlike t u))) }
     ensures first { Looks (A.view first.old) (A.view first.new) }
     ensures second { Looks (B.view second.old) (B.view second.new) }
+    ensures answered { OnOk result (NeitherFailed (A.view first.old) (A.view first.new) (B.view second.old) (B.view second.new)) }
+    ensures failed { OverBoth (A.view first.old) (A.view first.new) (B.view second.old) (B.view second.new) (λ t u.
+        IsSoundTables t → OnErr result (FailedForCause (A.view first.old) (A.view first.new) (B.view second.old) (B.view second.new) t)) }
 {
     Ok(first_difference(first, second)?.is_none())
 }

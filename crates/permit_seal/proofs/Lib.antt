@@ -1,6 +1,7 @@
 mod Added
 mod Sorted
 mod Numbering
+mod Few
 mod Whole
 mod Letters
 mod OneOrder

@@ -1,6 +1,6 @@
 -- The texts of the numbers of a table are those of its rows.
-use Rattle.std.proofs.Common.{◌≡◌, ◌<◌, ◌≤◌, ℕ, zero, suc, ◌+◌, ◌==◌, true, false, cond, List, [], ◌∷◌, ◌++◌, length, find, get_or, take, refl, sym, ◌∙◌, ap, arith}
-use Rattle.std.specs.Prelude.{Option, Some, option_map, unwrap_or}
+use Rattle.std.proofs.Common.{◌≡◌, ◌<◌, ◌≤◌, ℕ, zero, suc, ◌+◌, ◌-◌, ◌==◌, true, false, cond, List, [], ◌∷◌, ◌++◌, length, find, get_or, take, refl, sym, ◌∙◌, ap, arith}
+use Rattle.std.specs.Prelude.{Option, Some, is_some, option_map, unwrap_or}
 use Rattle.std.specs.List.{flat_map}
 use Rattle.std.proofs.lemmas.Bool.Decides.{nat_tests}
 use Rattle.std.proofs.lemmas.Grind.{flat_map-append}
@@ -30,6 +30,11 @@ module _ {A : Type 0} (number : A → ℕ) where
   its_number first [] numbered k n d less at = absurd (omega (arith, less))
   its_number first (x ∷ xs) numbered zero n d less at = omega (arith, numbered.0, at)
   its_number first (x ∷ xs) numbered (suc k) n d less at = its_number (first + 1) xs numbered.1 k n d (omega (arith, less)) (omega (arith, at))
+
+  pub is_there : (xs : List A) → IsNumbered number xs → (n : ℕ) → 1 ≤ n → n ≤ length xs → is_some (find (λ a. number a == n) xs) ≡ true
+  is_there [] numbered n low high = absurd (omega (arith, low, high))
+  is_there (x ∷ xs) numbered n low high =
+      ap is_some (found 1 (x ∷ xs) numbered (n - 1) n x (omega (arith, low, high)) (omega (arith, low)))
 
   module _ (row_line : ℕ → A → List ℕ) (xs : List A) (numbered : IsNumbered number xs) where
     -- the text of the number, and that of the row

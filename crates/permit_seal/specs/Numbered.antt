@@ -1,6 +1,6 @@
--- The text of the rows of numbers.
-use Rattle.std.specs.Prelude.{ℕ, zero, suc, List, [], ◌++◌, ◌==◌, find, option_map, unwrap_or}
-use Rattle.permit_model.specs.Sound.{papers_in}
+-- The rows of numbers, and their texts.
+use Rattle.std.specs.Prelude.{ℕ, zero, suc, Bool, List, [], ◌++◌, ◌==◌, find, option_map, unwrap_or}
+use Rattle.permit_model.specs.Sound.{has_file, has_parcel, has_party, papers_in}
 use Rattle.permit_model.specs.Tables.{Tables}
 use Rattle.permit_seal.specs.TablesText.{file_lines, parcel_line, party_line}
 use Rattle.permit_seal.specs.declared.seal.Table.{Table}
@@ -25,3 +25,15 @@ row_text table.Files t id = file_text t id
 abbrev pub numbers_text : (ℕ → List ℕ) → ℕ → List ℕ
 numbers_text text zero = []
 numbers_text text (suc n) = numbers_text text n ++ text (suc n)
+
+-- whether there is a row of the number
+abbrev pub has_row : Table → Tables → ℕ → Bool
+has_row table.Parties t id = has_party t id
+has_row table.Parcels t id = has_parcel t id
+has_row table.Files t id = has_file t id
+
+-- how many rows of the table the desk counts
+abbrev pub counted : Table → Tables → ℕ
+counted table.Parties t = t.desk.parties
+counted table.Parcels t = t.desk.parcels
+counted table.Files t = t.desk.files

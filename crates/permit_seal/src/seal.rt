@@ -1,15 +1,16 @@
 //! The seal of a store.
 
-ghost use Rattle.std.specs.Prelude.{◌≡◌, ℕ, List, IfOk, IsTrue, OnOk};
+ghost use Rattle.std.specs.Prelude.{◌≡◌, ◌≤◌, ℕ, List, IfOk, IsTrue, OnErr, OnOk};
 ghost use Rattle.std.specs.List.{flat_map};
 ghost use Rattle.sha2.specs.Hashers.{Holds256};
 ghost use Rattle.permit_base.specs.Digests.{digest_of};
+ghost use Rattle.permit_base.specs.Limits.{most_records};
 ghost use Rattle.permit_base.specs.Texts.{is_digest};
-ghost use Rattle.permit_model.specs.Sound.{IsSoundTables};
+ghost use Rattle.permit_model.specs.Sound.{IsSoundTables, has_file, has_parcel, has_party};
 ghost use Rattle.permit_store.specs.Frames.{OverTables};
-ghost use Rattle.permit_alike.specs.Comparing.{Looks};
+ghost use Rattle.permit_alike.specs.Comparing.{Looks, NoneFailed, OneFailed};
 ghost use Rattle.permit_seal.specs.Adding.{Adds, AddsTables};
-ghost use Rattle.permit_seal.specs.Numbered.{file_text, numbers_text, parcel_text, party_text, row_text};
+ghost use Rattle.permit_seal.specs.Numbered.{counted, file_text, has_row, numbers_text, parcel_text, party_text, row_text};
 ghost use Rattle.permit_seal.specs.Sealing.{IsSealOf};
 ghost use Rattle.permit_seal.specs.TablesText.{interest_line};
 
@@ -32,6 +33,9 @@ enum Table {
 fn put_party_of<S: Store>(store: &mut S, hash: &mut Sha256, id: PartyId) -> Got<()>
     ensures put { OverTables (S.view store.old) (S.view store.new) (λ t. OnOk result (Adds (party_text t id) hash.old hash.new)) }
     ensures looks { Looks (S.view store.old) (S.view store.new) }
+    ensures answered { OnOk result (NoneFailed (S.view store.old) (S.view store.new)) }
+    ensures failed { OverTables (S.view store.old) (S.view store.new) (λ t.
+        IsTrue (has_party t id) → OnErr result (OneFailed (S.view store.old) (S.view store.new))) }
 {
     let party = store.party(id)?.ok_or(StoreError)?;
     put_party(hash, &party);
@@ -42,6 +46,9 @@ fn put_party_of<S: Store>(store: &mut S, hash: &mut Sha256, id: PartyId) -> Got<
 fn put_parcel_of<S: Store>(store: &mut S, hash: &mut Sha256, id: ParcelId) -> Got<()>
     ensures put { OverTables (S.view store.old) (S.view store.new) (λ t. OnOk result (Adds (parcel_text t id) hash.old hash.new)) }
     ensures looks { Looks (S.view store.old) (S.view store.new) }
+    ensures answered { OnOk result (NoneFailed (S.view store.old) (S.view store.new)) }
+    ensures failed { OverTables (S.view store.old) (S.view store.new) (λ t.
+        IsTrue (has_parcel t id) → OnErr result (OneFailed (S.view store.old) (S.view store.new))) }
 {
     let parcel = store.parcel(id)?.ok_or(StoreError)?;
     put_parcel(hash, &parcel);
@@ -52,6 +59,9 @@ fn put_parcel_of<S: Store>(store: &mut S, hash: &mut Sha256, id: ParcelId) -> Go
 fn put_file_of<S: Store>(store: &mut S, hash: &mut Sha256, id: FileId) -> Got<()>
     ensures put { OverTables (S.view store.old) (S.view store.new) (λ t. OnOk result (Adds (file_text t id) hash.old hash.new)) }
     ensures looks { Looks (S.view store.old) (S.view store.new) }
+    ensures answered { OnOk result (NoneFailed (S.view store.old) (S.view store.new)) }
+    ensures failed { OverTables (S.view store.old) (S.view store.new) (λ t.
+        IsTrue (has_file t id) → OnErr result (OneFailed (S.view store.old) (S.view store.new))) }
 {
     let file = store.file(id)?.ok_or(StoreError)?;
     let papers = store.papers(id)?;
@@ -63,6 +73,9 @@ fn put_file_of<S: Store>(store: &mut S, hash: &mut Sha256, id: FileId) -> Got<()
 fn put_row<S: Store>(store: &mut S, hash: &mut Sha256, table: Table, number: u32) -> Got<()>
     ensures put { OverTables (S.view store.old) (S.view store.new) (λ t. OnOk result (Adds (row_text table t number) hash.old hash.new)) }
     ensures looks { Looks (S.view store.old) (S.view store.new) }
+    ensures answered { OnOk result (NoneFailed (S.view store.old) (S.view store.new)) }
+    ensures failed { OverTables (S.view store.old) (S.view store.new) (λ t.
+        1 ≤ number → number ≤ most_records → IsTrue (has_row table t number) → OnErr result (OneFailed (S.view store.old) (S.view store.new))) }
 {
     match table {
         Table::Parties => match PartyId::new(number) {
@@ -85,6 +98,9 @@ fn put_rows<S: Store>(store: &mut S, hash: &mut Sha256, table: Table, count: u32
     ensures put { OverTables (S.view store.old) (S.view store.new) (λ t.
         OnOk result (Adds (numbers_text (row_text table t) count) hash.old hash.new)) }
     ensures looks { Looks (S.view store.old) (S.view store.new) }
+    ensures answered { OnOk result (NoneFailed (S.view store.old) (S.view store.new)) }
+    ensures failed { OverTables (S.view store.old) (S.view store.new) (λ t.
+        IsSoundTables t → count ≤ counted table t → OnErr result (OneFailed (S.view store.old) (S.view store.new))) }
 {
     for place in 0..count {
         put_row(store, hash, table, place + 1)?;
@@ -105,6 +121,9 @@ fn put_interests(hash: &mut Sha256, interests: &[Interest])
 fn put_tables<S: Store>(store: &mut S, hash: &mut Sha256) -> Got<()>
     ensures put { OverTables (S.view store.old) (S.view store.new) (λ t. IsSoundTables t → OnOk result (AddsTables t hash.old hash.new)) }
     ensures looks { Looks (S.view store.old) (S.view store.new) }
+    ensures answered { OnOk result (NoneFailed (S.view store.old) (S.view store.new)) }
+    ensures failed { OverTables (S.view store.old) (S.view store.new) (λ t.
+        IsSoundTables t → OnErr result (OneFailed (S.view store.old) (S.view store.new))) }
 {
     let desk = store.desk()?;
     put_desk(hash, &desk);
@@ -146,10 +165,22 @@ fn finished(hash: Sha256) -> Digest
 /// have one seal. The text has a line for each row: the word of its table, each column behind a TAB, and LF.
 ///
 /// The text is hashed row by row and never held. It fails where a call of the store fails, and where a row isn't there that the
-/// desk counts, which sound tables have.
+/// desk counts. So of sound tables it fails where a call fails, and nowhere else.
+///
+/// # Examples
+///
+/// ```
+/// let founder = Founder::new(name, digest, day).ok_or("a founder")?;
+/// let sealed = seal(&mut PlainStore::create(alloc, &founder)?)?;
+/// let digits = "8e4ad670e47c05c90fb8f36b87c0fe417be8208108542e1427ab9f9bc402fc97";
+/// assert!(rt; sealed.as_str() == digits);
+/// ```
 pub fn seal<S: Store>(store: &mut S) -> Got<Digest>
     ensures seal { OverTables (S.view store.old) (S.view store.new) (λ t. IsSoundTables t → IfOk result (IsSealOf t)) }
     ensures looks { Looks (S.view store.old) (S.view store.new) }
+    ensures answered { OnOk result (NoneFailed (S.view store.old) (S.view store.new)) }
+    ensures failed { OverTables (S.view store.old) (S.view store.new) (λ t.
+        IsSoundTables t → OnErr result (OneFailed (S.view store.old) (S.view store.new))) }
 {
     let mut hash = Sha256::new();
     put_tables(store, &mut hash)?;

@@ -11,6 +11,7 @@ loop-place-preserved g c =
     record {
       first = looks_on _ _ _ was.first row.first;
       second = looks_on _ _ _ was.second row.second;
+      failed = (row.answered.0 ∙ was.failed.0, row.answered.1 ∙ was.failed.1);
       same = λ d e t u h k. same_more (HaveSameRow c.args.table t u) c.loop-place.place (c.loop-place.place + 1) (omega arith)
           (was.same (clean_before _ _ row.first d) (clean_before _ _ row.second e) t u h k)
           ((row.same d e t u (was.first.kept t h) (was.second.kept u k)).0 c.if-not-same.false);

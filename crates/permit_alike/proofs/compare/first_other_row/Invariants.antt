@@ -1,4 +1,4 @@
-use Rattle.permit_alike.specs.Comparing.{HaveSameRow, Looks, OverBoth}
+use Rattle.permit_alike.specs.Comparing.{HaveSameRow, Looks, NeitherFailed, OverBoth}
 use Rattle.permit_alike.specs.Differing.{HaveSame}
 use Rattle.permit_alike.proofs.compare.first_other_row.Given as goal
 
@@ -6,6 +6,7 @@ abbrev pub invariant-loop-place : goal.invariant-loop-place
 invariant-loop-place g l = record {
   first : Looks (g.A.Store.view l.fn.first) (g.A.Store.view l.first);
   second : Looks (g.B.Store.view l.fn.second) (g.B.Store.view l.second);
+  failed : NeitherFailed (g.A.Store.view l.fn.first) (g.A.Store.view l.first) (g.B.Store.view l.fn.second) (g.B.Store.view l.second);
   same : OverBoth (g.A.Store.view l.fn.first) (g.A.Store.view l.first) (g.B.Store.view l.fn.second) (g.B.Store.view l.second)
       (λ t u. HaveSame l.place (HaveSameRow l.table t u));
 }

@@ -1,5 +1,5 @@
 use Rattle.permit_store.specs.Frames.{OverTables}
-use Rattle.permit_alike.specs.Comparing.{Looks}
+use Rattle.permit_alike.specs.Comparing.{Looks, NoneFailed}
 use Rattle.permit_seal.specs.Adding.{Adds}
 use Rattle.permit_seal.specs.Numbered.{numbers_text, row_text}
 use Rattle.permit_seal.proofs.seal.put_rows.Given as goal
@@ -7,5 +7,6 @@ use Rattle.permit_seal.proofs.seal.put_rows.Given as goal
 abbrev pub invariant-loop-place : goal.invariant-loop-place
 invariant-loop-place g l = record {
   looks : Looks (g.S.Store.view l.fn.store) (g.S.Store.view l.store);
+  failed : NoneFailed (g.S.Store.view l.fn.store) (g.S.Store.view l.store);
   put : OverTables (g.S.Store.view l.fn.store) (g.S.Store.view l.store) (λ t. Adds (numbers_text (row_text l.table t) l.place) l.fn.hash l.hash);
 }
