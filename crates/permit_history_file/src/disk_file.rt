@@ -1,6 +1,6 @@
 //! A file of a history on a disk.
 
-ghost use Rattle.std.specs.Prelude.{◌≡◌, ℕ, List, IfOk, IsTrue};
+ghost use Rattle.std.specs.Prelude.{◌≡◌, ◌⊎◌, ◌++◌, ◌≤◌, ℕ, List, IfOk, IsErr, IsTrue, None, OnErr, OnOk, Some, length, take};
 ghost use Rattle.permit_history_file.specs.Ends.{EndsThere};
 
 use permit_journal::file::{FileError, HistoryFile};
@@ -51,6 +51,8 @@ impl<D: Disk + Drop> DiskFile<D> {
 
 impl<D: Disk> HistoryFile for DiskFile<D> {
     ghost use Rattle.permit_history_file.specs.Parts.{AreNoMore};
+    ghost use Rattle.permit_history_file.specs.Shown.{end_of};
+    ghost use Rattle.permit_journal.specs.Files.{Grown, LeavesGrown, Only};
     ghost use Rattle.std.proofs.Common.{arith};
 
     ghost text = { λ f. D.Disk.seen f.disk };
@@ -87,7 +89,17 @@ impl<D: Disk> HistoryFile for DiskFile<D> {
         }
     }
 
-    fn append(&mut self, bytes: &[u8]) -> Result<(), FileError> {
+    // Beside the clauses of every file: behind a write that failed the end isn't known, and then nothing is written.
+    fn append(&mut self, bytes: &[u8]) -> Result<(), FileError>
+        ensures written { IsTrue (D.Disk.is_clean self.old.disk) → OnOk result (D.Disk.seen self.new.disk ≡ D.Disk.seen self.old.disk ++ bytes.now) }
+        ensures part { IsTrue (D.Disk.is_clean self.old.disk)
+            → OnErr result (Grown AreNoMore bytes.now (D.Disk.seen self.old.disk) (D.Disk.seen self.new.disk)) }
+        ensures crash { IsTrue (D.Disk.is_clean self.old.disk) → Only (D.Disk.seen self.old.disk) (D.Disk.may_leave self.old.disk)
+            → LeavesGrown AreNoMore bytes.now (D.Disk.seen self.old.disk) (D.Disk.may_leave self.new.disk) }
+        ensures clean { D.Disk.is_clean self.new.disk ≡ D.Disk.is_clean self.old.disk }
+        ensures unknown { end_of self.old ≡ None → IsErr result × (self.new ≡ self.old) }
+        ensures end { OnErr result ((end_of self.new ≡ None) ⊎ (self.new ≡ self.old)) }
+    {
         let Some(end) = self.end else {
             return Err(FileError);
         };
@@ -117,7 +129,17 @@ impl<D: Disk> HistoryFile for DiskFile<D> {
         }
     }
 
-    fn cut(&mut self, to: u64) -> Result<(), FileError> {
+    // Beside the clauses of every file: the end is known again.
+    fn cut(&mut self, to: u64) -> Result<(), FileError>
+        ensures cut { to ≤ length (D.Disk.seen self.old.disk) → OnOk result (D.Disk.seen self.new.disk ≡ take to (D.Disk.seen self.old.disk)) }
+        ensures part { (base bytes : List ℕ) → length base ≡ to → Grown AreNoMore bytes base (D.Disk.seen self.old.disk)
+            → Grown AreNoMore bytes base (D.Disk.seen self.new.disk) }
+        ensures crash { (base bytes : List ℕ) → length base ≡ to → LeavesGrown AreNoMore bytes base (D.Disk.may_leave self.old.disk)
+            → LeavesGrown AreNoMore bytes base (D.Disk.may_leave self.new.disk) }
+        ensures clean { D.Disk.is_clean self.new.disk ≡ D.Disk.is_clean self.old.disk }
+        ensures known { OnOk result (end_of self.new ≡ Some to) }
+        ensures end { OnErr result ((end_of self.new ≡ None) ⊎ (self.new ≡ self.old)) }
+    {
         if !self.disk.may_be_used() {
             return Err(FileError);
         }

@@ -70,6 +70,16 @@ impl<H: HistoryFile> Model for Journal<H> {
 impl<H: HistoryFile + Drop> Journal<H> {
     /// A journal over the file, whose text is put on the disk. Where a call of the file fails, the file is given back, with its
     /// text as it was.
+    ///
+    /// # Examples
+    ///
+    /// ```
+    /// let text = "a\n".as_bytes().to_vec(alloc)?;
+    /// let Ok(journal) = Journal::open(MemoryFile::new(text)) else {
+    ///     return Err(Fail::new("no journal"));
+    /// };
+    /// assert!(rt; journal.length() == 2 && !journal.is_shut());
+    /// ```
     pub fn open(mut file: H) -> Result<Journal<H>, H>
         ensures settled { IfOk result (λ journal. IsTrue (H.is_clean journal.file) → Has H.text H.may_leave H.is_clean journal (H.text file)) }
         ensures kept { IfOk result (λ journal. H.text journal.file ≡ H.text file) }
@@ -115,6 +125,14 @@ impl<H: HistoryFile + Drop> Journal<H> {
     }
 
     /// Adds a line to the text, with its LF, and puts it on the disk. Otherwise nothing of it is left, or the journal is shut.
+    ///
+    /// # Examples
+    ///
+    /// ```
+    /// let entered = journal.enter(b"b\n");
+    /// assert!(rt; entered.is_ok() && journal.length() == 4);
+    /// assert!(rt; journal.into_file().bytes() == b"a\nb\n".as_slice());
+    /// ```
     pub fn enter(&mut self, line: &[u8]) -> Result<(), FileError>
         ensures entered { IsSettled H.text H.may_leave H.is_clean self.old
             → OnOk result (Has H.text H.may_leave H.is_clean self.new (H.text self.old.file ++ line.now)) }
@@ -142,6 +160,16 @@ impl<H: HistoryFile + Drop> Journal<H> {
     }
 
     /// Takes back what was added behind this length, or shuts the journal.
+    ///
+    /// # Examples
+    ///
+    /// ```
+    /// let before = journal.length();
+    /// let entered = journal.enter(b"b\n");
+    /// journal.take_back(before);
+    /// assert!(rt; entered.is_ok() && journal.length() == before);
+    /// assert!(rt; journal.into_file().bytes() == b"a\n".as_slice());
+    /// ```
     pub fn take_back(&mut self, to: u64)
         ensures back { IsSettled H.text H.may_leave H.is_clean self.old → (base line : List ℕ) → length base ≡ to → H.text self.old.file ≡ base ++ line
             → HasUnlessShut H.text H.may_leave H.is_clean self.new self.new.is_shut base }
