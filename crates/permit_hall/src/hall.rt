@@ -1,7 +1,7 @@
 //! The owner's ends of the intake and of the lanes.
 ghost use Rattle.std.specs.Prelude.{◌≡◌, ◌+◌, ◌<◌, ◌≤◌, ◌++◌, ◌∷◌, [], IfOk, length, map};
 ghost use Rattle.crossbeam_channel.specs.Claims.{view, IsSeatAt};
-ghost use Rattle.crossbeam_channel.specs.Ends.{sends_on, receives_on};
+ghost use Rattle.crossbeam_channel.specs.Ends.{sends_on, receives_on, ruled_capacity};
 ghost use Rattle.permit_hall.specs.Intake.{owner, session};
 ghost use Rattle.permit_hall.specs.Lane.{lane_note};
 ghost use Rattle.permit_hall.specs.Owner.{HasSent};
@@ -38,6 +38,7 @@ fn lane<A: Drop, Y: Drop>(
 ) -> Result<(Outlet<Y>, Session<A, Y>), AllocError>
     requires { IsSeatAt (sends_on intake) pass × (view pass ≡ session number []) }
     ensures outlet { IfOk result (λ r. HasSent [] r.0) }
+    ensures room { IfOk result (λ r. ruled_capacity (sends_on r.0.lane) ≡ 1) }
     ensures session { IfOk result (λ r. Has r.1 [] [] × (r.1.number ≡ number)
         × (sends_on r.1.intake ≡ sends_on intake) × (receives_on r.1.lane ≡ sends_on r.0.lane)) }
 {
@@ -59,7 +60,8 @@ fn lane<A: Drop, Y: Drop>(
 
 // A hall with no session.
 fn empty<A: Drop, Y: Drop>(alloc: Global) -> Result<Hall<A, Y>, AllocError>
-    ensures { IfOk result (λ h. IsNew h []) }
+    ensures new { IfOk result (λ h. IsNew h []) }
+    ensures room { IfOk result (λ h. ruled_capacity (sends_on h.sender) ≡ 64) }
 {
     let (sender, intake, pass) = bounded_with::<Envelope<A>, IntakeNote<A>, Intake, Global>(
         alloc, ROOM,

@@ -1,7 +1,7 @@
 //! What is read of the tables, over a connection.
 
 ghost use Rattle.std.specs.Prelude.{◌≡◌, ◌==◌, ◌&&◌, Bool, not, List, [], ◌∷◌, ◌++◌, map, filter, find, length};
-ghost use Rattle.std.specs.Prelude.{Option, option_map, slice_get, bytes_eq, IfOk, IfErr, OnOk, IfSome, IsSome, IsOk, IsPermutation};
+ghost use Rattle.std.specs.Prelude.{Option, option_map, slice_get, bytes_eq, IfOk, IfErr, OnOk, IfSome, IsSome, IsErr, IsOk, IsPermutation};
 ghost use Rattle.std.specs.Result.{result_ok};
 ghost use Rattle.std.specs.List.{list_any};
 ghost use Rattle.sqlite.specs.Held.{state};
@@ -202,6 +202,9 @@ fn first_role(rows: &[Row]) -> Got<Option<Role>>
     ensures read { (found : Option TheParty) → slice_get rows.now 0 ≡ option_map shown_party found
         → IfOk result (λ x. x ≡ option_map (λ p. p.role) found) }
     ensures ok { (found : Option TheParty) → slice_get rows.now 0 ≡ option_map shown_party found → IsOk result }
+
+    // Where there is a row, its role is told, or that it can't be read.
+    ensures none { IfOk result (λ role. role ≡ None → rows.now ≡ []) }
 {
     match rows.get(0) {
         None => Ok(None),
@@ -231,6 +234,9 @@ fn first_owner(rows: &[Row]) -> Got<Option<PartyId>>
 fn first_truth(rows: &[Row]) -> Got<bool>
     ensures read { (is : Bool) → rows.now ≡ (flag is ∷ []) ∷ [] → IfOk result (λ b. b ≡ is) }
     ensures ok { (is : Bool) → rows.now ≡ (flag is ∷ []) ∷ [] → IsOk result }
+
+    // Without a row nothing is told.
+    ensures row { rows.now ≡ [] → IsErr result }
 {
     match rows.get(0) {
         None => Err(StoreError),
