@@ -33,6 +33,15 @@ pub trait Batching: Renewing {
 
     /// Makes all steps in turn by one commit, or answers an error and changes nothing. Where they don't lead from the tables that
     /// are held to others, a success promises nothing. A crash inside leaves the tables as they were, or with all steps made.
+    ///
+    /// # Examples
+    ///
+    /// ```
+    /// let mut steps = Vec::new(alloc);
+    /// steps.push(SqlStore::<MemStore>::renewal_step(alloc, party, &digest)?)?;
+    /// store.commit_all(steps.as_slice())?;
+    /// assert!(rt; store.party_by_token(&digest)?.is_some());
+    /// ```
     fn commit_all(&mut self, steps: &[Self::Step]) -> Got<()>
         ensures made { (t u : Tables) → LeadThrough leads steps.now t u → (Self.Renewing.view self.old).holds t
             → OnOk result ((Self.Renewing.view self.new).holds u) }

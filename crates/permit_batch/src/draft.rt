@@ -47,6 +47,14 @@ pub struct Draft<K: Batching, M: Memory + Renewing, B: Begun> {
 
 impl<K: Batching, M: Memory + Renewing + Drop, B: Begun> Draft<K, M, B> {
     /// Begins a draft with tables in memory.
+    ///
+    /// # Examples
+    ///
+    /// ```
+    /// let memory = PlainStore::load(alloc, store)?;
+    /// let draft = Draft::<SqlStore<MemStore>, PlainStore, Brand>::new(alloc, memory);
+    /// assert!(rt; draft.waiting() == 0);
+    /// ```
     pub fn new(alloc: Global, memory: M) -> Draft<K, M, B>
         ensures held { (t : Tables) → (M.Store.view memory).holds t → B.began t
             → (⟦<Draft<K, M, B> as Store>⟧.view result).holds t }
@@ -70,6 +78,16 @@ impl<K: Batching, M: Memory + Renewing + Drop, B: Begun> Draft<K, M, B> {
 
     /// Makes all steps by one commit in the store with whose tables the draft began. After an error that store holds what it
     /// held; after a success it holds what the draft does.
+    ///
+    /// # Examples
+    ///
+    /// ```
+    /// let renewed = draft.renew(party, &digest)?;
+    /// assert!(rt; renewed.is_ok() && draft.waiting() == 1);
+    /// assert!(rt; store.party_by_token(&digest)?.is_none());
+    /// draft.commit_to(store)?;
+    /// assert!(rt; store.party_by_token(&digest)?.is_some());
+    /// ```
     pub fn commit_to(&self, store: &mut K) -> Got<()>
         ensures made { (t : Tables) → (⟦<Draft<K, M, B> as Store>⟧.view self.now).holds t
             → ((u : Tables) → B.began u → (K.Store.view store.old).holds u)

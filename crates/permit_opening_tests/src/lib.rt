@@ -9,6 +9,8 @@ mod compared;
 #[cfg(test)]
 mod differing;
 #[cfg(test)]
+mod examples;
+#[cfg(test)]
 mod sealed;
 #[cfg(test)]
 mod texts;

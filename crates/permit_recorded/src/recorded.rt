@@ -102,6 +102,16 @@ impl<D: Decider, S: Store, H: HistoryFile> Model for RecordedOffice<D, S, H> {
 
 impl<D: Decider + Drop, S: Store + Drop, H: HistoryFile + Drop> RecordedOffice<D, S, H> {
     /// The office over the store, whose history's text the journal has. That it has is not tested.
+    ///
+    /// # Examples
+    ///
+    /// ```
+    /// let Ok(journal) = Journal::open(MemoryFile::new(lines)) else {
+    ///     return Err(Fail::new("no journal"));
+    /// };
+    /// let office = RecordedOffice::new(policy, store, journal);
+    /// assert!(rt; !office.is_shut());
+    /// ```
     pub fn new(decider: D, store: S, journal: Journal<H>) -> RecordedOffice<D, S, H>
         ensures decider { result.decider ≡ decider }
         ensures store { result.store ≡ store }
@@ -122,6 +132,15 @@ impl<D: Decider + Drop, S: Store + Drop, H: HistoryFile + Drop> RecordedOffice<D
     }
 
     /// The store and the journal.
+    ///
+    /// # Examples
+    ///
+    /// ```
+    /// let (mut store, journal) = office.into_parts();
+    /// assert!(rt; store.desk()?.parcels == 1);
+    /// let last = "\"done\":\"add-parcel\",\"id\":null,\"number\":1}\n";
+    /// assert!(rt; journal.into_file().bytes().ends_with(last.as_bytes()));
+    /// ```
     pub fn into_parts(self) -> (S, Journal<H>)
         ensures store { result.0 ≡ self.store }
         ensures journal { result.1 ≡ self.journal }
@@ -177,6 +196,18 @@ impl<D: Decider + Drop, S: Store + Drop, H: HistoryFile + Drop> RecordedOffice<D
     /// Where the text told the history, it tells it afterwards: behind a command that is done with the command's line, and
     /// behind any other reply as it was, unless the journal is shut. Where it begins with an office that was there, it tells it
     /// over the same start. This is said of a journal that is settled: its file has told nothing false.
+    ///
+    /// # Examples
+    ///
+    /// ```
+    /// let request = Request::AddParcel {
+    ///     lot,
+    ///     address,
+    ///     owner,
+    /// };
+    /// let reply = office.step_as(alloc, &chief, &request, day);
+    /// assert!(rt; matches!(reply, Reply::Done { number: Some(1) }));
+    /// ```
     pub fn step_as(&mut self, alloc: Global, digest: &Digest, request: &Request, day: Day) -> Reply
         ensures model { OverHistory (S.view self.old.store) (S.view self.new.store) (λ h.
             Answers (S.view self.new.store).holds result (D.decides self.old.decider h digest.now request.now day) h) }

@@ -1,6 +1,8 @@
 //! An office with a history over vectors, files of a history that fail, and journals over files in memory and on a disk.
 #![tactic(auto)]
 
+#[cfg(test)]
+mod examples;
 mod failing;
 #[cfg(test)]
 mod in_memory;

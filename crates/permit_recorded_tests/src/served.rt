@@ -53,7 +53,7 @@ pub(crate) fn want(is_so: bool, what: &'static str) -> Result<(), Fail> {
 }
 
 /// A text's letters.
-fn letters(alloc: Global, letters: &str) -> Result<Text, Fail> {
+pub(crate) fn letters(alloc: Global, letters: &str) -> Result<Text, Fail> {
     Ok(Text::new(String::from_str(alloc, letters)?).ok_or("a text")?)
 }
 
@@ -78,7 +78,7 @@ pub(crate) fn day(number: u32) -> Result<Day, Fail> {
 }
 
 /// The store of the founding.
-fn founded(alloc: Global) -> Result<PlainStore, Fail> {
+pub(crate) fn founded(alloc: Global) -> Result<PlainStore, Fail> {
     let name = letters(alloc, "Chief")?;
     let founder = Founder::new(name, digest_of(alloc, CHIEF)?, day(19700)?).ok_or("a founder")?;
     Ok(PlainStore::create(alloc, &founder)?)

@@ -4,6 +4,8 @@
 #[cfg(test)]
 mod begun;
 #[cfg(test)]
+mod examples;
+#[cfg(test)]
 mod life;
 #[cfg(test)]
 mod refused;

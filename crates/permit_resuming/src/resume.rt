@@ -59,6 +59,18 @@ fn cut_to_history<S: Store, H: HistoryFile>(
 /// behind them, and a crash leaves no less.
 ///
 /// What is said of the text is said of a file that has told nothing false. No code can tell whether one has.
+///
+/// # Examples
+///
+/// ```
+/// let length = lines.len() as u64;
+/// lines.extend_from_slice(b"{\"body\"")?;
+/// let (mut beginning, file) = (Beginning::Founding, MemoryFile::new(lines));
+/// let Ok(journal) = settle(alloc, &mut beginning, &mut store, file) else {
+///     return Err(Fail::new("no journal"));
+/// };
+/// assert!(rt; journal.length() == length);
+/// ```
 pub fn settle<S: Store, H: HistoryFile + Drop>(
     alloc: Global,
     beginning: &mut Beginning,
@@ -98,6 +110,16 @@ pub fn settle<S: Store, H: HistoryFile + Drop>(
 
 /// Opens the office with its history, as `settle` does with the text of the file. The office has the store but for orders that
 /// no call shows. Where none is opened, the store is given back, and was only read.
+///
+/// # Examples
+///
+/// ```
+/// let (mut beginning, file) = (Beginning::Founding, MemoryFile::new(lines));
+/// let Ok(office) = resume(alloc, &mut beginning, policy, store, file) else {
+///     return Err(Fail::new("no office"));
+/// };
+/// assert!(rt; !office.is_shut());
+/// ```
 pub fn resume<D: Decider + Drop, S: Store + Drop, H: HistoryFile + Drop>(
     alloc: Global,
     beginning: &mut Beginning,

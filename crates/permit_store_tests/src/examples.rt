@@ -1,17 +1,24 @@
-//! The examples of the doc comments of the stores over a database and over memory, line by line as they stand there.
+//! The examples of the doc comments of the stores over a database and over memory, and of changes that are made together, line
+//! by line as they stand there.
 
+use crate::database::founded;
+use permit_base::values::{Digest, PartyId};
 use permit_base::words::Role;
+use permit_batch::batching::Batching;
+use permit_batch::draft::Draft;
 use permit_mirror::indexed::Indexed;
 use permit_mirror::mirrored::Mirrored;
 use permit_samples::held::Held;
-use permit_samples::makers::party;
+use permit_samples::makers::{digest_of, party};
 use permit_samples::offices::founder;
 use permit_sql::store::SqlStore;
 use permit_store::founder::Founder;
 use permit_store::plain::PlainStore;
+use permit_store::renewing::Renewing;
 use permit_store::store::Store;
 use sqlite::{Connection, MemStore};
 use std::alloc::Global;
+use std::marker::Brand;
 use std::process::Abort;
 use std::test::Fail;
 
@@ -69,6 +76,59 @@ fn gives_back(
     let mut kept = store.into_kept();
     assert!(rt; kept.desk()?.parties == 1);
     Ok(())
+}
+
+fn drafts(
+    rt: &impl Abort,
+    alloc: Global,
+    store: &mut SqlStore<MemStore>,
+) -> Result<Draft<SqlStore<MemStore>, PlainStore, Brand>, Fail> {
+    let memory = PlainStore::load(alloc, store)?;
+    let draft = Draft::<SqlStore<MemStore>, PlainStore, Brand>::new(alloc, memory);
+    assert!(rt; draft.waiting() == 0);
+    Ok(draft)
+}
+
+fn commits(
+    rt: &impl Abort,
+    draft: &mut Draft<SqlStore<MemStore>, PlainStore, Brand>,
+    store: &mut SqlStore<MemStore>,
+    party: PartyId,
+    digest: Digest,
+) -> Result<(), Fail> {
+    let renewed = draft.renew(party, &digest)?;
+    assert!(rt; renewed.is_ok() && draft.waiting() == 1);
+    assert!(rt; store.party_by_token(&digest)?.is_none());
+    draft.commit_to(store)?;
+    assert!(rt; store.party_by_token(&digest)?.is_some());
+    Ok(())
+}
+
+fn commits_all(
+    rt: &impl Abort,
+    alloc: Global,
+    store: &mut SqlStore<MemStore>,
+    party: PartyId,
+    digest: Digest,
+) -> Result<(), Fail> {
+    let mut steps = Vec::new(alloc);
+    steps.push(SqlStore::<MemStore>::renewal_step(alloc, party, &digest)?)?;
+    store.commit_all(steps.as_slice())?;
+    assert!(rt; store.party_by_token(&digest)?.is_some());
+    Ok(())
+}
+
+#[test]
+fn examples_of_drafts_hold(rt: HostRuntime) -> Result<(), Fail> {
+    let alloc = rt.alloc();
+    let (first, second) = (
+        digest_of(alloc, "first2first2first2")?,
+        digest_of(alloc, "again2again2again2")?,
+    );
+    let mut store = Held::new(founded(alloc)?);
+    let mut draft = Held::new(drafts(&rt, alloc, &mut store.value)?);
+    commits(&rt, &mut draft.value, &mut store.value, party(1)?, first)?;
+    commits_all(&rt, alloc, &mut store.value, party(1)?, second)
 }
 
 #[test]
