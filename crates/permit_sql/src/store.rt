@@ -1,6 +1,7 @@
 //! The store over SQL.
 
-ghost use Rattle.std.specs.Prelude.{◌≡◌, ◌==◌, ◌≢◌, ◌≤◌, ◌⊎◌, false, IsTrue, IfOk, IfErr, IsErrAnd, OnOk, OnErr, Err, Some, None, is_err, length, find, bytes_eq};
+ghost use Rattle.std.specs.Prelude.{◌≡◌, ◌==◌, ◌&&◌, ◌≢◌, ◌≤◌, ◌⊎◌, ⊤, false, IsTrue, IfOk, IfErr, IsErrAnd, OnOk, OnErr, Err, Some, None, is_err, List, length, find, filter, option_map, bytes_eq};
+ghost use Rattle.std.specs.List.{list_any};
 ghost use Rattle.sqlite_trees.specs.View.{doubt};
 ghost use Rattle.sqlite.specs.State.{HasCleanDisk, Survives};
 ghost use Rattle.sqlite.specs.Held.{state};
@@ -8,11 +9,13 @@ ghost use Rattle.permit_base.specs.declared.words.Edition.TheVariants.{First, Se
 ghost use Rattle.permit_model.specs.History.{History, upgraded};
 ghost use Rattle.permit_model.specs.Machine.{IsHistory};
 ghost use Rattle.permit_model.specs.Files.{case_files};
+ghost use Rattle.permit_model.specs.Routes.{found_by, Found as TheFound};
 ghost use Rattle.permit_model.specs.Tables.{Tables, tables, with_upgrade};
 ghost use Rattle.permit_model.specs.Sound.{IsSoundTables};
 ghost use Rattle.permit_store.specs.Founding.{founding};
 ghost use Rattle.permit_store.specs.Counts.{failed_after, handed_after, next_count};
-ghost use Rattle.permit_store.specs.Handing.{selected_after};
+ghost use Rattle.permit_store.specs.Handing.{AreAmong, AreFound, AreHanded, Hands, found_by_any, selected_after};
+ghost use Rattle.permit_store.specs.Interests.{DeclareSame};
 ghost use Rattle.permit_store.specs.declared.store.OpenError.TheVariants as open_error;
 ghost use Rattle.permit_sql_rows.specs.Schema.{empty_schema, IsOffice};
 ghost use Rattle.permit_sql_rows.specs.Kept.{KeepsUnder, Keeps, Shows, IsFine};
@@ -388,7 +391,7 @@ impl<S: Alter> Store for SqlStore<S> {
     ghost use Rattle.sqlite.specs.Held.{state};
     ghost use Rattle.permit_sql.specs.Seen.{seen, Outlasts};
     ghost use Rattle.permit_store.specs.Changes.{changed, Fits};
-    ghost use Rattle.permit_store.specs.Frames.{IsCommit, IsRead, OverTables};
+    ghost use Rattle.permit_store.specs.Frames.{IsCommit, IsLookUp, IsRead, OverTables, Reads};
 
     ghost view = { λ s. seen (state S.Store s.conn) s.upgrade s.handed s.failed s.commits };
 
@@ -417,62 +420,145 @@ impl<S: Alter> Store for SqlStore<S> {
         self.counted_first(got)
     }
 
-    fn party(&mut self, party: PartyId) -> Got<Option<Party>> {
+    fn party(&mut self, party: PartyId) -> Got<Option<Party>>
+        ensures found { OverTables (⟦<SqlStore<S> as Store>⟧.view self.old) (⟦<SqlStore<S> as Store>⟧.view self.new)
+            (λ t. IfOk result (λ p. p ≡ find (λ p. p.id == party) t.parties)) }
+        ensures read { IsRead (⟦<SqlStore<S> as Store>⟧.view self.old) (⟦<SqlStore<S> as Store>⟧.view self.new) result }
+        ensures crash { (t : Tables) → ⟦<SqlStore<S> as Store>⟧.crash self.old self.new t (λ _. ⊥) }
+        ensures suspect { self.new.is_suspect ≡ self.old.is_suspect }
+        ensures shut { self.new.shut ≡ self.old.shut }
+    {
         let got = read_party(&mut self.conn, party);
         self.counted(got)
     }
 
-    fn role(&mut self, party: PartyId) -> Got<Option<Role>> {
+    fn role(&mut self, party: PartyId) -> Got<Option<Role>>
+        ensures found { OverTables (⟦<SqlStore<S> as Store>⟧.view self.old) (⟦<SqlStore<S> as Store>⟧.view self.new)
+            (λ t. IfOk result (λ r. r ≡ option_map (λ p. p.role) (find (λ p. p.id == party) t.parties))) }
+        ensures read { IsRead (⟦<SqlStore<S> as Store>⟧.view self.old) (⟦<SqlStore<S> as Store>⟧.view self.new) result }
+        ensures crash { (t : Tables) → ⟦<SqlStore<S> as Store>⟧.crash self.old self.new t (λ _. ⊥) }
+        ensures suspect { self.new.is_suspect ≡ self.old.is_suspect }
+        ensures shut { self.new.shut ≡ self.old.shut }
+    {
         let got = read_role(&mut self.conn, party);
         self.counted(got)
     }
 
-    fn parcel(&mut self, parcel: ParcelId) -> Got<Option<Parcel>> {
+    fn parcel(&mut self, parcel: ParcelId) -> Got<Option<Parcel>>
+        ensures found { OverTables (⟦<SqlStore<S> as Store>⟧.view self.old) (⟦<SqlStore<S> as Store>⟧.view self.new)
+            (λ t. IfOk result (λ p. p ≡ find (λ p. p.id == parcel) t.parcels)) }
+        ensures read { IsRead (⟦<SqlStore<S> as Store>⟧.view self.old) (⟦<SqlStore<S> as Store>⟧.view self.new) result }
+        ensures crash { (t : Tables) → ⟦<SqlStore<S> as Store>⟧.crash self.old self.new t (λ _. ⊥) }
+        ensures suspect { self.new.is_suspect ≡ self.old.is_suspect }
+        ensures shut { self.new.shut ≡ self.old.shut }
+    {
         let got = read_parcel(&mut self.conn, parcel);
         self.counted(got)
     }
 
-    fn owner(&mut self, parcel: ParcelId) -> Got<Option<PartyId>> {
+    fn owner(&mut self, parcel: ParcelId) -> Got<Option<PartyId>>
+        ensures found { OverTables (⟦<SqlStore<S> as Store>⟧.view self.old) (⟦<SqlStore<S> as Store>⟧.view self.new)
+            (λ t. IfOk result (λ o. o ≡ option_map (λ p. p.owner) (find (λ p. p.id == parcel) t.parcels))) }
+        ensures read { IsRead (⟦<SqlStore<S> as Store>⟧.view self.old) (⟦<SqlStore<S> as Store>⟧.view self.new) result }
+        ensures crash { (t : Tables) → ⟦<SqlStore<S> as Store>⟧.crash self.old self.new t (λ _. ⊥) }
+        ensures suspect { self.new.is_suspect ≡ self.old.is_suspect }
+        ensures shut { self.new.shut ≡ self.old.shut }
+    {
         let got = read_owner(&mut self.conn, parcel);
         self.counted(got)
     }
 
-    fn parcel_by_lot(&mut self, lot: &Lot) -> Got<Option<Parcel>> {
+    fn parcel_by_lot(&mut self, lot: &Lot) -> Got<Option<Parcel>>
+        ensures found { OverTables (⟦<SqlStore<S> as Store>⟧.view self.old) (⟦<SqlStore<S> as Store>⟧.view self.new)
+            (λ t. IfOk result (λ p. p ≡ find (λ p. bytes_eq p.lot lot.now) t.parcels)) }
+        ensures read { IsRead (⟦<SqlStore<S> as Store>⟧.view self.old) (⟦<SqlStore<S> as Store>⟧.view self.new) result }
+        ensures crash { (t : Tables) → ⟦<SqlStore<S> as Store>⟧.crash self.old self.new t (λ _. ⊥) }
+        ensures suspect { self.new.is_suspect ≡ self.old.is_suspect }
+        ensures shut { self.new.shut ≡ self.old.shut }
+    {
         let got = find_parcel(&mut self.conn, lot);
         self.counted(got)
     }
 
-    fn interest(&mut self, parcel: ParcelId, party: PartyId) -> Got<bool> {
+    fn interest(&mut self, parcel: ParcelId, party: PartyId) -> Got<bool>
+        ensures found { OverTables (⟦<SqlStore<S> as Store>⟧.view self.old) (⟦<SqlStore<S> as Store>⟧.view self.new)
+            (λ t. IfOk result (λ b. b ≡ list_any (λ i. (i.parcel == parcel) && (i.party == party)) t.interests)) }
+        ensures read { IsRead (⟦<SqlStore<S> as Store>⟧.view self.old) (⟦<SqlStore<S> as Store>⟧.view self.new) result }
+        ensures crash { (t : Tables) → ⟦<SqlStore<S> as Store>⟧.crash self.old self.new t (λ _. ⊥) }
+        ensures suspect { self.new.is_suspect ≡ self.old.is_suspect }
+        ensures shut { self.new.shut ≡ self.old.shut }
+    {
         let got = has_interest(&mut self.conn, parcel, party);
         self.counted(got)
     }
 
-    fn interests(&mut self) -> Got<Vec<Interest>> {
+    fn interests(&mut self) -> Got<Vec<Interest>>
+        ensures found { OverTables (⟦<SqlStore<S> as Store>⟧.view self.old) (⟦<SqlStore<S> as Store>⟧.view self.new) (λ t. IfOk result (λ v. DeclareSame v.items t.interests)) }
+        ensures read { IsRead (⟦<SqlStore<S> as Store>⟧.view self.old) (⟦<SqlStore<S> as Store>⟧.view self.new) result }
+        ensures crash { (t : Tables) → ⟦<SqlStore<S> as Store>⟧.crash self.old self.new t (λ _. ⊥) }
+        ensures suspect { self.new.is_suspect ≡ self.old.is_suspect }
+        ensures shut { self.new.shut ≡ self.old.shut }
+    {
         let got = read_interests(&mut self.conn, self.alloc);
         self.counted(got)
     }
 
-    fn file(&mut self, file: FileId) -> Got<Option<FileRow>> {
+    fn file(&mut self, file: FileId) -> Got<Option<FileRow>>
+        ensures found { OverTables (⟦<SqlStore<S> as Store>⟧.view self.old) (⟦<SqlStore<S> as Store>⟧.view self.new)
+            (λ t. IfOk result (λ f. f ≡ find (λ f. f.id == file) t.files)) }
+        ensures read { IsLookUp (⟦<SqlStore<S> as Store>⟧.view self.old) (⟦<SqlStore<S> as Store>⟧.view self.new) result }
+        ensures crash { (t : Tables) → ⟦<SqlStore<S> as Store>⟧.crash self.old self.new t (λ _. ⊥) }
+        ensures suspect { self.new.is_suspect ≡ self.old.is_suspect }
+        ensures shut { self.new.shut ≡ self.old.shut }
+    {
         let got = read_file(&mut self.conn, file, self.upgrade);
         self.looked_up(got)
     }
 
-    fn state(&mut self, file: FileId) -> Got<Option<FileState>> {
+    fn state(&mut self, file: FileId) -> Got<Option<FileState>>
+        ensures found { OverTables (⟦<SqlStore<S> as Store>⟧.view self.old) (⟦<SqlStore<S> as Store>⟧.view self.new)
+            (λ t. IfOk result (λ s. s ≡ option_map (λ f. f.state) (find (λ f. f.id == file) t.files))) }
+        ensures read { IsLookUp (⟦<SqlStore<S> as Store>⟧.view self.old) (⟦<SqlStore<S> as Store>⟧.view self.new) result }
+        ensures crash { (t : Tables) → ⟦<SqlStore<S> as Store>⟧.crash self.old self.new t (λ _. ⊥) }
+        ensures suspect { self.new.is_suspect ≡ self.old.is_suspect }
+        ensures shut { self.new.shut ≡ self.old.shut }
+    {
         let got = read_state(&mut self.conn, file, self.upgrade);
         self.looked_up(got)
     }
 
-    fn papers(&mut self, file: FileId) -> Got<Vec<Paper>> {
+    fn papers(&mut self, file: FileId) -> Got<Vec<Paper>>
+        ensures found { OverTables (⟦<SqlStore<S> as Store>⟧.view self.old) (⟦<SqlStore<S> as Store>⟧.view self.new)
+            (λ t. IfOk result (λ v. v.items ≡ filter (λ p. p.file == file) t.papers)) }
+        ensures read { IsRead (⟦<SqlStore<S> as Store>⟧.view self.old) (⟦<SqlStore<S> as Store>⟧.view self.new) result }
+        ensures crash { (t : Tables) → ⟦<SqlStore<S> as Store>⟧.crash self.old self.new t (λ _. ⊥) }
+        ensures suspect { self.new.is_suspect ≡ self.old.is_suspect }
+        ensures shut { self.new.shut ≡ self.old.shut }
+    {
         let got = read_papers(&mut self.conn, file, self.alloc);
         self.counted(got)
     }
 
-    fn has_open_notice(&mut self, file: FileId, number: PaperNumber) -> Got<bool> {
+    fn has_open_notice(&mut self, file: FileId, number: PaperNumber) -> Got<bool>
+        ensures found { OverTables (⟦<SqlStore<S> as Store>⟧.view self.old) (⟦<SqlStore<S> as Store>⟧.view self.new)
+            (λ t. IfOk result (λ b. b ≡ list_any (λ p. (p.file == file) && (p.is_open && (p.number == number))) t.papers)) }
+        ensures read { IsRead (⟦<SqlStore<S> as Store>⟧.view self.old) (⟦<SqlStore<S> as Store>⟧.view self.new) result }
+        ensures crash { (t : Tables) → ⟦<SqlStore<S> as Store>⟧.crash self.old self.new t (λ _. ⊥) }
+        ensures suspect { self.new.is_suspect ≡ self.old.is_suspect }
+        ensures shut { self.new.shut ≡ self.old.shut }
+    {
         let got = has_open_notice(&mut self.conn, file, number);
         self.counted(got)
     }
 
-    fn select(&mut self, route: &Route, caller: PartyId, day: Day) -> Got<Vec<Found>> {
+    fn select(&mut self, route: &Route, caller: PartyId, day: Day) -> Got<Vec<Found>>
+        ensures found { OverTables (⟦<SqlStore<S> as Store>⟧.view self.old) (⟦<SqlStore<S> as Store>⟧.view self.new)
+            (λ t. IfOk result (λ v. AreFound t v.items (found_by route.now caller day t))) }
+        ensures read { Reads ⊤ (selected_after (λ v. length v.items) result (⟦<SqlStore<S> as Store>⟧.view self.old).handed) (⟦<SqlStore<S> as Store>⟧.view self.old) (⟦<SqlStore<S> as Store>⟧.view self.new) result }
+        ensures crash { (t : Tables) → ⟦<SqlStore<S> as Store>⟧.crash self.old self.new t (λ _. ⊥) }
+        ensures suspect { self.new.is_suspect ≡ self.old.is_suspect }
+        ensures shut { self.new.shut ≡ self.old.shut }
+    {
         let got = select_found(&mut self.conn, route, caller, day, self.upgrade, self.alloc);
         self.selected(got)
     }
@@ -483,7 +569,13 @@ impl<S: Alter> Store for SqlStore<S> {
         caller: PartyId,
         day: Day,
         taker: &mut T,
-    ) -> Got<bool> {
+    ) -> Got<bool>
+        ensures handed { (given : List TheFound) × Hands T.took given (⟦<SqlStore<S> as Store>⟧.view self.old) (⟦<SqlStore<S> as Store>⟧.view self.new) taker.old taker.new result
+            × OverTables (⟦<SqlStore<S> as Store>⟧.view self.old) (⟦<SqlStore<S> as Store>⟧.view self.new) (λ t. AreHanded t result given (found_by route.now caller day t)) }
+        ensures crash { (t : Tables) → ⟦<SqlStore<S> as Store>⟧.crash self.old self.new t (λ _. ⊥) }
+        ensures suspect { self.new.is_suspect ≡ self.old.is_suspect }
+        ensures shut { self.new.shut ≡ self.old.shut }
+    {
         let all = each_found(
             &mut self.conn,
             route,
@@ -502,7 +594,13 @@ impl<S: Alter> Store for SqlStore<S> {
         caller: PartyId,
         day: Day,
         taker: &mut T,
-    ) -> Got<bool> {
+    ) -> Got<bool>
+        ensures handed { (given : List TheFound) × Hands T.took given (⟦<SqlStore<S> as Store>⟧.view self.old) (⟦<SqlStore<S> as Store>⟧.view self.new) taker.old taker.new result
+            × OverTables (⟦<SqlStore<S> as Store>⟧.view self.old) (⟦<SqlStore<S> as Store>⟧.view self.new) (λ t. AreAmong result given (found_by_any routes.now caller day t)) }
+        ensures crash { (t : Tables) → ⟦<SqlStore<S> as Store>⟧.crash self.old self.new t (λ _. ⊥) }
+        ensures suspect { self.new.is_suspect ≡ self.old.is_suspect }
+        ensures shut { self.new.shut ≡ self.old.shut }
+    {
         let took_all = each_of_any_found(
             &mut self.conn,
             routes,
