@@ -1,6 +1,6 @@
 -- A party's new token behind a text that was cut to the history of the tables.
 use Rattle.std.proofs.Common.{◌≡◌, ◌∙◌, ◌≤◌, inl, inr, sym, ap, subst, ℕ, Bool, List, [], ◌∷◌, ◌++◌, map, None, Result, Ok, Err, append_assoc, arith}
-use Rattle.std.specs.Prelude.{IsTrue, OnOk}
+use Rattle.std.specs.Prelude.{IsTrue, OnErr, OnOk}
 use Rattle.sqlite_trees.specs.declared.store.Store.{Ghosts}
 use Rattle.sqlite.specs.State.{HasCleanDisk}
 use Rattle.sqlite.specs.Held.{Held, state}
@@ -24,7 +24,9 @@ use Rattle.permit_opening.proofs.Opened.{text_split, whole_length}
 use Rattle.permit_journal.specs.Journals.{Has, IsSettled, JournalView}
 use Rattle.permit_resuming.specs.Resuming.{IsCutTo}
 use Rattle.permit_sql_rows.specs.Kept.{IsFine, Keeps}
+use Rattle.permit_sql.specs.Found.{KeepsSound}
 use Rattle.permit_sql.specs.Renewing.{OverKept}
+use Rattle.permit_keeping.specs.Opening.{LeavesUnsound, StillKeepsSound}
 use Rattle.permit_keeping.specs.Renewing.{renewal_line, RenewsWith, SettlesWith, TellsTables}
 
 -- tables that are alike stay so where a party of both gets the digest
@@ -83,10 +85,6 @@ module _ (begins : Unsaid → Type 0) where
   renewal_tells before opened after day party digest t cut grown none =
       renewed_by opened after day party digest t (cut_tells before opened t cut) grown none
 
--- a doubt that isn't there later wasn't there before
-pub none_before : (before after : ℕ) → before ≤ after → after ≡ 0 → before ≡ 0
-none_before before after at_most none = omega (arith, at_most, none)
-
 -- what is said of a renewal behind the opening is said of the database that was given
 module _ {S H : Type 0} (g : Ghosts S) (begins : Unsaid → Type 0) (text : H → List ℕ) (may_leave : H → List ℕ → Type 0) (is_clean : H → Bool) (conn mid back : Held S)
     (before : List ℕ) (day party : ℕ) (digest : List ℕ) (opened left : JournalView H) where
@@ -98,6 +96,7 @@ module _ {S H : Type 0} (g : Ghosts S) (begins : Unsaid → Type 0) (text : H �
       → OnOk result (RenewsWith g begins text may_leave is_clean conn back before party digest)
   renews_with (Err e) settles fine is_open made admitted entered = tt
   renews_with (Ok done) settles fine is_open made admitted entered = record {
+    sound = λ clean. settles.sound (fine (clean, is_open clean)).0;
     day = day;
     opened = opened;
     left = left;
@@ -113,3 +112,17 @@ module _ {S H : Type 0} (g : Ghosts S) (begins : Unsaid → Type 0) (text : H �
         renewal_tells begins before (text opened.file) (text left.file) day party digest t (settles.cut well.0 told t keeps sound)
         (entered (settles.settled told)).bytes_there (admitted clean t there);
   }
+
+-- a renewal that failed behind the opening was one of sound tables
+pub unsound_renewed : {S E : Type 0} (g : Ghosts S) (conn mid back : Held S) (result : Result (Unit {0}) E) → (HasCleanDisk (state g mid) → KeepsSound (state g conn).now)
+    → (IsFine (state g back) → IsFine (state g mid)) → OnErr result (LeavesUnsound g conn back)
+unsound_renewed g conn mid back (Ok done) sound fine = tt
+unsound_renewed g conn mid back (Err e) sound fine = λ unsound well. absurd (unsound (sound (fine well).0))
+
+-- and the database still shows what it kept
+pub still_renewed : {S E : Type 0} (g : Ghosts S) (conn mid back : Held S) (result : Result (Unit {0}) E) → StillKeepsSound g conn mid
+    → (IsFine (state g back) → IsFine (state g mid)) → OnErr result (IsFine (state g back) → (state g back).now ≡ (state g mid).now)
+    → OnErr result (StillKeepsSound g conn back)
+still_renewed g conn mid back (Ok done) shown fine same = tt
+still_renewed g conn mid back (Err e) shown fine same = λ t keeps sound clean opened.
+    let well = fine (clean, opened) in subst (Keeps t) (sym (same (clean, opened))) (shown t keeps sound well.0 well.1)

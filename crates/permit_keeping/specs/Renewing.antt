@@ -16,6 +16,7 @@ use Rattle.permit_recorded.specs.Planned.{whole_line_of}
 use Rattle.permit_replay.specs.Histories.{Unsaid}
 use Rattle.permit_resuming.specs.Resuming.{IsCutTo}
 use Rattle.permit_sql_rows.specs.Kept.{Keeps, Shows}
+use Rattle.permit_sql.specs.Found.{KeepsSound}
 use Rattle.permit_keeping.specs.Opening.{StillKeepsSound}
 
 -- the line of a party's new token, with its LF
@@ -28,17 +29,20 @@ TellsTables begins text t = (entries : List Entry) × (text ≡ text_of entries)
 
 module _ {S H : Type 0} (g : Ghosts S) (begins : Unsaid → Type 0) (text : H → List ℕ) (may_leave : H → List ℕ → Type 0) (is_clean : H → Bool) where
   -- The connection showed these tables, which are sound, and shows them still. Where the disk and the history's file have told
-  -- nothing false, the day is the last of the tables, the text was cut to their history, and the journal is settled.
+  -- nothing false, the day is the last of the tables, the text was cut to their history, and the journal is settled. A database that
+  -- keeps no sound tables isn't settled.
   pub record SettlesWith (conn now : Held S) (before : List ℕ) (last : ℕ) (journal : JournalView H) : Type 0 where
     pub shown : StillKeepsSound g conn now
     pub last_is : HasCleanDisk (state g now) → (t : Tables) → Keeps t (state g conn).now → IsSoundTables t → last ≡ t.desk.last
     pub cut : HasCleanDisk (state g now) → IsTrue (is_clean journal.file) → (t : Tables) → Keeps t (state g conn).now → IsSoundTables t
         → IsCutTo begins before t (text journal.file)
     pub settled : IsTrue (is_clean journal.file) → IsSettled text may_leave is_clean journal
+    pub sound : HasCleanDisk (state g now) → KeepsSound (state g conn).now
 
-  -- Of the sound tables that the database kept, nothing stood against the renewal, and it keeps them renewed. The text was cut to
-  -- their history, the line of the renewal stands behind it, and the whole tells the tables that are renewed.
+  -- The database kept sound tables. Of these nothing stood against the renewal, and it keeps them renewed. The text was cut to their
+  -- history, the line of the renewal stands behind it, and the whole tells the tables that are renewed.
   pub record RenewsWith (conn back : Held S) (before : List ℕ) (party : ℕ) (digest : List ℕ) : Type 0 where
+    pub sound : HasCleanDisk (state g back) → KeepsSound (state g conn).now
     pub day : ℕ
     pub opened : JournalView H
     pub left : JournalView H

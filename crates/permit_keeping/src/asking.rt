@@ -3,7 +3,7 @@
 ghost use Rattle.std.specs.Prelude.{◌≡◌, IfErr, IfOk, IsTrue};
 ghost use Rattle.permit_keeping.specs.Asking.{IsAsked, IsImported};
 ghost use Rattle.permit_keeping.specs.Failing.{is_unopened};
-ghost use Rattle.permit_keeping.specs.Opening.{StillKeepsSound};
+ghost use Rattle.permit_keeping.specs.Opening.{LeavesUnsound, StillKeepsSound};
 ghost use Rattle.permit_replay.specs.Holding.{IsBeginning, StillBegins};
 
 use crate::opening::{Kept, recorded_in};
@@ -50,6 +50,7 @@ pub fn ask_recorded<S: Alter + Drop, H: HistoryFile + Drop>(
         policy conn result.0 (H.text file) day request.now) }
     ensures still { StillBegins ⟦<PlainStore as Store>⟧.view beginning.old beginning.new }
     ensures unasked { IfErr result.1 (λ _. StillKeepsSound S.Store conn result.0) }
+    ensures unsound { IfErr result.1 (λ _. LeavesUnsound S.Store conn result.0) }
     ensures fails { IfErr result.1 (λ why. IsTrue (is_unopened why)) }
 {
     match recorded_in(alloc, beginning, conn, policy, file) {
@@ -85,6 +86,7 @@ pub fn import_recorded<S: Alter + Drop, H: HistoryFile + Drop, R: Read + Drop, W
         H.leaves policy conn result.0 (H.text file) token.now day why (R.remaining records) (W.contents out.old) (W.contents out.new)) }
     ensures still { StillBegins ⟦<PlainStore as Store>⟧.view beginning.old beginning.new }
     ensures unopened { IfErr result.1 (λ _. StillKeepsSound S.Store conn result.0) }
+    ensures unsound { IfErr result.1 (λ _. LeavesUnsound S.Store conn result.0) }
     ensures unwritten { IfErr result.1 (λ _. W.contents out.new ≡ W.contents out.old) }
     ensures fails { IfErr result.1 (λ why. IsTrue (is_unopened why)) }
 {

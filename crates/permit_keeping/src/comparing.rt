@@ -8,7 +8,7 @@ ghost use Rattle.permit_model.specs.Tables.{Tables};
 ghost use Rattle.permit_opening.specs.Opening.{DiffersFirst, IsAlike, Says};
 ghost use Rattle.permit_sql_rows.specs.Kept.{Shows};
 ghost use Rattle.permit_keeping.specs.Failing.{is_unopened};
-ghost use Rattle.permit_keeping.specs.Opening.{StillKeepsSound};
+ghost use Rattle.permit_keeping.specs.Opening.{LeavesUnsound, StillKeepsSound};
 ghost use Rattle.permit_replay.specs.Holding.{IsBeginning, StillBegins};
 
 use crate::failing::of_comparing;
@@ -26,6 +26,18 @@ use std::io::BufRead;
 
 /// What the text of a history says of the tables of a database, which are only read. Of the text there are two readings, from its
 /// start.
+///
+/// # Examples
+///
+/// ```
+/// let (mut source, mut again) = (text.as_bytes(), text.as_bytes());
+/// let mut beginning = Beginning::Founding;
+/// let (_, compared) = compare_in(alloc, &mut beginning, conn, &mut source, &mut again);
+/// let Ok(compared) = compared else {
+///     return Err(Fail::new("not compared"));
+/// };
+/// assert!(rt; compared.kept() == Some(text.len() as u64));
+/// ```
 pub fn compare_in<S: Alter + Drop, R: BufRead, Q: BufRead>(
     alloc: Global,
     beginning: &mut Beginning,
@@ -36,6 +48,7 @@ pub fn compare_in<S: Alter + Drop, R: BufRead, Q: BufRead>(
     ensures says { (bytes : List ℕ) → R.remaining source.old ≡ Some bytes → Q.remaining again.old ≡ Some bytes
         → HasCleanDisk (state S.Store result.0) → (t : Tables) → Shows t (state S.Store conn) → IsSoundTables t → IfOk result.1 (Says (IsBeginning ⟦<PlainStore as Store>⟧.view beginning.old) bytes t) }
     ensures back { StillKeepsSound S.Store conn result.0 }
+    ensures unsound { LeavesUnsound S.Store conn result.0 }
     ensures still { StillBegins ⟦<PlainStore as Store>⟧.view beginning.old beginning.new }
     ensures fails { IfErr result.1 (λ why. IsTrue (is_unopened why)) }
 {
@@ -64,6 +77,7 @@ pub fn difference_in<S: Alter + Drop, R: BufRead>(
     ensures named { (bytes : List ℕ) → R.remaining source.old ≡ Some bytes → HasCleanDisk (state S.Store result.0)
         → (t : Tables) → Shows t (state S.Store conn) → IfOk result.1 (λ found. IfSome found (DiffersFirst (IsBeginning ⟦<PlainStore as Store>⟧.view beginning.old) bytes t)) }
     ensures back { StillKeepsSound S.Store conn result.0 }
+    ensures unsound { LeavesUnsound S.Store conn result.0 }
     ensures still { StillBegins ⟦<PlainStore as Store>⟧.view beginning.old beginning.new }
     ensures fails { IfErr result.1 (λ why. IsTrue (is_unopened why)) }
 {

@@ -16,7 +16,7 @@ ghost use Rattle.permit_subcommands.specs.declared.failure.HistoryFailure.TheVar
 ghost use Rattle.permit_alike.specs.Comparing.{Looks};
 ghost use Rattle.permit_keeping.specs.Copying.{begin_line, Begins, HasCopied, IsSealedOn};
 ghost use Rattle.permit_keeping.specs.Failing.{is_unbegun};
-ghost use Rattle.permit_keeping.specs.Opening.{StillKeepsSound};
+ghost use Rattle.permit_keeping.specs.Opening.{LeavesUnsound, StillKeepsSound};
 
 use crate::line::whole_line;
 use permit_base::values::{Day, Digest};
@@ -59,6 +59,7 @@ pub fn copied_in<S: Alter + Drop>(
     ensures copied { IfOk result.1 (λ beginning. HasCleanDisk (state S.Store result.0) → (t : Tables) → Shows t (state S.Store conn)
         → IsSoundTables t → HasCopied ⟦<PlainStore as Store>⟧.view t beginning) }
     ensures back { StillKeepsSound S.Store conn result.0 }
+    ensures unsound { LeavesUnsound S.Store conn result.0 }
     ensures fails { IfErr result.1 (λ why. (why ≡ History Copy) ⊎ (why ≡ plain StoreWord)) }
 {
     match SqlStore::open(alloc, conn) {
@@ -110,6 +111,7 @@ fn sealed_in<S: Alter + Drop>(
     ensures sealed { IfOk result.1 (λ it. HasCleanDisk (state S.Store result.0) → (t : Tables) → Shows t (state S.Store conn)
         → IsSoundTables t → IsSealedOn t it.last it.tables) }
     ensures back { StillKeepsSound S.Store conn result.0 }
+    ensures unsound { LeavesUnsound S.Store conn result.0 }
     ensures other { IfErr result.1 (λ why. why ≢ History Exists) }
     ensures fails { IfErr result.1 (λ why. IsTrue (is_unbegun why)) }
 {
@@ -159,6 +161,16 @@ fn begin_text<H: HistoryFile + Drop>(
 /// Begins the history of the office in a database, which is only read: the text's first line tells the office's last day and the
 /// digest of its tables' text, and is on the disk. It returns that day. A journal with a text is refused, as `exists`. With a
 /// refusal the text is as it was, unless the journal is shut.
+///
+/// # Examples
+///
+/// ```
+/// let (_, begun) = begin_in(alloc, conn, &mut journal);
+/// let Ok(last) = begun else {
+///     return Err(Fail::new("no beginning"));
+/// };
+/// assert!(rt; last == founder.day && journal.length() != 0);
+/// ```
 pub fn begin_in<S: Alter + Drop, H: HistoryFile + Drop>(
     alloc: Global,
     conn: Connection<S>,
@@ -171,6 +183,7 @@ pub fn begin_in<S: Alter + Drop, H: HistoryFile + Drop>(
         → OnErr result.1 (HasUnlessShut H.text H.may_leave H.is_clean journal.new journal.new.is_shut (H.text journal.old.file)) }
     ensures exists { IsSettled H.text H.may_leave H.is_clean journal.old → result.1 ≡ Err (History Exists) → H.text journal.old.file ≢ [] }
     ensures back { StillKeepsSound S.Store conn result.0 }
+    ensures unsound { LeavesUnsound S.Store conn result.0 }
     ensures fails { IfErr result.1 (λ why. IsTrue (is_unbegun why)) }
 {
     let (conn, sealed) = sealed_in(alloc, conn);

@@ -65,6 +65,15 @@ fn begin<H: HistoryFile + Drop>(
 /// Founds an office in a database, and begins its history, whose lines are on the disk before the tables are made. A journal with
 /// a text is refused, and so is a database with a table, as `exists`. With a refusal the database is as it was, and so is the
 /// text, unless the journal is shut.
+///
+/// # Examples
+///
+/// ```
+/// let (conn, founded) = found_with(alloc, conn, &mut journal, &founder);
+/// assert!(rt; founded.is_ok() && journal.length() != 0);
+/// let (_, again) = found_with(alloc, conn, &mut journal, &founder);
+/// assert!(rt; matches!(again, Err(Failure::History(HistoryFailure::Exists))));
+/// ```
 pub fn found_with<S: Alter + Drop, H: HistoryFile + Drop>(
     alloc: Global,
     conn: Connection<S>,

@@ -2,7 +2,7 @@
 
 ghost use Rattle.std.specs.Prelude.{◌≡◌, IfErr, IfOk, IsTrue};
 ghost use Rattle.permit_keeping.specs.Failing.{is_unopened};
-ghost use Rattle.permit_keeping.specs.Opening.{OpensWith, StillKeepsSound};
+ghost use Rattle.permit_keeping.specs.Opening.{LeavesUnsound, OpensWith, StillKeepsSound};
 ghost use Rattle.permit_replay.specs.Holding.{IsBeginning, StillBegins};
 
 use crate::failing::of_resuming;
@@ -35,6 +35,7 @@ pub fn recorded_in<S: Alter + Drop, H: HistoryFile + Drop>(
         (⟦<SqlStore<S> as Store>⟧.view office.store.store) office.journal) }
     ensures policy { IfOk result (λ office. office.decider ≡ policy) }
     ensures back { IfErr result (λ back. StillKeepsSound S.Store conn back.0) }
+    ensures unsound { IfErr result (λ back. LeavesUnsound S.Store conn back.0) }
     ensures still { StillBegins ⟦<PlainStore as Store>⟧.view beginning.old beginning.new }
     ensures fails { IfErr result (λ back. IsTrue (is_unopened back.1)) }
 {

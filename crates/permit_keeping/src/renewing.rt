@@ -11,7 +11,7 @@ ghost use Rattle.permit_sql_rows.specs.Kept.{IsFine, Keeps};
 ghost use Rattle.permit_sql.specs.Found.{KeepsSound};
 ghost use Rattle.permit_sql.specs.Renewing.{IsRenewed, OverKept};
 ghost use Rattle.permit_keeping.specs.Failing.{is_unopened, is_unrenewed};
-ghost use Rattle.permit_keeping.specs.Opening.{StillKeepsSound};
+ghost use Rattle.permit_keeping.specs.Opening.{LeavesUnsound, StillKeepsSound};
 ghost use Rattle.permit_keeping.specs.Renewing.{renewal_line, RenewsWith, SettlesWith};
 ghost use Rattle.permit_replay.specs.Holding.{IsBeginning, StillBegins};
 
@@ -48,6 +48,7 @@ fn settled_in<S: Alter + Drop, H: HistoryFile + Drop>(
 ) -> Result<Settled<S, H>, (Connection<S>, Failure)>
     ensures settled { IfOk result (λ it. SettlesWith S.Store (IsBeginning ⟦<PlainStore as Store>⟧.view beginning.old) H.text H.may_leave H.is_clean conn it.conn (H.text file) it.last it.journal) }
     ensures back { IfErr result (λ back. StillKeepsSound S.Store conn back.0) }
+    ensures unsound { IfErr result (λ back. LeavesUnsound S.Store conn back.0) }
     ensures still { StillBegins ⟦<PlainStore as Store>⟧.view beginning.old beginning.new }
     ensures fails { IfErr result (λ back. IsTrue (is_unopened back.1)) }
 {
@@ -168,6 +169,7 @@ pub fn renew_recorded<S: Alter + Drop, H: HistoryFile + Drop>(
     ensures renewed { OnOk result.1 (RenewsWith S.Store (IsBeginning ⟦<PlainStore as Store>⟧.view beginning.old) H.text H.may_leave H.is_clean conn result.0 (H.text file) party (digest_of token.now)) }
     ensures still { StillBegins ⟦<PlainStore as Store>⟧.view beginning.old beginning.new }
     ensures unrenewed { OnErr result.1 (StillKeepsSound S.Store conn result.0) }
+    ensures unsound { OnErr result.1 (LeavesUnsound S.Store conn result.0) }
     ensures fails { IfErr result.1 (λ why. IsTrue (is_unrenewed why)) }
 {
     match settled_in(alloc, beginning, conn, file) {

@@ -1,16 +1,18 @@
 //! Serving an office that is opened with its history over TCP.
 
 ghost use Rattle.std.specs.Prelude.{◌≡◌, ◌⊎◌, IfErr, IfOk, OnErr, OnOk, IsTrue};
+ghost use Rattle.sqlite.specs.State.{HasCleanDisk};
 ghost use Rattle.sqlite.specs.Held.{state};
 ghost use Rattle.permit_model.specs.Sound.{IsSoundTables};
 ghost use Rattle.permit_model.specs.Tables.{Tables};
 ghost use Rattle.permit_sql_rows.specs.Kept.{Shows};
+ghost use Rattle.permit_sql.specs.Found.{KeepsSound};
 ghost use Rattle.permit_sockets.specs.Ending.{HaveEnded};
 ghost use Rattle.permit_sockets.specs.Listening.{SaysListening};
 ghost use Rattle.permit_subcommands.specs.Failures.{IsUnheard};
 ghost use Rattle.permit_subcommands.specs.declared.failure.Failure.TheVariants.{Output};
 ghost use Rattle.permit_keeping.specs.Failing.{is_unopened};
-ghost use Rattle.permit_keeping.specs.Opening.{OpensWith, StillKeepsSound};
+ghost use Rattle.permit_keeping.specs.Opening.{LeavesUnsound, OpensWith, StillKeepsSound};
 ghost use Rattle.permit_keeping.specs.Serving.{IsServed};
 ghost use Rattle.permit_replay.specs.Holding.{IsBeginning, StillBegins};
 
@@ -63,7 +65,9 @@ fn in_memory<S: Alter + Drop>(
 ) -> Result<InMemory<S>, (Connection<S>, Failure)>
     ensures held { IfOk result (λ store. (t : Tables) → Shows t (state S.Store conn) → IsSoundTables t
         → (⟦<InMemory<S> as Store>⟧.view store).holds t) }
+    ensures sound { IfOk result (λ store. HasCleanDisk (state S.Store store.kept.conn) → KeepsSound (state S.Store conn).now) }
     ensures back { IfErr result (λ back. StillKeepsSound S.Store conn back.0) }
+    ensures unsound { IfErr result (λ back. LeavesUnsound S.Store conn back.0) }
     ensures fails { IfErr result (λ back. IsTrue (is_unopened back.1)) }
 {
     match SqlStore::open(alloc, conn) {
@@ -93,6 +97,7 @@ fn recorded_beside_memory<S: Alter + Drop, H: HistoryFile + Drop>(
     ensures policy { IfOk result (λ office. office.decider ≡ policy) }
     ensures still { StillBegins ⟦<PlainStore as Store>⟧.view beginning.old beginning.new }
     ensures back { IfErr result (λ back. StillKeepsSound S.Store conn back.0) }
+    ensures unsound { IfErr result (λ back. LeavesUnsound S.Store conn back.0) }
     ensures fails { IfErr result (λ back. IsTrue (is_unopened back.1)) }
 {
     match in_memory(alloc, conn, shut) {
@@ -138,6 +143,7 @@ where
         (O.contents out.old) (O.contents out.new) ends.items)) }
     ensures still { StillBegins ⟦<PlainStore as Store>⟧.view beginning.old beginning.new }
     ensures unserved { OnErr result.1 (StillKeepsSound S.Store conn result.0 × (today.new ≡ today.old)) }
+    ensures unsound { OnErr result.1 (LeavesUnsound S.Store conn result.0) }
     ensures told { OnOk result.1 (SaysListening (O.contents out.old) (O.contents out.new)) }
     ensures untold { IfErr result.1 (λ why. (why ≡ Output)
         ⊎ ((O.contents out.new ≡ O.contents out.old) ⊎ SaysListening (O.contents out.old) (O.contents out.new))) }

@@ -1,7 +1,7 @@
 use Rattle.std.proofs.Common.{subst}
 use Rattle.sqlite.specs.State.{HasCleanDisk}
 use Rattle.sqlite.specs.Held.{Held, state}
-use Rattle.permit_keeping.proofs.Opened.{same_back, shown_back}
+use Rattle.permit_keeping.proofs.Opened.{kept_sound, none_unsound, same_back, shown_back}
 use Rattle.permit_keeping.proofs.comparing.difference_in.Goals as goal
 
 pub returns-in-Ok-found-clause-none : goal.returns-in-Ok-found-clause-none
@@ -28,3 +28,13 @@ returns-in-Err-found-clause-back g c =
 
 pub returns-in-Err-clause-back : goal.returns-in-Err-clause-back
 returns-in-Err-clause-back g c = same_back g.S.Store c.args.conn c.in-Err.conn c.in-Err.ensures.same
+
+pub returns-in-Ok-found-clause-unsound : goal.returns-in-Ok-found-clause-unsound
+returns-in-Ok-found-clause-unsound g c =
+    none_unsound g.S.Store c.args.conn c.difference-found.new.store.conn c.into_connection-conn.result
+    (kept_sound g.S.Store c.args.conn c.in-Ok.store.conn c.difference-found.new.store.conn c.in-Ok.ensures.sound c.in-Ok.ensures.left c.difference-found.ensures.looks.doubt) c.into_connection-conn.ensures.conn
+
+pub returns-in-Err-found-clause-unsound : goal.returns-in-Err-found-clause-unsound
+returns-in-Err-found-clause-unsound g c =
+    none_unsound g.S.Store c.args.conn c.difference-found.new.store.conn c.into_connection-conn.result
+    (kept_sound g.S.Store c.args.conn c.in-Ok.store.conn c.difference-found.new.store.conn c.in-Ok.ensures.sound c.in-Ok.ensures.left c.difference-found.ensures.looks.doubt) c.into_connection-conn.ensures.conn

@@ -1,10 +1,9 @@
-use Rattle.std.proofs.Common.{◌≡◌, ◌∙◌, ap, rules, subst}
+use Rattle.std.proofs.Common.{◌≡◌, ◌∙◌, ap, arith, rules, subst}
 use Rattle.sqlite.specs.State.{HasCleanDisk}
 use Rattle.sqlite.specs.Held.{Held, state}
 use Rattle.permit_model.specs.Tables.{Desk}
 use Rattle.permit_keeping.proofs.Failures.{resuming_told}
-use Rattle.permit_keeping.proofs.Opened.{shown_back}
-use Rattle.permit_keeping.proofs.Renewed.{none_before}
+use Rattle.permit_keeping.proofs.Opened.{kept_sound, none_before, none_unsound, shown_back}
 use Rattle.permit_keeping.proofs.renewing.settled_in.Goals as goal
 
 pub returns-in-Ok-settle-clause-settled : goal.returns-in-Ok-settle-clause-settled
@@ -22,6 +21,8 @@ returns-in-Ok-settle-clause-settled g c =
       cut = λ clean told t keeps sound. said.cut (subst (λ (h : Held _). HasCleanDisk (state g.S.Store h)) same clean) t
           (c.in-Ok-desk.ensures.read.kept t (c.in-Ok.ensures.held t (λ _ _. keeps))) sound told;
       settled = said.settled;
+      sound = λ clean. kept_sound g.S.Store c.args.conn c.in-Ok.store.conn c.settle.new.store.conn c.in-Ok.ensures.sound c.in-Ok.ensures.left
+          (omega (arith, c.in-Ok-desk.ensures.read.doubt, said.looks.doubt)) (subst (λ (h : Held _). HasCleanDisk (state g.S.Store h)) same clean);
     }
 
 pub returns-in-Err-settle-clause-back : goal.returns-in-Err-settle-clause-back
@@ -33,3 +34,15 @@ returns-in-Err-settle-clause-back g c =
 
 pub returns-in-Err-settle-clause-fails : goal.returns-in-Err-settle-clause-fails
 returns-in-Err-settle-clause-fails g c = resuming_told c.in-Err-settle.fault _ c.of_resuming.ensures
+
+pub returns-in-Err-settle-clause-unsound : goal.returns-in-Err-settle-clause-unsound
+returns-in-Err-settle-clause-unsound g c =
+    none_unsound g.S.Store c.args.conn c.settle.new.store.conn c.into_connection-in-Err-settle.result
+    (kept_sound g.S.Store c.args.conn c.in-Ok.store.conn c.settle.new.store.conn c.in-Ok.ensures.sound c.in-Ok.ensures.left
+    (omega (arith, c.in-Ok-desk.ensures.read.doubt, c.in-Err-settle.ensures.looks.doubt))) c.into_connection-in-Err-settle.ensures.conn
+
+pub returns-in_default-clause-unsound : goal.returns-in_default-clause-unsound
+returns-in_default-clause-unsound g c =
+    none_unsound g.S.Store c.args.conn c.desk.new.self.conn c.into_connection.result
+    (kept_sound g.S.Store c.args.conn c.in-Ok.store.conn c.desk.new.self.conn c.in-Ok.ensures.sound c.in-Ok.ensures.left c.in_default.ensures.read.doubt)
+    c.into_connection.ensures.conn

@@ -1,6 +1,6 @@
 use Rattle.std.proofs.Common.{◌∙◌, ap}
 use Rattle.permit_keeping.proofs.Failures.{in_second, on_err, told_same}
-use Rattle.permit_keeping.proofs.Opened.{shown_back}
+use Rattle.permit_keeping.proofs.Opened.{none_unsound, shown_back}
 use Rattle.permit_keeping.proofs.Served.{served_as}
 use Rattle.permit_keeping.proofs.serving.serve_recorded.Goals as goal
 
@@ -33,3 +33,10 @@ returns-in-Ok-clause-untold g c =
 
 pub returns-in-Ok-clause-fails : goal.returns-in-Ok-clause-fails
 returns-in-Ok-clause-fails g c = in_second _ _ c.serve_service-office.result.1 c.serve_service-office.ensures.fault
+
+pub returns-in-Ok-clause-unsound : goal.returns-in-Ok-clause-unsound
+returns-in-Ok-clause-unsound g c =
+    let done = c.serve_service-office in
+    on_err done.result.1
+    (λ same. none_unsound g.S.Store c.args.conn c.in-Ok.office.store.store.kept.conn c.connection_of.result c.in-Ok.ensures.opened.sound
+    (c.connection_of.ensures ∙ ap (λ o. o.store.store.kept.conn) (c.into_office.ensures ∙ (same.0 ∙ c.new-office.ensures)))) done.ensures.same
