@@ -1,15 +1,29 @@
-//! The example of the doc comment of bringing a store further, line by line as it stands there.
+//! The examples of the doc comments on stores, databases and words, line by line as they stand there.
 
 use permit_alike::unordered::Unordered;
+use permit_cli::program::run_words;
+use permit_journal::journal::Journal;
+use permit_journal::memory::MemoryFile;
+use permit_keeping::comparing::compare_in;
+use permit_keeping::copying::begin_in;
+use permit_keeping::founding::found_with;
 use permit_opening::bringing::{Brought, bring};
 use permit_replay::beginning::Beginning;
 use permit_samples::held::Held;
 use permit_samples::offices::founder;
 use permit_sql::store::SqlStore;
+use permit_store::founder::Founder;
+use permit_subcommands::failure::{Failure, HistoryFailure};
 use sqlite::{Connection, MemStore};
 use std::alloc::Global;
 use std::process::Abort;
 use std::test::Fail;
+
+/// The founding and the upgrade.
+const FOUNDED: &str =
+    r#"{"body":{"digest":"71c480df93d6ae2f1efad1447c66c9525e316218cf51fc8d9ed832f2daf18b73","name":"Chief"},"caller":0,"day":19700,"done":"found","id":null,"number":1}
+{"body":{},"caller":0,"day":19700,"done":"upgrade","id":null,"number":null}
+"#;
 
 /// The founding, the upgrade and a new reviewer.
 const TEXT: &str =
@@ -23,6 +37,64 @@ fn brings(rt: &impl Abort, alloc: Global, store: SqlStore<MemStore>, text: &str)
     let (mut source, mut beginning) = (text.as_bytes(), Beginning::Founding);
     let brought = bring(alloc, &mut beginning, &mut kept, &mut source);
     assert!(rt; matches!(brought, Ok(Brought { stood: 2, lines: 3 })));
+}
+
+fn founds(
+    rt: &impl Abort,
+    alloc: Global,
+    conn: Connection<MemStore>,
+    mut journal: Journal<MemoryFile>,
+    founder: Founder,
+) {
+    let (conn, founded) = found_with(alloc, conn, &mut journal, &founder);
+    assert!(rt; founded.is_ok() && journal.length() != 0);
+    let (_, again) = found_with(alloc, conn, &mut journal, &founder);
+    assert!(rt; matches!(again, Err(Failure::History(HistoryFailure::Exists))));
+}
+
+fn begins(
+    rt: &impl Abort,
+    alloc: Global,
+    conn: Connection<MemStore>,
+    mut journal: Journal<MemoryFile>,
+    founder: Founder,
+) -> Result<(), Fail> {
+    let (_, begun) = begin_in(alloc, conn, &mut journal);
+    let Ok(last) = begun else {
+        return Err(Fail::new("no beginning"));
+    };
+    assert!(rt; last == founder.day && journal.length() != 0);
+    Ok(())
+}
+
+fn compares(
+    rt: &impl Abort,
+    alloc: Global,
+    conn: Connection<MemStore>,
+    text: &str,
+) -> Result<(), Fail> {
+    let (mut source, mut again) = (text.as_bytes(), text.as_bytes());
+    let mut beginning = Beginning::Founding;
+    let (_, compared) = compare_in(alloc, &mut beginning, conn, &mut source, &mut again);
+    let Ok(compared) = compared else {
+        return Err(Fail::new("not compared"));
+    };
+    assert!(rt; compared.kept() == Some(text.len() as u64));
+    Ok(())
+}
+
+/// A connection, with a journal without a text and the founder.
+fn beside(
+    alloc: Global,
+    conn: Connection<MemStore>,
+) -> Result<(Connection<MemStore>, Journal<MemoryFile>, Founder), Fail> {
+    let conn = Held::new(conn);
+    let Ok(journal) = Journal::open(MemoryFile::new(Vec::new(alloc))) else {
+        return Err(Fail::new("no journal"));
+    };
+    let journal = Held::new(journal);
+    let founder = founder(alloc)?;
+    Ok((conn.into_inner(), journal.into_inner(), founder))
 }
 
 /// A store that was just founded.
@@ -42,5 +114,26 @@ fn founded(alloc: Global) -> Result<SqlStore<MemStore>, Fail> {
 fn examples_hold(rt: HostRuntime) -> Result<(), Fail> {
     let alloc = rt.alloc();
     brings(&rt, alloc, founded(alloc)?, TEXT);
+    Ok(())
+}
+
+#[test]
+fn examples_of_histories_hold(rt: HostRuntime) -> Result<(), Fail> {
+    let alloc = rt.alloc();
+    let (conn, journal, founder) = beside(alloc, Connection::open_in_memory(alloc)?)?;
+    founds(&rt, alloc, conn, journal, founder);
+    let (conn, journal, founder) = beside(alloc, founded(alloc)?.into_connection())?;
+    begins(&rt, alloc, conn, journal, founder)?;
+    compares(&rt, alloc, founded(alloc)?.into_connection(), FOUNDED)
+}
+
+#[test]
+fn examples_of_words_hold(rt: HostRuntime) -> Result<(), Fail> {
+    let alloc = rt.alloc();
+    let mut words = Vec::new(alloc);
+    words.push(String::from_str(alloc, "--version")?)?;
+    let (mut out, mut err) = (Vec::new(alloc), Vec::new(alloc));
+    let status = run_words(&rt, rt, words.as_slice(), &mut out, &mut err);
+    assert!(rt; status == 0 && out.as_slice() == b"permit 2.0 (schema 2)\n".as_slice());
     Ok(())
 }
