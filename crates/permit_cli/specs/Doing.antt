@@ -36,6 +36,7 @@ use Rattle.permit_cli.specs.declared.question.Question.{Question}
 use Rattle.permit_cli.specs.declared.question.Question.TheVariants as question
 use Rattle.permit_chronicle.specs.Telling.{WritesLines as TellsLines, no_roles}
 use Rattle.permit_chronicle.specs.declared.wanted.Wanted.{Wanted}
+use Rattle.permit_cli.specs.Wanting.{Wants}
 
 -- the clock's day in the zone of a rule
 abbrev pub IsClockDayIn : List ℕ → ℕ → Type 0
@@ -138,7 +139,8 @@ ComesTo (plan.Import words) before after done = IsImported words.office.why befo
 ComesTo (plan.Serve words) before after done = ServesAs before after done
 ComesTo (plan.Upgrade words) before after done = IsUpgrade done × (after ≡ before)
 ComesTo (plan.CheckDb words) before after done = IsCheck words.why done × (after ≡ before)
-ComesTo (plan.History words) before after done = (done ≡ outcome.Told) × ((wanted : Wanted) × TellsLines wanted no_roles before after)
+ComesTo (plan.History words) before after done =
+    (done ≡ outcome.Told) × ((wanted : Wanted) × Wants words wanted × TellsLines wanted no_roles before after)
 ComesTo (plan.RenewToken words) before after done = (done ≡ outcome.Renewed words.party) × (after ≡ before)
 ComesTo (plan.Replay words) before after done = IsReplay done × (after ≡ before)
 ComesTo (plan.BeginHistory words) before after done = IsBegin done × (after ≡ before)

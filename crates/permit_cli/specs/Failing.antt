@@ -47,6 +47,7 @@ use Rattle.permit_cli.specs.declared.question.Question.{Question}
 use Rattle.permit_cli.specs.declared.question.Question.TheVariants as question
 use Rattle.permit_chronicle.specs.Telling.{WritesSome as TellsSome, no_roles}
 use Rattle.permit_chronicle.specs.declared.wanted.Wanted.{Wanted}
+use Rattle.permit_cli.specs.Wanting.{Wants}
 
 -- ---- of a policy
 
@@ -208,7 +209,7 @@ FailsAs (plan.Serve words) before after why = (FailsToServe words why ⊎ IsUnke
 FailsAs (plan.Upgrade words) before after why = (IsUnusable why ⊎ IsUnbegun words.history why) × (after ≡ before)
 FailsAs (plan.CheckDb words) before after why = (IsUnusable why ⊎ IsUnkept words.history why) × (after ≡ before)
 FailsAs (plan.History words) before after why =
-    FailsToTell words why × ((after ≡ before) ⊎ ((wanted : Wanted) × TellsSome wanted no_roles before after))
+    FailsToTell words why × ((after ≡ before) ⊎ ((wanted : Wanted) × Wants words wanted × TellsSome wanted no_roles before after))
 FailsAs (plan.RenewToken words) before after why = (FailsToRenew words why ⊎ IsUnkept words.history why) × (after ≡ before)
 FailsAs (plan.Replay words) before after why = (IsUnusable why ⊎ (IsOfHistory why ⊎ AreUnread words.history why)) × (after ≡ before)
 FailsAs (plan.BeginHistory words) before after why = (IsUnusable why ⊎ IsOfHistory why) × (after ≡ before)

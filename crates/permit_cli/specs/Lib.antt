@@ -10,3 +10,4 @@ pub mod Reasons
 pub mod Running
 pub mod Served
 pub mod Telling
+pub mod Wanting

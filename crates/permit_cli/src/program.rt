@@ -19,6 +19,7 @@ ghost use Rattle.permit_cli.specs.Failing.{IsUnbegun, IsUncalled, IsUnkept, IsUn
 ghost use Rattle.permit_cli.specs.Running.{Performs, RunsAs};
 ghost use Rattle.permit_cli.specs.Served.{SaysWhere};
 ghost use Rattle.permit_cli.specs.Telling.{PrintsThen, SaysNoPlan};
+ghost use Rattle.permit_cli.specs.Wanting.{Wants};
 
 use crate::complaining::complain;
 use crate::database::{ask_at, check_at, found_at, renew_at, serve_at, upgrade_at};
@@ -502,7 +503,8 @@ fn check_db(rt: &HostRuntime, words: &CheckDbWords<'_>) -> Result<Outcome, Failu
 
 /// Which entries the words want.
 fn wanted(words: &HistoryWords<'_>) -> Result<Wanted, Failure>
-    ensures { IfErr result (λ why. why ≡ failure.Day) }
+    ensures wants { IfOk result (Wants words.now) }
+    ensures fails { IfErr result (λ why. why ≡ failure.Day) }
 {
     let since = match words.since {
         Some(date) => Some(dated(date)?),
@@ -629,6 +631,16 @@ where
 
 /// Runs the program on the words behind its name, and gives its status: 0 done, 1 refused, 2 bad words or files.
 /// What it prints goes to `out`, its faults to `err`. Where it serves, its workers are started by `workers`.
+///
+/// # Examples
+///
+/// ```
+/// let mut words = Vec::new(alloc);
+/// words.push(String::from_str(alloc, "--version")?)?;
+/// let (mut out, mut err) = (Vec::new(alloc), Vec::new(alloc));
+/// let status = run_words(&rt, rt, words.as_slice(), &mut out, &mut err);
+/// assert!(rt; status == 0 && out.as_slice() == b"permit 2.0 (schema 2)\n".as_slice());
+/// ```
 pub fn run_words<R, O, E>(
     rt: &HostRuntime,
     workers: R,

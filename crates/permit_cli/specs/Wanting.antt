@@ -1,0 +1,19 @@
+-- Which entries of a history the words want.
+use Rattle.std.specs.Prelude.{◌≡◌, ℕ, IfNone, IfSome, IsSomeAnd, None, Option, Some}
+use Rattle.permit_base.specs.Limits.{is_object_number, only_if}
+use Rattle.permit_days.specs.Dates.{IsTextOf}
+use Rattle.permit_args.specs.declared.plan.HistoryWords.{HistoryWords}
+use Rattle.permit_chronicle.specs.declared.wanted.Wanted.{Wanted}
+
+-- the record of a number that is named, where it may be one's
+abbrev pub record_of : Option ℕ → Option ℕ
+record_of None = None
+record_of (Some number) = only_if is_object_number number
+
+-- those from the day of the date on, and those of the records that are named
+pub record Wants (words : HistoryWords) (wanted : Wanted) : Type 0 where
+  pub since : IfSome words.since (λ date. IsSomeAnd wanted.since (λ day. IsTextOf day date.now))
+  pub always : IfNone words.since (wanted.since ≡ None)
+  pub file : wanted.file ≡ record_of words.file
+  pub parcel : wanted.parcel ≡ record_of words.parcel
+  pub party : wanted.party ≡ record_of words.party
