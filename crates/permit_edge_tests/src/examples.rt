@@ -1,5 +1,5 @@
-//! The examples of the doc comments of what reads a command line, what its subcommands do and why a policy is refused, line
-//! by line as they stand there.
+//! The examples of the doc comments of what reads a command line, what its subcommands do, why a policy is refused and
+//! what ends the serving, line by line as they stand there.
 
 use permit_args::checking::explained_text;
 use permit_args::facts::read_facts;
@@ -12,11 +12,15 @@ use permit_reasons::policy_reason;
 use permit_samples::ask::TOKENS;
 use permit_samples::makers::{day, token};
 use permit_samples::offices::over_vectors;
+use permit_sockets::serving::{Ends, any_stopped};
+use permit_sockets::stop::Stop;
 use permit_subcommands::answering::{ask, show};
 use permit_subcommands::founding::founder;
 use permit_subcommands::listing::{list, listing_text};
 use std::alloc::Global;
 use std::process::Abort;
+use std::sync::Arc;
+use std::sync::atomic::{AtomicBool, Ordering};
 use std::test::Fail;
 
 fn words(rt: &impl Abort, alloc: Global) -> Result<(), Fail> {
@@ -75,6 +79,21 @@ fn offices(rt: &impl Abort, alloc: Global) -> Result<(), Fail> {
     Ok(())
 }
 
+fn flags(rt: &impl Abort, alloc: Global) -> Result<(), Fail> {
+    let flag = Arc::new(alloc, AtomicBool::new(false))?;
+    assert!(rt; Stop::seen(&flag).is_none());
+    flag.store(true, Ordering::SeqCst);
+    assert!(rt; Stop::seen(&flag).is_some());
+    Ok(())
+}
+
+fn ends(rt: &impl Abort, alloc: Global) -> Result<(), Fail> {
+    let mut ends: Ends<HostRuntime> = Vec::new(alloc);
+    ends.push(None)?;
+    assert!(rt; !any_stopped(&ends));
+    Ok(())
+}
+
 #[test]
 fn examples_hold(rt: HostRuntime) -> Result<(), Fail> {
     let alloc = rt.alloc();
@@ -83,4 +102,11 @@ fn examples_hold(rt: HostRuntime) -> Result<(), Fail> {
     reasons(&rt, alloc)?;
     founders(&rt, alloc)?;
     offices(&rt, alloc)
+}
+
+#[test]
+fn examples_of_serving_hold(rt: HostRuntime) -> Result<(), Fail> {
+    let alloc = rt.alloc();
+    flags(&rt, alloc)?;
+    ends(&rt, alloc)
 }

@@ -23,6 +23,16 @@ impl<D: Disk + Drop> DiskFile<D> {
 
     /// The file on this disk, with the text that is there. There is none where the disk may not be used, or doesn't say how long
     /// the text is.
+    ///
+    /// # Examples
+    ///
+    /// ```
+    /// let Ok(mut file) = DiskFile::open(disk) else {
+    ///     return Err(Fail::new("no file"));
+    /// };
+    /// assert!(rt; file.append(b"a\n").is_ok() && file.sync().is_ok());
+    /// assert!(rt; matches!(file.length(), Ok(2)));
+    /// ```
     pub fn open(mut disk: D) -> Result<DiskFile<D>, FileError>
         ensures seen { IfOk result (λ file. D.Disk.seen (disk_of file) ≡ D.Disk.seen disk) }
         ensures crash { IfOk result (λ file. (c : List ℕ) → D.Disk.may_leave (disk_of file) c → D.Disk.may_leave disk c) }
@@ -41,6 +51,14 @@ impl<D: Disk + Drop> DiskFile<D> {
     }
 
     /// The disk.
+    ///
+    /// # Examples
+    ///
+    /// ```
+    /// let appended = file.append(b"b\n");
+    /// let disk = file.into_disk();
+    /// assert!(rt; appended.is_ok() && disk.bytes() == b"a\nb\n".as_slice());
+    /// ```
     pub fn into_disk(self) -> D
         ensures { result ≡ disk_of self }
     {

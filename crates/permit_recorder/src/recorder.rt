@@ -37,6 +37,14 @@ impl<D: Decider, S: Store, H: HistoryFile> Model for Recorder<D, S, H> {
 impl<D: Decider + Drop, S: Store + Drop, H: HistoryFile + Drop> Recorder<D, S, H> {
     /// The office, as a service. Memory for the lines of its history is taken of `alloc`. The flag, if there is one, is set behind
     /// each step that leaves or finds the office shut: only opening it again mends that.
+    ///
+    /// # Examples
+    ///
+    /// ```
+    /// let shut = Arc::new(alloc, AtomicBool::new(false))?;
+    /// let recorder = Recorder::new(alloc, office, Some(&shut));
+    /// assert!(rt; !shut.load(Ordering::SeqCst));
+    /// ```
     pub fn new(
         alloc: Global,
         office: RecordedOffice<D, S, H>,
@@ -66,6 +74,15 @@ impl<D: Decider + Drop, S: Store + Drop, H: HistoryFile + Drop> Recorder<D, S, H
     }
 
     /// The office, as it stands.
+    ///
+    /// # Examples
+    ///
+    /// ```
+    /// let office = recorder.into_office();
+    /// assert!(rt; !office.is_shut());
+    /// let (mut store, _) = office.into_parts();
+    /// assert!(rt; store.desk()?.parcels == 1);
+    /// ```
     pub fn into_office(self) -> RecordedOffice<D, S, H>
         ensures { result ≡ self }
     {
@@ -94,6 +111,18 @@ impl<D: Decider + Drop, S: Store + Drop, H: HistoryFile + Drop> Recorder<D, S, H
     /// A command that is done has its line in the history's file, and on the disk, before the reply comes. Where a call of the
     /// store or of that file failed, or memory was refused, the reply is the store's refusal, and the command isn't done. Where
     /// a line can't be taken back the office is shut, and each further request is refused for the store.
+    ///
+    /// # Examples
+    ///
+    /// ```
+    /// let request = Request::AddParcel {
+    ///     lot,
+    ///     address,
+    ///     owner,
+    /// };
+    /// let reply = recorder.step(&Asked { token, request }, day);
+    /// assert!(rt; matches!(reply, Reply::Done { number: Some(1) }));
+    /// ```
     pub fn step(&mut self, asked: &Asked, day: Day) -> Reply
         ensures { ServesWithHistory D.decides S.view H.text H.may_leave H.is_clean H.leaves asked.now day result self.old self.new }
     {

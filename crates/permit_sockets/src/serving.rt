@@ -107,6 +107,14 @@ fn is_stopped<C: Drop, W: Drop>(end: &Option<DoorEnd<Connections<C, W>>>) -> boo
 }
 
 /// Whether one door at least ended because the flag was found set.
+///
+/// # Examples
+///
+/// ```
+/// let mut ends: Ends<HostRuntime> = Vec::new(alloc);
+/// ends.push(None)?;
+/// assert!(rt; !any_stopped(&ends));
+/// ```
 pub fn any_stopped<R: Drop>(ends: &Ends<R>) -> bool
     ensures { result ≡ list_any is_stopped ends.now.items }
 {

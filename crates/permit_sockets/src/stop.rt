@@ -15,6 +15,15 @@ pub struct Stop {
 
 impl Stop {
     /// Looks at a flag.
+    ///
+    /// # Examples
+    ///
+    /// ```
+    /// let flag = Arc::new(alloc, AtomicBool::new(false))?;
+    /// assert!(rt; Stop::seen(&flag).is_none());
+    /// flag.store(true, Ordering::SeqCst);
+    /// assert!(rt; Stop::seen(&flag).is_some());
+    /// ```
     pub fn seen(flag: &Flag) -> Option<Stop> {
         if flag.load(Ordering::SeqCst) {
             Some(Stop { seen: () })

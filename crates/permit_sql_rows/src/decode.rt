@@ -104,6 +104,13 @@ pub fn party_of(row: &Row) -> Read<Party>
 }
 
 /// The role in a party's row.
+///
+/// # Examples
+///
+/// ```
+/// let row = conn.query_row("SELECT id, name, role, digest FROM party", &[])?;
+/// assert!(rt; matches!(role_in(&row), Some(Role::Official)));
+/// ```
 pub fn role_in(row: &Row) -> Option<Role>
     ensures read { (is : TheParty) → row.now ≡ shown_party is → IfSome result (λ r. r ≡ is.role) }
     ensures back { IfSome result (λ r. column row.now 2 ≡ int (role_code r)) }

@@ -37,6 +37,12 @@ use sqlite_value::keys::{Collation, Order};
 use sqlite_value::value::{Bytes, Value};
 
 /// The version of the tables under an edition, which the desk keeps.
+///
+/// # Examples
+///
+/// ```
+/// assert!(rt; version_of(Edition::First) == 1 && version_of(Edition::Second) == 2);
+/// ```
 pub fn version_of(edition: Edition) -> u32
     ensures { result ≡ version_under edition }
 {
@@ -599,6 +605,13 @@ fn is_second(schema: &Schema) -> bool
 
 /// Whether the schema is the office's under an edition: its tables and indexes, and nothing more. Of version 2 the table
 /// of the upgrade and the indexes that are no keys may stand in any order, as `VACUUM` and a dump leave them.
+///
+/// # Examples
+///
+/// ```
+/// assert!(rt; is_office(Edition::Second, conn.schema()));
+/// assert!(rt; !is_office(Edition::First, conn.schema()));
+/// ```
 pub fn is_office(edition: Edition, schema: &Schema) -> bool
     ensures told { IsTrue result ↔ IsOffice edition schema.now }
 {

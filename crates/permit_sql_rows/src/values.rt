@@ -152,6 +152,13 @@ pub fn parcel_values<'a>(
 }
 
 /// Two numbers.
+///
+/// # Examples
+///
+/// ```
+/// let row = conn.query_row("SELECT ?1, ?2", &pair_values(2, 7))?;
+/// assert!(rt; whole_number(&row, 0) == Some(2) && whole_number(&row, 1) == Some(7));
+/// ```
 pub fn pair_values<'a>(a: u32, b: u32) -> [ValueRef<'a>; 2]
     ensures { bound result ≡ int a ∷ int b ∷ [] }
 {

@@ -241,6 +241,18 @@ pub fn renewal_step(alloc: Global, party: PartyId, digest: &Digest) -> Got<Step>
 }
 
 /// Makes a change that fits on a day, or changes nothing, also over a crash.
+///
+/// # Examples
+///
+/// ```
+/// let change = Change::NewParty {
+///     name: &name,
+///     role: Role::Clerk,
+///     digest: &digest,
+/// };
+/// commit_in(conn, alloc, &change, day)?;
+/// assert!(rt; read_desk(conn)?.parties == 2);
+/// ```
 pub fn commit_in<S: Alter>(
     conn: &mut Idle<S>,
     alloc: Global,

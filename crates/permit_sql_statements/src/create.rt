@@ -73,6 +73,14 @@ const FOUNDER: u32 = 1;
 const NO_FILES: u32 = 0;
 
 /// Makes the tables with their founding and the upgrade in a database that has none, or changes nothing, also over a crash.
+///
+/// # Examples
+///
+/// ```
+/// let mut conn = Connection::open_in_memory(alloc)?;
+/// create_in(&mut conn, &founder)?;
+/// assert!(rt; is_office(Edition::Second, conn.schema()));
+/// ```
 pub fn create_in<S: Alter>(conn: &mut Connection<S>, founder: &Founder) -> Result<(), Error>
     requires idle { IsIdle conn.old }
     requires empty { (state S.Store conn.old).now.schema ≡ empty_schema }

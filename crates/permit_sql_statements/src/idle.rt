@@ -27,6 +27,14 @@ impl<S: Alter> Model for Idle<S> {
 
 impl<S: Alter> Idle<S> {
     /// The connection, which is between transactions.
+    ///
+    /// # Examples
+    ///
+    /// ```
+    /// let conn = Connection::open_in_memory(alloc)?;
+    /// let idle = Idle::new(conn);
+    /// assert!(rt; idle.into_connection().is_autocommit());
+    /// ```
     pub fn new(conn: Connection<S>) -> Idle<S>
         requires { IsIdle conn }
         ensures { result ≡ conn }

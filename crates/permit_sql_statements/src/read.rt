@@ -278,6 +278,13 @@ fn first_desk(rows: &[Row]) -> Got<Desk>
 }
 
 /// The desk.
+///
+/// # Examples
+///
+/// ```
+/// let desk = read_desk(conn)?;
+/// assert!(rt; desk.parties == 1 && desk.files == 0);
+/// ```
 pub fn read_desk<S: Alter>(conn: &mut Idle<S>) -> Got<Desk>
     ensures found { OverShown S.Store conn.old conn.new (λ t. IfOk result (λ d. d ≡ t.desk)) }
     ensures read { IsRead S.Store conn.old conn.new result }

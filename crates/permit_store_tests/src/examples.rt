@@ -2,19 +2,28 @@
 //! by line as they stand there.
 
 use crate::database::founded;
-use permit_base::values::{Digest, PartyId};
-use permit_base::words::Role;
+use permit_base::values::{Day, Digest, PartyId, Text};
+use permit_base::words::{Edition, Role};
 use permit_batch::batching::Batching;
 use permit_batch::draft::Draft;
 use permit_mirror::indexed::Indexed;
 use permit_mirror::mirrored::Mirrored;
 use permit_samples::held::Held;
-use permit_samples::makers::{digest_of, party};
+use permit_samples::makers::{day, digest_of, party, text};
 use permit_samples::offices::founder;
 use permit_sql::store::SqlStore;
+use permit_sql_rows::decode::role_in;
+use permit_sql_rows::fields::whole_number;
+use permit_sql_rows::schema::{is_office, version_of};
+use permit_sql_rows::values::pair_values;
+use permit_sql_statements::commit::commit_in;
+use permit_sql_statements::create::create_in;
+use permit_sql_statements::idle::Idle;
+use permit_sql_statements::read::read_desk;
 use permit_store::founder::Founder;
 use permit_store::plain::PlainStore;
 use permit_store::renewing::Renewing;
+use permit_store::rows::Change;
 use permit_store::store::Store;
 use sqlite::{Connection, MemStore};
 use std::alloc::Global;
@@ -139,4 +148,94 @@ fn examples_hold(rt: HostRuntime) -> Result<(), Fail> {
     let mut store = Held::new(loads(&rt, alloc, store)?);
     reads(&rt, &mut store.value)?;
     gives_back(&rt, store.into_inner())
+}
+
+fn versions(rt: &impl Abort) {
+    assert!(rt; version_of(Edition::First) == 1 && version_of(Edition::Second) == 2);
+}
+
+fn knows(rt: &impl Abort, conn: &Connection<MemStore>) {
+    assert!(rt; is_office(Edition::Second, conn.schema()));
+    assert!(rt; !is_office(Edition::First, conn.schema()));
+}
+
+fn decodes(rt: &impl Abort, conn: &mut Connection<MemStore>) -> Result<(), Fail> {
+    let row = conn.query_row("SELECT id, name, role, digest FROM party", &[])?;
+    assert!(rt; matches!(role_in(&row), Some(Role::Official)));
+    Ok(())
+}
+
+fn binds(rt: &impl Abort, conn: &mut Connection<MemStore>) -> Result<(), Fail> {
+    let row = conn.query_row("SELECT ?1, ?2", &pair_values(2, 7))?;
+    assert!(rt; whole_number(&row, 0) == Some(2) && whole_number(&row, 1) == Some(7));
+    Ok(())
+}
+
+fn creates(rt: &impl Abort, alloc: Global, founder: Founder) -> Result<(), Fail> {
+    let mut conn = Connection::open_in_memory(alloc)?;
+    create_in(&mut conn, &founder)?;
+    assert!(rt; is_office(Edition::Second, conn.schema()));
+    Ok(())
+}
+
+fn idles(rt: &impl Abort, alloc: Global) -> Result<(), Fail> {
+    let conn = Connection::open_in_memory(alloc)?;
+    let idle = Idle::new(conn);
+    assert!(rt; idle.into_connection().is_autocommit());
+    Ok(())
+}
+
+fn reads_desk(rt: &impl Abort, conn: &mut Idle<MemStore>) -> Result<(), Fail> {
+    let desk = read_desk(conn)?;
+    assert!(rt; desk.parties == 1 && desk.files == 0);
+    Ok(())
+}
+
+fn commits_in(
+    rt: &impl Abort,
+    alloc: Global,
+    conn: &mut Idle<MemStore>,
+    name: Text,
+    digest: Digest,
+    day: Day,
+) -> Result<(), Fail> {
+    let change = Change::NewParty {
+        name: &name,
+        role: Role::Clerk,
+        digest: &digest,
+    };
+    commit_in(conn, alloc, &change, day)?;
+    assert!(rt; read_desk(conn)?.parties == 2);
+    Ok(())
+}
+
+/// A connection to a database that was just founded.
+fn founded_idle(alloc: Global) -> Result<Idle<MemStore>, Fail> {
+    let founder = founder(alloc)?;
+    let mut conn = Connection::open_in_memory(alloc)?;
+    create_in(&mut conn, &founder)?;
+    Ok(Idle::new(conn))
+}
+
+#[test]
+fn examples_of_statements_hold(rt: HostRuntime) -> Result<(), Fail> {
+    let alloc = rt.alloc();
+    creates(&rt, alloc, founder(alloc)?)?;
+    idles(&rt, alloc)?;
+    let (name, digest) = (
+        text(alloc, "Ann")?,
+        digest_of(alloc, "second2second2second")?,
+    );
+    let mut conn = Held::new(founded_idle(alloc)?);
+    reads_desk(&rt, &mut conn.value)?;
+    commits_in(&rt, alloc, &mut conn.value, name, digest, day(19701)?)
+}
+
+#[test]
+fn examples_of_rows_hold(rt: HostRuntime) -> Result<(), Fail> {
+    versions(&rt);
+    let mut conn = Held::new(founded(rt.alloc())?.into_connection());
+    knows(&rt, &conn.value);
+    decodes(&rt, &mut conn.value)?;
+    binds(&rt, &mut conn.value)
 }
