@@ -1,6 +1,6 @@
 -- What is said of tables is said of those that are alike.
-use Rattle.std.proofs.Common.{◌≡◌, ◌≤◌, ℕ, ◌+◌, ◌==◌, Bool, true, false, cond, List, [], ◌∷◌, ◌++◌, length, map, filter, find, refl, sym, ◌∙◌, ap, subst, arith}
-use Rattle.std.specs.Prelude.{◌&&◌, ◌||◌, Option, None, Some, option_map, Result, Ok, Err, IfOk, OnOk, OnErr, IsTrue, IsPermutation, bytes_eq}
+use Rattle.std.proofs.Common.{◌≡◌, ℕ, ◌+◌, ◌==◌, Bool, true, false, cond, List, [], ◌∷◌, ◌++◌, map, filter, find, refl, sym, ◌∙◌, ap, subst, arith}
+use Rattle.std.specs.Prelude.{◌&&◌, ◌||◌, Option, None, Some, option_map, Result, Ok, Err, IfOk, OnOk, OnErr, IsPermutation}
 use Rattle.std.specs.List.{list_any}
 use Rattle.permit_base.specs.declared.route.Route.{Route}
 use Rattle.permit_model.specs.Parcels.{Interest, Parcel}
@@ -10,7 +10,7 @@ use Rattle.permit_model.specs.Routes.{Found, found_by, found_row, is_found, owne
 use Rattle.permit_model.specs.Tables.{Desk, FileRow, Paper, Tables}
 use Rattle.permit_store.specs.Changes.{Fits, changed, closed_by, given_to, paper_of, papers_after, suits, suits_effect, suits_row, with_state}
 use Rattle.permit_store.specs.Frames.{StoreView, HasOneDesk, IsCommit, Reads}
-use Rattle.permit_store.specs.Handing.{AreFound, AreHanded, AreRising, Hands, IsLeft, found_by_any, is_found_by_any}
+use Rattle.permit_store.specs.Handing.{AreFound, AreHanded, AreRising, found_by_any, is_found_by_any}
 use Rattle.permit_store.specs.Interests.{DeclareSame, is_declared}
 use Rattle.permit_store.specs.declared.change.Change.{Change}
 use Rattle.permit_store.specs.declared.change.Change.TheVariants.{NewParty, NewParcel, NewOwner, NewInterest, NewFile, NewRow}

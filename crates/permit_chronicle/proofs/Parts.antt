@@ -1,5 +1,5 @@
 -- The line of an entry, and what an entry adds.
-use Rattle.std.proofs.Common.{◌≡◌, refl, sym, ap, ◌∙◌, subst, ℕ, ◌<◌, Bool, true, false, List, [], ◌∷◌, ◌++◌, length, Option, append_assoc, length-append, arith}
+use Rattle.std.proofs.Common.{◌≡◌, refl, ap, ◌∙◌, subst, ℕ, ◌<◌, true, false, List, [], ◌∷◌, ◌++◌, length, Option, append_assoc, length-append, arith}
 use Rattle.permit_base.specs.declared.words.Role.{Role}
 use Rattle.permit_model.specs.Register.{date_text}
 use Rattle.permit_history.specs.declared.entry.Deed.{Deed}

@@ -1,10 +1,9 @@
 -- The lines of the entries of a text that are wanted.
-use Rattle.std.specs.Prelude.{◌≡◌, ◌⊎◌, ◌≤◌, ◌^◌, ℕ, ◌+◌, if◌then◌else◌, List, [], ◌∷◌, ◌++◌, length, replicate, slice_get, slice_set, Option, None, Some, unwrap_or, Ok, Err}
+use Rattle.std.specs.Prelude.{◌≡◌, ◌⊎◌, ◌≤◌, ◌^◌, ℕ, ◌+◌, if◌then◌else◌, List, [], ◌∷◌, ◌++◌, length, replicate, slice_get, slice_set, Option, None, Some, unwrap_or, Err}
 use Rattle.std.specs.Io.KnownBytes.{Appends}
 use Rattle.permit_base.specs.declared.words.Role.{Role}
 use Rattle.permit_base.specs.declared.words.Role.TheVariants.{Official}
 use Rattle.permit_base.specs.Limits.{most_records}
-use Rattle.permit_history.specs.declared.entry.Act.{Act}
 use Rattle.permit_history.specs.declared.entry.Act.TheVariants as act
 use Rattle.permit_history.specs.declared.entry.Deed.{Deed}
 use Rattle.permit_history.specs.declared.entry.Deed.TheVariants as deed

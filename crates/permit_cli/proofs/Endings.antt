@@ -1,5 +1,5 @@
 -- How a serving over TCP ends.
-use Rattle.std.proofs.Common.{◌≡◌, ◌∙◌, ◌⊎◌, inl, inr, ℕ, Bool, true, false, List, Option, Result, Err, ap, sym}
+use Rattle.std.proofs.Common.{◌≡◌, ◌∙◌, ◌⊎◌, inl, ℕ, Bool, true, false, List, Option, Result, Err, ap, sym}
 use Rattle.std.specs.List.{list_any}
 use Rattle.permit_base.specs.declared.request.Asked.{Asked}
 use Rattle.permit_store.specs.Frames.{StoreView}

@@ -1,5 +1,5 @@
 -- What a plan that succeeds comes to, whatever the disk and the clock give.
-use Rattle.std.specs.Prelude.{◌≡◌, ◌⊎◌, ◌++◌, ℕ, Bool, List, Option, Some, Result, Ok, Err, IfSome, IfNone, IsTrue, length, string_bytes}
+use Rattle.std.specs.Prelude.{◌≡◌, ◌++◌, ℕ, Bool, List, Option, Some, Ok, Err, IfSome, IfNone, IsTrue, length, string_bytes}
 use Rattle.permit_base.specs.Actions.{action_of}
 use Rattle.permit_base.specs.declared.request.Asked.{Asked}
 use Rattle.permit_base.specs.declared.words.RegisterKind.{RegisterKind}

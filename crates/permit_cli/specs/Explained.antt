@@ -1,5 +1,5 @@
 -- What is printed before a failure, where `--why` asks for it.
-use Rattle.std.specs.Prelude.{◌≡◌, ◌⊎◌, ◌++◌, ℕ, Bool, true, false, List, Option, Result, Err, codes}
+use Rattle.std.specs.Prelude.{◌⊎◌, ◌++◌, ℕ, Bool, true, false, List, Option, Result, Err, codes}
 use Rattle.permit_base.specs.declared.words.Edition.{Edition}
 use Rattle.permit_base.specs.declared.words.Edition.TheVariants.{First, Second}
 use Rattle.permit_policy.specs.PolicyText.{meaning, Means}

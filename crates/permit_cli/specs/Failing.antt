@@ -20,7 +20,6 @@ use Rattle.permit_args.specs.declared.plan.ActWords.{ActWords}
 use Rattle.permit_args.specs.declared.plan.Check.{Check}
 use Rattle.permit_args.specs.declared.plan.Check.TheVariants as check
 use Rattle.permit_args.specs.declared.plan.CheckPolicyWords.{CheckPolicyWords}
-use Rattle.permit_args.specs.declared.plan.DayWords.{DayWords}
 use Rattle.permit_args.specs.declared.plan.HistoryPaths.{HistoryPaths}
 use Rattle.permit_args.specs.declared.plan.HistoryWords.{HistoryWords}
 use Rattle.permit_args.specs.declared.plan.ImportWords.{ImportWords}

@@ -5,7 +5,6 @@ use Rattle.sqlite.specs.State.{State, HasCleanDisk}
 use Rattle.sqlite.specs.Held.{Held, state}
 use Rattle.permit_model.specs.Tables.{Tables}
 use Rattle.permit_alike.specs.Alike.{unordered}
-use Rattle.permit_history.specs.declared.entry.Entry.{Entry}
 use Rattle.permit_opening.specs.Bringing.{IsBrought, IsOnTheWay}
 use Rattle.permit_opening.specs.declared.bringing.Brought.{Brought}
 use Rattle.permit_replay.specs.Histories.{Unsaid}

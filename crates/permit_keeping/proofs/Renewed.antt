@@ -1,5 +1,5 @@
 -- A party's new token behind a text that was cut to the history of the tables.
-use Rattle.std.proofs.Common.{◌≡◌, ◌∙◌, ◌≤◌, inl, inr, sym, ap, subst, ℕ, Bool, List, [], ◌∷◌, ◌++◌, map, None, Result, Ok, Err, append_assoc, arith}
+use Rattle.std.proofs.Common.{◌≡◌, ◌∙◌, inl, inr, sym, ap, subst, ℕ, Bool, List, [], ◌∷◌, ◌++◌, map, None, Result, Ok, Err, append_assoc}
 use Rattle.std.specs.Prelude.{IsTrue, OnErr, OnOk}
 use Rattle.sqlite_trees.specs.declared.store.Store.{Ghosts}
 use Rattle.sqlite.specs.State.{HasCleanDisk}

@@ -15,7 +15,7 @@ use Rattle.permit_opening.specs.Opening.{TellTables}
 use Rattle.permit_recorded.specs.Planned.{whole_line_of}
 use Rattle.permit_replay.specs.Histories.{Unsaid}
 use Rattle.permit_resuming.specs.Resuming.{IsCutTo}
-use Rattle.permit_sql_rows.specs.Kept.{Keeps, Shows}
+use Rattle.permit_sql_rows.specs.Kept.{Keeps}
 use Rattle.permit_sql.specs.Found.{KeepsSound}
 use Rattle.permit_keeping.specs.Opening.{StillKeepsSound}
 

@@ -20,8 +20,8 @@ use Rattle.permit_replay.specs.declared.beginning.CopiedTables.{CopiedTables}
 use Rattle.permit_replay.specs.declared.fault.Why.TheVariants as why
 use Rattle.permit_replay.specs.declared.replayed.Replayed.TheVariants as replayed
 use Rattle.permit_replay.specs.Against.{against_copy}
-use Rattle.permit_replay.specs.Histories.{Begun, Unsaid}
-use Rattle.permit_replay.specs.Holding.{HoldsHistory, IsBeginning, IsCopyOf, Takes}
+use Rattle.permit_replay.specs.Histories.{Unsaid}
+use Rattle.permit_replay.specs.Holding.{IsBeginning, Takes}
 
 -- the tables of a history are sound whose entries are within the limits
 pub sound_tables : (h : History) → IsHistory h → AreWithinLimits h → last_day h ≤ latest_day → IsSoundTables (tables h)

@@ -1,5 +1,5 @@
 -- What was replayed, against the history that was told.
-use Rattle.std.specs.Prelude.{◌≡◌, ◌≤◌, ℕ, List, [], ◌∷◌, Option, None, Some, Result, Ok, Err, ⊤}
+use Rattle.std.specs.Prelude.{◌≡◌, ◌≤◌, ℕ, [], ◌∷◌, Option, None, Some, Result, Ok, Err, ⊤}
 use Rattle.permit_base.specs.declared.words.Edition.TheVariants.{Second}
 use Rattle.permit_base.specs.Limits.{latest_day}
 use Rattle.permit_model.specs.History.{Founding, History, edition, last_day}

@@ -1,11 +1,11 @@
 -- What a cut leaves that ends early.
-use Rattle.std.proofs.Common.{◌≡◌, ◌≤◌, ◌⊎◌, inl, inr, refl, sym, ◌∙◌, subst, ap, ℕ, List, [], ◌++◌, length, drop, take}
+use Rattle.std.proofs.Common.{◌≡◌, ◌≤◌, ◌⊎◌, inl, inr, sym, ◌∙◌, subst, ℕ, List, [], length, drop, take}
 use Rattle.std.proofs.lemmas.List.{append-nil, length-take-le, take-append-drop}
 use Rattle.std.specs.Prelude.{Result, Ok, Err, OnErr}
 use Rattle.permit_model.specs.Tables.{Tables}
 use Rattle.permit_journal.specs.Files.{Grown, LeavesGrown, Only}
 use Rattle.permit_replay.specs.Histories.{Unsaid}
-use Rattle.permit_resuming.specs.Resuming.{HasPart, IsCutTo, IsKept, IsPartlyCut}
+use Rattle.permit_resuming.specs.Resuming.{HasPart, IsKept, IsPartlyCut}
 
 module _ (leaves : List ℕ → List ℕ → Type 0) where
   -- the whole text has all of what stands behind the length

@@ -1,17 +1,16 @@
 -- A text that was cut to the lines of a store's tables tells their history.
-use Rattle.std.proofs.Common.{◌≡◌, ◌⊎◌, inl, inr, refl, sym, ap, ◌∙◌, subst, ℕ, List, [], ◌∷◌, ◌++◌, length, take, append_assoc}
+use Rattle.std.proofs.Common.{◌≡◌, inl, inr, sym, ap, ◌∙◌, ℕ, List, [], ◌++◌, take, append_assoc}
 use Rattle.std.specs.Prelude.{Result, Ok, Err, OnOk}
 use Rattle.permit_model.specs.Tables.{Tables, tables}
 use Rattle.permit_store.specs.Frames.{StoreView}
 use Rattle.permit_history.specs.declared.entry.Entry.{Entry}
 use Rattle.permit_history.specs.LineData.{text_of}
-use Rattle.permit_history.specs.Told.{told_history}
-use Rattle.permit_replay.specs.Histories.{Unsaid, history_before, history_by}
+use Rattle.permit_replay.specs.Histories.{Unsaid, history_by}
 use Rattle.permit_opening.specs.Opening.{TellTables}
 use Rattle.permit_opening.specs.Texts.{IsTextOf}
 use Rattle.permit_opening.proofs.Brought.{alike_back}
 use Rattle.permit_opening.proofs.Opened.{text_split, whole_length}
-use Rattle.permit_resuming.specs.Resuming.{HasHistory, IsCutTo, IsKept, IsResumed}
+use Rattle.permit_resuming.specs.Resuming.{IsCutTo, IsKept, IsResumed}
 
 -- the text of entries that tell a history, whose tables are held
 resumed_by : (begins : Unsaid → Type 0) (bytes : List ℕ) (entries : List Entry) (left : List ℕ) (text : List ℕ) (store : StoreView) (t : Tables) → IsTextOf begins bytes entries left

@@ -1,6 +1,6 @@
 -- A change that fits: what its statements make of the tables is what the change makes of them.
 use Rattle.std.proofs.Common.{◌≡◌, ℕ, true, eqb, List, [], ◌∷◌, ◌++◌, map, find, Option, None, Some, refl, sym, ap, subst, ◌∙◌, ◌+◌, ◌≤◌, arith, true≢false}
-use Rattle.std.specs.Prelude.{IsTrue, IfSome, is_none, ◌&&◌}
+use Rattle.std.specs.Prelude.{IfSome, is_none}
 use Rattle.std.specs.Borrow.{Bor}
 use Rattle.std.proofs.lemmas.Bool.{and_parts, eqb-true}
 use Rattle.sqlite.specs.declared.types.Value.TheVariants.{Text}

@@ -1,4 +1,4 @@
-use Rattle.std.proofs.Common.{◌≡◌, ◌∙◌, sym, ap, arith}
+use Rattle.std.proofs.Common.{◌∙◌, sym, ap, arith}
 use Rattle.permit_store.specs.Interests.{DeclareSame, is_declared}
 use Rattle.permit_alike.proofs.Declared.{back_where_same, both_ways, there_where_same}
 use Rattle.permit_alike.proofs.Stepping.{clean_before}

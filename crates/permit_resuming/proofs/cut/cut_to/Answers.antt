@@ -1,4 +1,4 @@
-use Rattle.std.proofs.Common.{◌≡◌, ◌≤◌, ◌⊎◌, ℕ, List, length, inr, arith}
+use Rattle.std.proofs.Common.{◌≤◌, length, inr, arith}
 use Rattle.permit_resuming.proofs.Cutting.{crash_of_cut, left_by_cut, on_err}
 use Rattle.permit_resuming.proofs.cut.cut_to.Goals as goal
 

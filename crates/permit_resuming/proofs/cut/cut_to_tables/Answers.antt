@@ -1,4 +1,4 @@
-use Rattle.std.proofs.Common.{◌≡◌, ◌∙◌, sym, ap, subst, ℕ, List, length}
+use Rattle.std.proofs.Common.{◌∙◌, sym, ap, subst, length}
 use Rattle.std.specs.Prelude.{IsTrue}
 use Rattle.permit_store.specs.contracts.plain.PlainStoreStore.TheImpl as plain
 use Rattle.permit_replay.specs.Holding.{IsBeginning}

@@ -1,5 +1,5 @@
-use Rattle.std.proofs.Common.{◌==◌, ap, find}
-use Rattle.std.specs.Prelude.{option_map, bytes_eq, ◌&&◌}
+use Rattle.std.proofs.Common.{◌==◌}
+use Rattle.std.specs.Prelude.{◌&&◌}
 use Rattle.permit_alike.proofs.Transferred.{said, notice_alike}
 use Rattle.permit_alike.proofs.unordered.UnorderedStore.has_open_notice.Goals as goal
 

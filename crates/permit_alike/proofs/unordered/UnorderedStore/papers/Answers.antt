@@ -1,5 +1,3 @@
-use Rattle.std.proofs.Common.{◌==◌, ap, find}
-use Rattle.std.specs.Prelude.{option_map, bytes_eq, ◌&&◌}
 use Rattle.permit_alike.proofs.Transferred.{said}
 use Rattle.permit_alike.proofs.unordered.UnorderedStore.papers.Goals as goal
 

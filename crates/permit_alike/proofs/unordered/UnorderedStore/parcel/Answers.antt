@@ -1,5 +1,4 @@
 use Rattle.std.proofs.Common.{◌==◌, ap, find}
-use Rattle.std.specs.Prelude.{option_map, bytes_eq, ◌&&◌}
 use Rattle.permit_model.specs.Parcels.{Parcel}
 use Rattle.permit_alike.proofs.Transferred.{said}
 use Rattle.permit_alike.proofs.unordered.UnorderedStore.parcel.Goals as goal

@@ -1,5 +1,5 @@
-use Rattle.std.proofs.Common.{◌==◌, ap, find}
-use Rattle.std.specs.Prelude.{option_map, bytes_eq, ◌&&◌}
+use Rattle.std.proofs.Common.{ap, find}
+use Rattle.std.specs.Prelude.{bytes_eq}
 use Rattle.permit_model.specs.Caller.{Party}
 use Rattle.permit_alike.proofs.Transferred.{said}
 use Rattle.permit_alike.proofs.unordered.UnorderedStore.party_by_token.Goals as goal
