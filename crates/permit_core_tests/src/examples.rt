@@ -19,10 +19,13 @@ use permit_policy::facts::Facts;
 use permit_policy::{Policy, read_policy};
 use permit_routes::bearer::read_token;
 use permit_routes::fault::RequestFault;
+use permit_routes::id;
 use permit_routes::routing::Routes;
 use permit_samples::ask::TOKENS;
+use permit_samples::held::Held;
 use permit_samples::makers::{day, digest_of, parcel, party, text, token};
 use permit_samples::offices::over_vectors;
+use permit_samples::script::play;
 use permit_samples::standard::POLICY;
 use permit_store::founder::Founder;
 use permit_store::plain::PlainStore;
@@ -130,6 +133,12 @@ fn founded(rt: &impl Abort, alloc: Global) -> Result<PlainStore, Fail> {
     Ok(store)
 }
 
+fn loaded(rt: &impl Abort, alloc: Global, mut store: PlainStore) -> Result<PlainStore, Fail> {
+    let mut copy = PlainStore::load(alloc, &mut store)?;
+    assert!(rt; copy.desk()?.parties == store.desk()?.parties);
+    Ok(copy)
+}
+
 fn opened(store: PlainStore, policy: Policy) -> Result<Office<PlainStore>, Fail> {
     let Ok(mut office) = Office::open(store, policy) else {
         return Err(Fail::new("no office"));
@@ -152,7 +161,7 @@ fn closed(rt: &impl Abort, office: Office<PlainStore>) -> Result<(), Fail> {
 }
 
 fn offices(rt: &impl Abort, alloc: Global) -> Result<(), Fail> {
-    let store = founded(rt, alloc)?;
+    let store = loaded(rt, alloc, founded(rt, alloc)?)?;
     let mut office = opened(store, read_policy(alloc, POLICY)?)?;
     listed(rt, &mut office, token(alloc, TOKENS[0])?, day(19700)?);
     closed(rt, office)
@@ -164,6 +173,11 @@ fn routed(rt: &impl Abort, alloc: Global) {
     assert!(rt; matches!(request, Ok(Request::Transfer { .. })));
     let request = routes.request(b"GET", b"/files/0", b"");
     assert!(rt; matches!(request, Err(RequestFault::Route)));
+}
+
+fn routed_numbers(rt: &impl Abort) {
+    assert!(rt; id("99999") == Some(99999));
+    assert!(rt; id("0").is_none() && id("007").is_none() && id("100000").is_none());
 }
 
 fn tokens(rt: &impl Abort, alloc: Global) -> Result<(), Fail> {
@@ -180,6 +194,16 @@ fn messages(rt: &impl Abort) -> Result<(), Fail> {
         return Err(Fail::new("no message"));
     };
     assert!(rt; inbox.message(&spans).path == b"/files".as_slice());
+    Ok(())
+}
+
+fn messages_let_go(rt: &impl Abort, inbox: &mut Inbox) -> Result<(), Fail> {
+    let mut reader: &[u8] = b"GET /files HTTP/1.1\r\nHost: office\r\nConnection: close\r\n\r\n";
+    let Ok(Some(spans)) = inbox.read_message(&mut reader) else {
+        return Err(Fail::new("no message"));
+    };
+    inbox.let_go(&spans);
+    assert!(rt; inbox.as_slice().is_empty() && inbox.is_closed());
     Ok(())
 }
 
@@ -203,6 +227,19 @@ fn requests_read(rt: &impl Abort, alloc: Global) {
     assert!(rt; matches!(read, Ok(None)));
 }
 
+fn samples(rt: &impl Abort, alloc: Global) -> Result<(), Fail> {
+    let first = day(19700)?;
+    assert!(rt; first.get() == 19700);
+    let held = Held::new(19700);
+    assert!(rt; held.value == 19700);
+    assert!(rt; held.into_inner() == 19700);
+    let office = &mut over_vectors(alloc)?;
+    let script = "> 1 19700 GET /\n< 404 Not Found {\"refused\":\"route\"}\n";
+    let bodies = play(alloc, office, script)?;
+    assert!(rt; bodies.as_str() == "{\"refused\":\"route\"}\n");
+    Ok(())
+}
+
 #[test]
 fn examples_hold(rt: HostRuntime) -> Result<(), Fail> {
     let alloc = rt.alloc();
@@ -216,9 +253,11 @@ fn examples_hold(rt: HostRuntime) -> Result<(), Fail> {
     policies(&rt, alloc)?;
     offices(&rt, alloc)?;
     routed(&rt, alloc);
+    routed_numbers(&rt);
     tokens(&rt, alloc)?;
     messages(&rt)?;
+    messages_let_go(&rt, &mut Inbox::new())?;
     requests_served(&rt, alloc)?;
     requests_read(&rt, alloc);
-    Ok(())
+    samples(&rt, alloc)
 }

@@ -202,6 +202,15 @@ pub struct HallEnd<S: Store + Drop, D: Drop> {
 /// Serves the connections of doors for an office, as `run_doors` does for any service. A request that is refused for the
 /// store has its refusal at its place, and has changed nothing. With an error the office comes back as it was, no clock
 /// was asked, and the doors are dropped.
+///
+/// # Examples
+///
+/// ```
+/// let Ok(end) = run_hall(rt, alloc, office, doors, &mut || day) else {
+///     return Err(Fail::new("no hall"));
+/// };
+/// assert!(rt; matches!(end.doors.as_slice(), [Some(door)] if door.collected == 0));
+/// ```
 pub fn run_hall<
     S: Store + Drop,
     D,

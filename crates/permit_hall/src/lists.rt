@@ -75,6 +75,15 @@ pub struct ListsEnd<S: Store + Drop> {
 /// office serves them one at a time, in one order for all lists, each on a day that the clock gives as it is taken. A
 /// request that is refused for the store has its refusal at its place, and has changed nothing. With an error the
 /// office comes back as it was, and no clock was asked.
+///
+/// # Examples
+///
+/// ```
+/// let Ok(end) = run_lists(rt, alloc, office, lists, &mut || day) else {
+///     return Err(Fail::new("no hall"));
+/// };
+/// assert!(rt; matches!(end.answers.as_slice(), [Some(_), Some(_)]));
+/// ```
 pub fn run_lists<
     S: Store + Drop,
     C: FnMut() -> Day,

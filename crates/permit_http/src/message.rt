@@ -192,6 +192,17 @@ impl Inbox {
 
     /// Lets the bytes of a message go, those after it stay. The request counts among the 100 answers of its
     /// connection, which closes with the 100th, and where the head asks for it.
+    ///
+    /// # Examples
+    ///
+    /// ```
+    /// let mut reader: &[u8] = b"GET /files HTTP/1.1\r\nHost: office\r\nConnection: close\r\n\r\n";
+    /// let Ok(Some(spans)) = inbox.read_message(&mut reader) else {
+    ///     return Err(Fail::new("no message"));
+    /// };
+    /// inbox.let_go(&spans);
+    /// assert!(rt; inbox.as_slice().is_empty() && inbox.is_closed());
+    /// ```
     pub fn let_go(&mut self, spans: &MessageSpans)
         requires { Holds self.old spans.now }
         ensures bytes { self.new.bytes ≡ drop spans.now.body.end self.old.bytes }

@@ -37,6 +37,17 @@ const LINE_ROOM: usize = 384;
 /// After a fault what was tried before it stands, and the lines of the records that were tried are out. Of the last one's
 /// only a beginning is where the writer failed, and maybe nothing where memory ran out. Where the writer failed inside the
 /// counts, all were tried. A record that the store refuses has that refusal in its line, and the import goes on.
+///
+/// # Examples
+///
+/// ```
+/// let list = b"lot,address,owner\nA-2,2 Main St,9\n".as_slice();
+/// let mut out = Vec::new(alloc);
+/// let ended = import_by(alloc, office, &token, day, true, list, &mut out);
+/// assert!(rt; ended.is_ok());
+/// let told = b"1 why: owner: no party has this number\nadded 0 kept 0 refused 1\n".as_slice();
+/// assert!(rt; out.as_slice().ends_with(told));
+/// ```
 pub fn import_by<M: Service<Day>, R: Read + Drop, W: Write>(
     alloc: Global,
     service: &mut M,

@@ -18,6 +18,14 @@ use std::io::Write;
 
 /// Writes all the bytes by a loop over `write`. A write that fails, also one that was interrupted, and a write that takes no
 /// byte are an error; a beginning of the bytes is then out.
+///
+/// # Examples
+///
+/// ```
+/// let mut out = Vec::new(alloc);
+/// assert!(rt; write_whole(&mut out, b"files 0\n").is_ok());
+/// assert!(rt; out.as_slice() == b"files 0\n".as_slice());
+/// ```
 pub fn write_whole<W: Write>(writer: &mut W, bytes: &[u8]) -> Result<(), ReportError>
     ensures whole { OnOk result (Appends (W.contents writer.old) (W.contents writer.new) bytes.now) }
     ensures front { OnErr result (WroteFront (W.contents writer.old) (W.contents writer.new) bytes.now) }
@@ -62,6 +70,15 @@ pub struct RegisterWriter<'w, W> {
 
 impl<'w, W: Write> RegisterWriter<'w, W> {
     /// A register of the kind on the day, nothing of which is written yet.
+    ///
+    /// # Examples
+    ///
+    /// ```
+    /// let mut out = Vec::new(alloc);
+    /// let writer = RegisterWriter::new(RegisterKind::Files, day, &mut out);
+    /// assert!(rt; writer.finish().is_ok());
+    /// assert!(rt; out.as_slice().ends_with(b"CENTS\nfiles 0\n"));
+    /// ```
     pub fn new(kind: RegisterKind, day: Day, writer: &'w mut W) -> RegisterWriter<'w, W>
         ensures begun { progress result ≡ record { kind = kind; day = day; lines = 0 } }
         ensures nothing_out { result.writer.now ≡ writer.old }

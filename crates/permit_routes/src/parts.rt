@@ -44,6 +44,13 @@ fn is_plain_number(word: &str) -> bool
 }
 
 /// The number of a record that a word spells without leading zeros.
+///
+/// # Examples
+///
+/// ```
+/// assert!(rt; id("99999") == Some(99999));
+/// assert!(rt; id("0").is_none() && id("007").is_none() && id("100000").is_none());
+/// ```
 pub fn id(word: &str) -> Option<u32>
     ensures number { result ≡ id_in word.now }
     ensures within { IfSome result (λ n. (0 < n) × (n ≤ most_records)) }

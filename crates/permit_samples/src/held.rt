@@ -11,6 +11,14 @@ pub struct Held<T: Drop> {
 
 impl<T: Drop> Held<T> {
     /// Holds the value.
+    ///
+    /// # Examples
+    ///
+    /// ```
+    /// let held = Held::new(19700);
+    /// assert!(rt; held.value == 19700);
+    /// assert!(rt; held.into_inner() == 19700);
+    /// ```
     pub fn new(value: T) -> Held<T> {
         Held { value }
     }

@@ -6,6 +6,13 @@ use std::alloc::Global;
 use std::test::Fail;
 
 /// A day.
+///
+/// # Examples
+///
+/// ```
+/// let first = day(19700)?;
+/// assert!(rt; first.get() == 19700);
+/// ```
 pub fn day(number: u32) -> Result<Day, Fail> {
     Ok(Day::new(number).ok_or("a day")?)
 }

@@ -66,6 +66,14 @@ fn push_body(bodies: &mut String, written: &str) -> Result<(), Fail> {
 
 /// Plays a script, and gives the bodies of the answers, each with a line end. Fails where an answer isn't what is
 /// wanted.
+///
+/// # Examples
+///
+/// ```
+/// let script = "> 1 19700 GET /\n< 404 Not Found {\"refused\":\"route\"}\n";
+/// let bodies = play(alloc, office, script)?;
+/// assert!(rt; bodies.as_str() == "{\"refused\":\"route\"}\n");
+/// ```
 pub fn play<S: Store + Drop>(
     alloc: Global,
     office: &mut Office<S>,

@@ -156,6 +156,13 @@ fn count_first(files: &[Kept]) -> u32
 impl PlainStore {
     /// The tables of another store, read into memory. It fails where a call of that store fails or memory is refused, where the
     /// office still keeps to the first edition, and where rows aren't numbered and counted as sound tables have them.
+    ///
+    /// # Examples
+    ///
+    /// ```
+    /// let mut copy = PlainStore::load(alloc, &mut store)?;
+    /// assert!(rt; copy.desk()?.parties == store.desk()?.parties);
+    /// ```
     pub fn load<S: Store>(alloc: Global, store: &mut S) -> Got<PlainStore>
         ensures held { OverTables (S.view store.old) (S.view store.new)
             (λ t. IsSoundTables t → IfOk result (λ m. (⟦<PlainStore as Store>⟧.view m).holds t)) }
