@@ -1,10 +1,6 @@
 use Rattle.permit_args.specs.Plans.{begin_history_app}
-use Rattle.permit_args.proofs.Added.{added}
 use Rattle.permit_args.proofs.commands.begin_history.Goals as goal
 
 pub returns : goal.returns
 unfolding begin_history_app
-returns c =
-    let db = added c.in_ok-arg.ensures c.database.ensures.own c.database.ensures.rule c.in_ok-subcommand.ensures in
-    let history = added c.in_ok-command.ensures c.required_option.ensures.own c.required_option.ensures.rule db in
-    c.with_why.ensures _ history
+returns c = c.why.ensures _ (c.required_option.ensures _ (c.database.ensures _ c.new.ensures))

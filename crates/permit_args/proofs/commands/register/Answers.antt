@@ -1,10 +1,6 @@
-use Rattle.std.proofs.lemmas.Result.{IfOk-weaker}
 use Rattle.permit_args.specs.Plans.{register_app}
-use Rattle.permit_args.proofs.Added.{added}
 use Rattle.permit_args.proofs.commands.register.Goals as goal
 
 pub returns : goal.returns
 unfolding register_app
-returns c =
-    let office = c.in_ok-with_office.ensures _ c.in_ok-command.ensures in
-    IfOk-weaker c.arg.result _ _ (λ r h. added h c.required_word.ensures.own c.required_word.ensures.rule office) c.arg.ensures
+returns c = c.required_word.ensures _ (c.office.ensures _ c.new.ensures)

@@ -1,11 +1,6 @@
 use Rattle.permit_args.specs.Plans.{replay_app}
-use Rattle.permit_args.proofs.Added.{added}
 use Rattle.permit_args.proofs.commands.replay.Goals as goal
 
 pub returns : goal.returns
 unfolding replay_app
-returns c =
-    let db = added c.in_ok-arg.ensures c.database.ensures.own c.database.ensures.rule c.in_ok-subcommand.ensures in
-    let history = added c.in_ok-arg-2.ensures c.required_option.ensures.own c.required_option.ensures.rule db in
-    let copy = added c.in_ok-command.ensures c.copy.ensures.own c.copy.ensures.rule history in
-    c.with_why.ensures _ copy
+returns c = c.why.ensures _ (c.copy.ensures _ (c.required_option.ensures _ (c.database.ensures _ c.new.ensures)))
