@@ -187,7 +187,7 @@ def try_deadlines(people, office):
     want_in("Abandoned", official.text("main .lead"), "past its deadline")
     want_in("ended here", official.text("ol.way:has(.abandoned)"), "past its deadline")
     people["public"].open(f"files/{number}")
-    people["public"].sees("The deadline of this file has passed.", "ask the clerk or the official")
+    people["public"].sees("Abandoned", "To go on, file a new application.")
 
 
 def body_for(action, file):
