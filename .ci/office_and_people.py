@@ -1,6 +1,7 @@
 """What the trials of the page stand on: an office in a file, the proxy before it, and the people who use the page."""
 import json
 import os
+import re
 import signal
 import subprocess
 import time
@@ -19,6 +20,9 @@ TODAY = datetime.now(timezone.utc).date()
 CHIEF = "abcdefghijklmnopqrstuvwxyz"
 TOKENS = {"clerk": "clerk2clerk2clerk2", "reviewer": "reviewer3reviewer3", "inspector": "inspector4inspector4",
           "public": "public5public5public5", "official": CHIEF, "nobody": "nobody6nobody6nobody6"}
+DEPARTMENT = json.loads((TOP / "web/department.json").read_text()) | {"staff": [
+    {"number": 1, "name": "Ada Chief", "role": "official"}, {"number": 2, "name": "Cal Ortiz", "role": "clerk"},
+    {"number": 3, "name": "Rita Vogel", "role": "reviewer"}, {"number": 4, "name": "Ian Moss", "role": "inspector"}]}
 WORST = 60  # seconds that a view may take, with 99,999 files and on a machine that does other things too
 
 
@@ -40,14 +44,18 @@ def want_in(part, whole, what):
 
 
 class Proxy:
-    """nginx with the configuration of `./counter`, with the page, before an office on a port."""
+    """nginx with the configuration of `./counter`, with the page and the department's own words, before an office on a port."""
 
     def __init__(self, folder, office):
         port = free_port()
         self.url = f"http://127.0.0.1:{port}"
         words = [TOP / "counter", "configuration", folder, str(port), str(office)]
         configuration, self.log = Path(folder) / "nginx.conf", Path(folder) / "nginx.log"
-        configuration.write_text(subprocess.run(words, check=True, capture_output=True, text=True).stdout)
+        told = Path(folder) / "department.json"
+        told.write_text(json.dumps(DEPARTMENT))
+        own = f'location = /office/department.json {{ alias "{told}"; }}\n    location /office/ {{'
+        made = subprocess.run(words, check=True, capture_output=True, text=True).stdout
+        configuration.write_text(made.replace("location /office/ {", own))
         self.process = subprocess.Popen(["nginx", "-e", "stderr", "-p", folder, "-c", configuration], stderr=self.log.open("w"))
         self.wait()
 
@@ -112,6 +120,26 @@ class Office:
         return json.loads(answer)["number"]
 
 
+# What is said of each command that was done.
+DONE = {
+    "Assign a reviewer": r"Party \d+(, .+,)? reviews file {file}\.", "Assign an inspector": r"Party \d+(, .+,)? inspects file {file}\.",
+    "Start the review": r"The review of file {file} has begun\.", "Approve the plans": r"The plans of file {file} are approved\.",
+    "Return the plans for changes": r"The plans of file {file} went back to the applicant for changes\.",
+    "Reject the plans": r"File {file} is rejected and closed\.", "Send the plans again": r"The plans of file {file} were sent again\.",
+    "Issue the permit": r"The permit of file {file} is issued\.", "Begin the work": r"The work on file {file} has begun\.",
+    "Request an inspection": r"The inspection of \w+ is requested on file {file}\.",
+    "Approve a step": r"The inspection of \w+ is approved on file {file}\.",
+    "Give a correction notice": r"Correction notice \d+ is given on file {file}\.",
+    "Clear a correction notice": r"Correction notice \d+ of file {file} is cleared\.",
+    "Order the work stopped": r"The work on file {file} is stopped\.", "Lift the stop work order": r"The stop work order on file {file} is lifted\.",
+    "Ask for more time": r"\d+ days more are asked for on file {file}\.", "Grant the extension": r"File {file} has \d+ days more\.",
+    "Refuse the extension": r"The extension of file {file} is refused\.",
+    "Name the contractor": r"Party \d+(, .+,)? is the contractor of file {file}\.",
+    "Give a temporary certificate": r"File {file} has a temporary certificate of \d+ days\.",
+    "Give the certificate": r"File {file} has its certificate\.", "Revoke the permit": r"The permit of file {file} is revoked\.",
+}
+
+
 # A person's tab.
 
 SETTLED = """const main = document.querySelector('main');
@@ -155,7 +183,7 @@ class Person:
         self.use()
         self.browser.type(self.browser.find("input[type=password]"), token or TOKENS[view])
         self.browser.click(self.browser.find(f"input[value={view}]"))
-        self.browser.click(self.browser.find("form button"))
+        self.browser.click(self.browser.find("form button[type=submit]"))
         if token is None:
             self.wait("return document.querySelector('main h1').textContent === 'What waits for me'", f"signing in as {view}")
         return self
@@ -179,6 +207,19 @@ class Person:
         self.use()
         self.browser.script("location.hash = arguments[0]", f"#/{place}")
         self.wait(SETTLED, place)
+
+    def view(self, view):
+        """Chooses another view, which is no right."""
+        self.use()
+        self.browser.script(
+            "const chooser = document.querySelector('#account select'); chooser.value = arguments[0]; chooser.dispatchEvent(new Event('change'))", view)
+        self.wait(SETTLED, f"the view {view}")
+
+    def back(self, place):
+        """Goes back by the browser's own button, to a place."""
+        self.use()
+        self.browser.script("history.back()")
+        self.wait(f"return location.hash === arguments[0] && (() => {{ {SETTLED} }})()", f"back to {place}", f"#/{place}")
 
     def form(self, label):
         self.use()
@@ -206,7 +247,7 @@ class Person:
 
     def press_submit(self, label):
         form = {webdriver.ELEMENT: self.form(label)}
-        self.browser.script("document.getElementById('said').textContent = ''")
+        self.browser.script("document.getElementById('said').replaceChildren()")
         self.browser.click(self.browser.by_script("return arguments[0].querySelector('button[type=submit]')", form))
 
     def submit(self, label):
@@ -220,7 +261,7 @@ class Person:
     def answered(self):
         """What was said to what was sent: of what was done, or of a refusal."""
         return self.wait(
-            "const done = document.getElementById('said').textContent, refused = document.querySelector('.refusal');"
+            "const done = document.querySelector('#said .words')?.textContent, refused = document.querySelector('.refusal');"
             "return done || (refused && refused.innerText)", "an answer")
 
     def send(self, label, **values):
@@ -233,7 +274,8 @@ class Person:
         self.open(f"files/{file}")
         self.fill(label, **values)
         asked = self.submit(label)
-        want(self.answered(), f"Done: {label}.", label)
+        said = self.answered()
+        want(re.fullmatch(DONE[label].format(file=file), said) is not None, True, f"{label}: {said}")
         self.wait(SETTLED, "the file")
         return asked
 
@@ -255,6 +297,24 @@ class Person:
         self.use()
         self.browser.click(self.browser.by_script(
             "return [...document.querySelectorAll('button')].find(button => button.textContent === arguments[0])", label))
+
+    def click_link(self, label):
+        """Clicks on a place of the page, which may be the one where one is."""
+        self.use()
+        self.browser.script("document.querySelector('main').replaceChildren()")
+        self.browser.click(self.browser.by_script(
+            "return [...document.querySelectorAll('nav a')].find(link => link.textContent === arguments[0])", label))
+        self.wait(SETTLED, label)
+
+    def click_column(self, label):
+        self.use()
+        self.browser.click(self.browser.by_script(
+            "return [...document.querySelectorAll('th button')].find(button => button.textContent === arguments[0])", label))
+
+    def close(self):
+        """Closes the tab."""
+        self.use()
+        self.browser.close_tab()
 
     def waits(self, file, title):
         """A file stands in a group of what waits. A table draws the rows that are looked at, so its end is looked at too."""

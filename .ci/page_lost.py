@@ -52,7 +52,7 @@ def try_a_401(people, office):
     sign_in_here(resident, "public")
     resident.wait(HEADING, "the file again", f"File {number}: Repair")
     want(resident.browser.script(TYPED, "Ask for more time"), ["40", "The windows are late"], "the form is still filled")
-    want(resident.send("Ask for more time"), "Done: Ask for more time.", "sending it then")
+    want(resident.send("Ask for more time"), f"40 days more are asked for on file {number}.", "sending it then")
     resident.open("apply/1")
     resident.fill("File an application", kind="repair", valuation="1", description="Half typed")
     resident.browser.script("sessionStorage.setItem('token', 'nobodynobodynobody')")
@@ -79,7 +79,7 @@ def try_a_double_click(people, office):
     resident.browser.script(
         "const form = [...document.querySelectorAll('form')].find(form => form.getAttribute('aria-label') === 'Request an inspection');"
         "const send = form.querySelector('button[type=submit]'); send.click(); send.click()")
-    want(resident.answered(), "Done: Request an inspection.", "a double click on a command")
+    want(resident.answered(), f"The inspection of frame is requested on file {number}.", "a double click on a command")
     time.sleep(0.5)
     want(resident.text(".refusal"), None, "it is sent once")
 
@@ -127,7 +127,7 @@ def try_signing_out(people, _office):
     resident.open("files/1")
     resident.click_button("Sign out")
     resident.wait(HEADING, "signing in anew", "Sign in")
-    want(resident.browser.script("return [sessionStorage.length, localStorage.length, document.cookie]"), [0, 0, ""], "what the tab keeps")
+    want(resident.browser.script("return [sessionStorage.length, Object.keys(localStorage), document.cookie]"), [0, ["role"], ""], "what the tab keeps")
     want("New kitchen" in resident.text(), False, "a file after signing out")
     resident.browser.script("history.back()")
     time.sleep(0.5)

@@ -5,6 +5,8 @@ import json
 import re
 import threading
 import time
+import urllib.error
+import urllib.request
 from datetime import date, timedelta
 
 from office_and_people import TODAY, WORST, Person, Proxy, want
@@ -14,11 +16,12 @@ FILES = 99_999
 EPOCH = date(1970, 1, 1)
 KINDS = ["construct", "enlarge", "alter", "repair", "move", "demolish", "occupancy"]
 FIRST_STEPS = ["footing", "footing", "frame", "frame", "footing", "final", "final"]
-PARCELS = 2_000
+PARCELS = 400
 
 
 def parcel_of(number):
-    return {"address": f"{number} Meridian Ave", "id": number, "lot": f"M-{number}", "owner": 2}
+    street = "Elm St" if number % 40 == 7 else "Meridian Ave"
+    return {"address": f"{number} {street}", "id": number, "lot": f"M-{number}", "owner": 2}
 
 
 def file_of(number):
@@ -50,12 +53,14 @@ def many_answers():
 class StandIn(http.server.BaseHTTPRequestHandler):
     """Answers as an office with many files does to who may list them all; commands fail."""
     answers = {}
+    parcels_asked = 0
     failing = 500, '{"refused":"store"}'
 
     def do_GET(self):
         text = self.answers.get(self.path)
         number = re.fullmatch(r"/(files|parcels)/(\d+)", self.path)
         if number:
+            StandIn.parcels_asked += number[1] == "parcels"
             text = json.dumps({**file_of(int(number[2])), "papers": []} if number[1] == "files" else parcel_of(int(number[2])))
         body = ('{"files":[]}' if text is None else text).encode()
         self.send_response(200)
@@ -85,7 +90,8 @@ def timed(what, limit, call):
     want(took < limit, True, f"{what} within {limit} s")
 
 
-READ = "return [...document.querySelectorAll('main .hint')].every(at => !at.textContent.startsWith('Addresses are being read'))"
+READING = "return document.querySelector('main').innerText.match(/Addresses: ([\\d,]+) of 400 are read/)?.[1] ?? null"
+HELD = "limiting requests"
 # Types a text into the search, and says after how many milliseconds the list is the one that is wanted.
 SEARCH = """
 const [text, wanted, tell] = arguments, field = document.querySelector('input[type=search]'), begun = performance.now();
@@ -99,7 +105,7 @@ look();
 """
 
 
-def try_many_files(person):
+def try_many_files(person, _proxy):
     """99,999 files are listed, sorted, narrowed and gone through with few rows drawn."""
     browser = person.browser
     rows = "return document.querySelectorAll('tbody tr').length"
@@ -129,23 +135,58 @@ def try_many_files(person):
     timed("narrowed by a text", 10, narrowed)
     browser.script("document.querySelector('tbody a').click()")
     person.wait("return document.querySelector('main h1').textContent === 'File 4321: Alter'", "the file")
-    timed("back to the list", 10, lambda: person.open_again("files"))
+    timed("back to the list", 10, lambda: person.back("files?text=house+4321+on&sort=deadline"))
     want(browser.script(count), f"1 of {FILES:,} files", "the list as it was")
-    time.sleep(0.5)
-    timed("all addresses are read", WORST, lambda: person.wait(READ, "the addresses", seconds=WORST))
-    took = browser.script_async(SEARCH, "1321 meridian", f"{FILES // PARCELS + 1} of {FILES:,} files")
-    print(f"page:   searched by an address: {took / 1000:.2f} s", flush=True)
-    want(took < 1000, True, f"a search by an address within a second, and not {took} ms")
-    want(all("1321 Meridian Ave" in text for text in browser.script("return [...document.querySelectorAll('td.at-parcel')].map(at => at.textContent)")),
-         True, "the files of the address")
     timed("the register of all files", WORST, lambda: person.open("registers/files"))
     want(browser.script(rows) < 60, True, "few rows of the register are drawn")
     timed("what waits for the official", WORST, lambda: person.open("waiting"))
 
 
-def try_failures(person):
-    """A disk that fails is named, and so is an answer that is none."""
-    for failing, words in (((500, '{"refused":"store"}'), "The disk or the memory of the office failed."),
+def crowd(proxy, seconds):
+    """Others behind the same address ask for more than the proxy allows, for some seconds."""
+    ends = time.time() + seconds
+    while time.time() < ends:
+        try:
+            urllib.request.urlopen(urllib.request.Request(f"{proxy.url}/files/stage/returned")).close()
+        except urllib.error.HTTPError as fault:
+            fault.close()
+
+
+def try_addresses(person, proxy):
+    """All addresses of a long list are read below the proxy's limit, also beside others; what is held back is asked again."""
+    person = Person(person.browser, proxy).sign_in("official")
+    browser, StandIn.parcels_asked = person.browser, 0
+    on_elm = sum(parcel_of(number % PARCELS + 1)["address"].endswith("Elm St") for number in range(1, FILES + 1))
+    person.open("files")
+    person.wait(READING, "how many addresses are read")
+    time.sleep(8)
+    want(HELD in proxy.log.read_text(), False, "the page by itself asks for less than the limit")
+    person.open("apply")
+    time.sleep(1)
+    before = StandIn.parcels_asked
+    time.sleep(2)
+    want(StandIn.parcels_asked, before, "no more is read once the reader has left the list")
+    person.open("files")
+    crowds = [threading.Thread(target=crowd, args=(proxy, 6)) for _ in range(4)]
+    for one in crowds:
+        one.start()
+    for one in crowds:
+        one.join()
+    held = [line for line in proxy.log.read_text().splitlines() if HELD in line and '"GET /parcels/' in line]
+    want(len(held) > 0, True, "the page met the limit")
+    timed("the rest of the addresses", WORST, lambda: person.wait(f"return (() => {{ {READING} }})() === null", "the addresses", seconds=WORST))
+    want(StandIn.parcels_asked, PARCELS, "each parcel was asked once")
+    want("no answer of the office" in person.text("main") or "Too many" in person.text("main"), False, "an answer 429 is no answer")
+    took = browser.script_async(SEARCH, "st elm", f"{on_elm:,} of {FILES:,} files")
+    print(f"page:   searched by an address: {took / 1000:.2f} s", flush=True)
+    want(took < 1000, True, f"a search by an address within a second, and not {took} ms")
+    shown = browser.script("return [...document.querySelectorAll('td.at-parcel')].map(at => at.textContent)")
+    want([text for text in shown if "Elm St" not in text], [], "the files of the address")
+
+
+def try_failures(person, _proxy):
+    """A disk that fails is named, and so is an answer that is none, and one that was held back."""
+    for failing, words in (((429, ""), "Too many requests came from your address at once."), ((500, '{"refused":"store"}'), "The disk or the memory of the office failed."),
                            ((413, "<p>too large"), "This is more than the office takes at once."),
                            ((502, "<p>no office"), "The office does not answer."),
                            ((200, "<p>hello"), "What came back is no answer of the office."),
@@ -163,8 +204,8 @@ def try_with_stand_in(browser, folder, shown):
     proxy = Proxy(folder, server.server_address[1])
     try:
         person = Person(browser, proxy).sign_in("official")
-        for trial in (try_many_files, try_failures):
-            trial(person)
+        for trial in (try_many_files, try_addresses, try_failures):
+            trial(person, proxy)
             print(f"page: {trial.__doc__.split('.')[0]}", flush=True)
     finally:
         proxy.close()

@@ -106,6 +106,8 @@ def make_pictures(browser, office, folder):
         show(place)
         print_picture(browser, Path(folder) / f"{name}.png")
     signed_in("official")
+    show("waiting")
+    take("overview", "wide")
     for name, place in (("files", "files"), ("register", "registers/files")):
         show(place)
         take(name, "wide")

@@ -3,6 +3,7 @@ import json
 from datetime import timedelta
 
 from office_and_people import TODAY, want, want_in
+from page_ended import prepare
 from page_life import file_in_work
 
 # The lists of the department's rules, in their order.
@@ -164,6 +165,7 @@ def try_steps(people, office):
 def try_deadlines(people, office):
     """Near and past deadlines are said in words, with the days that the office counts: the browser's clock stays behind."""
     official = people["official"]
+    office.ending = prepare(office)
     near = rules_of(official)["NEAR"]
     number = office.do("/files", {"parcel": 1, "kind": "move", "valuation": 100, "description": "Shed"}, "public")
     official.open(f"files/{number}")
@@ -186,8 +188,6 @@ def try_deadlines(people, office):
     want_in("past by 1 day", official.text("main .lead"), "181 days later")
     want_in("Abandoned", official.text("main .lead"), "past its deadline")
     want_in("ended here", official.text("ol.way:has(.abandoned)"), "past its deadline")
-    people["public"].open(f"files/{number}")
-    people["public"].sees("Abandoned", "To go on, file a new application.")
 
 
 def body_for(action, file):

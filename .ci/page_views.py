@@ -108,7 +108,7 @@ def try_every_view(people, office):
     for path, body in (("assign-reviewer", {"party": 3}), ("start-review", None), ("reject", {"text": "Too high"})):
         office.do(f"/files/{closed}/{path}", body)
     places = ["waiting", "files", f"files/{number}", f"files/{closed}", "files/99999", "registers/files", "registers/deadlines",
-              "registers/inspections", "apply", "parcels", "parcels/1", "parties", "day", f"files/{number}/papers/1", f"files/{number}/papers/3"]
+              "registers/inspections", "apply", "parcels", "parcels/1", "people", "day", f"files/{number}/papers/1", f"files/{number}/papers/3"]
     for width in (1200, 320):
         for place in places:
             official.use()
@@ -138,7 +138,9 @@ def try_keyboard(people, office):
     want(focused(person), ["BUTTON", "Skip to the content"], "the first place of the tab order")
     browser.press(TAB)
     want(focused(person), ["INPUT", "Token"], "the second")
-    browser.press(*TOKENS["inspector"], TAB, DOWN, DOWN, DOWN, TAB)
+    browser.press(*TOKENS["inspector"], TAB)
+    want(focused(person), ["BUTTON", "Show"], "the third")
+    browser.press(TAB, DOWN, DOWN, DOWN, TAB)
     want(focused(person), ["BUTTON", "Sign in"], "behind the five views")
     browser.press(ENTER)
     person.wait("return document.querySelector('main h1').textContent === 'What waits for me'", "signing in by keys")
@@ -165,7 +167,7 @@ def try_keyboard(people, office):
     browser.press(TAB)
     want(focused(person), ["BUTTON", "Approve a step"], "the answer yes")
     browser.press(ENTER)
-    want(person.answered(), "Done: Approve a step.", "a command by keys")
+    want(person.answered(), f"The inspection of frame is approved on file {number}.", "a command by keys")
 
 
 def try_registers(people, office):

@@ -36,7 +36,7 @@ class Proxy:
         self.plain, self.port = free_port(), free_port()
         self.pem, key = certificate(folder)
         block = root.path("usr/share/doc/permit/examples/nginx.conf").read_text()
-        changes = [("listen 80;", f"listen 127.0.0.1:{self.plain};"), ("listen 443 ssl;", f"listen 127.0.0.1:{self.port} ssl;"),
+        changes = [("listen 80;", f"listen 127.0.0.1:{self.plain};"), ("listen 443 ssl http2;", f"listen 127.0.0.1:{self.port} ssl http2;"),
                    ("/etc/ssl/permits.pem", str(self.pem)), ("/etc/ssl/permits.key", str(key)),
                    ("/usr/share/permit/web/", f"{root.path('usr/share/permit/web')}/"), ("127.0.0.1:8080", f"127.0.0.1:{office}")]
         for old, new in changes:
@@ -100,6 +100,7 @@ def try_limit(proxy):
     most = BURST + 1 + RATE * (spent + 1)
     want(statuses[-1] == 429 and BURST - 20 <= len(statuses) - 1 <= most, f"nginx answered {len(statuses)} requests in {spent:.1f} s, the last by {statuses[-1]}")
     want(answer.getheader("Cache-Control") == "no-store", "nginx of an address with too many requests: it may be stored")
+    want(answer.getheader("Retry-After") == "1", "nginx of an address with too many requests: when to ask again")
     want(proxy.ask("GET", "/office/")[0].status == 200, "the page is limited too")
     time.sleep(1)
     again, _ = proxy.ask("GET", "/files")

@@ -12,9 +12,9 @@ from pathlib import Path
 
 ELEMENT = "element-6066-11e4-a52e-4f735466cecf"
 PACKAGES = {"chromium": "chromium", "chromedriver": "chromium-driver", "nginx": "nginx",
-            "pdftotext": "poppler-utils"}
+            "pdftotext": "poppler-utils", "zbarimg": "zbar-tools"}
 # The keys of the protocol.
-TAB, ENTER, SPACE, DOWN, END, SHIFT = "\ue004", "\ue007", " ", "\ue015", "\ue010", "\ue008"
+TAB, ENTER, SPACE, DOWN, END, SHIFT, CONTROL = "\ue004", "\ue007", " ", "\ue015", "\ue010", "\ue008", "\ue009"
 
 
 def missing():
@@ -98,6 +98,13 @@ class Browser:
         self.ask("POST", "/window", {"handle": tab})
         self.used = tab
 
+    def close_tab(self):
+        left = self.ask("DELETE", "/window")
+        self.use(left[0])
+
+    def tabs(self):
+        return self.ask("GET", "/window/handles")
+
     def go(self, url):
         self.ask("POST", "/url", {"url": url})
 
@@ -141,6 +148,14 @@ class Browser:
 
     def click(self, element):
         self.ask("POST", f"/element/{element}/click")
+
+    def click_with_control(self, element):
+        """A click that opens a link in another tab."""
+        origin = {ELEMENT: element}
+        pointer = [{"type": "pause"}, {"type": "pointerMove", "origin": origin, "x": 0, "y": 0}, {"type": "pointerDown", "button": 0},
+                   {"type": "pointerUp", "button": 0}]
+        keys = [{"type": "keyDown", "value": CONTROL}, {"type": "pause"}, {"type": "pause"}, {"type": "pause"}, {"type": "keyUp", "value": CONTROL}]
+        self.ask("POST", "/actions", {"actions": [{"type": "key", "id": "keys", "actions": keys}, {"type": "pointer", "id": "mouse", "actions": pointer}]})
 
     def type(self, element, text):
         self.ask("POST", f"/element/{element}/value", {"text": text})

@@ -1,14 +1,17 @@
 // Asks the office at the root of the address that this page came from.
 
+import { pace, pause } from './pace.js';
 import { token } from './session.js';
 
 const PATIENCE = 15_000; // Milliseconds without a sign of an answer, after which it is given up.
+const BUSY_TURNS = 5; // So often a reading is tried where the proxy says that it was too much.
 
-// An answer that is a refusal, or that never came. `word` is what is refused; a reason or a rule may stand beside it.
+// An answer that is a refusal, or that never came. `word` is what is refused; a reason or a rule may stand beside it, or
+// the seconds after which it may be asked again.
 export class Refusal extends Error {
-  constructor(word, { reason = null, rule = null } = {}) {
+  constructor(word, { reason = null, rule = null, seconds = null } = {}) {
     super(word);
-    Object.assign(this, { word, reason, rule });
+    Object.assign(this, { word, reason, rule, seconds });
   }
 }
 
@@ -17,8 +20,15 @@ export const isUncertain = refusal => ['away', 'slow', 'unclear'].includes(refus
 
 const typeOf = answer => (answer.headers.get('Content-Type') ?? '').split(';')[0];
 
+// The seconds of a Retry-After, which is a number or a date (RFC 9110).
+function secondsOf(text) {
+  const seconds = /^\d+$/.test(text ?? '') ? Number(text) : (Date.parse(text) - Date.now()) / 1000;
+  return Number.isFinite(seconds) ? Math.min(Math.max(seconds, 0), 60) : null;
+}
+
 // A refusal of the office is JSON. Others come from what stands before it.
 async function refusalOf(answer) {
+  if (answer.status === 429) return new Refusal('busy', { seconds: secondsOf(answer.headers.get('Retry-After')) });
   if (typeOf(answer) === 'application/json') {
     const body = await answer.json();
     return new Refusal(body.refused, body);
@@ -60,9 +70,11 @@ export async function ask(method, path, body, bearer = token()) {
     timer = setTimeout(() => hung.abort(), PATIENCE);
   };
   stillComing();
+  pace.spend();
   try {
     return await fetched(method, path, body, bearer, { signal: hung.signal, stillComing });
   } catch (fault) {
+    if (fault.word === 'busy') pace.slower(fault.seconds ?? 1);
     if (fault instanceof Refusal) throw fault;
     if (hung.signal.aborted) throw new Refusal('slow');
     throw new Refusal(fault instanceof SyntaxError ? 'unclear' : 'away');
@@ -71,9 +83,14 @@ export async function ask(method, path, body, bearer = token()) {
   }
 }
 
-export const read = path => ask('GET', path);
-
-export async function listed(stage = null) {
-  const { files } = await read(stage === null ? '/files' : `/files/stage/${stage}`);
-  return files;
+// What a reader asked for. Where it was too much at once it is asked again, later each time.
+export async function read(path) {
+  for (let turn = 1; ; turn += 1) {
+    try {
+      return await ask('GET', path);
+    } catch (refusal) {
+      if (refusal.word !== 'busy' || turn === BUSY_TURNS) throw refusal;
+      await pause(1000 * Math.max(refusal.seconds ?? 0, 2 ** (turn - 1)));
+    }
+  }
 }

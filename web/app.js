@@ -2,39 +2,33 @@
 
 import { Refusal, isUncertain } from './api.js';
 import { department, readDepartment } from './department.js';
-import { button, el, freshId, said, tell, title } from './dom.js';
+import { button, el, title } from './dom.js';
+import { drawFoot, drawHead } from './head.js';
 import { watchIdleness } from './idle.js';
 import { unreadBox } from './refusals.js';
+import { ROLES } from './rules.js';
 import * as session from './session.js';
-import { applyView, parcelView, parcelsView, partiesView } from './view-desk.js';
+import { store } from './store.js';
+import { printWholeTables } from './table.js';
+import { answerNewTabs, askOpener, tellSignedOut } from './tabs.js';
+import { tell } from './tell.js';
+import { applyView } from './view-apply.js';
 import { daySheetView } from './view-day.js';
 import { documentView } from './view-document.js';
 import { fileView } from './view-file.js';
-import { filesView, forgetFiles } from './view-files.js';
+import { filesView } from './view-files.js';
+import { parcelView, parcelsView } from './view-parcels.js';
+import { peopleView } from './view-people.js';
 import { registerView } from './view-registers.js';
 import { signInView } from './view-signin.js';
 import { waitingView } from './view-waiting.js';
-import { VIEWS } from './words.js';
 
 const main = document.getElementById('main');
-const places = document.getElementById('places');
 const account = document.getElementById('account');
 
 const RETRY = 5000; // Milliseconds until the office is asked again where it doesn't answer.
 
-// The places, each with the views in which it stands in the list of places.
-const EVERYBODY = Object.keys(VIEWS);
-const PLACES = [
-  { href: '#/waiting', label: 'Waiting', views: EVERYBODY },
-  { href: '#/day', label: 'Day sheet', views: ['inspector', 'official'] },
-  { href: '#/files', label: 'All files', views: EVERYBODY },
-  { href: '#/registers/files', area: '#/registers', label: 'Registers', views: EVERYBODY },
-  { href: '#/apply', label: 'File an application', views: ['public', 'official'] },
-  { href: '#/parcels', label: 'Parcels', views: EVERYBODY },
-  { href: '#/parties', label: 'Parties', views: ['clerk', 'official'] },
-];
-
-const calls = { again: () => show(), done, show: place };
+const calls = { again: () => showAnew(), done, show: place };
 
 // The views by their addresses.
 const ID = '([1-9][0-9]{0,4})';
@@ -42,52 +36,35 @@ const ADDRESSES = [
   [/^#\/waiting$/, () => waitingView(session.view())],
   [/^#\/day$/, () => daySheetView(null)],
   [new RegExp(`^#/day/${ID}$`), inspector => daySheetView(Number(inspector))],
-  [/^#\/files$/, () => filesView(show)],
+  [/^#\/files(\?.*)?$/, () => filesView()],
   [new RegExp(`^#/files/${ID}$`), id => fileView(Number(id), session.view(), calls)],
   [new RegExp(`^#/files/${ID}/papers/${ID}$`), (id, paper) => documentView(Number(id), Number(paper))],
-  [/^#\/registers\/(files|deadlines|inspections)$/, name => registerView(name)],
-  [/^#\/apply$/, () => applyView(null, session.view(), filed)],
-  [new RegExp(`^#/apply/${ID}$`), parcel => applyView(Number(parcel), session.view(), filed)],
+  [/^#\/registers\/(files|deadlines|inspections)(?:\?.*)?$/, name => registerView(name)],
+  [/^#\/apply$/, () => applyView({}, session.view(), filed)],
+  [new RegExp(`^#/apply/${ID}$`), parcel => applyView({ parcel: Number(parcel) }, session.view(), filed)],
+  [new RegExp(`^#/apply/again/${ID}$`), file => applyView({ file: Number(file) }, session.view(), filed)],
   [/^#\/parcels$/, () => parcelsView(session.view(), added)],
   [new RegExp(`^#/parcels/${ID}$`), id => parcelView(Number(id), session.view(), calls)],
-  [/^#\/parties$/, () => partiesView(place)],
+  [/^#\/people$/, () => peopleView(place)],
 ];
 
-const isHere = ({ href, area = href }) => location.hash === href || location.hash.startsWith(`${area}/`);
+const drawHere = () => drawHead({ changeView, signOut: () => signOut() });
 
-function drawHead() {
-  const isIn = session.token() !== null;
-  places.hidden = !isIn;
-  account.hidden = !isIn;
-  if (!isIn) return;
-  const shown = PLACES.filter(place => place.views.includes(session.view()));
-  const link = place => el('a', { href: place.href, 'aria-current': isHere(place) ? 'page' : null }, place.label);
-  places.replaceChildren(el('ul', {}, shown.map(place => el('li', {}, link(place)))));
-  const id = freshId();
-  const options = Object.entries(VIEWS).map(([view, name]) => el('option', { value: view, selected: view === session.view() }, name));
-  account.replaceChildren(el('label', { for: id }, 'View'), el('select', { id, onchange: changeView }, options),
-    button('Sign out', () => signOut()));
-}
-
-function drawFoot() {
-  const { name, address, contact } = department();
-  document.getElementById('office').textContent = name;
-  document.getElementById('foot').replaceChildren(el('p', {}, said(name)), address.length > 0 ? el('p', {}, said(address.join(', '))) : '',
-    contact === '' ? '' : el('p', {}, said(contact)));
-}
-
-function changeView(event) {
-  session.setView(event.target.value);
-  show();
+function changeView(view) {
+  session.setView(view);
+  tell('');
+  showAnew();
   account.querySelector('select').focus();
 }
 
+// Shows a view from its top, with the focus on its heading.
 function place(view) {
   main.replaceChildren(view);
   main.removeAttribute('aria-busy');
   main.dataset.place = location.hash;
   const heading = main.querySelector('h1');
   document.title = `${heading.textContent} · ${department().name}`;
+  if (!store.isBack) scrollTo(0, 0);
   if (account.hidden || !account.contains(document.activeElement)) heading.focus({ preventScroll: true });
 }
 
@@ -98,7 +75,7 @@ let retry;
 async function show() {
   turn += 1;
   clearTimeout(retry);
-  drawHead();
+  drawHere();
   if (session.token() === null) return showSignIn({ leadsOn: isAddress() });
   const mine = turn;
   main.setAttribute('aria-busy', 'true');
@@ -113,6 +90,11 @@ async function show() {
   }
 }
 
+async function showAnew() {
+  store.isBack = false;
+  await show();
+}
+
 const isAddress = () => ADDRESSES.some(([pattern]) => pattern.test(location.hash));
 
 async function viewOf(hash) {
@@ -123,19 +105,28 @@ async function viewOf(hash) {
   throw new Refusal('route');
 }
 
+const link = (href, words) => el('a', { href }, words);
+
+// What leads on from a refusal: what was denied stays so, and all else may be tried again.
+function waysOn({ word, rule }) {
+  if (word !== 'denied') return [button('Try again', () => showAnew())];
+  const waiting = link('#/waiting', 'What waits for me');
+  return rule === 'closed-to-public' ? [link('#/apply', 'File a new application'), ' ', waiting] : [waiting];
+}
+
 // A refusal in the place of a view. Where the office is away it is asked again by itself.
 function showFault(fault) {
   const refusal = fault instanceof Refusal ? fault : new Refusal('unclear');
   if (!(fault instanceof Refusal)) console.error(fault);
   if (refusal.word === 'caller') return askWho(refusal);
-  place(el('div', { class: 'narrow' }, title('This can\'t be shown'), unreadBox(refusal, button('Try again', () => show()))));
-  if (isUncertain(refusal)) retry = setTimeout(show, RETRY);
+  place(el('div', { class: 'narrow' }, title('This can\'t be shown'), unreadBox(refusal, ...waysOn(refusal))));
+  if (isUncertain(refusal) || refusal.word === 'busy') retry = setTimeout(show, RETRY);
 }
 
 // Where the address is a place of the page, it comes behind the sign-in.
 function showSignIn(told) {
   place(signInView(told, () => {
-    if (isAddress()) show();
+    if (isAddress()) showAnew();
     else location.hash = '#/waiting';
   }));
 }
@@ -151,32 +142,63 @@ function endSession(how) {
   clearTimeout(retry);
   session.signOut(how);
   tell('');
-  drawHead();
+  drawHere();
 }
 
 function signOut() {
+  tellSignedOut(session.group());
   endSession();
-  history.replaceState(null, '', '#/');
+  history.replaceState({ visited: true }, '', '#/');
   showSignIn({});
 }
 
+// The code of a slip leads to an address with the view and the token, which stays nowhere.
+const SLIP = new RegExp(`^#/in/(${ROLES.join('|')})/([A-Za-z0-9]+)$`);
+
+function isSlip() {
+  const found = SLIP.exec(location.hash);
+  if (found === null) return false;
+  endSession();
+  history.replaceState({ visited: true }, '', '#/');
+  showSignIn({ slip: { view: found[1], token: found[2] } });
+  return true;
+}
+
+// A tab that was opened from a signed-in one goes on as that one.
+async function begin() {
+  if (isSlip()) return;
+  const opener = session.token() === null && isAddress() ? await askOpener() : null;
+  if (opener !== null) await session.signIn(opener.token, opener.view, opener.group);
+  history.replaceState({ visited: true }, '', session.token() !== null && location.hash.length < 3 ? '#/waiting' : '');
+  show();
+}
+
+// Who reads the day sheet without a connection couldn't sign in again.
 function signOutIdle() {
+  if (!navigator.onLine && location.hash.startsWith('#/day')) return;
   endSession({ keepsTyped: true });
   const why = 'You were signed out, since nothing was done here for 15 minutes. What you had typed is there again once you sign in.';
   showSignIn({ why, leadsOn: isAddress() });
 }
 
+// What can be done next by who did something: the form that the file waits for now, and the next file of the list.
+function nextSteps(file) {
+  const form = main.querySelector('details.command[open] > summary');
+  const step = form === null ? [] : [button(`Next: ${form.textContent}`, () => form.focus())];
+  const place = store.trail.indexOf(file);
+  const next = place === -1 ? undefined : store.trail[place + 1];
+  return [...step, next === undefined ? link('#/waiting', 'What waits for me') : link(`#/files/${next}`, `Next file: ${next}`)];
+}
+
 // Says what was done, and reads anew what is shown.
-async function done(words) {
+async function done(words, file) {
   if (session.token() === null) return;
-  forgetFiles();
-  tell(words);
-  await show();
+  await showAnew();
+  tell(words, nextSteps(file));
 }
 
 function goTo(hash, words) {
   if (session.token() === null) return;
-  forgetFiles();
   location.hash = hash;
   toTell = words;
 }
@@ -187,15 +209,30 @@ let toTell = '';
 const filed = number => goTo(`#/files/${number}`, `File ${number} was filed.`);
 const added = number => goTo(`#/parcels/${number}`, `Parcel ${number} was added.`);
 
+// A place that is come to by Back or Forward is marked by its first visit, and may show a list as it was read then.
+// Each other visit, a click on the place where one is already too, reads its lists anew.
 addEventListener('hashchange', () => {
+  if (isSlip()) return;
   tell(toTell);
   toTell = '';
+  store.isBack = history.state?.visited === true;
+  history.replaceState({ visited: true }, '');
   show();
 });
+
+document.addEventListener('click', event => {
+  const link = event.target.closest?.('a[href^="#/"]');
+  if (link?.getAttribute('href') !== location.hash || event.ctrlKey || event.metaKey || event.shiftKey) return;
+  event.preventDefault();
+  tell('');
+  showAnew();
+});
+
 addEventListener('permit:caller', event => askWho(event.detail));
 document.getElementById('skip').addEventListener('click', () => main.querySelector('h1')?.focus());
-if (session.token() !== null && location.hash.length < 3) history.replaceState(null, '', '#/waiting');
+answerNewTabs(() => { if (session.token() !== null) signOut(); });
 await readDepartment();
 drawFoot();
 watchIdleness(signOutIdle);
-show();
+printWholeTables();
+begin();

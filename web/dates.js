@@ -1,6 +1,7 @@
 // Days as the office counts them, from 1970-01-01, and the office's own day.
 
 import { NEAR } from './rules.js';
+import { store } from './store.js';
 
 const MILLISECONDS = 86_400_000;
 const dateFormat = new Intl.DateTimeFormat(undefined, { dateStyle: 'medium', timeZone: 'UTC' });
@@ -12,27 +13,22 @@ export const isoDate = day => new Date(day * MILLISECONDS).toISOString().slice(0
 
 export const dayOfIso = text => Date.parse(text) / MILLISECONDS;
 
-// By so many days the office's day is ahead of the browser's, and when that was learned: no route says the office's day,
-// but answers have it beside what they are for.
-let ahead = 0;
-let learned = -Infinity;
-
 function browserDay() {
   const now = new Date();
   return Date.UTC(now.getFullYear(), now.getMonth(), now.getDate()) / MILLISECONDS;
 }
 
-export const today = () => browserDay() + ahead;
+// No route says the office's day, but answers have it beside what they are for.
+export const today = () => browserDay() + store.day.ahead;
 
 // Takes over the day of an answer.
 export function learnDay(day) {
-  ahead = day - browserDay();
-  learned = Date.now();
+  store.day = { ahead: day - browserDay(), learned: Date.now() };
 }
 
 const HOUR = 3_600_000;
 
-export const isDayKnown = () => Date.now() - learned < HOUR;
+export const isDayKnown = () => Date.now() - store.day.learned < HOUR;
 
 // Takes over the nearest day on which a file, as the office showed it, can have its timing.
 export function agreeWith({ deadline, filed, timing }) {
@@ -40,7 +36,7 @@ export function agreeWith({ deadline, filed, timing }) {
   if (timing === 'past') day = Math.max(day, deadline + 1);
   if (timing === 'near') day = Math.min(Math.max(day, deadline - NEAR), deadline);
   if (timing === 'ahead') day = Math.min(day, deadline - NEAR - 1);
-  ahead = day - browserDay();
+  store.day.ahead = day - browserDay();
 }
 
 const days = count => `${count} ${count === 1 ? 'day' : 'days'}`;

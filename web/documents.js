@@ -2,6 +2,7 @@
 // signs it, and what it says. The sections are those of the International Building Code 2018.
 
 import { dateNode } from './columns.js';
+import { today } from './dates.js';
 import { el, said } from './dom.js';
 import { BEFORE_PERMIT, LONGEST_EXTENSION, REQUIRED, TERM, UNDER_PERMIT } from './rules.js';
 import { STEPS, STEP_HINTS, isCertifiable, party, stepsOf } from './words.js';
@@ -13,19 +14,66 @@ const quoted = (head, text) => [el('h2', {}, head), said(text, 'p')];
 
 const paragraph = (...words) => el('p', {}, words);
 
-function permitBody(file) {
+const lastOf = (file, sort) => file.papers.findLast(paper => paper.sort === sort);
+
+// What a permit is today, by the stage of its file: a word, since when, and what that means.
+const ENDED = {
+  rejected: file => ({ word: 'Rejected', day: lastOf(file, 'rejected').day, means: 'This application was rejected. No permit was issued on it.' }),
+  abandoned: file => ({ word: 'Abandoned', day: file.deadline + 1, means: 'No permit was issued by the deadline, so this application counts as abandoned.' }),
+  revoked: file => ({ word: 'Revoked', day: lastOf(file, 'revoked').day, means: 'This permit was revoked. No work may go on under it.' }),
+  lapsed: file => ({ word: 'Lapsed', day: file.deadline + 1, means: 'This permit lapsed at its deadline. No work may go on under it.' }),
+};
+
+const stopOf = file => ({ word: 'Stop work', day: lastOf(file, 'stop').day, means: 'A stop work order stands on this file. No work may go on until it is lifted in writing.' });
+
+// What stands against the permit of a file today. Nothing does while work may go on, or is done.
+const againstPermit = file => [ENDED[file.stage]?.(file), file.stopped ? stopOf(file) : undefined].filter(found => found !== undefined);
+
+// A temporary certificate ends with its last day, or by the next one, which takes its place.
+function againstTemporary(file, paper) {
+  const next = file.papers.find(other => other.sort === 'temporary' && other.number > paper.number);
+  if (next !== undefined) return [{ word: 'Replaced', day: next.day, means: `Paper ${next.number} has taken the place of this certificate.` }];
+  const end = paper.day + paper.days + 1;
+  return today() < end ? [] : [{ word: 'Ended', day: end, means: 'The building may not be occupied by this certificate any longer.' }];
+}
+
+function againstStop(file, paper) {
+  const lifted = file.papers.find(other => other.sort === 'lifted' && other.number > paper.number);
+  return lifted === undefined ? [] : [{ word: 'Lifted', day: lifted.day, means: `This order was lifted by paper ${lifted.number}.` }];
+}
+
+const SAY_IT = { rejected: 'Rejected', revoked: 'Revoked', stop: 'Stop work' };
+
+// What stands against a paper, which is more than what it says itself.
+export function against(file, paper) {
+  const own = paper.sort === 'temporary' ? againstTemporary(file, paper) : paper.sort === 'stop' ? againstStop(file, paper) : [];
+  return [...own, ...againstPermit(file).filter(({ word }) => word !== SAY_IT[paper.sort])];
+}
+
+function aliveParts(file) {
+  return [
+    el('h2', {}, 'What keeps the permit alive'),
+    paragraph(el('strong', {}, 'Deadline: ', dateNode(file.deadline)), ', as it stands today. The permit lapses the day after.'),
+    paragraph(`Work has to begin within ${TERM} days. Beginning it, requesting an inspection, an approved inspection and a correction notice each give ${TERM} days from that day.`),
+    paragraph(`An extension of at most ${LONGEST_EXTENSION.permit} days can be asked for in writing, with its cause, before the deadline.`),
+  ];
+}
+
+// A permit that is stopped has still its deadline; one that ended has none.
+function endedBody(file, paper) {
+  const runsOn = UNDER_PERMIT.includes(file.stage) ? paragraph('Deadline: ', dateNode(file.deadline), '. It runs on while the work is stopped.') : null;
+  return [paragraph('This permit was issued on ', dateNode(paper.day), '. What stands above in large letters holds now.'), runsOn];
+}
+
+function permitBody(file, paper) {
+  if (againstPermit(file).length > 0) return endedBody(file, paper);
   const steps = el('ol', {}, stepsOf(file).map(step => el('li', {}, el('strong', {}, STEPS[step]), `: ${STEP_HINTS[step]}`)));
-  const deadline = UNDER_PERMIT.includes(file.stage)
-    ? paragraph(el('strong', {}, 'Deadline: ', dateNode(file.deadline)), ', as it stands today. The permit lapses the day after.')
-    : paragraph(el('strong', {}, 'Deadline: none. '), 'The permit is not in force, or its work is done.');
   return [
     paragraph('The work described above is permitted.'),
     el('h2', {}, 'Inspections, in this order'), steps,
     paragraph('Request each one when the work is ready for it. No work goes on past an inspection before it is approved.'),
-    el('h2', {}, 'What keeps the permit alive'), deadline,
-    paragraph(`Work has to begin within ${TERM} days. Beginning it, requesting an inspection, an approved inspection and a correction notice each give ${TERM} days from that day.`),
-    paragraph(`An extension of at most ${LONGEST_EXTENSION.permit} days can be asked for in writing, with its cause, before the deadline.`),
-    isCertifiable(file.kind) ? paragraph('The building may not be occupied before the department has given a certificate.') : null,
+    ...(UNDER_PERMIT.includes(file.stage) ? aliveParts(file) : [paragraph('The work is done, and all of its inspections are approved.')]),
+    isCertifiable(file.kind) && file.stage !== 'certified' ? paragraph('The building may not be occupied before the department has given a certificate.') : null,
   ];
 }
 
@@ -33,11 +81,9 @@ function permitBody(file) {
 const isUnderPermit = (file, paper) => file.papers.some(other => other.sort === 'permit' && other.number < paper.number);
 
 function stopBody(file, paper) {
-  const lifted = file.papers.find(other => other.sort === 'lifted' && other.number > paper.number);
-  const end = lifted === undefined
-    ? paragraph('Nobody may go on with this work until the department has lifted this order in writing.')
-    : paragraph(el('strong', {}, 'This order was lifted on ', dateNode(lifted.day), `, by paper ${lifted.number}.`));
-  return [...quoted('Reason', paper.text), ...quoted('Conditions for going on', paper.terms), end];
+  const isLifted = againstStop(file, paper).length > 0;
+  return [...quoted('Reason', paper.text), ...quoted('Conditions for going on', paper.terms),
+    isLifted ? null : paragraph('Nobody may go on with this work until the department has lifted this order in writing.')];
 }
 
 function extensionSection(file, paper) {
@@ -69,19 +115,20 @@ const DOCUMENTS = {
   stop: { title: 'Stop work', section: () => '115.2', signs: 'the inspector or the building official', isPlacard: true, body: stopBody },
   lifted: {
     title: 'Stop work order lifted', section: () => '115.2', signs: OFFICIAL,
-    body: () => [paragraph('The stop work order on this file is lifted. The work may go on.')],
+    body: file => [paragraph('The stop work order on this file is lifted', againstPermit(file).length > 0 ? '.' : '. The work may go on.')],
   },
   notice: {
     title: 'Correction notice', section: () => '110.6', signs: 'the inspector',
     body: (file, paper) => [
       ...quoted('What has to be corrected', paper.text),
-      paragraph(paper.open ? 'Correct this, and request the inspection again. No work may cover it before it is approved.'
-        : 'This notice is cleared: what it names was corrected.'),
+      paragraph(!paper.open ? 'This notice is cleared: what it names was corrected.'
+        : againstPermit(file).length > 0 ? 'This notice is open.'
+          : 'Correct this, and request the inspection again. No work may cover it before it is approved.'),
     ],
   },
   returned: {
     title: 'Plans returned for changes', section: () => '105.3.1', signs: 'the reviewer',
-    body: (file, paper) => [...quoted('What has to be changed', paper.text), paragraph('Answer, and send the plans again.')],
+    body: (file, paper) => [...quoted('What has to be changed', paper.text), file.stage === 'returned' ? paragraph('Answer, and send the plans again.') : null],
   },
   rejected: {
     title: 'Application rejected', section: () => '105.3.1', signs: OFFICIAL,

@@ -35,8 +35,3 @@ export function factList(facts) {
   const row = ([term, value, isLong = false]) => el('div', { class: isLong ? 'whole' : null }, el('dt', {}, term), el('dd', {}, value));
   return el('dl', { class: 'facts' }, facts.map(row));
 }
-
-// Says something in the line at the top of the page, which is read out.
-export function tell(words) {
-  document.getElementById('said').textContent = words;
-}

@@ -1,10 +1,11 @@
 // The fields of the forms: each type has its control, its limits in words, and reads what was typed: as the value that
 // goes into a body, or as a fault in words.
 
-import { currency } from './department.js';
-import { el } from './dom.js';
+import { currency, textsFor } from './department.js';
+import { el, freshId } from './dom.js';
+import { staffControl, staffNode, staffText } from './field-staff.js';
 import { parcelOf } from './parcels.js';
-import { placeNode, reasonOf } from './places.js';
+import { NOT_YOURS, isNotYours, placeNode, reasonOf } from './places.js';
 import { LONGEST_LOT, LONGEST_TEXT, MOST_CENTS, MOST_NUMBER, MOST_PAPER, ROLES, TOKEN_LETTERS } from './rules.js';
 import { KIND_CHOICES, STEPS, VIEWS, count, money, party, stepsOf } from './words.js';
 
@@ -39,16 +40,38 @@ export function textFault(text) {
   return text.isWellFormed?.() === false ? 'Half a sign stands in this. Type it anew.' : '';
 }
 
-// What is left of a text, told as it is typed.
+const SETTLED = 1000; // Milliseconds after the last letter until what is left is read out.
+const FEW = 200; // Letters left, from which on it is read out.
+
+// What is left of a text: seen as it is typed, and read out where it becomes little and nothing was typed for a moment.
 function lengthNode(control) {
-  const node = el('p', { class: 'hint length', role: 'status' });
-  const show = () => {
+  const seen = el('p', { class: 'hint length', 'aria-hidden': 'true' });
+  const heard = el('p', { class: 'heard', role: 'status' });
+  let waiting;
+  function show() {
     const left = LONGEST_TEXT - sizeOf(control.value);
-    node.textContent = left < 0 ? `Too long by ${count(-left)}.` : `${count(left)} letters left. An accented letter counts as two.`;
-  };
+    seen.textContent = left < 0 ? `Too long by ${count(-left)}.` : `${count(left)} letters left. An accented letter counts as two.`;
+    clearTimeout(waiting);
+    waiting = setTimeout(() => { heard.textContent = left < FEW ? seen.textContent : ''; }, SETTLED);
+  }
   control.addEventListener('input', show);
   show();
-  return node;
+  return el('div', {}, seen, heard);
+}
+
+// Texts of the department to choose from: the one that is chosen is put into the field, behind what stands there.
+function textsNode(control, field) {
+  const texts = textsFor(field.texts);
+  if (texts.length === 0) return null;
+  const id = freshId();
+  const choice = el('select', { id }, el('option', { value: '' }, 'Choose a text to begin with'), texts.map(text => el('option', { value: text }, text)));
+  choice.addEventListener('input', () => {
+    control.value = `${control.value} ${choice.value}`.trim();
+    choice.value = '';
+    control.dispatchEvent(new Event('input'));
+    control.focus();
+  });
+  return el('p', { class: 'texts' }, el('label', { for: id }, 'Usual texts'), choice);
 }
 
 function readText(text) {
@@ -116,7 +139,7 @@ function parcelNode(control, field) {
     const parcel = await parcelOf(value);
     if (readNumber(control.value, MOST_NUMBER).value !== value) return;
     if (parcel.refusal === undefined) node.replaceChildren(placeNode(value), `. Its owner is ${party(parcel.owner)}.`);
-    else if (parcel.refusal.word === 'denied' && field.view === 'public') node.textContent = 'This is not your parcel. Check the number.';
+    else if (isNotYours(parcel, field.view)) node.textContent = NOT_YOURS;
     else node.textContent = reasonOf(parcel);
   }
   control.addEventListener('input', () => {
@@ -135,8 +158,15 @@ const choice = (words, options) => ({
 
 const number = (most, more = {}) => ({ control: numberInput, hint: () => null, read: text => readNumber(text, most), ...more });
 
-// By the type of a field. `control`, `hint`, `below` (what stands below it) and `read` may look at the file and the field.
+// By the type of a field. `control`, `hint`, `above` and `below` (what stands there) and `read` may look at the file and the field.
 const TYPES = {
+  staff: {
+    control: (file, field) => staffControl(field, numberInput),
+    hint: (file, field) => field.now(file),
+    below: (control, field) => staffNode(control, field, numberInput),
+    text: staffText,
+    read: text => readNumber(text, MOST_NUMBER),
+  },
   party: number(MOST_NUMBER, { hint: (file, field) => field.now?.(file) ?? null }),
   parcel: number(MOST_NUMBER, { below: parcelNode }),
   paper: number(MOST_PAPER),
@@ -149,7 +179,7 @@ const TYPES = {
     read: (text, file, field) => readNumber(text, field.most(file)),
   },
   line: { control: () => textControl('input', { type: 'text' }), hint: () => null, read: readText, below: lengthNode },
-  text: { control: () => textControl('textarea', { rows: '3' }), hint: () => 'One paragraph.', read: readText, below: lengthNode },
+  text: { control: () => textControl('textarea', { rows: '3' }), hint: () => 'One paragraph.', read: readText, above: textsNode, below: lengthNode },
   lot: {
     control: () => el('input', { ...QUIET, autocapitalize: 'characters' }),
     hint: () => `Such as C-7: at most ${LONGEST_LOT} letters, digits and hyphens.`,
@@ -170,5 +200,6 @@ export function makeField(field, file) {
   const first = field.first?.(file);
   if (first !== null && first !== undefined) control.value = String(first);
   return { key: field.key, label: field.label, type: field.type, control, hint: type.hint(file, field),
-    below: () => type.below?.(control, field) ?? null, read: () => type.read(control.value, file, field) };
+    above: () => type.above?.(control, field) ?? null, below: () => type.below?.(control, field) ?? null,
+    read: () => type.read(type.text?.(control) ?? control.value, file, field) };
 }

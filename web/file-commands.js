@@ -6,8 +6,8 @@ import { el, said } from './dom.js';
 import { foldedForm } from './forms.js';
 import { placeNode } from './places.js';
 import { REASONS } from './refusals.js';
-import { COMMANDS, ROLES, reasonAgainst } from './rules.js';
-import { STAGES, VIEWS } from './words.js';
+import { COMMANDS, reasonAgainst } from './rules.js';
+import { STAGES } from './words.js';
 
 // What is shown before a command that can't be taken back.
 function checkOf(command, file) {
@@ -15,7 +15,7 @@ function checkOf(command, file) {
   return body => ({
     yes: command.label,
     nodes: [
-      el('p', {}, el('strong', {}, command.so(file, body)), ' This can\'t be taken back.'),
+      el('p', {}, el('strong', {}, command.so(file, body)), ` ${command.undone ?? 'This can\'t be taken back.'}`),
       el('p', {}, `File ${file.id}: `, said(file.description)), el('p', {}, placeNode(file.parcel)),
       body.text === undefined ? null : el('p', {}, 'In writing: ', said(body.text)),
     ].filter(node => node !== null),
@@ -39,7 +39,7 @@ function commandForm(command, file, isOwn, { again, done }) {
     check: checkOf(command, file),
     look: () => looked(file),
     again,
-    done: () => done(`Done: ${command.label}.`),
+    done: ({ number }, body) => done(`${command.did(file, body, number)}.`, file.id),
   });
 }
 
@@ -63,27 +63,26 @@ function refusedNode(command, file) {
   return el('li', {}, el('strong', {}, command.label), `: ${words}`);
 }
 
-// The roles in the order in which they are shown: the reader's own first.
-const rolesFrom = view => [view, ...ROLES.filter(role => role !== view)];
-
-function groupOf(role, view, commands, file, calls) {
-  const isOwn = role === view;
-  const name = VIEWS[role].toLowerCase();
-  return el('div', { class: isOwn ? 'group own' : 'group' }, el('h3', {}, isOwn ? `As ${name} you can` : `The ${name} can`),
-    commands.map(command => commandForm(command, file, isOwn, calls)));
+// The forms of the reader's own part, and, folded, those that the official may do in the place of somebody else.
+function groupsOf(commands, view, file, calls) {
+  const isOwn = command => view !== 'official' || COMMANDS[command.action].who.length === 0;
+  const own = commands.filter(isOwn);
+  const others = commands.filter(command => !isOwn(command));
+  const forms = (list, isFirst) => list.map(command => commandForm(command, file, isFirst, calls));
+  return [
+    own.length === 0 ? null : el('div', { class: 'group own' }, forms(own, true)),
+    others.length === 0 ? null : el('details', { class: 'others' },
+      el('summary', {}, `In the place of somebody else (${others.length})`), forms(others, false)),
+  ];
 }
 
+// What the reader's role may do on a file; what isn't admitted now stands under one line, with why.
 export function commandsSection(file, view, calls) {
-  const isAdmitted = command => reasonAgainst(command.action, file) === null;
-  const rest = FILE_COMMANDS.filter(command => !isAdmitted(command));
-  let open = FILE_COMMANDS.filter(isAdmitted);
-  const groups = rolesFrom(view).map(role => {
-    const mine = open.filter(command => actorsOf(command).includes(role));
-    open = open.filter(command => !mine.includes(command));
-    return mine.length === 0 ? null : groupOf(role, view, mine, file, calls);
-  });
-  return el('section', {}, el('h2', {}, 'What can be done'),
-    groups.some(group => group !== null) ? groups : el('p', {}, 'Nothing more can be done on this file.'),
+  const mine = FILE_COMMANDS.filter(command => actorsOf(command).includes(view));
+  const open = mine.filter(command => reasonAgainst(command.action, file) === null);
+  const rest = mine.filter(command => !open.includes(command));
+  return el('section', { class: 'unprinted' }, el('h2', {}, 'What you can do'),
+    open.length === 0 ? el('p', { class: 'none' }, 'Nothing is to be done by you now.') : groupsOf(open, view, file, calls),
     rest.length === 0 ? null : el('details', { class: 'others' },
       el('summary', {}, `What can't be done now (${rest.length})`), el('ul', {}, rest.map(command => refusedNode(command, file)))));
 }

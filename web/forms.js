@@ -4,14 +4,11 @@ import { ask, isUncertain } from './api.js';
 import { learnDay } from './dates.js';
 import { button, el, freshId } from './dom.js';
 import { makeField } from './fields.js';
-import { causeOf, faultBox, refusalBox, wordsOf } from './refusals.js';
-import { whenSignedOut } from './session.js';
+import { causeOf, faultBox, refusalBox, wordsFor } from './refusals.js';
+import { dropLists, store } from './store.js';
+import { tell } from './tell.js';
 
 const LOOK_AGAIN = 5000; // Milliseconds until an office that doesn't answer is asked again.
-
-// What was typed and not yet accepted, by the path and the key, so that a view may be drawn anew under it.
-const drafts = new Map();
-whenSignedOut(({ keepsTyped }) => { if (!keepsTyped) drafts.clear(); });
 
 // A field with its label, its hint and the place of its fault. `show` says what is wrong with it, or nothing.
 function fieldRow(field, path) {
@@ -19,14 +16,14 @@ function fieldRow(field, path) {
   const draft = `${path} ${field.key}`;
   control.id = freshId();
   control.name = field.key;
-  if (drafts.has(draft)) control.value = drafts.get(draft);
-  control.addEventListener('input', () => drafts.set(draft, control.value));
+  if (store.drafts.has(draft)) control.value = store.drafts.get(draft);
+  control.addEventListener('input', () => store.drafts.set(draft, control.value));
   const fault = el('p', { class: 'fault', id: freshId(), hidden: true });
   const hintId = freshId();
   control.setAttribute('aria-describedby', hint === null ? fault.id : `${hintId} ${fault.id}`);
   control.setAttribute('aria-required', 'true');
   const row = el('div', { class: 'field' }, el('label', { for: control.id }, field.label),
-    hint === null ? null : el('p', { class: 'hint', id: hintId }, hint), fault, control, field.below());
+    hint === null ? null : el('p', { class: 'hint', id: hintId }, hint), fault, field.above(), control, field.below());
   function show(words) {
     fault.textContent = words;
     fault.hidden = words === '';
@@ -85,6 +82,7 @@ class CommandForm {
     const faults = readings.filter(([, reading]) => reading.fault !== undefined).map(([field, { fault }]) => [field, fault]);
     this.#fields.forEach(field => field.show(''));
     faults.forEach(([field, fault]) => field.show(fault));
+    tell('');
     if (faults.length > 0) this.#showBox(faultBox(faults));
     return faults.length > 0 ? null : Object.fromEntries(readings.map(([field, { value }]) => [field.key, value]));
   }
@@ -119,41 +117,64 @@ class CommandForm {
     const key = causeOf(refusal, this.#fields.map(field => field.key));
     const field = this.#fields.find(field => field.key === key);
     const found = isUncertain(refusal) && look ? el('p', { class: 'looked', role: 'status' }, 'Looking whether it was done.') : null;
-    field?.show(wordsOf(refusal)[0]);
+    field?.show(wordsFor(refusal, field)[0]);
     this.#showBox(refusalBox(refusal, { field, found, actions: again ? [button('Look again', again)] : [] }));
     if (found !== null) looked(() => look(body), found);
   }
 
-  // Once it is accepted nothing can be sent from here again: what is shown next takes this form's place.
+  // Once it is accepted nothing can be sent from here again, unless it is for one after the other: what is shown next
+  // takes this form's place.
   async #send(body) {
-    const { path, done } = this.#options;
+    const { path, done, to = given => [path, this.#fields.length > 0 ? given : undefined], isRepeated = false } = this.#options;
     if (this.#isSending) return;
-    this.#isSending = true;
-    this.element.setAttribute('aria-busy', 'true');
+    this.#setSending(true);
     this.#answer.replaceChildren();
+    tell('');
     try {
-      const answered = await ask('POST', path, this.#fields.length > 0 ? body : undefined);
-      this.#fields.forEach(field => drafts.delete(`${path} ${field.key}`));
+      const answered = await ask('POST', ...to(body));
+      this.#fields.forEach(field => store.drafts.delete(`${path} ${field.key}`));
       learnDay(answered.day);
+      dropLists();
+      if (isRepeated) this.#begin();
       await done(answered, body);
     } catch (refusal) {
-      this.#isSending = false;
+      this.#setSending(false);
       if (refusal.word === 'caller') dispatchEvent(new CustomEvent('permit:caller', { detail: refusal }));
       else this.#showRefusal(refusal, body);
-    } finally {
-      this.element.removeAttribute('aria-busy');
     }
+  }
+
+  // Once more from the beginning, for another one.
+  #begin() {
+    this.#setSending(false);
+    this.#fields.forEach(({ control }) => {
+      control.value = '';
+      control.dispatchEvent(new Event('input'));
+    });
+    this.#turnTo(this.#entry);
+  }
+
+  // That something is being sent shows at once, on the button that sent it.
+  #setSending(isSending) {
+    this.#isSending = isSending;
+    const send = this.#checked.hidden ? this.#submit : this.#checked.querySelector('.yes');
+    send.disabled = isSending;
+    if (isSending) send.dataset.label = send.textContent;
+    send.textContent = isSending ? 'Sending\u2026' : send.dataset.label;
+    this.element.toggleAttribute('aria-busy', isSending);
   }
 }
 
 // `path`, `label`, `fields` and `file` say what is sent; `done` is called with the answer and the body that was sent.
 // `check`, where there is one, gives what is shown of a body before it is sent, with the label of its button.
 // `look`, where there is one, finds out whether a body was accepted whose answer never came.
+// `to`, where there is one, gives path and body of what is sent; else it goes to `path` as it is.
+// `isRepeated` says that one after the other is sent from it.
 // `again`, where there is one, reads anew what the form stands beside.
 export const postForm = options => new CommandForm(options).element;
 
 // The same folded under its label. It opens by itself where it is expected, or something was typed into it before.
 export function foldedForm({ open, ...options }) {
-  const typed = options.fields.some(field => drafts.has(`${options.path} ${field.key}`));
+  const typed = options.fields.some(field => store.drafts.has(`${options.path} ${field.key}`));
   return el('details', { class: 'command', open: open || typed }, el('summary', {}, options.label), postForm(options));
 }

@@ -60,8 +60,8 @@ const TO_DO = {
   revoked: () => 'Stop the work. Read the reasons below.',
   finaled: file => (file.stopped ? 'Do what the stop work order asks.' : NOTHING),
   certified: () => 'You may occupy and use the building as it was certified.',
-  abandoned: () => NEW_FILE,
-  lapsed: () => `No work may go on under this permit. ${NEW_FILE}`,
+  abandoned: () => `More time can't be given any more. ${NEW_FILE}`,
+  lapsed: () => `No work may go on under this permit, and more time can't be given any more. ${NEW_FILE}`,
 };
 
 // What its applicant has to do, in sentences.
@@ -70,13 +70,24 @@ export const toDoOf = file => TO_DO[file.stage](file);
 // Whether it is the applicant, or the contractor, for whom a file waits.
 export const isApplicants = file => file.stage === 'returned' || (UNDER_PERMIT.includes(file.stage) && !file.stopped && file.request === null);
 
+// How a file ended at its deadline, in sentences; null where it didn't.
+export function endOf(file) {
+  if (file.stage !== 'abandoned' && file.stage !== 'lapsed') return null;
+  const [last, since] = [dateText(file.deadline), dateText(file.deadline + 1)];
+  const asked = file.ask === null ? '' : ` The extension of ${file.ask} days that was asked for was not granted in time.`;
+  return (file.stage === 'abandoned'
+    ? `No permit was issued by ${last}. The application counts as abandoned since ${since}.`
+    : `The deadline of the permit, ${last}, passed without anything that would have moved it. The permit lapsed, and holds no longer since ${since}.`) + asked;
+}
+
 // Until when something has to happen, and what comes of it otherwise; null where no deadline runs. `isMine` says that
 // it is told to who has to do it.
 export function untilOf(file, isMine = true) {
   if (file.deadline === null) return null;
   const day = dateText(file.deadline);
   if (BEFORE_PERMIT.includes(file.stage)) {
-    const longer = file.ask === null ? 'You can ask for more time until then.' : 'More time was asked for.';
+    const longer = file.ask !== null ? 'More time was asked for.'
+      : isMine ? 'You can ask for more time until then.' : 'The applicant can ask for more time until then.';
     return `The permit has to be issued by ${day}, or the application is abandoned. ${longer}`;
   }
   if (!UNDER_PERMIT.includes(file.stage)) return null;

@@ -1,101 +1,96 @@
 // Parcels by their numbers. Each is asked once and kept for the tab, so that a lot and an address can stand wherever a
-// number stands. What is looked at goes first; what only a search or an order needs follows behind it.
+// number stands. Nothing changes them but a transfer, which makes it another owner.
 
-import { Refusal, read } from './api.js';
-import { token, whenSignedOut } from './session.js';
+import { ask, isUncertain } from './api.js';
+import { pace, pause } from './pace.js';
+import { token } from './session.js';
+import { keep, kept, store } from './store.js';
 
-const AT_ONCE = 4;
+const READERS = 4; // So many are asked together.
 const MANY = 100; // So many take a moment, which is told at once.
 const MOST_KEPT = 20_000; // So many are kept while the page is read anew.
-
-const known = new Map();
-const asked = new Map(); // By number what waits for it.
-let urgent = [];
-let later = [];
-let asking = 0;
+const LOOK_AGAIN = 5000; // Milliseconds until an office that doesn't answer is asked again.
 
 // A parcel as it is known: with its lot, or with the refusal to show it; undefined where it wasn't asked yet.
-export const knownParcel = id => known.get(id);
+export function knownParcel(id) {
+  const parcel = store.parcels.get(id);
+  return parcel?.awaited === undefined ? parcel : undefined;
+}
 
-export const knownParcels = () => [...known.values()].filter(parcel => parcel.lot !== undefined);
+export const knownParcels = () => [...store.parcels.values()].filter(parcel => parcel.lot !== undefined);
 
 // Something was changed: it is asked anew.
-export const forgetParcel = id => known.delete(id);
+export const forgetParcel = id => store.parcels.delete(id);
 
-// What was denied stays so. What isn't there may come to be.
-async function readParcel(id) {
-  const mine = token();
-  let parcel;
-  try {
-    parcel = await read(`/parcels/${id}`);
-  } catch (refusal) {
-    if (!(refusal instanceof Refusal)) throw refusal;
-    parcel = { id, refusal };
+// An answer that is the office's. Where there were too many requests it is asked again.
+async function answered(id, isUrgent) {
+  for (;;) {
+    await pace.turn(isUrgent);
+    try {
+      const parcel = await ask('GET', `/parcels/${id}`);
+      pace.faster();
+      return parcel;
+    } catch (refusal) {
+      if (refusal.word === undefined) throw refusal;
+      if (refusal.word !== 'busy') return { id, refusal };
+    }
   }
+}
+
+// What was denied stays so. What isn't there may come to be, and what nobody answered is asked again.
+async function readParcel(id, isUrgent) {
+  const mine = token();
+  const parcel = await answered(id, isUrgent);
+  if (token() !== mine) return parcel;
   const lasts = parcel.refusal === undefined || parcel.refusal.word === 'denied';
-  if (lasts && token() === mine) known.set(id, parcel);
+  if (lasts) store.parcels.set(id, parcel);
+  else store.parcels.delete(id);
   return parcel;
 }
 
-async function work() {
-  asking += 1;
-  while (urgent.length + later.length > 0) {
-    const id = urgent.pop() ?? later.pop();
-    const waiting = asked.get(id);
-    if (waiting === undefined || waiting.begun) continue;
-    waiting.begun = true;
-    const parcel = await readParcel(id);
-    asked.delete(id);
-    waiting.tell(parcel);
-  }
-  asking -= 1;
+// The parcel of a number, once it is known: it has a lot, or a refusal. Until then the store has what is awaited.
+export function parcelOf(id, isUrgent = true) {
+  const known = store.parcels.get(id);
+  if (known !== undefined) return Promise.resolve(known.awaited ?? known);
+  const awaited = readParcel(id, isUrgent);
+  store.parcels.set(id, { id, awaited });
+  return awaited;
 }
 
-// The parcel of a number, once it is known: it has a lot, or a refusal.
-export function parcelOf(id, queue = urgent) {
-  if (known.has(id)) return Promise.resolve(known.get(id));
-  let waiting = asked.get(id);
-  if (waiting === undefined) {
-    waiting = { begun: false };
-    waiting.promise = new Promise(tell => { waiting.tell = tell; });
-    asked.set(id, waiting);
+// One of the readers of many parcels: it asks for the next one as long as it is wanted, and waits while nobody answers.
+async function learnNext(ids, isWanted, told) {
+  while (ids.length > 0 && isWanted()) {
+    const id = ids.pop();
+    const parcel = await parcelOf(id, false);
+    if (parcel.refusal !== undefined && isUncertain(parcel.refusal)) {
+      ids.push(id);
+      await pause(LOOK_AGAIN);
+    } else told();
   }
-  if (!waiting.begun) queue.push(id);
-  if (asking < AT_ONCE) work();
-  return waiting.promise;
 }
 
-// The parcels of many numbers, behind all that is more urgent; `told` is called when some more are known, with how many.
-export async function learnParcels(ids, told = () => {}) {
-  const wanted = [...new Set(ids)].filter(id => !known.has(id)).reverse();
-  let count = 0;
+// The parcels of many numbers, behind all that is looked at, as long as they are wanted; `told` is called with how many
+// of how many are read.
+export async function learnParcels(ids, isWanted, told = () => {}) {
+  const all = [...new Set(ids)];
+  const missing = all.filter(id => knownParcel(id) === undefined).reverse();
+  if (missing.length === 0) return;
+  let count = all.length - missing.length;
   let toldAt = Date.now();
-  if (wanted.length > MANY) setTimeout(() => told(count, wanted.length));
-  await Promise.all(wanted.map(async id => {
-    await parcelOf(id, later);
+  if (missing.length > MANY) setTimeout(() => { if (isWanted()) told(count, all.length); });
+  const one = () => {
     count += 1;
-    if (Date.now() - toldAt < 500 || count === wanted.length) return;
+    if (Date.now() - toldAt < 500 || count === all.length) return;
     toldAt = Date.now();
-    told(count, wanted.length);
-  }));
-  if (wanted.length > 0) told(wanted.length, wanted.length);
+    told(count, all.length);
+  };
+  await Promise.all(Array.from({ length: READERS }, () => learnNext(missing, isWanted, one)));
+  if (isWanted()) told(count, all.length);
 }
 
 // A page that is read anew in the same tab finds them again.
 addEventListener('pagehide', () => {
-  if (token() === null || known.size > MOST_KEPT) return;
-  try {
-    sessionStorage.setItem('parcels', JSON.stringify(knownParcels()));
-  } catch {
-    sessionStorage.removeItem('parcels');
-  }
+  if (token() !== null && store.parcels.size <= MOST_KEPT) keep('parcels', knownParcels());
 });
 
-for (const parcel of JSON.parse(sessionStorage.getItem('parcels') ?? '[]')) known.set(parcel.id, parcel);
-
-whenSignedOut(() => {
-  known.clear();
-  asked.clear();
-  urgent = [];
-  later = [];
-});
+for (const parcel of kept('parcels') ?? []) store.parcels.set(parcel.id, parcel);

@@ -1,8 +1,10 @@
 // A parcel's lot and address beside its number.
 
-import { button, el, said, tell } from './dom.js';
+import { department } from './department.js';
+import { button, el, said } from './dom.js';
 import { parcelOf, knownParcel } from './parcels.js';
 import { wordsOf } from './refusals.js';
+import { tell } from './tell.js';
 
 export const parcelLink = id => el('a', { href: `#/parcels/${id}` }, `Parcel ${id}`);
 
@@ -22,6 +24,11 @@ function fillPlace(node, parcel) {
   }
 }
 
+// A resident is denied each parcel but the own ones.
+export const isNotYours = (parcel, view) => view === 'public' && parcel?.refusal?.word === 'denied';
+
+export const NOT_YOURS = 'This is not your parcel. Check the number.';
+
 // The number with lot and address, which come as soon as they are known.
 export function placeNode(id, first = parcelLink(id)) {
   const node = el('span', { class: 'place' }, first);
@@ -40,3 +47,13 @@ export function placeText(id) {
 export const addressOf = id => knownParcel(id)?.address ?? '';
 
 export const lotOf = id => knownParcel(id)?.lot ?? '';
+
+// Opens the phone's map at a parcel's address, or the map that department.json names.
+export function mapLink(id) {
+  const address = addressOf(id);
+  if (address === '') return null;
+  const { map } = department();
+  const sought = encodeURIComponent(address);
+  if (map === null) return el('a', { class: 'map', href: `geo:0,0?q=${sought}` }, 'Map');
+  return el('a', { class: 'map', href: `${map}${sought}`, target: '_blank', rel: 'noopener noreferrer' }, 'Map');
+}

@@ -12,6 +12,10 @@ export const MOST_NUMBER = 99_999; // Parties, parcels and files.
 export const MOST_PAPER = 9_999;
 export const MOST_CENTS = 9_999_999_999_999;
 
+// What the page itself counts as recent and as soon, in days.
+export const RECENT = 30;
+export const SOON = 14;
+
 export const ROLES = ['public', 'clerk', 'reviewer', 'inspector', 'official'];
 export const KINDS = ['construct', 'enlarge', 'alter', 'repair', 'move', 'demolish', 'occupancy'];
 export const CERTIFIABLE = ['construct', 'enlarge', 'alter', 'move', 'occupancy'];
@@ -51,7 +55,7 @@ export const STAGES = Object.keys(PASSED);
 export const BEFORE_PERMIT = ['filed', 'review', 'returned', 'approved'];
 export const UNDER_PERMIT = ['issued', 'working'];
 export const CLOSED = ['rejected', 'revoked', 'abandoned', 'lapsed'];
-const OPEN = [...BEFORE_PERMIT, ...UNDER_PERMIT];
+export const OPEN = [...BEFORE_PERMIT, ...UNDER_PERMIT];
 const STOPPABLE = ['issued', 'working', 'revoked', 'finaled', 'lapsed'];
 
 // Who does each command on a file, beside the official, and the stages that admit it.

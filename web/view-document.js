@@ -3,9 +3,9 @@
 import { Refusal, read } from './api.js';
 import { dateNode } from './columns.js';
 import { today } from './dates.js';
-import { department } from './department.js';
-import { authorOf, documentOf, isDocument } from './documents.js';
-import { button, el, factList, said, title } from './dom.js';
+import { letterheadLines, nameOf } from './department.js';
+import { against, authorOf, documentOf, isDocument } from './documents.js';
+import { button, el, factList, said } from './dom.js';
 import { parcelOf } from './parcels.js';
 import { learnToday } from './today.js';
 import { KINDS, money, party } from './words.js';
@@ -33,24 +33,30 @@ function fit(sheet) {
 }
 
 function letterhead(heading, isPlacard) {
-  const { name, address, contact } = department();
-  return el('div', { class: 'letterhead' },
-    el('p', { class: 'from' }, said(name, 'strong'), address.map(line => [el('br'), said(line)]).flat(), contact === '' ? null : [el('br'), said(contact)]),
+  return el('div', { class: 'letterhead' }, el('p', { class: 'from' }, letterheadLines()),
     el('h1', { tabindex: '-1', class: isPlacard ? 'placard' : null }, heading));
 }
 
+// Somebody whose name nobody told has a line for it.
+const partyLine = number => (number === null || nameOf(number) !== null ? party(number)
+  : el('span', { class: 'unnamed' }, party(number), el('span', { class: 'line' }, 'Name: ')));
+
 function facts(file, paper, parcel, { isValued = false }) {
   const place = parcel.refusal === undefined
-    ? [['Lot', said(parcel.lot)], ['Address', said(parcel.address), parcel.address.length > LONG], ['Owner', party(parcel.owner)]]
+    ? [['Lot', said(parcel.lot)], ['Address', said(parcel.address), parcel.address.length > LONG], ['Owner', partyLine(parcel.owner)]]
     : [['Lot and address', 'not open to who printed this']];
   return factList([
     ['File', String(file.id)], ['Paper', String(paper.number)], ['Date', dateNode(paper.day)],
     ['Parcel', String(file.parcel)], ...place,
     ['Kind of work', KINDS[file.kind]], ...(isValued ? [['Valuation', money(file.valuation)]] : []),
-    ['Applicant', party(file.applicant)], ['Contractor', party(file.contractor)], ['Given by', authorOf(paper)],
+    ['Applicant', partyLine(file.applicant)], ['Contractor', partyLine(file.contractor)], ['Given by', authorOf(paper)],
     ['Description', said(file.description), true],
   ]);
 }
+
+// What became of the paper since, so large that nobody takes it for what it was.
+const stampOf = ({ word, day, means }) => el('div', { class: 'stamp' }, el('p', { class: 'word' }, word),
+  el('p', {}, 'since ', dateNode(day), `. ${means}`));
 
 function signature(signs) {
   return el('div', { class: 'signature' }, el('p', {}, `Signature of ${signs}`), el('p', {}, 'Date'));
@@ -59,7 +65,7 @@ function signature(signs) {
 function sheetOf(file, paper, parcel) {
   const made = documentOf(paper);
   return el('article', { class: made.isPlacard ? 'sheet posted' : 'sheet' },
-    letterhead(made.title, made.isPlacard),
+    letterhead(made.title, made.isPlacard), against(file, paper).map(stampOf),
     made.isPlacard && parcel.refusal === undefined ? el('p', { class: 'posted-at' }, said(parcel.address), ', lot ', said(parcel.lot)) : null,
     facts(file, paper, parcel, made), el('div', { class: 'body' }, made.body(file, paper)),
     el('p', { class: 'law' }, `This stands on section ${made.section(file, paper)} of the International Building Code 2018.`),
@@ -77,20 +83,4 @@ export async function documentView(id, number) {
   fit(sheet);
   return el('div', { class: 'document' },
     el('p', { class: 'actions unprinted' }, button('Print', () => print()), ' ', el('a', { href: `#/files/${id}` }, `Back to file ${id}`)), sheet);
-}
-
-// What is shown once and can't be called up again: somebody new, with the token to hand over.
-export function slipView({ number, name, role, token }) {
-  const { name: from, contact } = department();
-  const address = `${location.origin}${location.pathname}`;
-  return el('div', { class: 'document' },
-    el('p', { class: 'actions unprinted' }, button('Print the slip', () => print()), ' ',
-      el('a', { href: '#/parcels' }, 'Go on to the parcels')),
-    el('p', { class: 'lead unprinted' }, 'The token is shown this once. Print the slip, or write the token down, before you leave this page.'),
-    el('article', { class: 'sheet slip' },
-      el('p', { class: 'from' }, said(from, 'strong'), contact === '' ? null : [el('br'), said(contact)]),
-      title(`Party ${number} was added`),
-      factList([['Name', said(name)], ['Number', `party ${number}`], ['Role', role], ['Sign in at', address, true]]),
-      el('p', {}, 'Token'), el('p', { class: 'token' }, token),
-      el('p', {}, 'Keep this slip to yourself: who has the token can act in your name.')));
 }

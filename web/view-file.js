@@ -6,7 +6,7 @@ import { documentOf, isDocument } from './documents.js';
 import { el, factList, said, title } from './dom.js';
 import { calendarButton } from './downloads.js';
 import { commandsSection } from './file-commands.js';
-import { isApplicants, nextOf, toDoOf, untilOf } from './next.js';
+import { endOf, isApplicants, nextOf, toDoOf, untilOf } from './next.js';
 import { placeNode, placeText } from './places.js';
 import { CLOSED, PASSED } from './rules.js';
 import { learnToday } from './today.js';
@@ -30,7 +30,7 @@ function paperHead(paper) {
 function printLink(file, paper) {
   if (!isDocument(paper)) return null;
   const what = documentOf(paper).title.toLowerCase();
-  return el('p', {}, el('a', { href: `#/files/${file.id}/papers/${paper.number}` }, `Print paper ${paper.number}: ${what}`));
+  return el('p', { class: 'unprinted' }, el('a', { href: `#/files/${file.id}/papers/${paper.number}` }, `Print paper ${paper.number}: ${what}`));
 }
 
 // What an applicant has to do and until when; to others, what comes next and until when.
@@ -38,10 +38,13 @@ function nextSection(file, view) {
   const isMine = view === 'public';
   const until = untilOf(file, isMine);
   const waits = isApplicants(file) ? 'This waits for the applicant: ' : '';
+  const end = endOf(file);
   const sentences = isMine ? [el('strong', {}, toDoOf(file)), isApplicants(file) ? null : ` ${nextOf(file)}.`]
     : [waits, el('strong', {}, `${nextOf(file)}.`)];
-  return el('section', { class: 'next' }, el('h2', {}, 'What happens next'), el('p', {}, sentences.filter(part => part !== null)),
-    until === null ? null : el('p', {}, until));
+  return el('section', { class: 'next' }, el('h2', {}, end === null ? 'What happens next' : 'What happened'),
+    end === null ? null : el('p', {}, end), el('p', {}, sentences.filter(part => part !== null)),
+    until === null ? null : el('p', {}, until),
+    isMine && CLOSED.includes(file.stage) ? el('p', { class: 'unprinted' }, el('a', { href: `#/apply/again/${file.id}` }, 'File this again')) : null);
 }
 
 // Open notices and the standing stop order come before everything else.
@@ -109,13 +112,13 @@ function factsSection(file) {
 
 function papersSection(file) {
   const items = file.papers.map(paper => el('li', { class: paper.sort }, paperHead(paper), paperBody(paper), printLink(file, paper)));
-  return el('section', {}, el('h2', {}, `Papers (${file.papers.length})`),
+  return el('section', {}, el('h2', {}, `History (${file.papers.length})`),
     items.length === 0 ? el('p', { class: 'none' }, 'None yet. The permit, notices and certificates appear here.') : el('ol', { class: 'papers' }, items));
 }
 
 function calendarLine(file) {
   if (file.deadline === null) return null;
-  return el('p', { class: 'actions' }, calendarButton(file, () => placeText(file.parcel), `${nextOf(file)}. ${untilOf(file) ?? ''}`));
+  return el('p', { class: 'actions unprinted' }, calendarButton(file, () => placeText(file.parcel), `${nextOf(file)}. ${untilOf(file) ?? ''}`));
 }
 
 // `calls` has `again`, which reads the file anew, and `done`, which does so with words for what was accepted.

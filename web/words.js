@@ -1,6 +1,6 @@
 // The words of the office as a reader says them. The keys are those of rules.js.
 
-import { currency } from './department.js';
+import { currency, nameOf } from './department.js';
 import { CERTIFIABLE, REQUIRED } from './rules.js';
 
 export const VIEWS = {
@@ -88,17 +88,22 @@ export const SORTS = {
 
 export const REGISTERS = { files: 'Files', deadlines: 'Deadlines', inspections: 'Inspections' };
 
-// Parties are known by their numbers: no answer has a name.
-export const party = number => (number === null ? 'none' : `party ${number}`);
+// Parties are known by their numbers, since no answer has a name. The names of the staff stand in department.json.
+export function party(number) {
+  if (number === null) return 'none';
+  const name = nameOf(Number(number));
+  return name === null ? `party ${number}` : `party ${number}, ${name}`;
+}
+
+// The same at the beginning of a sentence.
+export const partyFirst = number => `${party(number).replace('p', 'P')}${nameOf(Number(number)) === null ? '' : ','}`;
 
 const digits = { minimumFractionDigits: 2, maximumFractionDigits: 2 };
-let moneyFormat = null;
 
 // An amount with the currency of the department, where it names one.
 export function money(cents) {
   const unit = currency() === null ? {} : { style: 'currency', currency: currency(), currencyDisplay: 'narrowSymbol' };
-  moneyFormat ??= new Intl.NumberFormat(undefined, { ...digits, ...unit });
-  return moneyFormat.format(cents / 100);
+  return new Intl.NumberFormat(undefined, { ...digits, ...unit }).format(cents / 100);
 }
 
 // The same for a spreadsheet.
