@@ -90,8 +90,10 @@ class Browser:
     # Tabs.
 
     def new_tab(self):
+        """A tab in front: one behind another has less of the processor."""
         tab = self.ask("POST", "/window/new", {"type": "tab"})["handle"]
         self.use(tab)
+        self.devtools("Page.bringToFront", {})
         return tab
 
     def use(self, tab):

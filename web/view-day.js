@@ -117,7 +117,7 @@ const timeFormat = new Intl.DateTimeFormat(undefined, { dateStyle: 'medium', tim
 function readNode({ at, isKept }) {
   const time = timeFormat.format(at);
   return isKept ? el('p', { class: 'kept', role: 'alert' }, el('strong', {}, 'No connection. '), `This is the day sheet as it was read on ${time}; what changed since isn't in it.`)
-    : el('p', { class: 'hint' }, `Read on ${time}. It stays readable here without a connection.`);
+    : el('p', { class: 'hint' }, `Read on ${time}.`, el('span', { class: 'unprinted' }, ' It stays readable here without a connection.'));
 }
 
 export async function daySheetView(inspector) {

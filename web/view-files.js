@@ -116,7 +116,7 @@ class FileList {
         labelled('List', chooser(NAMES, list, value => this.#narrow({ list: value }))),
         labelled('Stage', chooser(STAGES, stage, value => this.#narrow({ stage: value }))),
         labelled('Kind', chooser(KINDS, kind, value => this.#narrow({ kind: value }))),
-        labelled('Words, number, address or name', searchField(text, this.#narrow))),
+        labelled('Search by words or number', searchField(text, this.#narrow))),
       savedFilters(),
       this.#counted, addresses, this.#table.element, this.#empty,
       el('p', { class: 'actions' }, csvButton('files', () => outOf(OUT), this.#table.rows)),
