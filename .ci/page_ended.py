@@ -27,6 +27,9 @@ def try_ended_permits(people, office):
         want((large[0], large[1] > 24), (word, True), "the word, large")
         for text in (resident.text(".sheet"), printed(resident, f"a permit: {word}", [word, f"since {today}"])):
             want("is permitted" in text, False, f"a permit: {word}")
+        if action == "revoke":
+            resident.open(f"files/{number}")
+            resident.sees(f"The permit was revoked on {today}.", "Another parcel's plans", "File this again")
     office.do(f"/files/{number}/lift")
     resident.open(f"files/{number}/papers/1")
     want_in("The work described above is permitted.", resident.text(".sheet"), "a permit whose order was lifted")

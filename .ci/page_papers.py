@@ -137,7 +137,7 @@ def try_day_sheet(people, office):
     office.do(f"/files/{noticed}/request-inspection", {"step": "frame"}, "public")
     far = file_in_work(office, parcel=2, step="frame", description="Fence on the other lot")
     inspector.open("day")
-    want(inspector.text("main h1"), "Day sheet of party 4", "whose sheet it is")
+    want(inspector.text("main h1"), "Day sheet of party 4, Ian Moss", "whose sheet it is")
     listed = [file for file in json.loads(office.ask("GET", "/files/stage/working", who="inspector")[1])["files"]
               if file["request"] and file["inspector"] == 4]
     shown = inspector.browser.script(

@@ -70,8 +70,11 @@ export const toDoOf = file => TO_DO[file.stage](file);
 // Whether it is the applicant, or the contractor, for whom a file waits.
 export const isApplicants = file => file.stage === 'returned' || (UNDER_PERMIT.includes(file.stage) && !file.stopped && file.request === null);
 
-// How a file ended at its deadline, in sentences; null where it didn't.
+const CLOSED_BY = { rejected: 'The plans were rejected', revoked: 'The permit was revoked' };
+
+// How a file ended, by a paper or at its deadline, in sentences; null where it didn't.
 export function endOf(file) {
+  if (file.stage in CLOSED_BY) return `${CLOSED_BY[file.stage]} on ${dateText(file.papers.findLast(paper => paper.sort === file.stage).day)}.`;
   if (file.stage !== 'abandoned' && file.stage !== 'lapsed') return null;
   const [last, since] = [dateText(file.deadline), dateText(file.deadline + 1)];
   const asked = file.ask === null ? '' : ` The extension of ${file.ask} days that was asked for was not granted in time.`;
