@@ -79,6 +79,37 @@ def try_what_is_said(people, office):
     want(reviewer.browser.script("return document.activeElement.textContent"), "Approve the plans", "where the next step leads")
 
 
+def check_saved(clerk):
+    """The list that is shown is saved by a name, found again, and removed."""
+    clerk.browser.script("document.querySelector('.saved').open = true")
+    clerk.type_text(".saved input", "Files of Rita")
+    clerk.click_button("Save")
+    clerk.open("files")
+    saved = clerk.browser.script("return [...document.querySelectorAll('.saved-lists a')].map(at => [at.textContent, at.getAttribute('href')])")
+    want(saved, [["Files of Rita", "#/files?text=vogel&sort=filed"]], "the saved lists")
+    clerk.browser.script("document.querySelector('.saved').open = true")
+    clerk.click_button("remove")
+    want(clerk.browser.script("return [...document.querySelectorAll('.saved-lists a')].length + localStorage.length"), 1, "a list that was removed")
+
+
+def check_by_name(clerk, office, files):
+    """The files of a reviewer by name, sorted, which their address and a saved list keep."""
+    clerk.type_text(".narrowing input[type=search]", "vogel")
+    mine = [file["id"] for file in files if file["reviewer"] == 3]
+    clerk.wait(f"{COUNT} === arguments[0]", "the files of a reviewer by name", f"{len(mine)} of {len(files)} files")
+    clerk.click_column("Filed")
+    want(clerk.browser.script("return location.hash"), "#/files?text=vogel&sort=filed", "the address keeps it")
+    check_saved(clerk)
+    other = Person(clerk.browser, office)
+    other.browser.script("location.hash = '#/files?text=vogel&sort=filed'")
+    sign_in_here(other, "clerk")
+    other.wait(f"{COUNT} === arguments[0]", "the same list by its address", f"{len(mine)} of {len(files)} files")
+    oldest = [file["id"] for file in sorted(files, key=lambda file: file["filed"]) if file["reviewer"] == 3]
+    shown = other.browser.script(SHOWN)
+    want((shown, len(shown) > 1), (oldest[:len(shown)], True), "oldest first")
+    other.close()
+
+
 def try_searches(people, office):
     """A list is found by a number, by words in any order and by a name, and its address keeps how it is narrowed and sorted."""
     clerk = people["clerk"]
@@ -91,27 +122,7 @@ def try_searches(people, office):
         clerk.open("files")
         clerk.type_text(".narrowing input[type=search]", typed)
         clerk.wait(f"return JSON.stringify((() => {{ {SHOWN} }})()) === arguments[0]", f"what {typed} finds", json.dumps(wanted).replace(" ", ""))
-    clerk.type_text(".narrowing input[type=search]", "vogel")
-    mine = [file["id"] for file in files if file["reviewer"] == 3]
-    clerk.wait(f"{COUNT} === arguments[0]", "the files of a reviewer by name", f"{len(mine)} of {len(files)} files")
-    clerk.click_column("Filed")
-    want(clerk.browser.script("return location.hash"), "#/files?text=vogel&sort=filed", "the address keeps it")
-    clerk.browser.script("document.querySelector('.saved').open = true")
-    clerk.type_text(".saved input", "Files of Rita")
-    clerk.click_button("Save")
-    clerk.open("files")
-    saved = clerk.browser.script("return [...document.querySelectorAll('.saved-lists a')].map(at => [at.textContent, at.getAttribute('href')])")
-    want(saved, [["Files of Rita", "#/files?text=vogel&sort=filed"]], "the saved lists")
-    clerk.browser.script("document.querySelector('.saved').open = true")
-    clerk.click_button("remove")
-    want(clerk.browser.script("return [...document.querySelectorAll('.saved-lists a')].length + localStorage.length"), 1, "a list that was removed")
-    other = Person(clerk.browser, office)
-    other.browser.script("location.hash = '#/files?text=vogel&sort=filed'")
-    sign_in_here(other, "clerk")
-    other.wait(f"{COUNT} === arguments[0]", "the same list by its address", f"{len(mine)} of {len(files)} files")
-    filed = [file["filed"] for file in files if file["reviewer"] == 3]
-    want(sorted(filed), filed, "oldest first")
-    other.close()
+    check_by_name(clerk, office, files)
     clerk.open("waiting")
     want(clerk.browser.script("return [...document.querySelectorAll('main *')].filter(at => at.scrollHeight > at.clientHeight + 1"
                               " && ['auto', 'scroll'].includes(getComputedStyle(at).overflowY)).length"), 0, "lists in what waits don't scroll by themselves")
@@ -186,7 +197,8 @@ def try_own_commands(people, office):
         shown = person.browser.script("return [...document.querySelectorAll('.command > summary, .others li strong')].map(at => at.textContent)")
         want(sorted(shown), sorted(LABELS[action] for action in acting(role) if action in LABELS), f"the commands of the {role}")
         want("you can ask for more time" in person.text("main").lower(), False, "untilOf under a permit")
-    filed = office.do("/files", {"parcel": 1, "kind": "repair", "valuation": 1, "description": "For staff"}, "public")
+    parcel = office.do("/parcels", {"lot": "F-1", "address": "1 Far St", "owner": 5}, "clerk")
+    filed = office.do("/files", {"parcel": parcel, "kind": "repair", "valuation": 1, "description": "For staff"}, "public")
     people["clerk"].open(f"files/{filed}")
     people["clerk"].sees("The applicant can ask for more time until then.")
     people["public"].open(f"files/{filed}")

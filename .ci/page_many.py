@@ -154,8 +154,8 @@ def crowd(proxy, seconds):
 
 def try_addresses(person, proxy):
     """All addresses of a long list are read below the proxy's limit, also beside others; what is held back is asked again."""
-    person = Person(person.browser, proxy).sign_in("official")
-    browser, StandIn.parcels_asked = person.browser, 0
+    StandIn.parcels_asked, browser = 0, person.browser
+    person = Person(browser, proxy).sign_in("official")
     on_elm = sum(parcel_of(number % PARCELS + 1)["address"].endswith("Elm St") for number in range(1, FILES + 1))
     person.open("files")
     person.wait(READING, "how many addresses are read")
@@ -167,14 +167,14 @@ def try_addresses(person, proxy):
     time.sleep(2)
     want(StandIn.parcels_asked, before, "no more is read once the reader has left the list")
     person.open("files")
-    crowds = [threading.Thread(target=crowd, args=(proxy, 6)) for _ in range(4)]
+    crowds = [threading.Thread(target=crowd, args=(proxy, 4)) for _ in range(4)]
     for one in crowds:
         one.start()
     for one in crowds:
         one.join()
     held = [line for line in proxy.log.read_text().splitlines() if HELD in line and '"GET /parcels/' in line]
     want(len(held) > 0, True, "the page met the limit")
-    timed("the rest of the addresses", WORST, lambda: person.wait(f"return (() => {{ {READING} }})() === null", "the addresses", seconds=WORST))
+    timed("the rest of the addresses", 2 * WORST, lambda: person.wait(f"return (() => {{ {READING} }})() === null", "the addresses", seconds=2 * WORST))
     want(StandIn.parcels_asked, PARCELS, "each parcel was asked once")
     want("no answer of the office" in person.text("main") or "Too many" in person.text("main"), False, "an answer 429 is no answer")
     took = browser.script_async(SEARCH, "st elm", f"{on_elm:,} of {FILES:,} files")

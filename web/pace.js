@@ -3,8 +3,8 @@
 
 const RATE = 12; // Requests a second, so that there is room for a second tab and for what is sent.
 const AT_ONCE = 40; // So many may go out together after a pause.
-const SLOWEST = 0.5;
-const FASTER = 1.02; // Per answer, until the rate is reached again.
+const SLOWEST = 1;
+const FASTER = 0.25; // Requests a second more with each answer, until the rate is reached again.
 
 export const pause = milliseconds => new Promise(ready => { setTimeout(ready, milliseconds); });
 
@@ -55,16 +55,18 @@ class Pace {
     }, wait);
   }
 
-  // The proxy said that it was too much: nothing goes out for some seconds, and then half as much.
+  // The proxy said that it was too much: nothing goes out for some seconds, and then half as much. Those that were on
+  // their way together are held back together, and count once.
   slower(seconds) {
-    this.#rate = Math.max(SLOWEST, this.#rate / 2);
+    const now = performance.now();
+    if (now >= this.#stoppedUntil) this.#rate = Math.max(SLOWEST, this.#rate / 2);
     this.#room = Math.min(this.#room, 0);
-    this.#stoppedUntil = Math.max(this.#stoppedUntil, performance.now() + seconds * 1000);
+    this.#stoppedUntil = Math.max(this.#stoppedUntil, now + seconds * 1000);
   }
 
   faster() {
     this.#count();
-    this.#rate = Math.min(RATE, this.#rate * FASTER);
+    this.#rate = Math.min(RATE, this.#rate + FASTER);
   }
 
   rate = () => this.#rate;
