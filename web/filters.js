@@ -2,6 +2,7 @@
 // address of a list, so that it can be kept as a bookmark.
 
 import { today } from './dates.js';
+import { pause } from './pace.js';
 import { placeText } from './places.js';
 import { OPEN, RECENT, SOON } from './rules.js';
 import { store } from './store.js';
@@ -48,6 +49,16 @@ function textOf(file) {
     store.texts.set(file, `file ${file.id} ${file.description} parcel ${file.parcel} ${people} ${KINDS[file.kind]} ${STAGES[file.stage]}`.toLowerCase());
   }
   return store.texts.get(file);
+}
+
+const SLICE = 2500; // Files whose texts are made ready at once.
+
+// Makes ready what files are looked for by, some at a time, so that the first search of many files is quick too.
+export async function makeReady(files, isWanted) {
+  for (let first = 0; first < files.length && isWanted(); first += SLICE) {
+    files.slice(first, first + SLICE).forEach(textOf);
+    await pause(10);
+  }
 }
 
 // Whether a word stands in a text: a number as a whole, and any other word as a part too.

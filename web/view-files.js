@@ -3,7 +3,7 @@
 import { COLUMNS, outOf } from './columns.js';
 import { el, freshId, title } from './dom.js';
 import { csvButton } from './downloads.js';
-import { NAMED, filterOf, hashOf, narrowed } from './filters.js';
+import { NAMED, filterOf, hashOf, makeReady, narrowed } from './filters.js';
 import { listed, readAt } from './lists.js';
 import { pace } from './pace.js';
 import { learnParcels } from './parcels.js';
@@ -109,7 +109,10 @@ class FileList {
     const { list, stage, kind, text } = this.#filter;
     const isShown = () => this.#table.element.isConnected;
     const addresses = el('div', {});
-    requestAnimationFrame(() => addresses.replaceChildren(addressNode(this.#all, isShown, this.#moreAddresses)));
+    requestAnimationFrame(() => {
+      addresses.replaceChildren(addressNode(this.#all, isShown, this.#moreAddresses));
+      makeReady(this.#all, isShown);
+    });
     return el('div', {},
       title('All files'),
       el('form', { class: 'narrowing', 'aria-label': 'Narrow the list', onsubmit: event => event.preventDefault() },
