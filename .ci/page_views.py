@@ -146,12 +146,16 @@ def try_keyboard(people, office):
     person.wait("return document.querySelector('main h1').textContent === 'What waits for me'", "signing in by keys")
     want(browser.script("return document.activeElement.tagName"), "H1", "the focus in a new view")
     order = []
-    for _ in range(60):
+    for _ in range(200):
         browser.press(TAB)
         order.append(focused(person))
+        if order[-1][0] == "BUTTON" and order[-1][1].startswith("Show all"):
+            browser.press(ENTER)
+            order.append(focused(person))
+            want(order[-1][1][:5], "File ", "the focus where all rows are shown")
         if order[-1] == ["A", f"File {number}"]:
             break
-    want(order[-1], ["A", f"File {number}"], "a file is reached by the tab key")
+    want(order[-1], ["A", f"File {number}"], f"a file is reached by the tab key, after {order}")
     seen = browser.script("const at = getComputedStyle(document.activeElement); return [at.outlineStyle, at.outlineWidth]")
     want(seen, ["solid", "3px"], "the focus is seen")
     browser.press(ENTER)

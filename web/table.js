@@ -109,6 +109,13 @@ class Table {
     this.#drawAll();
   };
 
+  // The same, with the focus on the first row that wasn't shown.
+  showRest = () => {
+    const first = this.#count();
+    this.showAll();
+    this.#moveTo(first);
+  };
+
   toTop = () => {
     this.#kept.top = 0;
     this.restore();
@@ -212,7 +219,7 @@ class Table {
 // the place in the table stay. `heights` are those of a row on a wide screen and on one that is at most `narrow`, as
 // tables.css has it. `most` rows are shown at first. `out` are the columns that are printed, `moved` is called with how far it is scrolled, and `sorted`
 // with how it is sorted. The result has the table's element, `show` and `showAnew`, which take other rows, `rows`, which gives them as
-// they are sorted, `restore`, `toTop` and `showAll`.
+// they are sorted, `restore`, `toTop`, `showAll` and `showRest`.
 export const makeTable = options => new Table(options);
 
 // A list is printed with all of its rows, and not with those alone that are drawn.

@@ -111,7 +111,7 @@ function groupSection({ title, has, columns, sorted, empty, hint = null }, files
   table.show(mine);
   if (columns.includes(since)) learnSentAgain(mine.slice(0, 4 * MOST), () => table.showAnew(mine)).catch(() => {}); // Without it the day of the filing stands.
   const rest = mine.length <= MOST ? null : button(`Show all ${count(mine.length)}`, event => {
-    table.showAll();
+    table.showRest();
     event.target.remove();
   });
   return el('section', {}, head, hint === null ? null : el('p', { class: 'hint' }, el('a', { href: '#/day' }, hint)), table.element,
