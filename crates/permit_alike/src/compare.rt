@@ -164,7 +164,7 @@ fn have_same_interests<A: Store, B: Store>(first: &mut A, second: &mut B) -> Got
     Ok(back)
 }
 
-/// The first place at which two stores with this desk differ behind it.
+/// The first place at which two stores with this desk differ after it.
 fn first_behind_desk<A: Store, B: Store>(
     first: &mut A,
     second: &mut B,

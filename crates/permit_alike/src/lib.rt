@@ -1,4 +1,4 @@
-//! Tables that no call of a store tells apart, and the comparison of two stores, row by row.
+//! Tables that no call of a store distinguishes, and the comparison of two stores, row by row.
 #![tactic(auto)]
 
 pub mod compare;

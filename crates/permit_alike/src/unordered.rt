@@ -10,7 +10,7 @@ use permit_store::renewing::Renewing;
 use permit_store::rows::{Change, Desk, FileRow, Found, Interest, Paper, Parcel, Party};
 use permit_store::store::{Got, Store};
 
-/// A store of which is said what no call of it tells apart: it holds all tables that are alike to those which the store inside
+/// A store described up to what its calls distinguish: it holds all tables that are alike to those which the store inside
 /// holds. Each call is that store's. Of a crash it says nothing; the store inside does.
 #[derive(Drop)]
 pub struct Unordered<S: Store> {

@@ -1,7 +1,7 @@
 //! The exact text of every answer, and writing it.
 //!
 //! An answer is a reply of the office with its request's action and day, or a fault of the bytes that came. Its text is
-//! one head of HTTP/1.1 (RFC 9112) and one body; `write_reply` writes that text, whole or a beginning of it.
+//! one head of HTTP/1.1 (RFC 9112) and one body; `write_reply` writes that text, whole or a prefix of it.
 #![tactic(auto)]
 
 pub mod answer;

@@ -44,7 +44,7 @@ impl Made {
     }
 }
 
-/// The whole text of the answer to a read, with a body of this type. It is made where the body stands, which may have tens of
+/// The whole text of the answer to a read, with a body of this type. It is made where the body is, which may have tens of
 /// megabytes, so that these are not copied into a second place.
 fn in_memory(content_type: &str, body: Vec<u8>, close: bool) -> Result<Made, AllocError>
     requires { length content_type.now ≤ 32 }
@@ -181,7 +181,7 @@ impl Outgoing {
 ///
 /// The answer to a command, a refusal and the answer for a fault are made in an array of 512 bytes and take no memory. An
 /// answer to a read is made whole first; where memory is refused, the store's refusal with `Connection: close` goes out
-/// instead. A write that fails, also one that was interrupted, and a write that takes no byte are a fault; a beginning of
+/// instead. A write that fails, also one that was interrupted, and a write that takes no byte are a fault; a prefix of
 /// the text is then out.
 ///
 /// # Examples

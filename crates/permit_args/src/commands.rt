@@ -11,7 +11,7 @@ use crate::plan::Subcommand;
 use clap::{Arg, ArgAction, Command};
 use std::alloc::{AllocError, Global};
 
-/// What `--version` prints behind the program's name: its version, and that of the tables.
+/// What `--version` prints after the program's name: its version, and that of the tables.
 const VERSION: &str = "2.0 (schema 2)";
 
 /// A command as far as it is declared, or that there was no memory for it.

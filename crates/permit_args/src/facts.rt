@@ -105,7 +105,7 @@ fn facts_by(
 }
 
 /// The facts of a text `ROLE,RELATIONS,ACTION,STAGE,STOPPED,TIMING`, or none where it says no facts. Relations are joined
-/// by `+`, each at most once, and a hyphen stands for none; a stop order is `yes` or `no`.
+/// by `+`, each at most once, and a hyphen means none; a stop order is `yes` or `no`.
 ///
 /// # Examples
 ///

@@ -1,4 +1,4 @@
-//! What the words behind the program's name ask for.
+//! What the words after the program's name ask for.
 
 ghost use Rattle.std.specs.Prelude.{◌≡◌, [], IfErr, IfOk, None, Some, Ok, map, true, string_bytes};
 ghost use Rattle.clap.specs.Words.{app_of, found_of, is_simple_and_free, kind_of, rows_of};
@@ -19,7 +19,7 @@ use clap::{ArgMatches, Command, Error};
 use std::alloc::Global;
 use std::{env, io};
 
-/// The words behind the program's name, as the process has them.
+/// The words after the program's name, as the process has them.
 pub fn words_given(rt: &HostRuntime) -> Result<Vec<String>, PlanFault>
     ensures { IfErr result (Says no_text_line) }
 {
@@ -150,7 +150,7 @@ fn subcommand(words: &[String]) -> Option<Subcommand>
     }
 }
 
-/// What the words behind the program's name ask for. Without words the program prints its name. Else the first word names
+/// What the words after the program's name ask for. Without words the program prints its name. Else the first word names
 /// a subcommand, and the command line library reads the words for it.
 ///
 /// # Examples

@@ -23,7 +23,7 @@ pub enum Route {
         by: By,
         /// The stage that is kept, which no deadline changes.
         stage: Stage,
-        /// Whether a stop work order stands (IBC 2018 section 115).
+        /// Whether a stop work order is in force (IBC 2018 section 115).
         stopped: bool,
         /// How near the deadline is on the day.
         timing: Timing,

@@ -8,11 +8,11 @@ use crate::words::Stage;
 /// What expires in a stage where nothing is done (IBC 2018, sections 105.3.2 and 105.5).
 #[derive(Clone, Copy, PartialEq, Eq)]
 pub enum Expiry {
-    /// Nothing: no deadline stands.
+    /// Nothing: there is no deadline.
     Never,
-    /// The application: its deadline stands, and past it the application is abandoned.
+    /// The application: it has a deadline, past which the application is abandoned.
     Application,
-    /// The permit: its deadline stands, and past it the permit has lapsed.
+    /// The permit: it has a deadline, past which the permit has lapsed.
     Permit,
 }
 
@@ -24,17 +24,17 @@ pub struct StageFacts {
     pub of_file: bool,
     /// A file's row keeps it. Abandoned and lapsed follow from the deadline, and are kept by none.
     pub stored: bool,
-    /// Whose deadline stands in it.
+    /// Whose deadline runs in it.
     pub expiry: Expiry,
     /// The work is over: each step is approved, and no notice is open.
     pub complete: bool,
-    /// The certificate is given, and no stop work order stands.
+    /// The certificate is given, and no stop work order is in force.
     pub certified: bool,
     /// A row keeps it before a permit is issued: a pending ask is of the days of an application.
     pub unissued: bool,
     /// Work began in it, or its permit was revoked: some step is not approved, and a request or notice may be open.
     pub begun: bool,
-    /// A stop work order may stand.
+    /// A stop work order may be in force.
     pub stopped: bool,
     /// A temporary certificate may be kept.
     pub occupied: bool,
@@ -81,7 +81,7 @@ const OTHER: StageFacts = StageFacts {
 };
 
 impl Expiry {
-    /// Whether a deadline stands.
+    /// Whether there is a deadline.
     pub fn is_timed(self) -> bool
         ensures { result ≡ is_running self }
     {

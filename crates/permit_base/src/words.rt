@@ -1,4 +1,4 @@
-//! The word types. The codes of a type count from 0 in the order in which its variants stand.
+//! The word types. The codes of a type count from 0 in the order in which its variants are written.
 
 ghost use Rattle.std.specs.Prelude.{◌≡◌, IfSome};
 ghost use Rattle.permit_base.specs.Relations.{holds};
@@ -166,7 +166,7 @@ pub enum Step {
     Lath,
     /// The final inspection, after all work is done.
     Final,
-    /// Energy efficiency, 110.3.7. It stands last, since a stored word is its place.
+    /// Energy efficiency, 110.3.7. It is last, since a stored word is its place.
     Energy,
 }
 
@@ -203,7 +203,7 @@ impl Word for Step {
     ghost is_read = { Prim.search rules };
 }
 
-/// Where a file stands on a day.
+/// The stage of a file on a day.
 ///
 /// The first ten are stored. Abandoned and lapsed follow from the day, and the last two are the
 /// stage words of objects that are no files.
@@ -291,7 +291,7 @@ impl Word for Stage {
 /// How far away a deadline is on a day.
 #[derive(Clone, Copy, PartialEq, Eq)]
 pub enum Timing {
-    /// No deadline stands.
+    /// There is no deadline.
     Untimed,
     /// The deadline was before the day.
     Past,

@@ -1,6 +1,6 @@
 //! Long mixed histories through `step_as`: commands a second, and whether a command takes longer the longer the history
 //! is. In the first a file follows the other from its filing to its certificate, so the count of files grows; in the
-//! second the count of files stands, and only the history grows.
+//! second the count of files is constant, and only the history grows.
 
 use crate::clock::micros_since;
 use crate::office::{INSPECTOR, OFFICIAL, PUBLIC, REVIEWER, day, digest_of, made, opened, text};

@@ -16,7 +16,7 @@ use anyhow::Result;
 use database::{Task, measure_at};
 use std::env;
 
-/// The words that say what is measured, each with the words behind it.
+/// The words that say what is measured, each with the words after it.
 const USAGE: &str =
     "heads, served POLICY, lives POLICY COMMANDS, rounds POLICY COMMANDS FILES, found PATH, open PATH, calls PATH, listings PATH POLICY";
 

@@ -1,9 +1,9 @@
-//! Why a history isn't told.
+//! Why a history isn't printed.
 
 use permit_history::fault::LineFault;
 use std::io;
 
-/// Why a text isn't told to its end. Lines are counted from 1 on.
+/// Why a text isn't printed to its end. Lines are counted from 1 on.
 #[derive(Drop)]
 pub enum ChronicleFault {
     /// This line is no entry's, or memory was refused while it was read.

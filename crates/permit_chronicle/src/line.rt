@@ -12,14 +12,14 @@ use permit_history::entry::{Act, Deed, Entry};
 use permit_report::laws::civil_dates;
 use std::alloc::{AllocError, Global};
 
-/// Adds a word behind a space.
+/// Adds a word after a space.
 fn push_word(text: &mut String, word: &str) -> Result<(), AllocError>
     ensures { OnOk result (string_bytes text.new ≡ string_bytes text.old ++ spaced word.now) }
 {
     write!(text, " {word}")
 }
 
-/// Adds a word and a number, each behind a space.
+/// Adds a word and a number, each after a space.
 fn push_counted(text: &mut String, name: &str, number: u32) -> Result<(), AllocError>
     ensures { OnOk result (string_bytes text.new ≡ string_bytes text.old ++ counted name.now number) }
 {
@@ -120,7 +120,7 @@ fn push_about(text: &mut String, deed: &Deed) -> Result<(), AllocError>
     }
 }
 
-/// Adds who it was, behind a space.
+/// Adds who it was, after a space.
 fn push_who(text: &mut String, role: Option<Role>, caller: u32) -> Result<(), AllocError>
     ensures { OnOk result (string_bytes text.new ≡ string_bytes text.old ++ spaced (who role caller)) }
 {

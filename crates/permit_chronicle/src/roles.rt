@@ -1,4 +1,4 @@
-//! The roles of the parties, as far as the entries tell them.
+//! The roles of the parties, as far as the entries give them.
 
 ghost use Rattle.std.specs.Prelude.{◌≡◌, Some, slice_set, IfOk};
 ghost use Rattle.permit_chronicle.specs.Telling.{no_roles, role_of, roles_with};
@@ -16,7 +16,7 @@ pub(crate) fn no_roles(alloc: Global) -> Result<Vec<Option<Role>>, AllocError>
     vec![in alloc; None; MOST_RECORDS as usize + 1]
 }
 
-/// The role of the party of this number, where an entry told it.
+/// The role of the party of this number, where an entry gave it.
 pub(crate) fn role_of(roles: &[Option<Role>], party: u32) -> Option<Role>
     ensures { result ≡ role_of roles.now party }
 {
@@ -36,7 +36,7 @@ fn set(roles: &mut [Option<Role>], party: u32, role: Role)
     }
 }
 
-/// Keeps the role that an entry tells.
+/// Keeps the role that an entry gives.
 pub(crate) fn keep_role(roles: &mut [Option<Role>], deed: &Deed)
     ensures { roles.new ≡ roles_with roles.old deed.now }
 {

@@ -1,4 +1,4 @@
-//! Telling a text.
+//! Printing a text.
 
 ghost use Rattle.std.specs.Prelude.{◌≡◌, ◌⊎◌, IfErr, IfSome, OnErr, OnOk};
 ghost use Rattle.std.specs.Io.KnownBytes.{Appends};
@@ -58,7 +58,7 @@ fn write_part<W: Write>(
     }
 }
 
-/// Writes what an entry adds, and keeps the role that it tells.
+/// Writes what an entry adds, and keeps the role that it gives.
 fn tell_entry<W: Write>(
     alloc: Global,
     wanted: &Wanted,
@@ -76,7 +76,7 @@ fn tell_entry<W: Write>(
     Ok(())
 }
 
-/// Tells a text, with room for its lines and for the roles.
+/// Prints a text, with room for its lines and for the roles.
 fn tell_in<R: BufRead, W: Write>(
     alloc: Global,
     source: &mut R,
@@ -105,10 +105,10 @@ fn tell_in<R: BufRead, W: Write>(
 }
 
 /// Writes the lines of the wanted entries of a text, the oldest first: the day, who it was by role and number, what was done, and
-/// about what. A role is that of the entry that added the party; where no entry before did, it is told as `party`.
+/// about what. A role is that of the entry that added the party; where no entry before did, it is printed as `party`.
 ///
 /// It stops at the lowest line that is no entry's, and where a call of the source or the output fails or memory is refused; what
-/// stands before is written then. What stands behind the last LF is no line. It keeps the parties' roles and one line, never the
+/// comes before is written then. What is after the last LF is no line. It keeps the parties' roles and one line, never the
 /// entries.
 ///
 /// # Examples

@@ -108,14 +108,14 @@ impl FileState {
         unless_stage(self.stage(day) == wanted)
     }
 
-    /// No deadline stands in the stage on the day.
+    /// There is no deadline in the stage on the day.
     fn not_timed(&self, day: Day) -> Test
         ensures { result ≡ RowTests.not_timed day self.now }
     {
         unless_stage(self.facts(day).expiry.is_timed())
     }
 
-    /// A stop work order stands.
+    /// A stop work order is in force.
     fn order_stands(&self) -> Test
         ensures { result ≡ RowTests.stopped self.now }
     {
@@ -169,7 +169,7 @@ impl FileState {
         )
     }
 
-    /// What stands against a reviewer or an inspector being assigned.
+    /// The reason against assigning a reviewer or an inspector.
     fn against_assignment(
         &self,
         admitted: bool,
@@ -187,7 +187,7 @@ impl FileState {
         ])
     }
 
-    /// What stands against a contractor being named.
+    /// The reason against naming a contractor.
     fn against_naming(&self, day: Day, people: &People) -> Option<Reason>
         ensures { (party : ℕ) → result ≡ Admission.first_failing (row_tests day self.now people.now (NameContractor party)) }
     {
@@ -197,14 +197,14 @@ impl FileState {
         ])
     }
 
-    /// What stands against a command that makes a paper and asks nothing but its stage.
+    /// The reason against a command that makes a paper and asks nothing but its stage.
     fn against_decision(&self, admitted: bool) -> Option<Reason>
         ensures { result ≡ Admission.first_failing (Admission.unless_stage admitted ∷ RowTests.papers_full self.now ∷ []) }
     {
         first_failing(&[unless_stage(admitted), self.papers_full()])
     }
 
-    /// What stands against an extension being asked for.
+    /// The reason against asking for an extension.
     fn against_ask(&self, day: Day, days: Days) -> Option<Reason>
         ensures { (people : People) (text : List ℕ) → result ≡ Admission.first_failing (row_tests day self.now people (AskExtension days text)) }
     {
@@ -216,7 +216,7 @@ impl FileState {
         ])
     }
 
-    /// What stands against the pending ask being granted.
+    /// The reason against granting the pending ask.
     fn against_grant(&self, day: Day) -> Option<Reason>
         ensures { (people : People) → result ≡ Admission.first_failing (row_tests day self.now people GrantExtension) }
     {
@@ -228,7 +228,7 @@ impl FileState {
         ])
     }
 
-    /// What stands against the pending ask being refused.
+    /// The reason against refusing the pending ask.
     fn against_refusal(&self, day: Day) -> Option<Reason>
         ensures { (people : People) (text : List ℕ) → result ≡ Admission.first_failing (row_tests day self.now people (RefuseExtension text)) }
     {
@@ -239,7 +239,7 @@ impl FileState {
         ])
     }
 
-    /// What stands against an inspection of a step being requested (IBC 2018, sections 110.5 and 110.6).
+    /// The reason against requesting an inspection of a step (IBC 2018, sections 110.5 and 110.6).
     fn against_request(&self, day: Day, step: Step) -> Option<Reason>
         ensures { (people : People) → result ≡ Admission.first_failing (row_tests day self.now people (RequestInspection step)) }
     {
@@ -251,7 +251,7 @@ impl FileState {
         ])
     }
 
-    /// What stands against a step being approved (IBC 2018, section 110.6).
+    /// The reason against approving a step (IBC 2018, section 110.6).
     fn against_approval(&self, day: Day, step: Step) -> Option<Reason>
         ensures { (people : People) → result ≡ Admission.first_failing (row_tests day self.now people (ApproveStep step)) }
     {
@@ -264,7 +264,7 @@ impl FileState {
         ])
     }
 
-    /// What stands against a correction notice.
+    /// The reason against a correction notice.
     fn against_notice(&self, day: Day) -> Option<Reason>
         ensures { (people : People) (text : List ℕ) → result ≡ Admission.first_failing (row_tests day self.now people (Notice text)) }
     {
@@ -275,7 +275,7 @@ impl FileState {
         ])
     }
 
-    /// What stands against a notice being cleared.
+    /// The reason against clearing a notice.
     fn against_clearing(&self, day: Day, people: &People) -> Option<Reason>
         ensures { (paper : ℕ) → result ≡ Admission.first_failing (row_tests day self.now people.now (ClearNotice paper)) }
     {
@@ -288,7 +288,7 @@ impl FileState {
         ])
     }
 
-    /// What stands against a stop work order (IBC 2018, section 115).
+    /// The reason against a stop work order (IBC 2018, section 115).
     fn against_stop(&self, day: Day) -> Option<Reason>
         ensures { (people : People) (text conditions : List ℕ) → result ≡ Admission.first_failing (row_tests day self.now people (Stop text conditions)) }
     {
@@ -299,7 +299,7 @@ impl FileState {
         ])
     }
 
-    /// What stands against a stop work order being lifted.
+    /// The reason against lifting a stop work order.
     fn against_lift(&self, day: Day) -> Option<Reason>
         ensures { (people : People) → result ≡ Admission.first_failing (row_tests day self.now people Lift) }
     {
@@ -310,7 +310,7 @@ impl FileState {
         ])
     }
 
-    /// What stands against a temporary certificate (IBC 2018, section 111).
+    /// The reason against a temporary certificate (IBC 2018, section 111).
     fn against_temporary(&self, day: Day, days: Days) -> Option<Reason>
         ensures { (people : People) (text : List ℕ) → result ≡ Admission.first_failing (row_tests day self.now people (Temporary days text)) }
     {
@@ -324,7 +324,7 @@ impl FileState {
         ])
     }
 
-    /// What stands against the certificate of occupancy (IBC 2018, section 111).
+    /// The reason against the certificate of occupancy (IBC 2018, section 111).
     fn against_certificate(&self, day: Day) -> Option<Reason>
         ensures { (people : People) → result ≡ Admission.first_failing (row_tests day self.now people Certify) }
     {
@@ -336,7 +336,7 @@ impl FileState {
         ])
     }
 
-    /// The first reason, in their numbered order, that stands against a command on the day.
+    /// The first reason, in their numbered order, against a command on the day.
     fn reason_against(&self, day: Day, command: &Command, people: &People) -> Option<Reason>
         ensures { result ≡ Admission.first_failing (row_tests day self.now people.now command.now) }
     {
@@ -379,7 +379,7 @@ impl FileState {
         }
     }
 
-    /// Whether a command is admitted on a day: Ok, or the first reason, in their numbered order, that stands against it.
+    /// Whether a command is admitted on a day: Ok, or the first reason, in their numbered order, against it.
     pub fn admit(&self, day: Day, command: &Command, people: &People) -> Result<(), Reason>
         ensures row { Admits result (Admission.first_failing (row_tests day self.now people.now command.now)) }
         ensures model { (h : History) (id caller : ℕ) (file : CaseFile) → IsHistory h → case_numbered h id ≡ Some file

@@ -162,7 +162,7 @@ fn ask_after(ask: Option<Days>, command: &Command) -> Option<Days>
     }
 }
 
-/// Whether a stop work order stands after a command.
+/// Whether a stop work order is in force after a command.
 fn stopped_after(stopped: bool, command: &Command) -> bool
     ensures { result ≡ ((effects command.now).stops || (not (effects command.now).lifts && stopped)) }
 {

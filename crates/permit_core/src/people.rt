@@ -24,7 +24,7 @@ pub struct People {
     /// The owner of the file's parcel.
     pub owner: Option<PartyId>,
     /// Whether the paper that a clearing names is an open notice of the file; a row that counts no open notice admits
-    /// no clearing, whatever stands here.
+    /// no clearing, whatever this says.
     pub is_open_notice: bool,
 }
 

@@ -42,7 +42,7 @@ pub struct StateFields {
     pub requested: Option<Day>,
     /// The days of the pending ask for an extension.
     pub ask: Option<Days>,
-    /// Whether a stop work order stands.
+    /// Whether a stop work order is in force.
     pub stopped: bool,
     /// How many correction notices are open.
     pub notices: u16,
@@ -74,7 +74,7 @@ fn is_for(request: Option<Step>, next: Option<Step>) -> bool
 }
 
 impl StateFields {
-    /// Whether the deadline stands in the stages that have one, and in no other.
+    /// Whether there is a deadline in the stages that have one, and in no other.
     fn deadline_stands(&self) -> bool
         ensures { result ≡ SoundState.deadline_stands self.now }
     {

@@ -25,10 +25,10 @@ use std::marker::Model;
 
 /// The row of a file without its number, valuation and description.
 ///
-/// Each value keeps to these facts: its stage is a stored one; no more steps are approved than its kind requires; a
-/// deadline stands exactly in the stages filed, review, returned, approved, issued and working; a pending request has
+/// Each value keeps to these facts: its stage is a stored one; no more steps are approved than its kind requires; there
+/// is a deadline exactly in the stages filed, review, returned, approved, issued and working; a pending request has
 /// its day and is for the next step; a finaled or certified file has all steps approved and no open notice; a
-/// certified file has no standing stop order.
+/// certified file has no stop order in force.
 #[derive(Clone, Copy)]
 pub struct FileState(pub(crate) StateFields);
 
@@ -142,7 +142,7 @@ impl FileState {
     }
 
     /// Whether the certificate of occupancy was given (IBC 2018, section 111): then every required step is approved in
-    /// order, no notice is open and no stop work order stands.
+    /// order, no notice is open and no stop work order is in force.
     pub fn is_certified(&self) -> bool
         ensures stage { result ≡ SoundState.is_certified self.now.stage }
         ensures steps { IsTrue result → self.now.done ≡ length (required_steps self.now.edition self.now.kind) }
@@ -262,7 +262,7 @@ impl FileState {
         self.0.ask
     }
 
-    /// Whether a stop work order stands (IBC 2018, section 115).
+    /// Whether a stop work order is in force (IBC 2018, section 115).
     pub fn is_stopped(&self) -> bool
         ensures { result ≡ self.now.stopped }
     {

@@ -1,5 +1,5 @@
 //! The crates below the edges through their public calls: that each call succeeds with ample memory, and what no
-//! clause says. They stand apart from what they call, so that a change of a test proves nothing of it anew.
+//! clause says. They are in a crate apart from what they call, so that a change of a test proves nothing of it anew.
 #![tactic(auto)]
 
 #[cfg(test)]

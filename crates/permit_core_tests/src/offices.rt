@@ -71,7 +71,7 @@ const REFUSED: [(&str, &str, &str); 5] = [
     ),
 ];
 
-/// The bytes of a request, and of a listing behind it.
+/// The bytes of a request, and of a listing after it.
 fn before_listing(alloc: Global, line: &str) -> Result<String, Fail> {
     let listing = request(alloc, &read_ask("1 19700 GET /files")?)?;
     let mut bytes = request(alloc, &read_ask(line)?)?;
@@ -90,7 +90,7 @@ fn served_twice(alloc: Global, office: &mut Office<PlainStore>, bytes: &str, on:
     written
 }
 
-/// What is written for a request, and for a listing behind it on the same connection.
+/// What is written for a request, and for a listing after it on the same connection.
 fn with_listing(
     alloc: Global,
     office: &mut Office<PlainStore>,

@@ -25,7 +25,7 @@ role = [\"reviewer\"]\n\
 relation = [\"assigned-reviewer\"]\n\
 ";
 
-/// Whoever acts while a stop order stands.
+/// Whoever acts while a stop order is in force.
 const STOPPED: &str = "[[rule]]\nname = \"stopped\"\neffect = \"allow\"\nstopped = true\n";
 
 /// Who owns the parcel and reviews its plans, by a rule with the longest name.
@@ -76,7 +76,7 @@ const OWN: Facts = Facts {
     timing: Timing::Ahead,
 };
 
-/// The same while a stop order stands.
+/// The same while a stop order is in force.
 const OWN_STOPPED: Facts = Facts {
     role: Role::Reviewer,
     relations: OWNING_REVIEWER,

@@ -1,4 +1,4 @@
-//! What a policy's text tells its author: rules that never decide, and why a rule decided.
+//! What the checks of a policy's text report to its author: rules that never decide, and why a rule decided.
 
 use permit_base::values::RuleName;
 use permit_base::words::{Action, Relations, Role, Stage, Timing, Word};
@@ -99,7 +99,7 @@ effect = \"deny\"\n\
 stopped = true\n\
 ";
 
-/// Texts with the names of their dead rules, each with a space behind it.
+/// Texts with the names of their dead rules, each followed by a space.
 const DEAD: [(&str, &str); 4] = [
     (EVERY_ROLE, "c "),
     (POLICY, ""),
@@ -147,7 +147,7 @@ fn dead(alloc: Global, text: &str) -> Result<Vec<RuleName>, Fail> {
     Ok(dead_rules(alloc, &policy.value)?)
 }
 
-/// The names of the dead rules, each with a space behind it.
+/// The names of the dead rules, each followed by a space.
 fn dead_in(alloc: Global, text: &str) -> Result<String, Fail> {
     let mut names = String::new(alloc);
     for name in &dead(alloc, text)? {

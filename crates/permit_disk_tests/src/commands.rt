@@ -19,14 +19,14 @@ use std::test::Fail;
 /// A policy under which each command is allowed. It is read faster than the standard one.
 const ANY: &str = "[[rule]]\nname = \"any\"\neffect = \"allow\"\n";
 
-/// Behind what the requests come, and under which policy.
+/// What the requests come after, and under which policy.
 #[derive(Clone, Copy)]
 pub(crate) enum Begin {
-    /// Behind the founding, each command allowed.
+    /// After the founding, each command allowed.
     New,
-    /// Behind a construction whose frame is approved, each command allowed.
+    /// After a construction whose frame is approved, each command allowed.
     Framed,
-    /// Behind the opening of the scenarios, under the standard policy.
+    /// After the opening of the scenarios, under the standard policy.
     Opened,
 }
 
@@ -40,7 +40,7 @@ impl Begin {
     }
 }
 
-/// The answers to commands, and the tables behind them.
+/// The answers to commands, and the tables after them.
 pub(crate) struct Behind {
     pub(crate) answers: String,
     pub(crate) tables: String,
@@ -75,7 +75,7 @@ impl Behind {
 pub(crate) struct Commands {
     pub(crate) begin: Begin,
     pub(crate) requests: Vec<&'static str>,
-    /// What is behind none of them, behind the first, behind the first two, and so on.
+    /// The answers and tables after none of them, after the first, after the first two, and so on.
     behind: Vec<Behind>,
 }
 
@@ -124,7 +124,7 @@ fn tables_of(alloc: Global, office: Office<PlainStore>) -> Result<String, Fail> 
     tables_text(alloc, store)
 }
 
-/// What is behind these requests.
+/// The answers and tables after these requests.
 fn behind_of(alloc: Global, begin: Begin, lines: &[&str]) -> Result<Behind, Fail> {
     let mut office = Held::new(begun(alloc, begin)?);
     let answers = answers_to(alloc, &mut office.value, lines)?;
@@ -132,7 +132,7 @@ fn behind_of(alloc: Global, begin: Begin, lines: &[&str]) -> Result<Behind, Fail
     Ok(Behind { answers, tables })
 }
 
-/// What is behind none of these requests, behind the first, behind the first two, and so on.
+/// The answers and tables after none of these requests, after the first, after the first two, and so on.
 fn behind_each(
     alloc: Global,
     begin: Begin,
@@ -159,7 +159,7 @@ fn are_first(numbers: &[usize]) -> bool {
 }
 
 impl Commands {
-    /// The requests of a scenario that come behind this beginning. Fails where they aren't answered as their scripts want.
+    /// The requests of a scenario that follow this start. Fails where they aren't answered as their scripts want.
     pub(crate) fn new(alloc: Global, begin: Begin, scenario: Scenario) -> Result<Commands, Fail> {
         play_all(alloc, &mut Held::new(begun(alloc, begin)?).value, scenario)?;
         let requests = requests_of(alloc, scenario)?;
@@ -171,7 +171,7 @@ impl Commands {
         })
     }
 
-    /// What is behind the commands of these numbers.
+    /// The answers and tables after the commands of these numbers.
     pub(crate) fn behind(&self, alloc: Global, numbers: &[usize]) -> Result<Behind, Fail> {
         if are_first(numbers) {
             return self

@@ -181,7 +181,7 @@ impl Wanted {
         })
     }
 
-    /// Behind what was answered, which is answered so where nothing fails.
+    /// After what was answered, which is answered so where nothing fails.
     fn behind(alloc: Global, commands: &Commands, answered: &Answered) -> Result<Wanted, Fail> {
         let acknowledged = commands.behind(alloc, answered.acknowledged.as_slice())?;
         if acknowledged.answers.as_str() != answered.answers.as_str() {
@@ -215,7 +215,7 @@ pub(crate) struct Play {
 }
 
 impl Play {
-    /// The requests of a scenario that come behind a beginning.
+    /// The requests of a scenario that follow a start.
     pub(crate) fn new(
         alloc: Global,
         begin: Begin,
@@ -261,7 +261,7 @@ impl Play {
         }
     }
 
-    /// What may be found behind an outcome. Fails where no office was opened and no disk has failed.
+    /// What may be found after an outcome. Fails where no office was opened and no disk has failed.
     fn wanted(&self, alloc: Global, outcome: Outcome, told: &Told) -> Result<Wanted, Fail> {
         match outcome {
             Outcome::Answered(answered) => Wanted::behind(alloc, &self.commands, &answered),
@@ -275,7 +275,7 @@ impl Play {
     }
 }
 
-/// The bytes of the files in which the commands behind a beginning are played.
+/// The bytes of the files in which the commands that follow a start are played.
 fn bytes_before(alloc: Global, begin: Begin) -> Result<Bytes, Fail> {
     match begin {
         Begin::New => Ok(Bytes::none(alloc)),
@@ -309,7 +309,7 @@ impl Tried for Play {
     }
 }
 
-/// Plays the commands behind a beginning with a fault at each call of one of the files in turn.
+/// Plays the commands that follow a start with a fault at each call of one of the files in turn.
 fn hold(
     rt: &(impl Print + AllocGlobal),
     begin: Begin,
@@ -324,7 +324,7 @@ fn hold(
     outlasts_each(rt, &play, fault, is_in_log)
 }
 
-/// The same where reads are answered from memory, behind the beginning with a frame.
+/// The same where reads are answered from memory, after the start with a frame.
 fn hold_in_memory(
     rt: &(impl Print + AllocGlobal),
     fault: Fault,

@@ -47,7 +47,7 @@ impl Old {
     }
 }
 
-/// The tables behind the construction.
+/// The tables after the construction.
 fn tables_before(alloc: Global) -> Result<String, Fail> {
     let commands = Held::new(Commands::new(alloc, Begin::Framed, &[])?);
     Ok(commands.value.behind(alloc, &[])?.into_tables())
@@ -61,7 +61,7 @@ fn make_old<S: Alter + Drop>(conn: &mut Connection<S>) -> Result<(), Fail> {
     Ok(())
 }
 
-/// The files behind an upgrade, and whether it was acknowledged. Fails where it was refused and no disk has failed.
+/// The files after an upgrade, and whether it was acknowledged. Fails where it was refused and no disk has failed.
 fn upgraded<D: Disk + Drop>(
     alloc: Global,
     files: Files<D>,

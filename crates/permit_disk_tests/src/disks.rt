@@ -23,7 +23,7 @@ pub(crate) enum Fault {
     Cut,
 }
 
-/// Which of two files fails, how, and behind how many calls.
+/// Which of two files fails, how, and after how many calls.
 #[derive(Clone, Copy, Debug)]
 pub(crate) struct Trouble {
     pub(crate) fault: Fault,
@@ -34,7 +34,7 @@ pub(crate) struct Trouble {
 /// What is set once a disk has failed.
 pub(crate) type Told = Arc<AtomicBool, Global>;
 
-/// A disk that tells when the call comes at which it fails. Where it fails at that call alone, it does so itself; else
+/// A disk that reports when the call comes at which it fails. Where it fails at that call alone, it does so itself; else
 /// the disk that it passes calls on to does.
 pub(crate) struct Telling<D: Disk> {
     inner: D,
@@ -248,7 +248,7 @@ fn sound(alloc: Global, bytes: &[u8], told: &Told) -> Result<Trial, Fail> {
     })
 }
 
-/// A file with the bytes that fails behind so many calls.
+/// A file with the bytes that fails after so many calls.
 fn failing(
     alloc: Global,
     bytes: &[u8],
@@ -324,7 +324,7 @@ fn push_found(alloc: Global, found: &mut Vec<Bytes>, files: &Files<Trial>) -> Re
     Ok(())
 }
 
-/// What may be found in the files behind a trouble. Where the power was cut, the file that failed has lost what it had not
+/// What may be found in the files after a trouble. Where the power was cut, the file that failed has lost what it had not
 /// synced, and the other one its own too or not.
 pub(crate) fn left_by(
     alloc: Global,

@@ -100,7 +100,7 @@ fn opened<S: Alter + Drop>(
     }
 }
 
-/// The database of a new store, behind what comes before the commands.
+/// The database of a new store, after what comes before the commands.
 fn played_over<S: Alter + Drop>(
     alloc: Global,
     store: SqlStore<S>,
@@ -111,7 +111,7 @@ fn played_over<S: Alter + Drop>(
     Ok(office.into_inner().into_store().into_connection())
 }
 
-/// The database of a new office, behind what comes before the commands.
+/// The database of a new office, after what comes before the commands.
 fn played<S: Alter + Drop>(
     alloc: Global,
     conn: Connection<S>,
@@ -183,7 +183,7 @@ pub(crate) fn tables_in<S: Alter + Drop>(
 
 /// What is tried over disks of which one fails.
 pub(crate) trait Tried {
-    /// Whether the disk failed. Fails itself where something else is found behind the trouble than may be.
+    /// Whether the disk failed. Fails itself where something else is found after the trouble than may be.
     fn outlasts(&self, alloc: Global, trouble: Trouble) -> Result<bool, Fail>;
 }
 

@@ -1,5 +1,5 @@
 //! The examples of the doc comments of what reads a command line, what its subcommands do, why a policy is refused and
-//! what ends the serving, line by line as they stand there.
+//! what ends the serving, line by line as they are written there.
 
 use permit_args::checking::explained_text;
 use permit_args::facts::read_facts;

@@ -17,7 +17,7 @@ pub struct Envelope<A> {
     pub request: Option<A>,
 }
 
-/// The note of a pass of the intake: what the holder of that pass knows. It stands in contracts, and no value of it is made.
+/// The note of a pass of the intake: what the holder of that pass knows. It is used in contracts only, and no value of it is made.
 ///
 /// A session's pass sends. It knows the session's number and what the session has put. The owner's pass gets. It knows how
 /// many sessions were made, what was got, and what each session that came back had put.

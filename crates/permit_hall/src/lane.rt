@@ -8,7 +8,7 @@ use crossbeam_channel::protocol::{Join, Lesson, Outcome, Protocol, Split};
 use crossbeam_channel::{Pass, RuledReceiver, RuledSender};
 use std::collections::LinkedList;
 
-/// The note of a pass of a lane: what the holder of that pass knows. It stands in contracts, and no value of it is made.
+/// The note of a pass of a lane: what the holder of that pass knows. It is used in contracts only, and no value of it is made.
 /// The owner's pass sends, and knows what was sent. The session's pass gets, and knows what was got.
 pub struct LaneNote<Y> {
     pub sends: bool,

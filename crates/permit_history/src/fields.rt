@@ -1,4 +1,4 @@
-//! What stands in a JSON value, member by member.
+//! What a JSON value holds, member by member.
 
 ghost use Rattle.std.specs.Prelude.{◌≡◌, ◌≤◌, IfSome, option_map};
 ghost use Rattle.serde_json.specs.View.{view};
@@ -29,7 +29,7 @@ fn number_at(value: &Value, key: &str, low: u64, high: u64) -> Option<u64>
     }
 }
 
-/// The party whose number stands at a key.
+/// The party whose number is at a key.
 pub fn party_at(value: &Value, key: &str) -> Result<PartyId, LineFault>
     ensures { ReadsAs same result (number_at is_object_number key.now (view value.now)) }
 {
@@ -37,7 +37,7 @@ pub fn party_at(value: &Value, key: &str) -> Result<PartyId, LineFault>
     PartyId::new(number as u32).ok_or(LineFault::Fields)
 }
 
-/// The parcel whose number stands at a key.
+/// The parcel whose number is at a key.
 pub fn parcel_at(value: &Value, key: &str) -> Result<ParcelId, LineFault>
     ensures { ReadsAs same result (number_at is_object_number key.now (view value.now)) }
 {
@@ -45,7 +45,7 @@ pub fn parcel_at(value: &Value, key: &str) -> Result<ParcelId, LineFault>
     ParcelId::new(number as u32).ok_or(LineFault::Fields)
 }
 
-/// The file whose number stands at a key.
+/// The file whose number is at a key.
 pub fn file_at(value: &Value, key: &str) -> Result<FileId, LineFault>
     ensures { ReadsAs same result (number_at is_object_number key.now (view value.now)) }
 {
@@ -85,7 +85,7 @@ pub fn paper_at(value: &Value, key: &str) -> Result<PaperNumber, LineFault>
     PaperNumber::new(number as u32).ok_or(LineFault::Fields)
 }
 
-/// Whether null stands at a key.
+/// Whether null is at a key.
 fn is_null_at(value: &Value, key: &str) -> bool
     ensures { result ≡ is_null_at key.now (view value.now) }
 {
@@ -95,7 +95,7 @@ fn is_null_at(value: &Value, key: &str) -> bool
     }
 }
 
-/// The number of a paper, or none where null stands at the key.
+/// The number of a paper, or none where null is at the key.
 pub fn paper_or_null_at(value: &Value, key: &str) -> Result<Option<PaperNumber>, LineFault>
     ensures { ReadsAs same result (number_or_null_at is_paper_number key.now (view value.now)) }
 {

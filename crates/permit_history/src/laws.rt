@@ -34,7 +34,7 @@ pub fn no_two_histories_have_one_text()
     ensures texts { (a b : List Entry) → IsTrue (list_all is_within a) → IsTrue (list_all is_within b) → text_of a ≡ text_of b → a ≡ b }
 {}
 
-/// Reading a text a line at a time gives exactly its entries, in their order, and then what stands behind them; and it ends
+/// Reading a text a line at a time gives exactly its entries, in their order, and then what comes after them; and it ends
 /// where no LF is left.
 pub fn a_text_is_read_entry_by_entry()
     ensures all { (entries : List Entry) (left : List ℕ) → IsTrue (list_all is_within entries) → GivesInTurn (text_of entries ++ left) entries left }
@@ -42,13 +42,13 @@ pub fn a_text_is_read_entry_by_entry()
     ensures end { (left : List ℕ) → (next_line left ≡ None) ↔ IsTrue (list_all (λ byte. not (byte == 10)) left) }
 {}
 
-/// Each entry of a history is told in its text: one line for each.
+/// Each entry of a history is in its text: one line for each.
 pub fn each_entry_is_told()
     ensures { (h : History) → IsHistory h → length (told_history h) ≡ length h }
 {}
 
-/// The text of a history has no beginning with an office that was there already. Entries without one mean the same over any
-/// start, and such a beginning alone means its start.
+/// The text of a history has no entry that begins with an office that was there already. Entries without one mean the same over any
+/// start, and such an entry alone means its start.
 pub fn a_start_is_what_was_before_a_beginning()
     ensures founded { (h : History) → IsTrue (list_all (λ entry. begins_none entry.deed) (told_history h)) }
     ensures same { (start other entries : List Entry) → IsTrue (list_all (λ entry. begins_none entry.deed) entries)
@@ -56,8 +56,8 @@ pub fn a_start_is_what_was_before_a_beginning()
     ensures begun { (start : List Entry) (day : ℕ) (digest : List ℕ) → meant start (told_on day (Begin digest) ∷ []) ≡ start }
 {}
 
-/// The text of a history tells it. A line with another token of a party behind it makes that the text of the history in which
-/// the party had the token from the start, whatever the line's day.
+/// The text of a history gives that history. A line after it with another token of a party makes it the text of the history in
+/// which the party had the token from the start, whatever the line's day.
 pub fn a_text_tells_its_history()
     ensures told { (h : History) → Tells (text_of (told_history h)) h }
     ensures renewed { (h : History) (party day : ℕ) (token : List ℕ) → IsHistory h

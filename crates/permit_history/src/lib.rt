@@ -1,7 +1,7 @@
 //! The text of a history: one line an entry, oldest first, as docs/HISTORY.md describes it.
 //!
 //! A line is compact JSON with its keys in byte order, and each entry has one line. What is read is, byte for byte, what
-//! writing gives. A token never stands in it: its digest does.
+//! writing gives. A token is never written in it: its digest is.
 #![tactic(auto)]
 
 pub mod entry;

@@ -262,7 +262,7 @@ fn renewal(body: &Value) -> Result<Deed, LineFault>
     Ok(Deed::RenewToken { party, digest })
 }
 
-/// A beginning with an office that was there already.
+/// The deed that begins with an office that was there already.
 fn beginning(body: &Value) -> Result<Deed, LineFault>
     ensures { ReadsAs same result (beginning_in (view body.now)) }
 {

@@ -44,10 +44,10 @@ fn entry_in(alloc: Global, bytes: &[u8]) -> Result<Option<Entry>, TextFault>
     }
 }
 
-/// The next entry of a text, or none at its end. What stands behind the last LF is no line, and is passed over at the end.
+/// The next entry of a text, or none at its end. What is after the last LF is no line, and is passed over at the end.
 ///
 /// `line` is room for the bytes of a line, and what it holds is dropped. A line is read whole before it is judged, so it takes
-/// as much memory as it has bytes. After the fault of a line the source stands behind that line. After a failure of its own the
+/// as much memory as it has bytes. After the fault of a line the source is past that line. After a failure of its own the
 /// source is not to be read further.
 ///
 /// # Examples

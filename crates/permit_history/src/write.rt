@@ -209,7 +209,7 @@ fn send_body<S: Serializer>(out: &mut S, deed: &Deed) -> Result<(), S::Error>
     }
 }
 
-/// Sends what stands behind the body.
+/// Sends the members after the body.
 fn send_members_after_body<S: Serializer>(out: &mut S, entry: &Entry) -> Result<(), S::Error>
     ensures { OnOk result (SendsMembers (members_after_body entry.now) (S.written out.old) (S.written out.new)) }
 {

@@ -8,8 +8,8 @@ use sqlite_disk::Disk;
 
 /// A text on a disk. Its end is asked of the disk once, and known from then on.
 ///
-/// Where a write behind the text has failed, what it left there isn't known: nothing is written until the text is cut. Where a
-/// sync has failed nothing more is asked of the disk.
+/// Where a write at the end of the text has failed, what it left there isn't known: nothing is written until the text is cut. Where
+/// a sync has failed nothing more is asked of the disk.
 #[derive(Drop)]
 pub struct DiskFile<D: Disk> {
     disk: D,
@@ -107,7 +107,7 @@ impl<D: Disk> HistoryFile for DiskFile<D> {
         }
     }
 
-    // Beside the clauses of every file: behind a write that failed the end isn't known, and then nothing is written.
+    // Beside the clauses of every file: after a write that failed the end isn't known, and then nothing is written.
     fn append(&mut self, bytes: &[u8]) -> Result<(), FileError>
         ensures written { IsTrue (D.Disk.is_clean self.old.disk) → OnOk result (D.Disk.seen self.new.disk ≡ D.Disk.seen self.old.disk ++ bytes.now) }
         ensures part { IsTrue (D.Disk.is_clean self.old.disk)

@@ -57,7 +57,7 @@ fn renewal() -> Result<Entry, Fail> {
     entry(19800, Deed::RenewToken { party, digest })
 }
 
-/// A beginning with an office whose tables have a text of this digest.
+/// A `begin` entry of an office whose tables have a text of this digest.
 fn beginning() -> Result<Entry, Fail> {
     let tables = digest()?;
     entry(19800, Deed::Begin { tables })

@@ -1,4 +1,4 @@
-//! The examples of the doc comments, line by line as they stand there.
+//! The examples of the doc comments, line by line as they are written there.
 
 use permit_base::values::Day;
 use permit_history::entry::{Deed, Entry};

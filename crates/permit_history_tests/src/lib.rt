@@ -1,4 +1,4 @@
-//! Lines of histories against those that are written here by hand, and lines that are none. They stand apart from what
+//! Lines of histories against those that are written here by hand, and lines that are none. They are in a crate apart from what
 //! they call, so that a change of a test proves nothing of it anew.
 #![tactic(auto)]
 

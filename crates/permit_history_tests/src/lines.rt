@@ -1,4 +1,4 @@
-//! Each entry has the line that stands here by hand, and that line is read as the entry.
+//! Each entry has the line that is written here by hand, and that line is read as the entry.
 
 use crate::commands::{self, command};
 use crate::deeds::{self, deed};

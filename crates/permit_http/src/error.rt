@@ -5,7 +5,7 @@ ghost use Rattle.permit_http.specs.Errors.{fault_of};
 
 use crate::fault::Fault;
 
-/// What stood against reading a message, or the request that it is. Only a fault is answered.
+/// Why a message, or its request, could not be read. Only a fault is answered.
 #[derive(Clone, Copy, PartialEq, Eq)]
 pub enum WireError {
     /// The reader failed.

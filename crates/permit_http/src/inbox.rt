@@ -34,7 +34,7 @@ impl Model for Inbox {
 }
 
 impl Inbox {
-    /// An inbox at the beginning of a connection: no bytes, no answers, not closed. It takes no memory.
+    /// An inbox at the start of a connection: no bytes, no answers, not closed. It takes no memory.
     ///
     /// # Examples
     ///

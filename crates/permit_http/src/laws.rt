@@ -4,7 +4,7 @@ ghost use Rattle.std.specs.Prelude.{◌≡◌, ℕ, List, ◌++◌};
 ghost use Rattle.permit_http.specs.Message.{MessageData, IsMessage, HasFault, IsUnfinished};
 ghost use Rattle.permit_http.specs.declared.fault.Fault.{Fault};
 
-/// What a stream's beginning gives is one thing: one message and one rest, or one fault of a head that is there, or
+/// What a stream's prefix gives is one thing: one message and one rest, or one fault of a head that is there, or
 /// neither while the bytes are unfinished.
 pub fn one_meaning()
     ensures message { (bytes rest other_rest : List ℕ) (m other : MessageData)
@@ -16,7 +16,7 @@ pub fn one_meaning()
 {}
 
 /// The message or the fault that bytes begin with, they begin with whatever comes after them. So bytes that begin with
-/// either are the beginning of no unfinished ones.
+/// either are no prefix of unfinished ones.
 pub fn front_stays()
     ensures message { (bytes rest more : List ℕ) (m : MessageData) → IsMessage bytes m rest → IsMessage (bytes ++ more) m (rest ++ more) }
     ensures fault { (bytes more : List ℕ) (fault : Fault) → HasFault bytes fault → HasFault (bytes ++ more) fault }

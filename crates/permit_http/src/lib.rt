@@ -1,6 +1,6 @@
 //! The bytes of a connection to one judged HTTP message (RFC 9110, RFC 9112).
 //!
-//! `Inbox::read_message` reads until a whole message stands at the front of the inbox and answers where its parts
+//! `Inbox::read_message` reads until a whole message is at the front of the inbox and answers where its parts
 //! are, or the first fault of its head. Nothing is copied and no memory is taken: `Inbox::message` lends the parts,
 //! and `Inbox::let_go` drops their bytes, counts the request and says by the inbox whether the connection closes.
 //!

@@ -17,7 +17,7 @@ use crate::inbox::Inbox;
 use crate::source::Source;
 use httparse::spans::{EMPTY_HEADER_SPAN, HeaderSpan, RequestSpans, Span};
 
-/// Where the parts of a message stand among the bytes of an inbox.
+/// Where the parts of a message are among the bytes of an inbox.
 #[derive(Clone, Copy)]
 pub struct MessageSpans {
     pub method: Span,
@@ -52,7 +52,7 @@ pub enum Sought {
 }
 
 impl Inbox {
-    /// Reads until a head stands at the front, or none can.
+    /// Reads until a head is at the front, or none can.
     fn head<R: Source>(&mut self, reader: &mut R, headers: &mut [HeaderSpan; 32]) -> Sought
         ensures filled { Filled self.old self.new (R.remaining reader.old) (R.remaining reader.new) }
         ensures sought { GivesHead self.new.bytes (R.remaining reader.new) headers.new result }
@@ -129,7 +129,7 @@ impl Inbox {
         }
     }
 
-    /// Reads until a whole message stands at the front of the inbox, and says where its parts are; `None` where the
+    /// Reads until a whole message is at the front of the inbox, and says where its parts are; `None` where the
     /// input ends before any byte of it, or the connection is closed. The first fault of a head is reported without
     /// another read: nothing is waited for after it; after any fault the connection is closed. It takes no memory.
     ///
@@ -172,7 +172,7 @@ impl Inbox {
         read
     }
 
-    /// The parts of a message that stands in the inbox.
+    /// The parts of a message that is in the inbox.
     pub fn message(&self, spans: &MessageSpans) -> Message<'_>
         requires { Holds self.now spans.now }
         ensures { view_of result ≡ message_at self.now.bytes spans.now }

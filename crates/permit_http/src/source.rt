@@ -1,4 +1,4 @@
-//! A reader of which each read is told.
+//! A reader with a specification of each read.
 
 ghost use Rattle.std.specs.Prelude.{ℕ, List, [], take, MatchResult};
 ghost use Rattle.std.specs.Io.{ReadsAtMost};
@@ -6,7 +6,7 @@ ghost use Rattle.std.specs.Io.KnownBytes.{Consumes, ReadConsumes};
 
 use std::io::{self, Read};
 
-/// A reader of which each read is told, so that a contract can say how often it was read.
+/// A reader with a specification of each read, so that a contract can say how often it was read.
 pub trait Source: Read {
     /// What one read gave, with the reader before it and after it. A read that failed gave no bytes.
     ghost gave: { Self → List ℕ → Self → Type 0 };

@@ -29,13 +29,13 @@ const LINE_ROOM: usize = 384;
 /// `owner`. Each after it, at most 999999, is one request to the service for a new parcel, and has its line: `K added N`;
 /// `K kept` where a parcel of its lot is there already; else `K refused: ..` with the refusal, which is `syntax` for a
 /// record that has another number of fields, a field that is not UTF-8 or a value out of its limits. The line of the
-/// counts stands after them. One record is held at a time, so memory does not grow with the list.
+/// counts follows them. One record is held at a time, so memory does not grow with the list.
 ///
 /// With `why`, a line `K why: FIELD: WHAT` follows each `K refused: ..`, with the field and what is wrong with it, and a first
 /// record that isn't the one above has a line that shows it.
 ///
-/// After a fault what was tried before it stands, and the lines of the records that were tried are out. Of the last one's
-/// only a beginning is where the writer failed, and maybe nothing where memory ran out. Where the writer failed inside the
+/// After a fault what was tried before remains in effect, and the lines of the records that were tried are out. Of the last one's
+/// only a prefix is out where the writer failed, and maybe nothing where memory ran out. Where the writer failed inside the
 /// counts, all were tried. A record that the store refuses has that refusal in its line, and the import goes on.
 ///
 /// # Examples

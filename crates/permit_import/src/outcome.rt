@@ -10,7 +10,7 @@ use permit_base::refusal::{Reason, Refusal};
 use permit_office::reply::Reply;
 use std::fmt;
 
-/// What became of a record. Printed, it stands after the record's number.
+/// What became of a record. Printed, it follows the record's number.
 #[derive(Clone, Copy, PartialEq, Eq)]
 pub enum Outcome {
     /// Its parcel was added, with this number.

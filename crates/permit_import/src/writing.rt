@@ -12,7 +12,7 @@ use crate::tally::Tally;
 use std::alloc::AllocError;
 use std::io::Write;
 
-/// Writes all the bytes, as `write_whole` of permit_report does. Where a write fails or takes no byte, a beginning of them is
+/// Writes all the bytes, as `write_whole` of permit_report does. Where a write fails or takes no byte, a prefix of them is
 /// out.
 pub(crate) fn write_whole<W: Write>(out: &mut W, bytes: &[u8]) -> Result<(), ImportFault>
     ensures whole { OnOk result (Appends (W.contents out.old) (W.contents out.new) bytes.now) }

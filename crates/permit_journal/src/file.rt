@@ -12,7 +12,7 @@ pub struct FileError;
 /// What is written is on the disk once it is synced. Until then a crash may leave a part of it; but it leaves what was synced
 /// before. A disk that loses what it said it had is none of these.
 ///
-/// `crash` says of each call what a crash in it or behind it may leave, whatever the call answered. A crash between two calls, in
+/// `crash` says of each call what a crash in it or after it may leave, whatever the call answered. A crash between two calls, in
 /// the middle of what a journal does, is one of a file of which each call fails from that moment on and changes nothing. Such a
 /// file keeps these clauses too, as `stopping::Stopping` shows. So what is proved over every file is proved of a crash at each
 /// moment.
@@ -23,10 +23,10 @@ pub trait HistoryFile {
     /// What a crash at this moment may leave.
     ghost may_leave: { Self → List ℕ → Type 0 };
 
-    /// No call has told what isn't so. It may fall at a call that reads, and no code can tell.
+    /// No call has returned something false. A call that reads may end this too, and no code can detect it.
     ghost is_clean: { Self → Bool };
 
-    /// Which parts the writing of these bytes may leave behind the text where it is cut short.
+    /// Which parts the writing of these bytes may leave after the text where it is cut short.
     ghost leaves: { List ℕ → List ℕ → Type 0 };
 
     /// How many bytes it has.
@@ -44,7 +44,7 @@ pub trait HistoryFile {
         ensures crash { (c : List ℕ) → may_leave self.new c → may_leave self.old c }
         ensures clean { IsTrue (is_clean self.new) → IsTrue (is_clean self.old) };
 
-    /// Writes the bytes behind the text. An error may leave a part there, and so may a crash, if the text was on the disk.
+    /// Writes the bytes at the end of the text. An error may leave a part there, and so may a crash, if the text was on the disk.
     fn append(&mut self, bytes: &[u8]) -> Result<(), FileError>
         ensures written { IsTrue (is_clean self.old) → OnOk result (text self.new ≡ text self.old ++ bytes.now) }
         ensures part { IsTrue (is_clean self.old) → OnErr result (Grown leaves bytes.now (text self.old) (text self.new)) }
@@ -59,7 +59,7 @@ pub trait HistoryFile {
         ensures crash { (c : List ℕ) → may_leave self.new c → may_leave self.old c }
         ensures clean { is_clean self.new ≡ is_clean self.old };
 
-    /// Cuts the text to the length. Where a part of some bytes stood behind that length, an error may leave one there, and so
+    /// Cuts the text to the length. Where a part of some bytes was after that length, an error may leave one there, and so
     /// may a crash.
     fn cut(&mut self, to: u64) -> Result<(), FileError>
         ensures cut { to ≤ length (text self.old) → OnOk result (text self.new ≡ take to (text self.old)) }

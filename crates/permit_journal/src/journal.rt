@@ -7,7 +7,7 @@ ghost use Rattle.permit_journal.specs.Journals.{IsSettled, Has, HasUnlessShut};
 use crate::file::{FileError, HistoryFile};
 use std::marker::Model;
 
-/// Writes a line behind the text, and puts it on the disk.
+/// Writes a line at the end of the text, and puts it on the disk.
 fn write_out<H: HistoryFile>(file: &mut H, line: &[u8]) -> Result<(), FileError>
     ensures written { IsTrue (H.is_clean file.old) → OnOk result (H.text file.new ≡ H.text file.old ++ line.now) }
     ensures durable { OnOk result (Only (H.text file.new) (H.may_leave file.new)) }
@@ -48,10 +48,10 @@ fn put_on_disk<H: HistoryFile>(file: &mut H) -> Result<u64, FileError>
 /// The file of a history to which lines are added. Contracts see the file, the length of its text, and whether it is shut.
 ///
 /// A line is entered whole and is on the disk, or nothing of it is left. Where what was written of it can't be cut off, the
-/// journal is shut, and stays so: what stands in the file then isn't known. Who doesn't know whether a line belongs to the text
+/// journal is shut, and stays so: what the file holds then isn't known. Who doesn't know whether a line belongs to the text
 /// shuts it too.
 ///
-/// The clauses are said of a journal that is settled: its file has told nothing false. No code can tell whether one has.
+/// The clauses are said of a journal that is settled: its file has returned nothing false. No code can detect whether one has.
 #[derive(Drop)]
 pub struct Journal<H: HistoryFile> {
     file: H,
@@ -106,7 +106,7 @@ impl<H: HistoryFile + Drop> Journal<H> {
         self.length
     }
 
-    /// Whether no line is entered any longer: what stands in the file isn't known, or not whether it is the text.
+    /// Whether no line is entered any longer: what the file holds isn't known, or not whether it is the text.
     pub fn is_shut(&self) -> bool
         ensures { result ≡ self.now.is_shut }
     {
@@ -139,7 +139,7 @@ impl<H: HistoryFile + Drop> Journal<H> {
         ensures refused { IsSettled H.text H.may_leave H.is_clean self.old
             → OnErr result (HasUnlessShut H.text H.may_leave H.is_clean self.new self.new.is_shut (H.text self.old.file)) }
 
-        // A crash leaves the text, with nothing, a part of the line or all of it behind it.
+        // A crash leaves the text, with nothing, a part of the line or all of it after it.
         ensures crash { IsSettled H.text H.may_leave H.is_clean self.old
             → LeavesGrown H.leaves line.now (H.text self.old.file) (H.may_leave self.new.file) }
         ensures shut { self.old.is_shut ≡ true → IsErr result × (self.new ≡ self.old) }
@@ -159,7 +159,7 @@ impl<H: HistoryFile + Drop> Journal<H> {
         Ok(())
     }
 
-    /// Takes back what was added behind this length, or shuts the journal.
+    /// Takes back what was added after this length, or shuts the journal.
     ///
     /// # Examples
     ///

@@ -5,8 +5,8 @@ ghost use Rattle.permit_journal.specs.Files.{Grown, LeavesGrown, Only};
 
 use crate::file::{FileError, HistoryFile};
 
-/// A file that passes so many calls on to the one within. Each call behind those fails and changes nothing, as where the machine
-/// has stopped at that moment.
+/// A file that passes so many calls on to the one within. Each call after those fails and changes nothing, as after a crash
+/// at that moment.
 #[derive(Drop)]
 pub struct Stopping<H: HistoryFile> {
     inner: H,
@@ -28,7 +28,7 @@ fn take_call(calls_left: &mut u64) -> Result<(), FileError>
 impl<H: HistoryFile + Drop> Stopping<H> {
     ghost use Rattle.permit_journal.specs.Stopping.{calls_left, inner_of};
 
-    /// The file over this one, which stops behind so many calls.
+    /// The file over this one, which stops after so many calls.
     pub fn new(inner: H, calls: u64) -> Stopping<H>
         ensures inner { inner_of result ≡ inner }
         ensures calls { calls_left result ≡ calls }
@@ -39,7 +39,7 @@ impl<H: HistoryFile + Drop> Stopping<H> {
         }
     }
 
-    /// The file within, as it stands.
+    /// The file within, as it is.
     pub fn into_inner(self) -> H
         ensures { result ≡ inner_of self }
     {

@@ -1,4 +1,4 @@
-//! Beginning the history of an office that has none, and the copy of its database with which such a history begins.
+//! Starting the history of an office that has none, and the copy of its database with which such a history begins.
 
 ghost use Rattle.std.specs.Prelude.{◌≡◌, ◌≢◌, ◌⊎◌, [], Err, IfErr, IfOk, OnErr, OnOk, IsTrue};
 ghost use Rattle.sqlite.specs.State.{HasCleanDisk};
@@ -158,7 +158,7 @@ fn begin_text<H: HistoryFile + Drop>(
     }
 }
 
-/// Begins the history of the office in a database, which is only read: the text's first line tells the office's last day and the
+/// Begins the history of the office in a database, which is only read: the text's first line gives the office's last day and the
 /// digest of its tables' text, and is on the disk. It returns that day. A journal with a text is refused, as `exists`. With a
 /// refusal the text is as it was, unless the journal is shut.
 ///

@@ -70,7 +70,7 @@ pub fn of_resuming(fault: &ResumeFault) -> Failure
     }
 }
 
-/// The failure for a text that isn't told to its end.
+/// The failure for a text that isn't printed to its end.
 pub fn of_telling(fault: &ChronicleFault) -> Failure
     ensures { result ≡ telling_failure fault.now }
 {

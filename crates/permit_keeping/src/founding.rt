@@ -90,7 +90,7 @@ pub fn found_with<S: Alter + Drop, H: HistoryFile + Drop>(
     ensures exists { IsSettled H.text H.may_leave H.is_clean journal.old → result.1 ≡ Err (History Exists) → H.text journal.old.file ≢ [] }
     ensures there { IsSettled H.text H.may_leave H.is_clean journal.old → H.text journal.old.file ≢ [] → result.1 ≡ Err (History Exists) }
 
-    // A crash leaves the text as it was, with a part of the two lines or both behind it, and the database as it was or founded.
+    // A crash leaves the text as it was, with a part of the two lines or both after it, and the database as it was or founded.
     ensures crash { IsSettled H.text H.may_leave H.is_clean journal.old
         → LeavesGrown H.leaves (text_of (first_entries founder.now)) (H.text journal.old.file) (H.may_leave journal.new.file) }
     ensures survives { Survives (state S.Store conn) (state S.Store result.0)

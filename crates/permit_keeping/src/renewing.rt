@@ -112,7 +112,7 @@ fn take_back_refused<H: HistoryFile + Drop>(
     }
 }
 
-/// Gives a party of the office in a database a new token, whose line of the day stands in the history and on the disk before that.
+/// Gives a party of the office in a database a new token, whose line of the day is in the history and on the disk before that.
 /// It refuses a number that no party has, and a token that a party has. With a refusal the database is as it was, and so is the
 /// text, unless the journal is shut. A call that failed shuts it, and the line stays: it isn't known then whether the database has
 /// the token, and the next opening cuts a line too many.
@@ -135,7 +135,7 @@ pub fn renew_with<S: Alter + Drop, H: HistoryFile + Drop>(
     ensures back { IsSettled H.text H.may_leave H.is_clean journal.old
         → OnErr result.1 (HasUnlessShut H.text H.may_leave H.is_clean journal.new journal.new.is_shut (H.text journal.old.file)) }
 
-    // A crash leaves the text as it was, with a part of the line or all of it behind it, and the database as it was or renewed.
+    // A crash leaves the text as it was, with a part of the line or all of it after it, and the database as it was or renewed.
     ensures crash { IsSettled H.text H.may_leave H.is_clean journal.old
         → LeavesGrown H.leaves (renewal_line day party (digest_of token.now)) (H.text journal.old.file) (H.may_leave journal.new.file) }
     ensures survives { Survives (state S.Store conn) (state S.Store result.0)
@@ -157,7 +157,7 @@ pub fn renew_with<S: Alter + Drop, H: HistoryFile + Drop>(
 }
 
 /// Opens the office in a database with its history, and gives a party of it a new token. The line of that has the office's last
-/// day, and stands in the history and on the disk before the token is changed.
+/// day, and is in the history and on the disk before the token is changed.
 pub fn renew_recorded<S: Alter + Drop, H: HistoryFile + Drop>(
     alloc: Global,
     beginning: &mut Beginning,

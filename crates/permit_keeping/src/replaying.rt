@@ -127,7 +127,7 @@ fn founder_in(entry: Entry) -> Result<Option<Founder>, Failure>
     }
 }
 
-/// The founder that the first line of a text tells; none where it tells that the text begins with a copy.
+/// The founder that the first line of a text names; none where it says that the text begins with a copy.
 fn founder_of<R: BufRead>(alloc: Global, source: &mut R) -> Result<Option<Founder>, Failure>
     ensures founds { IfSome (R.remaining source.old) (λ bytes. IfOk result (λ founder. IfSome founder (IsFoundedBy bytes))) }
     ensures begins { IfSome (R.remaining source.old) (λ bytes. IfOk result (λ founder. IfNone founder (IsBegunLater bytes))) }
@@ -140,7 +140,7 @@ fn founder_of<R: BufRead>(alloc: Global, source: &mut R) -> Result<Option<Founde
     }
 }
 
-/// The founder that a text tells; none where the text begins with a copy of the database. The text has to be one that is replayed
+/// The founder that a text names; none where the text begins with a copy of the database. The text has to be one that is replayed
 /// whole, in memory. Of it there are two readings, from its start.
 pub fn founder_told<P: BufRead, Q: BufRead>(
     alloc: Global,
@@ -197,11 +197,11 @@ fn make_and_bring<S: Alter + Drop, R: BufRead>(
 }
 
 /// Makes an office in an empty database with this founder, or takes the one that is there, and brings it further: to the tables
-/// that the text's whole lines tell. The text is one that `founder_told` takes, and the founder is its own; it is read from its
-/// start. The lines that the database hasn't are done by commits of at most 1000, so that the tables are those of a beginning of
+/// that the text's whole lines give. The text is one that `founder_told` takes, and the founder is its own; it is read from its
+/// start. The lines that the database hasn't are done by commits of at most 1000, so that the tables are those of a prefix of
 /// the text at each time.
 ///
-/// Where the database's tables are those of no beginning that has the upgrade, it answers that they differ, and they are as before.
+/// Where the database's tables are those of no prefix that has the upgrade, it answers that they differ, and they are as before.
 /// So it answers of an empty database too where the text begins with a copy, and so has no founder.
 pub fn replay_in<S: Alter + Drop, R: BufRead>(
     alloc: Global,

@@ -113,7 +113,7 @@ fn recorded_beside_memory<S: Alter + Drop, H: HistoryFile + Drop>(
 }
 
 /// Serves the office in a database over TCP, with its tables in memory and with its history, until its workers have ended. Each
-/// command that is done stands in the history's file, and on the disk, before its answer goes out. The flag is given twice: for
+/// command that is done is in the history's file, and on the disk, before its answer goes out. The flag is given twice: for
 /// what sets it once a fault of the disk has shut the database or the office, and for the workers, which end then.
 pub fn serve_recorded<S, H, R, T, O>(
     rt: &HostRuntime,

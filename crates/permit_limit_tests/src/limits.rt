@@ -29,7 +29,7 @@ const LISTED: u32 = 12000;
 /// The day on which all but the last are made.
 const FILED: u32 = 19723;
 
-/// The last of each, and the refusal of one behind it. File 1 is shown with all its papers.
+/// The last of each, and the refusal of one after it. File 1 is shown with all its papers.
 const LAST: &str = r#"
 > 1 19723 POST /parties {"name":"Last","role":"public","token":"last0last0last0last0"}
 < 200 OK {"day":19723,"done":"add-party","number":99999}
@@ -62,7 +62,7 @@ const REGISTER: &str = r#"
 ~ files 12000
 "#;
 
-/// What stands before the last five digits of a digest.
+/// What precedes the last five digits of a digest.
 const ZEROS: &str = "00000000000000000000000000000000000000000000000000000000000";
 
 /// The state of file 1 with so many papers: party 3 reviews it, or has returned it.

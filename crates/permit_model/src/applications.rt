@@ -37,7 +37,7 @@ pub fn extension_before_the_deadline()
         ∷ [] }
 {}
 
-/// Issued on 19800, a permit runs to 19980; with 100 days granted to 20080, which beginning work on 19810 leaves; an
+/// Issued on 19800, a permit runs to 19980; with 100 days granted to 20080, which the start of work on 19810 leaves; an
 /// inspection requested on 20000 makes it 20180.
 pub fn deadline_arithmetic_from_issuance()
     ensures issued { read_after issued_file 19800 ≡ Some (stage.Issued, timing.Ahead, Some 19980) }
@@ -95,7 +95,7 @@ pub fn return_resubmit_reject()
         ∷ [] }
 {}
 
-/// An extension that is asked before work begins and granted after it moves the deadline that the beginning set: from
+/// An extension that is asked before work begins and granted after it moves the deadline that the start of work set: from
 /// 19990 to 20090, which an inspection requested on 19830 leaves.
 pub fn grant_after_work_began()
     ensures begun { read_after (issued_file ++ on_one 5 19800 (AskExtension 100 (codes "Ill")) ∷ on_one 6 19810 BeginWork ∷ []) 19810 ≡ Some (stage.Working, timing.Ahead, Some 19990) }

@@ -48,7 +48,7 @@ pub fn steps_are_approved_in_order()
     ensures front { OfEachFile (λ h file. approved_steps file.acts ≡ take (length (approved_steps file.acts)) (required_steps file.filing.edition file.filing.kind)) }
 {}
 
-/// A file keeps the list of steps that was in force when it was filed, which its number tells: the first edition up to the
+/// A file keeps the list of steps that was in force when it was filed, which follows from its number: the first edition up to the
 /// count of files at the upgrade. The upgrade may follow whatever was accepted before, once, and changes of the tables
 /// the edition in force and the count of files at the upgrade alone.
 pub fn editions_are_told_by_number()
@@ -68,13 +68,13 @@ pub fn records_are_numbered()
 {}
 
 /// A finaled or certified file has every required step approved, in order, and no open notice; on a certified file no
-/// stop work order stands.
+/// stop work order is in force.
 pub fn certified_files_are_finished()
     ensures finaled { OfEachFile (λ h file. base_stage file.acts ≡ stage.Finaled → (approved_steps file.acts ≡ required_steps file.filing.edition file.filing.kind) × (open_notices file.acts ≡ [])) }
     ensures certified { OfEachFile (λ h file. base_stage file.acts ≡ stage.Certified → (approved_steps file.acts ≡ required_steps file.filing.edition file.filing.kind) × (open_notices file.acts ≡ []) × (is_stopped file.acts ≡ false)) }
 {}
 
-/// A deadline stands in the six stages from filed to working but rejected, and in no other. It is never before the
+/// There is a deadline in the six stages from filed to working but rejected, and in no other. It is never before the
 /// filing's 180 days. Where the last day is one that the office takes it is never after the latest deadline: days
 /// never fall, and a grant that goes further isn't admitted.
 pub fn deadlines_stand_in_bounds()

@@ -12,7 +12,7 @@ ghost use Rattle.permit_model.specs.Tables.{State};
 ghost use Rattle.permit_model.specs.Examples.{opening, on_one, replies, after, last_reply, done, made, not_admitted, read_after, state_after, papers_after, begun_file, house_state, stopped_file, lifted_file, issued_file, worked_with_ask, answered_asks, temporary_turns, revoking_turns, paper_turns};
 
 /// A stop work order and its lift leave the deadline 19990, and each makes a paper of its sort; an inspection is refused
-/// while the order stands, and activity after the lift moves the deadline to 20010.
+/// while the order is in force, and activity after the lift moves the deadline to 20010.
 pub fn stop_order_leaves_the_deadline()
     ensures before { read_after (begun_file Construct) 19810 ≡ Some (stage.Working, timing.Ahead, Some 19990) }
     ensures stopped { last_reply stopped_file (on_one 6 19820 (RequestInspection Footing)) opening ≡ not_admitted reason.Stopped }

@@ -44,7 +44,7 @@ fn is_lot<S: Store>(store: &mut S, lot: &Lot) -> Got<bool>
     Ok(found.is_some())
 }
 
-/// The number of a new parcel, or what stands against it.
+/// The number of a new parcel, or the reason against it.
 fn admit_parcel<S: Store>(store: &mut S, desk: &Desk, lot: &Lot, owner: PartyId) -> Got<Admitted>
     ensures reason { (S.view store.new).doubt ≡ 0 → (h : History) (day caller : ℕ) (address : List ℕ) → (S.view store.old).holds (tables h)
         → desk.now ≡ desk_of h
@@ -179,7 +179,7 @@ pub(crate) fn declare<S: Store>(
     make_interest(store, caller.id, parcel, facts.relations.conflict, day)
 }
 
-/// What stands against a transfer, which makes no record with a number.
+/// The reason against a transfer, which makes no record with a number.
 fn admit_transfer<S: Store>(
     store: &mut S,
     parcel: ParcelId,

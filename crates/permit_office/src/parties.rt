@@ -49,7 +49,7 @@ pub(crate) fn is_party<S: Store>(store: &mut S, party: PartyId) -> Got<bool>
     Ok(role.is_some())
 }
 
-/// The number of a new party, or what stands against it.
+/// The number of a new party, or the reason against it.
 fn admit_party<S: Store>(store: &mut S, desk: &Desk, digest: &Digest) -> Got<Admitted>
     ensures reason { (S.view store.new).doubt ≡ 0 → (h : History) (day caller : ℕ) (name : List ℕ) (role : Role) (token : List ℕ)
         → (S.view store.old).holds (tables h) → desk.now ≡ desk_of h

@@ -34,7 +34,7 @@ pub enum RowsEnd {
     /// wraps after 4294967295.
     All { read: u32 },
     /// The caller isn't known or the day is below the last, and nothing was taken; or the store failed or memory was
-    /// refused, and what was taken is a beginning, with each answer true.
+    /// refused, and what was taken is a prefix, with each answer true.
     Refused(Refusal),
     /// The taker asked to stop at the last file that it took.
     Stopped,

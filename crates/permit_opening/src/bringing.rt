@@ -47,7 +47,7 @@ const LINES_A_COMMIT: usize = 1000;
 /// How far a store was brought, in lines of the text.
 #[derive(Clone, Copy, PartialEq, Eq)]
 pub struct Brought {
-    /// How many lines told the tables that the store had.
+    /// How many lines gave the tables that the store had.
     pub stood: u64,
     /// How many lines the text has, whose tables the store has now.
     pub lines: u64,
@@ -90,11 +90,11 @@ impl From<StoreError> for BringFault {
 #[derive(Drop)]
 struct Course {
     told: Told,
-    /// How many of them told the store's tables, once some did.
+    /// How many of them gave the store's tables, once some did.
     stood: Option<u64>,
     /// The store's tables.
     there: PlainStore,
-    /// The last of the lines, which aren't done on the store yet. There are none while the store stands at no line.
+    /// The last of the lines, which aren't done on the store yet. There are none while the store is at no line.
     waiting: Vec<Entry>,
 }
 
@@ -113,7 +113,7 @@ fn is_there(replayed: &mut Replayed, there: &mut PlainStore) -> Got<bool>
     }
 }
 
-/// Whether the lines tell the tables of another store, and then how many they are.
+/// Whether the lines give the tables of another store, and then how many they are.
 fn look(told: &mut Told, there: &mut PlainStore) -> Got<Option<u64>>
     ensures told { (beginning : TheBeginning) (bytes : List ℕ) (entries : List TheEntry) (left : List ℕ)
         → HasTold ⟦<PlainStore as Store>⟧.view (IsBeginning ⟦<PlainStore as Store>⟧.view beginning) bytes entries left told.old
@@ -206,7 +206,7 @@ fn settle<S: Batching>(alloc: Global, course: Course, store: &mut S) -> Got<Cour
     })
 }
 
-/// One line behind those that wait. Once there are many, they are done on the store.
+/// One line after those that wait. Once there are many, they are done on the store.
 fn wait<S: Batching>(alloc: Global, course: Course, store: &mut S, entry: Entry) -> Got<Course>
     ensures placed { (beginning : TheBeginning) (entries : List TheEntry) (t : Tables) → IsTrue (is_some course.stood)
         → IsPlaced (IsBeginning ⟦<PlainStore as Store>⟧.view beginning) course.stood entries course.waiting.items t (in_both (⟦<PlainStore as Store>⟧.view course.there) (S.Store.view store.old))
@@ -226,7 +226,7 @@ fn wait<S: Batching>(alloc: Global, course: Course, store: &mut S, entry: Entry)
 }
 
 /// One more line of the text, whose entry this is and that has so many bytes with its LF. It waits to be done on the store, if
-/// that stood at a line before; otherwise the store may stand at this one.
+/// that was at a line before; otherwise the store may be at this one.
 fn step<S: Batching>(
     alloc: Global,
     course: Course,
@@ -258,7 +258,7 @@ fn step<S: Batching>(
     Ok(course)
 }
 
-/// What is told of a store beside which a text was read to its end.
+/// What is reported of a store beside which a text was read to its end.
 fn finish(course: &Course) -> Result<Brought, BringFault>
     ensures some { IfOk result (λ brought. (course.now.stood ≡ Some brought.stood) × (brought.lines ≡ course.now.told.lines)) }
     ensures none { IfErr result (λ why. (course.now.stood ≡ None) × (why ≡ fault.Differs)) }
@@ -272,7 +272,7 @@ fn finish(course: &Course) -> Result<Brought, BringFault>
     }
 }
 
-/// Does the lines that wait on the store behind the last line of a text, and tells of it.
+/// Does the lines that wait on the store after the last line of a text, and reports on the store.
 fn end<S: Batching>(alloc: Global, course: Course, store: &mut S) -> Result<Brought, BringFault>
     ensures brought { (beginning : TheBeginning) (bytes : List ℕ) (entries : List TheEntry) (left : List ℕ)
         → HasTold ⟦<PlainStore as Store>⟧.view (IsBeginning ⟦<PlainStore as Store>⟧.view beginning) bytes entries left course.told → next_line left ≡ None
@@ -291,7 +291,7 @@ fn end<S: Batching>(alloc: Global, course: Course, store: &mut S) -> Result<Brou
     finish(&course)
 }
 
-/// Reads a text beside the store, whose tables stand in memory too, with room for its lines.
+/// Reads a text beside the store, whose tables are in memory too, with room for its lines.
 fn bring_in<S: Batching, R: BufRead>(
     alloc: Global,
     beginning: &mut Beginning,
@@ -342,8 +342,8 @@ fn bring_in<S: Batching, R: BufRead>(
     Err(BringFault::Stopped(CompareFault::Text(ReplayFault::Endless)))
 }
 
-/// Brings a store further whose tables are those that the first lines of the text tell, to the tables that the text's whole lines
-/// tell. The text may begin so. At most 1000 lines are done by one commit, so a crash leaves the tables of some first lines.
+/// Brings a store further whose tables are those that the first lines of the text give, to the tables that the text's whole lines
+/// give. The text may begin so. At most 1000 lines are done by one commit, so a crash leaves the tables of some first lines.
 ///
 /// Where the tables are those of no first lines that have the upgrade, it is a fault and they are as before. It looks at a copy of
 /// the tables in memory, and keeps that, the tables of the lines that were read, and the lines that aren't done yet.

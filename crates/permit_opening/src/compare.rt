@@ -32,17 +32,17 @@ use std::io::BufRead;
 /// What a text says of a store's tables.
 #[derive(Clone, Copy, PartialEq, Eq)]
 pub enum Compared {
-    /// The tables are those of the history that the whole lines of the text tell. The lines end at this length in bytes: what
-    /// stands behind it is a part of a line, or nothing.
+    /// The tables are those of the history that the whole lines of the text give. The lines end at this length in bytes: what
+    /// is after it is a part of a line, or nothing.
     Alike { length: u64 },
-    /// The tables are those of the history that the whole lines but the last tell. Those end at this length.
+    /// The tables are those of the history that the whole lines but the last give. Those end at this length.
     OneMore { length: u64 },
     /// They are neither.
     Differs,
 }
 
 impl Compared {
-    /// The length to which the text is to be cut, so that its lines are those of the tables, and no part of a line stands behind
+    /// The length to which the text is to be cut, so that its lines are those of the tables, and no part of a line is after
     /// them. There is none where the tables are other ones.
     pub fn kept(self) -> Option<u64>
         ensures alike { (beginning : TheBeginning) (bytes : List ℕ) (t : Tables) → Says (IsBeginning ⟦<PlainStore as Store>⟧.view beginning) bytes t self
@@ -113,8 +113,8 @@ fn compare_before<S: Store, Q: BufRead>(
     }
 }
 
-/// What the text of a history says of a store's tables, where it may begin so. Of the text there are two readings, from its start: the second is read
-/// only where the tables are not those of the whole text, up to the line before the last.
+/// What the text of a history says of a store's tables, where it may begin so. Of the text there are two readings, from its start:
+/// the second is read only where the tables are not those of the whole text, up to the line before the last.
 ///
 /// A text that is not replayed, or whose lines are the founding alone or none, is a fault, and then it says nothing of the
 /// tables. The store is only read, and so is what the text may begin with. It keeps the tables of one of the readings at a time,

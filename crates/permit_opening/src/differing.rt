@@ -42,7 +42,7 @@ fn first_from<S: Store>(store: &mut S, replayed: Replayed) -> Got<Option<Differe
     }
 }
 
-/// The first place at which a store's tables differ from those that the whole lines of a text tell, or none where they are
+/// The first place at which a store's tables differ from those that the whole lines of a text give, or none where they are
 /// those. The order of the places is that of `first_difference`.
 ///
 /// A store that keeps to the first edition differs at the desk. A text that is not replayed, or whose lines are the founding

@@ -40,8 +40,8 @@ fn entry_in(alloc: Global, bytes: &[u8]) -> Result<Option<Entry>, TextFault>
     }
 }
 
-/// The next entry of a text, or none at its end. Behind an entry `line` has the bytes of its line, with the LF. What stands
-/// behind the last LF is no line.
+/// The next entry of a text, or none at its end. After an entry `line` has the bytes of its line, with the LF. What is
+/// after the last LF is no line.
 pub(crate) fn next_entry<R: BufRead>(
     alloc: Global,
     source: &mut R,

@@ -26,7 +26,7 @@ use permit_store::store::Store;
 use std::alloc::Global;
 use std::io::BufRead;
 
-/// What the first lines of a text tell.
+/// What the first lines of a text give.
 #[derive(Drop)]
 pub(crate) struct Told {
     /// How far their history was replayed.
@@ -45,7 +45,7 @@ fn added(count: u64, more: u64) -> Option<u64>
     count.checked_add(more)
 }
 
-/// What the lines tell with one more, whose entry this is and that has so many bytes with its LF.
+/// What the lines give with one more, whose entry this is and that has so many bytes with its LF.
 pub(crate) fn add_line(
     told: Told,
     alloc: Global,

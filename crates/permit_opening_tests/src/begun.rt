@@ -12,7 +12,7 @@ use std::test::*;
 
 const EIGHTS: &str = "8888888888888888888888888888888888888888888888888888888888888888";
 
-/// The line of the beginning, behind the first four lines of the whole text.
+/// The `begin` line, after the first four lines of the whole text.
 const BEGUN: &str =
     r#"{"body":{"tables":"8888888888888888888888888888888888888888888888888888888888888888"},"caller":0,"day":19701,"done":"begin","id":null,"number":null}
 "#;

@@ -30,7 +30,7 @@ fn is_said(
     }
 }
 
-/// Fails where the text, cut behind each byte from this one up to that, says anything else of a store.
+/// Fails where the text, cut after each byte from this one up to that, says anything else of a store.
 fn are_said(
     alloc: Global,
     store: &mut PlainStore,

@@ -1,4 +1,4 @@
-//! The examples of the doc comments of comparing texts and tables, and of seals, line by line as they stand there.
+//! The examples of the doc comments of comparing texts and tables, and of seals, line by line as they are written there.
 
 use crate::texts::{TEXT, store};
 use permit_alike::compare::{are_alike, first_difference};

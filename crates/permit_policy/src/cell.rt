@@ -15,12 +15,12 @@ use std::marker::Model;
 /// How many cells there are: 14 stages, stopped or not, and four timings.
 pub const CELLS: usize = 112;
 
-/// A stage, whether a stop work order stands, and a timing.
+/// A stage, whether a stop work order is in force, and a timing.
 #[derive(Clone, Copy)]
 pub struct Cell {
     /// The stage on the day, or the stage that is kept.
     pub stage: Stage,
-    /// Whether a stop work order stands (IBC 2018, section 115).
+    /// Whether a stop work order is in force (IBC 2018, section 115).
     pub stopped: bool,
     /// How near the deadline is on the day.
     pub timing: Timing,
@@ -57,7 +57,7 @@ impl Cell {
         8 * self.stage as usize + if self.stopped { 4 } else { 0 } + self.timing as usize
     }
 
-    /// Whether a file's row can be kept in the cell: a deadline stands in six of the ten stages that are kept.
+    /// Whether a file's row can be kept in the cell: there is a deadline in six of the ten stages that are kept.
     pub(crate) fn is_kept(self) -> bool
         ensures { result ≡ is_kept self }
     {

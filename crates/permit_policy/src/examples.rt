@@ -39,7 +39,7 @@ pub fn faults_in_a_table()
         ≡ fault_in fault.Name 2 }
 {}
 
-/// Two relations at once: the key `both`, which has two words and stands in place of `relation`.
+/// Two relations at once: the key `both`, which has two words and is written in place of `relation`.
 pub fn two_relations()
     ensures good { meaning (table_text (codes "a") (codes "allow") ++ line (codes "both = [\"owner\", \"contractor\"]"))
         ≡ Ok (owner_and_contractor (codes "a") ∷ []) }

@@ -17,7 +17,7 @@ pub struct Facts {
     pub action: Action,
     /// The object's stage on the day: `new` for a filing, `office` for what is no file.
     pub stage: Stage,
-    /// Whether a stop work order stands (IBC 2018, section 115).
+    /// Whether a stop work order is in force (IBC 2018, section 115).
     pub stopped: bool,
     /// How near the object's deadline is on the day.
     pub timing: Timing,

@@ -2,7 +2,7 @@
 
 use permit_base::words::Word;
 
-/// A condition of a rule, by its key in the policy's text. They stand in the order in which they are tested.
+/// A condition of a rule, by its key in the policy's text. The variants are in the order in which they are tested.
 #[derive(Clone, Copy, PartialEq, Eq)]
 pub enum Key {
     Role,

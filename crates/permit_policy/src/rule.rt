@@ -43,7 +43,7 @@ pub struct Rule {
     pub stage: Option<Vec<Stage>>,
     /// The object's deadline is one of these.
     pub timing: Option<Vec<Timing>>,
-    /// Whether a stop work order stands.
+    /// Whether a stop work order is in force.
     pub stopped: Option<bool>,
 }
 

@@ -1,4 +1,4 @@
-//! Masks of sets of relations: bit k of 64 stands for the set of number k.
+//! Masks of sets of relations: bit k of 64 means the set of number k.
 
 ghost use Rattle.std.specs.Prelude.{◌≡◌, ◌≤◌, ◌<◌};
 ghost use Rattle.permit_base.specs.declared.words.Relations.{Relations as TheRelations};

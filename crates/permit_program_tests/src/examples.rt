@@ -1,4 +1,4 @@
-//! The examples of the doc comments on stores, databases and words, line by line as they stand there.
+//! The examples of the doc comments on stores, databases and words, line by line as they are written there.
 
 use permit_alike::unordered::Unordered;
 use permit_cli::program::run_words;

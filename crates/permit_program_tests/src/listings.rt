@@ -14,13 +14,13 @@ const OTHERS: &str = r#"
 > 6 19723 POST /files/2/name-contractor {"party":5}
 "#;
 
-/// Behind the founding alone.
+/// After the founding alone.
 const FOUNDED: &str = r#"
 $ list @1
 | read 0
 "#;
 
-/// The registers behind one filing.
+/// The registers after one filing.
 const REGISTERS: &str = r#"
 $ register files @1
 |  FILE PARCEL KIND      STAGE     TIMING DEADLINE           CENTS

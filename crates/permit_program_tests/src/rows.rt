@@ -20,7 +20,7 @@ struct Offices {
 }
 
 impl Offices {
-    /// The offices behind the opening; the program's files stand in the folder.
+    /// The offices after the opening; the program's files are in the folder.
     fn open<R: Threads + Wait + Copy + Drop + Send + 'static>(
         rt: &HostRuntime,
         workers: R,
@@ -55,7 +55,7 @@ impl Offices {
     }
 }
 
-/// Plays scripts behind the opening, and then one more under another policy, if there is one.
+/// Plays scripts after the opening, and then one more under another policy, if there is one.
 fn play_in<R: Threads + Wait + Copy + Drop + Send + 'static>(
     rt: &HostRuntime,
     workers: R,
@@ -83,7 +83,7 @@ fn new_folder(rt: &HostRuntime) -> Result<String, Fail> {
     Ok(folder)
 }
 
-/// The same, with the program's files in a folder that is removed behind them.
+/// The same, with the program's files in a folder that is removed afterwards.
 fn hold<R: Threads + Wait + Copy + Drop + Send + 'static>(
     rt: &HostRuntime,
     workers: R,

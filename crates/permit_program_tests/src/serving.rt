@@ -1,4 +1,4 @@
-//! Serving over TCP. Both ends of a connection stand in one process.
+//! Serving over TCP. Both ends of a connection are in one process.
 
 use crate::program::Program;
 use crate::run::{agrees, run};

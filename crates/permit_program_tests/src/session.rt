@@ -1,9 +1,9 @@
 //! Sessions: what a person types, and what the program prints.
 //!
-//! A line `$ WORDS` runs the program on words; one with spaces stands in single quotes, and so does an empty one. The word
-//! `@N` stands for the files of the office, the token of party N and the day of the filings. Behind the line stands what
+//! A line `$ WORDS` runs the program on words; one with spaces is in single quotes, and so does an empty one. The word
+//! `@N` means the files of the office, the token of party N and the day of the filings. After the line follows what
 //! is wanted: `| TEXT` for each line of the output, `! TEXT` for each line of the errors, and `= STATUS` where that isn't
-//! 0. Lines `> TEXT` go to the file that the line `+ PATH` behind them names.
+//! 0. Lines `> TEXT` go to the file that the line `+ PATH` after them names.
 
 use crate::run::run_owned;
 use permit_samples::ask::TOKENS;
@@ -14,7 +14,7 @@ use std::sync::Wait;
 use std::test::Fail;
 use std::thread::Threads;
 
-/// The words for which `@N` stands, of the office in a folder.
+/// The words that `@N` means, of the office in a folder.
 fn office_words(alloc: Global, folder: &str, party: &str) -> Result<String, Fail> {
     let token = TOKENS
         .get(party.parse::<usize>()?.wrapping_sub(1))
@@ -56,7 +56,7 @@ fn words_of(alloc: Global, folder: &str, line: &str) -> Result<Vec<String>, Fail
     Ok(words)
 }
 
-/// Adds each line of a text behind a sign. Fails where the last has no line end.
+/// Adds each line of a text after a sign. Fails where the last has no line end.
 fn push_lines(seen: &mut String, sign: &str, text: &str) -> Result<(), Fail> {
     if !text.is_empty() && !text.ends_with('\n') {
         return Err(Fail::new("a text without a line end"));

@@ -1,4 +1,4 @@
-//! What stands in a table of a policy's text.
+//! What is written in a table of a policy's text.
 
 ghost use Rattle.std.specs.Prelude.{◌≡◌, map, option_map, string_bytes};
 ghost use Rattle.toml.specs.Data.{as_array, get, get_member};

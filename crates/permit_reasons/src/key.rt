@@ -7,7 +7,7 @@ ghost use Rattle.permit_reasons.specs.Takes.{key_word, taken};
 
 use permit_base::words::{Action, Relation, Role, Stage, Timing, Word};
 
-/// A condition of a rule that is a list of words. They stand in the order in which they are read.
+/// A condition of a rule that is a list of words. The variants are in the order in which they are read.
 #[derive(Clone, Copy, PartialEq, Eq)]
 pub enum ListKey {
     Role,

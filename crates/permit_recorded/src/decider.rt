@@ -19,7 +19,7 @@ use permit_store::store::{Got, Store};
 
 /// What decides a request over any store, and does it by one commit, as the office's step does by a policy.
 pub trait Decider {
-    /// What comes of the request of the party that keeps the digest, on the day, behind the history.
+    /// What comes of the request of the party that keeps the digest, on the day, after the history.
     ghost decides: { Self → History → List ℕ → TheRequest → ℕ → Outcome };
 
     /// One step for a request of the party that keeps the digest, on the day. It fails where a call of the store failed, and

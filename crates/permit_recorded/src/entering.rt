@@ -43,7 +43,7 @@ fn take_back_failed<S: Store, H: HistoryFile + Drop>(
     }
 }
 
-/// Does the request once the line stands in the history's file and on the disk. Where the request isn't done the line is taken
+/// Does the request once the line is in the history's file and on the disk. Where the request isn't done the line is taken
 /// back, unless the store can't be read then. Where it can't be entered nothing is done.
 pub(crate) fn enter_and_do<D: Decider, S: Store, H: HistoryFile + Drop>(
     decider: &D,

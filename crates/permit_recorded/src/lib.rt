@@ -1,4 +1,4 @@
-//! An office with a history: each command's line stands in the history's file, and on the disk, before the command is done.
+//! An office with a history: each command's line is in the history's file, and on the disk, before the command is done.
 #![tactic(auto)]
 
 mod copied;

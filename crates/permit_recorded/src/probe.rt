@@ -12,7 +12,7 @@ use permit_store::rows::{Change, Desk, FileRow, Found, Interest, Paper, Parcel, 
 use permit_store::store::{Got, Store, StoreError};
 
 /// A store with which a request is decided and not done: a commit is noted and fails, and so does each call after it. So a
-/// request that comes to its commit is told from one that is refused or only reads, before anything is written.
+/// request that comes to its commit is distinguished from one that is refused or only reads, before anything is written.
 #[derive(Drop)]
 pub struct Probe<S: Store> {
     pub(crate) store: S,

@@ -81,7 +81,7 @@ fn record<D: Decider, S: Store, H: HistoryFile + Drop>(
 /// the three.
 ///
 /// A command is decided first, without a change. Then its line is entered into the history's file and put on the disk, and then
-/// the command is done; its answer comes behind both. Where the line can't be entered, or the command isn't done after all, the
+/// the command is done; its answer comes after both. Where the line can't be entered, or the command isn't done after all, the
 /// line is taken back. Where that fails the office shuts: each further request is refused for the store, and nothing is done. It
 /// shuts too, and the line stays, where the command failed and the store can't be read, since it isn't known then whether the
 /// command is done. An opening finds that out, and cuts a line too many.
@@ -193,9 +193,9 @@ impl<D: Decider + Drop, S: Store + Drop, H: HistoryFile + Drop> RecordedOffice<D
     /// decides, or it is refused for the store. It is also refused so where a call of the
     /// history's file failed.
     ///
-    /// Where the text told the history, it tells it afterwards: behind a command that is done with the command's line, and
-    /// behind any other reply as it was, unless the journal is shut. Where it begins with an office that was there, it tells it
-    /// over the same start. This is said of a journal that is settled: its file has told nothing false.
+    /// Where the text gave the history, it gives it afterwards: after a command that is done with the command's line, and
+    /// after any other reply as it was, unless the journal is shut. Where it begins with an office that was there, it gives it
+    /// over the same start. This is said of a journal that is settled: its file has returned nothing false.
     ///
     /// # Examples
     ///
@@ -221,7 +221,7 @@ impl<D: Decider + Drop, S: Store + Drop, H: HistoryFile + Drop> RecordedOffice<D
         // Once it is shut nothing is done.
         ensures shut { self.old.journal.is_shut ≡ true → (result ≡ given.Refused refusal.Store) × (self.new.journal ≡ self.old.journal) }
 
-        // A crash leaves the text, with nothing, a part or all of the command's line behind it.
+        // A crash leaves the text, with nothing, a part or all of the command's line after it.
         ensures crash { IsSettled H.text H.may_leave H.is_clean self.old.journal → LeavesText H.leaves (H.text self.old.journal.file)
             (H.may_leave self.new.journal.file) (S.view self.old.store) (S.view self.new.store) digest.now request.now day }
     {

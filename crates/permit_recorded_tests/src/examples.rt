@@ -1,5 +1,5 @@
 //! The examples of the doc comments of journals and their files, of offices with a history, of their opening and of
-//! serving by them, line by line as they stand there.
+//! serving by them, line by line as they are written there.
 
 use crate::served::{ALLOWS_ALL, chief_digest, day, founded, letters, lines};
 use permit_answer::answer::Answer;
@@ -202,7 +202,7 @@ fn examples_of_journals_hold(rt: HostRuntime) -> Result<(), Fail> {
     Ok(())
 }
 
-/// An office behind its founding.
+/// An office after its founding.
 fn kept(rt: &impl Abort, alloc: Global) -> Result<Recorded, Fail> {
     let (store, lines) = (founded(alloc)?, lines(alloc, 0)?);
     keeps(rt, read_policy(alloc, ALLOWS_ALL)?, store, lines)

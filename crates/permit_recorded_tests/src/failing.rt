@@ -10,7 +10,7 @@ pub struct FailingFile {
     pub bytes: Vec<u8>,
     /// How many calls succeed before one fails; None where none does.
     pub good: Option<u32>,
-    /// Whether each call behind that one fails too.
+    /// Whether each call after that one fails too.
     pub stays: bool,
 }
 

@@ -7,7 +7,7 @@ use permit_journal::stopping::Stopping;
 use std::alloc::Global;
 use std::test::*;
 
-/// What is read of a file that has stopped behind so many calls, two lines of which were to be entered.
+/// What is read of a file that has stopped after so many calls, two lines of which were to be entered.
 fn left_behind(alloc: Global, calls: u64) -> Result<Vec<u8>, Fail> {
     let file = Stopping::new(MemoryFile::new(Vec::new(alloc)), calls);
     let Ok(mut journal) = Journal::open(file) else {

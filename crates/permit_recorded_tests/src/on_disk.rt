@@ -31,7 +31,7 @@ fn journal_over(file: DiskFile<Stops>) -> Result<Journal<DiskFile<Stops>>, Fail>
     }
 }
 
-/// Fails where a crash behind so many calls of the disk leaves another text than the lines that were entered, which are so many.
+/// Fails where a crash after so many calls of the disk leaves another text than the lines that were entered, which are so many.
 fn leaves(alloc: Global, calls: u64, lines: u8) -> Result<(), Fail> {
     let file = file_on(Fuse::new(Memory::new(alloc), calls))?;
     let mut journal = journal_over(file)?;

@@ -20,7 +20,7 @@ use std::test::*;
 /// The office that is opened.
 type Opened = RecordedOffice<Policy, Unordered<PlainStore>, MemoryFile>;
 
-/// The store and the text of an office that served its commands, whose file fails for good behind so many calls.
+/// The store and the text of an office that served its commands, whose file fails for good after so many calls.
 fn served(alloc: Global, calls: Option<u32>) -> Result<(PlainStore, Vec<u8>), Fail> {
     let mut office = office(alloc, calls, true)?;
     let all = serve_all(alloc, &mut office)?;
@@ -112,7 +112,7 @@ fn other_tables_are_told_apart(rt: HostRuntime) -> Result<(), Fail> {
 
 const EIGHTS: &str = "8888888888888888888888888888888888888888888888888888888888888888";
 
-/// The line of the beginning of a text behind the upgrade.
+/// The `begin` line of a text that begins after the upgrade.
 const BEGUN: &str =
     r#"{"body":{"tables":"8888888888888888888888888888888888888888888888888888888888888888"},"caller":0,"day":19700,"done":"begin","id":null,"number":null}
 "#;
@@ -129,7 +129,7 @@ fn copy(alloc: Global) -> Result<Beginning, Fail> {
     }
 }
 
-/// The text that begins behind the upgrade, with so many commands.
+/// The text that begins after the upgrade, with so many commands.
 fn begun(alloc: Global, count: usize) -> Result<Vec<u8>, Fail> {
     let whole = lines(alloc, count)?;
     let founded = lines(alloc, 0)?.len();
@@ -138,7 +138,7 @@ fn begun(alloc: Global, count: usize) -> Result<Vec<u8>, Fail> {
     Ok(text)
 }
 
-/// Fails where the office of a store and the text of so many commands behind the copy is opened with another text than that of
+/// Fails where the office of a store and the text of so many commands after the copy is opened with another text than that of
 /// so many.
 fn is_cut(alloc: Global, store: PlainStore, told: usize, kept: usize) -> Result<(), Fail> {
     let mut beginning = copy(alloc)?;

@@ -84,7 +84,7 @@ pub(crate) fn founded(alloc: Global) -> Result<PlainStore, Fail> {
     Ok(PlainStore::create(alloc, &founder)?)
 }
 
-/// The office after its founding, whose file fails behind so many calls.
+/// The office after its founding, whose file fails after so many calls.
 pub(crate) fn office(alloc: Global, good: Option<u32>, stays: bool) -> Result<Office, Fail> {
     let policy = read_policy(alloc, ALLOWS_ALL)?;
     let store = founded(alloc)?;
@@ -198,7 +198,7 @@ fn serve_assignment(alloc: Global, office: &mut Office) -> Result<bool, Fail> {
     serve(alloc, office, &request)
 }
 
-/// Serves the review's beginning. Whether it was done.
+/// Serves the start of the review. Whether it was done.
 fn serve_beginning(alloc: Global, office: &mut Office) -> Result<bool, Fail> {
     let request = on_file(Command::StartReview)?;
     serve(alloc, office, &request)
@@ -218,7 +218,7 @@ fn serve_transfer(alloc: Global, office: &mut Office) -> Result<bool, Fail> {
     serve(alloc, office, &request)
 }
 
-/// Serves what the text tells, up to the first command that isn't done. Whether all were done.
+/// Serves the commands of the text, up to the first command that isn't done. Whether all were done.
 pub(crate) fn serve_all(alloc: Global, office: &mut Office) -> Result<bool, Fail> {
     Ok(
         serve_reviewer(alloc, office)?
@@ -322,7 +322,7 @@ fn a_file_that_fails_shuts_the_office(rt: HostRuntime) -> Result<(), Fail> {
     Ok(())
 }
 
-/// Fails where an office whose file fails for good behind so many calls does not stop behind so many commands, with a text of so
+/// Fails where an office whose file fails for good after so many calls does not stop after so many commands, with a text of so
 /// many.
 fn stops(alloc: Global, calls: u32, done: usize, told_of: usize) -> Result<(), Fail> {
     let mut office = office(alloc, Some(calls), true)?;

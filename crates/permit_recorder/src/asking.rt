@@ -1,4 +1,4 @@
-//! One request, which stands as bytes.
+//! One request, which is given as bytes.
 
 ghost use Rattle.std.specs.Prelude.{◌≡◌, IfOk, OnErr};
 ghost use Rattle.permit_recorder.specs.Asking.{AsksService};

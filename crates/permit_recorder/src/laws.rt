@@ -12,14 +12,14 @@ use permit_recorded::decider::Decider;
 use permit_store::plain::PlainStore;
 use permit_store::store::Store;
 
-/// Whatever requests an office serves, one after the other, its text tells the history whose tables its store holds, unless its
+/// Whatever requests an office serves, one after the other, its text gives the history whose tables its store holds, unless its
 /// journal is shut. That history is what the decider makes of the requests that weren't refused for the store. This is said of
 /// an office that was that of a history, as long as its store is without doubt.
 pub fn an_office_keeps_its_history<D: Decider, S: Store, H: HistoryFile>()
     ensures { KeepsItsHistory D.decides S.view H.text H.may_leave H.is_clean H.leaves }
 {}
 
-/// The same of an office that was opened with its history, whatever that began with: it goes on behind what its text tells.
+/// The same of an office that was opened with its history, whatever that began with: it goes on after what its text gives.
 pub fn an_opened_office_goes_on<D: Decider, S: Store, H: HistoryFile>()
     ensures { (beginning : TheBeginning) → GoesOnBehindItsText D.decides S.view H.text H.may_leave H.is_clean H.leaves
         (IsBeginning ⟦<PlainStore as Store>⟧.view beginning) }

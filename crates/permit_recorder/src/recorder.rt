@@ -35,7 +35,7 @@ impl<D: Decider, S: Store, H: HistoryFile> Model for Recorder<D, S, H> {
 }
 
 impl<D: Decider + Drop, S: Store + Drop, H: HistoryFile + Drop> Recorder<D, S, H> {
-    /// The office, as a service. Memory for the lines of its history is taken of `alloc`. The flag, if there is one, is set behind
+    /// The office, as a service. Memory for the lines of its history is taken of `alloc`. The flag, if there is one, is set after
     /// each step that leaves or finds the office shut: only opening it again mends that.
     ///
     /// # Examples
@@ -73,7 +73,7 @@ impl<D: Decider + Drop, S: Store + Drop, H: HistoryFile + Drop> Recorder<D, S, H
         }
     }
 
-    /// The office, as it stands.
+    /// The office, as it is.
     ///
     /// # Examples
     ///

@@ -25,7 +25,7 @@ pub struct Failing<S> {
 }
 
 impl<S: Store> Failing<S> {
-    /// The store whose call fails that comes behind so many.
+    /// The store of which the call after so many fails.
     pub fn new(inner: S, before: u32) -> Failing<S> {
         Failing {
             inner,
@@ -84,8 +84,8 @@ impl<S: Store> Failing<S> {
         got
     }
 
-    /// The answer where rows were handed out, or the failure behind them. Where the taker asked to stop, each row before
-    /// the last was answered true and the last one false, which no failure is behind: the next call fails then.
+    /// The answer where rows were handed out, or the failure after them. Where the taker asked to stop, each row before
+    /// the last was answered true and the last one false, which no failure follows: the next call fails then.
     fn behind_rows(&mut self, got: Got<bool>) -> Got<bool>
         ensures same { (result ≡ got) ⊎ ((got ≡ Ok true) × IsErr result) }
         ensures failed { self.new.failed ≡ failed_after result self.old.failed }

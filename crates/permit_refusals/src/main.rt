@@ -1,7 +1,7 @@
 //! Shows what the office answers and leaves where it is refused something: memory, or a call of its store.
 //!
 //! Without words the scenarios are played with nothing refused, and then over a store that fails once, at each of its
-//! calls in turn. Memory is refused from outside, between two lines of the output (`.ci/growths`): by its words the
+//! calls in turn. Memory is refused by a test driver, between two lines of the output (`.ci/growths`): by its words the
 //! program plays what is to be looked at, and prints each answer and the tables that are left.
 #![tactic(auto)]
 
@@ -22,7 +22,7 @@ use std::alloc::Global;
 use std::env;
 use std::test::Fail;
 
-/// The words that say what is played, each with the words behind it.
+/// The words that say what is played, each with the words after it.
 const USAGE: &str =
     "calls, scenarios, steps SCENARIO LEFT-OUT, bytes SCENARIO LEFT-OUT, made, hall LEFT-OUT, lists LEFT-OUT, import LEFT-OUT RECORDS, rows";
 

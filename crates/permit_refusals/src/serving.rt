@@ -24,10 +24,10 @@ use permit_wire::serve::{Served, serve_one};
 use std::alloc::{AllocError, Global};
 use std::test::Fail;
 
-/// The line behind which growths are counted, and one of them may be refused.
+/// The line after which growths are counted, and one of them may be refused.
 pub const COUNT: &str = "growths count";
 
-/// The line behind which they aren't.
+/// The line after which they aren't.
 pub const REST: &str = "growths rest";
 
 /// How a request comes to the office.

@@ -15,16 +15,16 @@ pub enum Why {
     OtherCopy,
     /// It begins with an office that was there, on another day than the last one of the copy.
     CopyDay,
-    /// It begins with an office that was there, behind the first entry.
+    /// It begins with an office that was there, after the first entry.
     SecondBeginning,
-    /// It founds an office behind the first entry.
+    /// It founds an office after the first entry.
     SecondFounding,
-    /// It stands between the founding and the upgrade. Such a history is one, but its tables are of the first edition, and these
+    /// It is between the founding and the upgrade. Such a history is one, but its tables are of the first edition, and these
     /// are not held here.
     FirstEdition,
     /// It is the upgrade, on another day than the entry before it.
     UpgradeDay,
-    /// It is the upgrade behind the upgrade.
+    /// It is the upgrade after the upgrade.
     SecondUpgrade,
     /// It is a command that the office refuses, whatever a policy says. Or it gives another token to a party that isn't there,
     /// as `Record`, or one of a digest that a party has, as `NotAdmitted` for `Taken`.
@@ -42,7 +42,7 @@ pub enum ReplayFault {
     Line { line: u64, fault: LineFault },
     /// The entry of this line is not the next one.
     Entry { line: u64, why: Why },
-    /// The text ends before its second line, so that it tells of no office or of one of the first edition.
+    /// The text ends before its second line, so that it has no office, or one of the first edition.
     Short,
     /// The text has 18446744073709551614 lines or more.
     Endless,

@@ -1,4 +1,4 @@
-//! Taking an entry behind the founding and the upgrade, on any store.
+//! Taking an entry after the founding and the upgrade, on any store.
 
 ghost use Rattle.std.specs.Prelude.{◌≡◌, ◌≤◌, ℕ, List, IfOk, IfErr, Err};
 ghost use Rattle.permit_base.specs.Digests.{digest_of};
@@ -94,8 +94,8 @@ fn follow_renewal<S: Renewing>(store: &mut S, party: PartyId, digest: &Digest) -
     }
 }
 
-/// Takes an entry behind the founding and the upgrade on a store that holds the tables of the history before it, where nothing
-/// stands against it. Otherwise it answers why, and the tables are as before, unless a command was done whose number is another
+/// Takes an entry after the founding and the upgrade on a store that holds the tables of the history before it, where nothing
+/// is against it. Otherwise it answers why, and the tables are as before, unless a command was done whose number is another
 /// than the entry says.
 ///
 /// # Examples

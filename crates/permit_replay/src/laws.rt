@@ -8,8 +8,8 @@ ghost use Rattle.permit_replay.specs.Against.{against};
 ghost use Rattle.permit_replay.specs.Histories.{Unsaid, adds_entry, history_with};
 ghost use Rattle.permit_replay.specs.declared.fault.Why.TheVariants.{FirstEdition};
 
-/// What is refused makes no history: a founding, an upgrade or a command behind which the entries are a history is taken, but
-/// for one that stands between the founding and the upgrade.
+/// What is refused makes no history: a founding, an upgrade or a command after which the entries are a history is taken, but
+/// for one that is between the founding and the upgrade.
 pub fn what_is_refused_makes_no_history()
     ensures { (unsaid : Unsaid) (h : History) (day : ℕ) (done : Deed) → IsTrue (adds_entry done)
         → IsHistory (history_with unsaid h day done) → (against unsaid h day done ≡ None) ⊎ (against unsaid h day done ≡ Some FirstEdition) }

@@ -24,7 +24,7 @@ pub enum Replayed {
     Nothing(Beginning),
     /// The founding was taken.
     Founded(Founder),
-    /// The founding and the upgrade were taken, or a beginning with an office that was there, and what followed.
+    /// The founding and the upgrade were taken, or the entry that begins with an office that was there, and what followed.
     Open(PlainStore),
 }
 
@@ -41,7 +41,7 @@ fn found(day: Day, name: &Text, digest: Digest) -> Result<Replayed, Why>
     }
 }
 
-/// Takes a beginning with an office that was there as the first entry.
+/// Takes an entry that begins with an office that was there, as the first one.
 fn begin(beginning: Beginning, day: Day, tables: &Digest) -> Result<Replayed, Why>
     ensures { (unsaid : Unsaid) → IsBeginning ⟦<PlainStore as Store>⟧.view beginning unsaid
         → Takes ⟦<PlainStore as Store>⟧.view unsaid [] day (deed.Begin tables.now) result }
@@ -97,7 +97,7 @@ fn upgrade(alloc: Global, founder: &Founder, day: Day, deed: &Deed) -> Result<Re
 }
 
 impl Replayed {
-    /// Takes the next entry, where nothing stands against it behind those that were taken. Otherwise it answers why; then what was
+    /// Takes the next entry, where nothing is against it after those that were taken. Otherwise it answers why; then what was
     /// replayed is gone.
     ///
     /// A command is tested in the order caller, clock, record, not admitted, number.

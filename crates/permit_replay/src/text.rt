@@ -66,7 +66,7 @@ fn replay_in<R: BufRead>(
     Err(ReplayFault::Endless)
 }
 
-/// The tables of the history that a text tells, or the lowest line that is no next entry, with its reason. What stands behind
+/// The tables of the history that a text gives, or the lowest line that is no next entry, with its reason. What is after
 /// the last LF is no line, and is passed over.
 ///
 /// It asks no policy: that of the day isn't known. So it takes each command that some policy could have allowed, and the tables

@@ -13,7 +13,7 @@ use std::test::*;
 
 const EIGHTS: &str = "8888888888888888888888888888888888888888888888888888888888888888";
 
-/// The line of the beginning on the day of the upgrade, and such lines with another digest and on other days.
+/// The `begin` line on the day of the upgrade, and such lines with another digest and on other days.
 const BEGUN: &str =
     r#"{"body":{"tables":"@8"},"caller":0,"day":19700,"done":"begin","id":null,"number":null}"#;
 
@@ -53,8 +53,8 @@ fn stop_of(
     })
 }
 
-/// A text in letters, the line at which it is refused behind a copy of the upgrade's tables, and the reason. The letters stand
-/// for the beginning, the beginning with another digest, a day before and a day behind, and for the founding, the upgrade, the
+/// A text in letters, the line at which it is refused after a copy of the upgrade's tables, and the reason. The letters mean
+/// the `begin` line, that line with another digest, a day earlier and a day later, and the founding, the upgrade, the
 /// first command, and another token.
 const TEXTS: &str = "b 0 replayed
 bc 0 replayed
@@ -153,7 +153,7 @@ fn day_of(line: &'static str) -> Result<&'static str, Fail> {
     Ok(day)
 }
 
-/// The text of the life that begins behind its first lines, so many.
+/// The text of the life that begins after its first lines, so many.
 fn text_behind(alloc: Global, life: &[&'static str], count: usize) -> Result<Vec<u8>, Fail> {
     let (before, behind) = life.split_at_checked(count).ok_or("so many lines")?;
     let day = day_of(*before.last().ok_or("a line")?)?;
@@ -166,7 +166,7 @@ fn text_behind(alloc: Global, life: &[&'static str], count: usize) -> Result<Vec
     Ok(whole)
 }
 
-/// The tables of the life, whose text begins behind its first lines, so many.
+/// The tables of the life, whose text begins after its first lines, so many.
 fn tables_behind(alloc: Global, life: &[&'static str], count: usize) -> Result<PlainStore, Fail> {
     let mut beginning = copy(alloc, life.get(..count).ok_or("so many lines")?)?;
     let text = text_behind(alloc, life, count)?;
@@ -177,7 +177,7 @@ fn tables_behind(alloc: Global, life: &[&'static str], count: usize) -> Result<P
     }
 }
 
-/// Fails where a life whose text begins behind its first lines, so many, leaves other tables than the whole of it.
+/// Fails where a life whose text begins after its first lines, so many, leaves other tables than the whole of it.
 fn ends_alike(alloc: Global, life: &[&'static str], count: usize) -> Result<(), Fail> {
     let desk = tables_behind(alloc, life, count)?.desk()?;
     let same = desk.last.get() == 19732

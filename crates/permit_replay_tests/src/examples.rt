@@ -1,4 +1,4 @@
-//! The examples of the doc comments of replaying and telling a text, line by line as they stand there.
+//! The examples of the doc comments of replaying and printing a text, line by line as they are written there.
 
 use permit_base::values::{Day, Digest, PartyId, Text};
 use permit_chronicle::tell;

@@ -7,7 +7,7 @@ use permit_store::plain::PlainStore;
 use std::alloc::Global;
 use std::test::Fail;
 
-/// Its lines, in which `@` and a digit stand for a digest of 64 of that digit.
+/// Its lines, in which `@` and a digit mean a digest of 64 of that digit.
 const LIFE: &str =
     r#"{"body":{"digest":"@1","name":"Chief"},"caller":0,"day":19700,"done":"found","id":null,"number":1}
 {"body":{},"caller":0,"day":19700,"done":"upgrade","id":null,"number":null}

@@ -8,7 +8,7 @@ use permit_replay::fault::{ReplayFault, Why};
 use std::alloc::Global;
 use std::test::*;
 
-/// Each line is refused behind so many lines of the life, and for this reason.
+/// Each line is refused after so many lines of the life, and for this reason.
 const REFUSED: &str =
     r#"0 no-founding {"body":{},"caller":0,"day":19700,"done":"upgrade","id":null,"number":null}
 0 no-founding {"body":{"digest":"@2","name":"Cal","role":"clerk"},"caller":1,"day":19701,"done":"add-staff","id":null,"number":2}
@@ -98,7 +98,7 @@ fn a_line_that_is_no_next_entry_is_refused_with_its_reason(rt: HostRuntime) -> R
     Ok(())
 }
 
-/// Fails where a line that stands twice isn't refused there, unless it changes nothing the second time.
+/// Fails where a line that occurs twice isn't refused there, unless it changes nothing the second time.
 fn finds_twice(alloc: Global, life: &[&'static str], place: usize) -> Result<(), Fail> {
     let (before, behind) = life.split_at_checked(place).ok_or("a place")?;
     let twice = *behind.first().ok_or("a line")?;

@@ -78,7 +78,7 @@ fn the_founding_and_the_upgrade_make_an_office(rt: HostRuntime) -> Result<(), Fa
     want(role == Some(Role::Official), "an official")
 }
 
-/// Fails where it isn't the state of the house that is certified.
+/// Fails where it isn't the state of file 1 once it is certified.
 fn is_certified(state: &FileState) -> Result<(), Fail> {
     want(state.stored_stage() == Stage::Certified, "the stage")?;
     want(state.kind() == Kind::Move, "the kind")?;
@@ -108,7 +108,7 @@ fn a_whole_life_leaves_its_parcel(rt: HostRuntime) -> Result<(), Fail> {
     want(!store.interest(home, party(5)?)?, "no interest")
 }
 
-/// Fails where these aren't the papers of the house.
+/// Fails where these aren't the papers of file 1.
 fn are_its_papers(papers: &[Paper]) -> Result<(), Fail> {
     want(papers.len() == 10, "ten papers")?;
     let stop = papers.get(5).ok_or("a paper")?;
@@ -175,7 +175,7 @@ fn what_stands_behind_the_last_lf_is_no_line(rt: HostRuntime) -> Result<(), Fail
     has_desk(&mut store, 19701, 2, 0, 0)
 }
 
-/// Whether a text is too short to tell of an office.
+/// Whether a text is too short to describe an office.
 fn is_short(alloc: Global, text: &[u8]) -> bool {
     let mut source = text;
     let mut beginning = Beginning::Founding;

@@ -1,4 +1,4 @@
-//! The life of a file, told for people.
+//! The life of a file, printed for people.
 
 use crate::life::{life, text};
 use permit_base::values::{Day, FileId, ParcelId, PartyId};
@@ -54,7 +54,7 @@ const ALL: Wanted = Wanted {
     party: None,
 };
 
-/// What telling these lines writes, and how it ends.
+/// What printing these lines for people writes, and how it ends.
 fn told(
     alloc: Global,
     lines: &[&str],
@@ -67,7 +67,7 @@ fn told(
     Ok((out, ended))
 }
 
-/// Tells the life, of which these lines are wanted.
+/// Prints the life, of which these lines are wanted.
 fn tells(rt: &impl Abort, alloc: Global, wanted: &Wanted, expected: &str) -> Result<(), Fail> {
     let (out, ended) = told(alloc, &life(alloc)?, wanted)?;
     assert!(rt; ended.is_ok());

@@ -34,7 +34,7 @@ pub fn push_padded(text: &mut Column, width: usize, number: u32)
     text.push_str(digits);
 }
 
-/// A hyphen, which stands for none.
+/// A hyphen, which means none.
 pub fn hyphen() -> Column
     ensures { result.bytes ≡ codes "-" }
 {

@@ -1,6 +1,6 @@
 //! Dates of the civil calendar by their days' numbers, counted in place and so without memory.
 //!
-//! The years go on to 2570. A day after them, which no deadline is, stands in a thirteenth month of the last year, as
+//! The years go on to 2570. A day after them, which no deadline is, falls in a thirteenth month of the last year, as
 //! the definitions have it.
 
 ghost use Rattle.std.specs.Prelude.{◌≡◌, ◌-◌, ◌^◌, ◌<◌, ◌≤◌, length, decimal};

@@ -11,7 +11,7 @@ pub fn civil_dates()
 {}
 
 /// What a writer of a register that had begun has written, over any list of files that it took one at a time: with
-/// every answer true and then the ending the whole text, and else a beginning of it.
+/// every answer true and then the ending the whole text, and else a prefix of it.
 pub fn written_registers<W: Write>()
     ensures output { KeepsOutput W.contents }
     ensures whole { MakesText W.contents }

@@ -30,7 +30,7 @@ impl Line {
         }
     }
 
-    /// Appends a column whose text stands at the right, and a space.
+    /// Appends a column whose text is aligned right, and a space.
     pub fn right(&mut self, width: usize, text: &str)
         requires { length self.old + width + length text.now < 256 }
         ensures text { self.new ≡ self.old ++ (pad_left width text.now ++ 32 ∷ []) }
@@ -41,7 +41,7 @@ impl Line {
         self.text.push(' ');
     }
 
-    /// Appends a column whose text stands at the left, and a space.
+    /// Appends a column whose text is aligned left, and a space.
     pub fn left(&mut self, width: usize, text: &str)
         requires { length self.old + width + length text.now < 256 }
         ensures text { self.new ≡ self.old ++ (pad_right width text.now ++ 32 ∷ []) }
@@ -52,7 +52,7 @@ impl Line {
         self.text.push(' ');
     }
 
-    /// Appends the last column, whose text stands at the right, and the line's end.
+    /// Appends the last column, whose text is aligned right, and the line's end.
     pub fn last(&mut self, width: usize, text: &str)
         requires { length self.old + width + length text.now < 256 }
         ensures { self.new ≡ self.old ++ (pad_left width text.now ++ 10 ∷ []) }

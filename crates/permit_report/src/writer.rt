@@ -17,7 +17,7 @@ use permit_core::taker::Taker;
 use std::io::Write;
 
 /// Writes all the bytes by a loop over `write`. A write that fails, also one that was interrupted, and a write that takes no
-/// byte are an error; a beginning of the bytes is then out.
+/// byte are an error; a prefix of the bytes is then out.
 ///
 /// # Examples
 ///
@@ -58,7 +58,7 @@ fn write_part<W: Write>(
 
 /// Writes a register one line at a time: the header before the first line, and the foot at the end.
 ///
-/// It takes no memory. After a write that failed it stands where it stood, with a beginning of what it was to write
+/// It takes no memory. After a write that failed its state is what it was, with a prefix of what it was to write
 /// after the known bytes.
 #[derive(Drop)]
 pub struct RegisterWriter<'w, W> {
@@ -112,7 +112,7 @@ impl<'w, W: Write> RegisterWriter<'w, W> {
 
     /// Writes the foot, after the header where no line came.
     ///
-    /// On an error a beginning of that is out, and not the whole.
+    /// On an error a prefix of that is out, and not the whole.
     pub fn finish(self) -> Result<(), ReportError>
         // `self.exit.0` is the writer that is given back.
         ensures whole { OnOk result (Appends (W.contents self.entry.writer.now) (W.contents self.exit.0.now) (ending (progress self.entry))) }
@@ -140,7 +140,7 @@ impl<W: Write> Taker<FileView> for RegisterWriter<'_, W> {
 
 /// Writes the register of the files on a day.
 ///
-/// A write that fails, also one that was interrupted, and a write that takes no byte are an error; a beginning of the
+/// A write that fails, also one that was interrupted, and a write that takes no byte are an error; a prefix of the
 /// text is then out, and not the whole. It takes no memory.
 ///
 /// # Examples

@@ -22,7 +22,7 @@ use permit_store::plain::PlainStore;
 use permit_store::store::Store;
 use std::alloc::Global;
 
-/// Cuts the text of the file to the history of the store's tables, which it tells from then on. Where the tables are other ones
+/// Cuts the text of the file to the history of the store's tables, which it gives from then on. Where the tables are other ones
 /// nothing is cut. The store is only read.
 fn cut_to_history<S: Store, H: HistoryFile>(
     alloc: Global,
@@ -51,14 +51,14 @@ fn cut_to_history<S: Store, H: HistoryFile>(
     cut_to_tables(alloc, beginning, store, file)
 }
 
-/// Cuts the text of the file, which may begin so, to the history of the store's tables, and puts what is left on the disk. A crash left the text at
-/// that history, or one line further; what stands behind is cut off. The text is held in memory once meanwhile.
+/// Cuts the text of the file, which may begin so, to the history of the store's tables, and puts what is left on the disk. A crash
+/// left the text at that history, or one line further; what comes after it is cut off. The text is held in memory once meanwhile.
 ///
 /// Where the tables are other ones, or the text isn't compared with them, nothing is cut. The store is only read. The file is
-/// given back with the fault. Where a call of it failed, its text is as it was, or has those lines with a part of what stood
-/// behind them, and a crash leaves no less.
+/// given back with the fault. Where a call of it failed, its text is as it was, or has those lines with a part of what was
+/// after them, and a crash leaves no less.
 ///
-/// What is said of the text is said of a file that has told nothing false. No code can tell whether one has.
+/// What is said of the text is said of a file that has returned nothing false. No code can detect whether one has.
 ///
 /// # Examples
 ///

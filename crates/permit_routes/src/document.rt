@@ -1,4 +1,4 @@
-//! What stands in a JSON body, key by key.
+//! What a JSON body contains, key by key.
 
 ghost use Rattle.std.specs.Prelude.{◌≡◌, ◌≤◌, IfOk, IfSome, option_map, string_bytes, nat_le};
 ghost use Rattle.serde_json.specs.View.{view};
@@ -89,7 +89,7 @@ fn number_at(value: &Value, key: &str, low: u64, high: u64) -> Option<u64>
     }
 }
 
-/// The party whose number stands at a key.
+/// The party whose number is at a key.
 pub fn party_at(value: &Value, key: &str) -> Result<PartyId, RequestFault>
     ensures { ReadsAs same result (number_at is_object_number key.now (view value.now)) }
 {
@@ -97,7 +97,7 @@ pub fn party_at(value: &Value, key: &str) -> Result<PartyId, RequestFault>
     PartyId::new(number as u32).ok_or(RequestFault::Body)
 }
 
-/// The parcel whose number stands at a key.
+/// The parcel whose number is at a key.
 pub fn parcel_at(value: &Value, key: &str) -> Result<ParcelId, RequestFault>
     ensures { ReadsAs same result (number_at is_object_number key.now (view value.now)) }
 {

@@ -15,7 +15,7 @@ use permit_base::values::{FileId, ParcelId};
 use permit_base::words::{Action, Kind, Role};
 use std::alloc::Global;
 
-/// What a pattern of the routes stands for.
+/// What a pattern of the routes means.
 #[derive(Clone, Copy, PartialEq, Eq)]
 pub enum Endpoint {
     /// A new party.

@@ -131,14 +131,14 @@ impl Routes {
     }
 
     /// The request of a method, a path and a body, by what `matchit` finds among the routes of the method and what
-    /// `serde_json` reads the body as. That there is no route is told before what is wrong with the body.
+    /// `serde_json` reads the body as. That there is no route is reported before what is wrong with the body.
     ///
     /// The path is compared byte by byte, and has no query. The number of a parcel or a file is 1 to 99999 without leading
     /// zeros, an action or a register is one of its words, and a stage one that a file can be in; another number or word
     /// has no route, nor has a path with a byte that is not ASCII.
     ///
     /// The body is an object with exactly the keys of its request; an empty body counts as `{}`. A request that only reads
-    /// has no body. Where a key stands twice, its last value counts.
+    /// has no body. Where a key occurs twice, its last value counts.
     ///
     /// Memory is taken for the request's texts, and for the routes of its method where they aren't made yet.
     ///

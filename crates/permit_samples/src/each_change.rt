@@ -12,7 +12,7 @@ pub const FIRST_CHANGES: &str = r#"
 < 200 OK {"day":19701,"done":"declare","number":null}
 "#;
 
-/// What comes behind a construction, file 1, whose frame is approved: a row with no paper, one with a paper, a notice
+/// What follows a construction, file 1, whose frame is approved: a row with no paper, one with a paper, a notice
 /// that is closed, a file, and an extension that is granted.
 pub const LATER_CHANGES: &str = r#"
 > 6 19820 POST /files/1/request-inspection {"step":"energy"}

@@ -38,7 +38,7 @@ pub fn answer(alloc: Global, status: &str, body: &str) -> Result<String, Fail> {
     )?)
 }
 
-/// What is written for the bytes of a connection's beginning, on a day, and how it ended.
+/// What is written for a prefix of a connection's bytes, on a day, and how it ended.
 pub fn serve<S: Store + Drop>(
     alloc: Global,
     office: &mut Office<S>,

@@ -10,7 +10,7 @@ pub const FILED: &str = r#"
 < 200 OK {"day":19723,"done":"file","number":1}
 "#;
 
-/// A file on its last day, and on the day behind it.
+/// A file on its last day, and on the day after it.
 pub(crate) const FILING: &[&str] = &[
     FILED,
     r#"

@@ -68,7 +68,7 @@ pub(crate) const TEXTS: &[&str] = &[
 ",
 ];
 
-/// Bodies with spaces and escapes, with their keys in any order, and with a key that stands twice: the last counts. Party
+/// Bodies with spaces and escapes, with their keys in any order, and with a key that occurs twice: the last counts. Party
 /// 8 has the name `Zürn`.
 pub const FORMS: &str = r#"
 > 1 19723 POST /parties  { "token" : "abcdefghijklmnop", "name" : "Z\u00fcrn", "role" : "clerk" } 

@@ -4,7 +4,7 @@ use crate::{filing, limits, listings, plans, unknown_and_missing, work};
 use std::alloc::Global;
 use std::test::Fail;
 
-/// A scenario: its scripts, one behind the other. It is played in an office of its own, behind the opening.
+/// A scenario: its scripts, one after the other. It is played in an office of its own, after the opening.
 pub type Scenario = &'static [&'static str];
 
 /// A scenario whose last script is played under another policy than the standard one.

@@ -1,6 +1,6 @@
 //! Scripts, in which the scenarios are written.
 //!
-//! A line `> PARTY DAY METHOD PATH BODY` is a request. Behind it stand what is wanted of its answer: a line
+//! A line `> PARTY DAY METHOD PATH BODY` is a request. The lines after it give what is wanted of its answer: a line
 //! `< STATUS BODY` gives the answer whole, and a line `~ TEXT` a text that its body has.
 
 use crate::ask::read_ask;

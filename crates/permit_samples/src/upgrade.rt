@@ -1,4 +1,4 @@
-//! A file that was filed before the upgrade to the second edition of the inspections, and files behind it.
+//! A file that was filed before the upgrade to the second edition of the inspections, and files filed after it.
 
 /// The statements that make of a database of version 2 the one of version 1 with the same rows.
 pub const VERSION_1: [&str; 2] = ["DROP TABLE upgrade", "UPDATE desk SET version = 1"];

@@ -44,7 +44,7 @@ const ISSUED: &str = r#"
 < 200 OK {"day":19800,"done":"issue","number":1}
 "#;
 
-/// The beginning of its work.
+/// The start of its work.
 const BEGUN: &str = r#"
 > 6 19810 POST /files/1/begin-work
 < 200 OK {"day":19810,"done":"begin-work","number":null}
@@ -153,7 +153,7 @@ pub(crate) const FRAME_APPROVED: &[&str] = &[
     CONSTRUCT, APPROVED, ISSUED, BEGUN, FOOTING, SLAB, FRAME,
 ];
 
-/// The inspection of energy, which stands between frame and lath.
+/// The inspection of energy, which comes between frame and lath.
 pub(crate) const ENERGY_AFTER_FRAME: &[&str] = &[
     CONSTRUCT,
     APPROVED,
@@ -319,7 +319,7 @@ pub(crate) const LAST_DAY: &[&str] = &[
 "#,
 ];
 
-/// Work that would begin on the day behind it.
+/// Work that would begin on the day after it.
 pub(crate) const DAY_BEHIND: &[&str] = &[
     CONSTRUCT,
     APPROVED,

@@ -9,7 +9,7 @@ use permit_base::values::Number;
 use permit_base::words::{Step, Word};
 use sha2::{Digest, Sha256};
 
-/// What stands in a column of a line.
+/// What is in a column of a line.
 #[derive(Clone, Copy)]
 pub(crate) enum Column<'t> {
     Text(&'t str),
@@ -59,7 +59,7 @@ impl Column<'_> {
     }
 }
 
-/// Puts a column behind a TAB.
+/// Puts a TAB and then a column.
 fn put_column(hash: &mut Sha256, column: &Column<'_>)
     ensures { Adds (9 ∷ column_text column.now) hash.old hash.new }
 {

@@ -7,7 +7,7 @@ ghost use Rattle.permit_alike.specs.Alike.{AreAlike};
 ghost use Rattle.permit_seal.specs.Sealing.{IsSealOf};
 ghost use Rattle.permit_seal.specs.TablesText.{tables_text};
 
-/// Tables that no call of a store tells apart have one seal.
+/// Tables that no call of a store distinguishes have one seal.
 pub fn alike_tables_have_one_seal()
     ensures { (t u : Tables) (one other : List ℕ) → AreAlike t u → IsSealOf t one → IsSealOf u other → one ≡ other }
 {}

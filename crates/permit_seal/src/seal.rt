@@ -161,8 +161,8 @@ fn finished(hash: Sha256) -> Digest
     }
 }
 
-/// The seal of a store's tables: the SHA-256 of their text, in lower-case hexadecimal. Tables that no call of a store tells apart
-/// have one seal. The text has a line for each row: the word of its table, each column behind a TAB, and LF.
+/// The seal of a store's tables: the SHA-256 of their text, in lower-case hexadecimal. Tables that no call of a store
+/// distinguishes have one seal. The text has a line for each row: the word of its table, each column after a TAB, and LF.
 ///
 /// The text is hashed row by row and never held. It fails where a call of the store fails, and where a row isn't there that the
 /// desk counts. So of sound tables it fails where a call fails, and nowhere else.

@@ -7,7 +7,7 @@ ghost use Rattle.permit_sql.specs.FaultText.{desk_words, upgrade_words, party_wo
 
 use std::fmt;
 
-/// A row, and what is wrong with it. A row whose number can't be read is told by its table alone.
+/// A row, and what is wrong with it. A row whose number can't be read is named by its table alone.
 #[derive(Clone, Copy, PartialEq, Eq)]
 pub enum Fault {
     /// Of the desk.

@@ -237,7 +237,7 @@ pub(crate) struct Sound {
     pub(crate) upgrade: Option<u32>,
 }
 
-/// What the rows tell, where they are sound tables: they are read twice, for their types and for what they say together.
+/// What the rows say, where they are sound tables: they are read twice, for their types and for what they say together.
 pub(crate) fn find_sound<S: Alter>(
     conn: &mut Connection<S>,
     alloc: Global,
@@ -268,7 +268,7 @@ pub(crate) fn find_sound<S: Alter>(
     Ok(Some(Sound { desk, upgrade }))
 }
 
-/// What the tables tell, where the schema is an office's under the edition and the rows are sound tables; with another
+/// What the tables say, where the schema is an office's under the edition and the rows are sound tables; with another
 /// schema the refusal is `Store`.
 fn check_tables<S: Alter>(
     conn: &mut Connection<S>,

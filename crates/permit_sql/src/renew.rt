@@ -88,7 +88,7 @@ fn has_digest<S: Alter>(conn: &mut Connection<S>, digest: &Digest) -> Got<bool>
     has_row(conn, FIND_PARTY, params![digest.as_str()])
 }
 
-/// What stands against giving the party the digest.
+/// The reason against giving the party the digest.
 fn find_against<S: Alter>(
     conn: &mut Connection<S>,
     party: u32,
@@ -109,7 +109,7 @@ fn find_against<S: Alter>(
     }
 }
 
-/// Gives the party the digest where nothing stands against it, in one transaction.
+/// Gives the party the digest where there is no reason against it, in one transaction.
 fn give_digest<S: Alter>(
     conn: &mut Connection<S>,
     party: u32,
@@ -193,7 +193,7 @@ impl<S: Alter> SqlStore<S> {
     }
 }
 
-/// Gives the party the digest where nothing stands against it.
+/// Gives the party the digest where there is no reason against it.
 pub(crate) fn renew_over<S: Alter>(
     conn: &mut Idle<S>,
     party: PartyId,

@@ -27,7 +27,7 @@ use permit_store::store::{Got, StoreError};
 use sqlite::{Alter, Connection, Row};
 use std::alloc::Global;
 
-/// What a file is tested against, and what is told of the files that were read.
+/// What a file is tested against, and the tallies of the files that were read.
 #[derive(Drop)]
 struct Filed {
     upgrade: Option<u32>,
@@ -61,7 +61,7 @@ impl Taker for Filed {
     }
 }
 
-/// What is told of each of the typed files before its papers are read, where each is sound without them.
+/// The tally of each of the typed files before its papers are read, where each is sound without them.
 pub(crate) fn tallies_of<S: Alter>(
     conn: &mut Connection<S>,
     alloc: Global,
@@ -96,7 +96,7 @@ pub(crate) fn tallies_of<S: Alter>(
     Ok(Some(filed.tallies))
 }
 
-/// What a paper is tested against, and what is told of the files.
+/// What a paper is tested against, and the tallies of the files.
 #[derive(Drop)]
 struct Entered {
     parties: u32,

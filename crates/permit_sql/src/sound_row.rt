@@ -151,7 +151,7 @@ fn number_of_day(day: Option<Day>) -> Option<u32>
     }
 }
 
-/// The first rule on days that the file breaks: they stand in their order, where the office's last day is this.
+/// The first rule on days, in their order, that the file breaks, where this is the office's last day.
 fn days_rule(last: Day, state: &FileState) -> Option<FileRule>
     ensures none { is_none result ≡ Tested.fits_days last state.now }
     ensures broken { IfSome result (λ rule. (roles : List TheRole) (parcels : ℕ) → fits_file_rule roles parcels last rule state.now ≡ false) }
@@ -208,7 +208,7 @@ fn fits_ask(state: &FileState) -> bool
     }
 }
 
-/// The first rule on the work that the file breaks: what is kept of it stands in its stage.
+/// The first rule on the work that the file breaks: what is kept of it fits its stage.
 fn work_rule(state: &FileState) -> Option<FileRule>
     ensures none { is_none result ≡ Tested.fits_work state.now }
     ensures broken { IfSome result (λ rule. (roles : List TheRole) (parcels last : ℕ) → fits_file_rule roles parcels last rule state.now ≡ false) }

@@ -175,7 +175,7 @@ impl<S: Alter> SqlStore<S> {
         self.counted(got)
     }
 
-    /// Takes the flag that tells of a shut connection. It is set where a commit fails and then a call that a request may
+    /// Takes the flag that reports a shut connection. It is set where a commit fails and then a call that a request may
     /// begin with fails too: a fault of the disk has shut the connection, or memory was refused to both. The tables and the
     /// counts stay.
     pub fn tell_when_shut(&mut self, shut: Arc<AtomicBool, Global>)

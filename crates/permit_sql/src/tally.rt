@@ -1,4 +1,4 @@
-//! What is told of a file while its papers are read.
+//! What is known of a file while its papers are read.
 
 ghost use Rattle.std.specs.Prelude.{◌≡◌, ◌<◌, ◌-◌, ◌^◌, length, Some};
 ghost use Rattle.std.specs.List.{list_all};
@@ -24,7 +24,7 @@ pub(crate) struct Tally {
     pub(crate) notices: u16,
 }
 
-/// At which place what is told of a file stands, where the files stand in the order of their numbers.
+/// The place of the tally of a file, where the tallies are in the order of the numbers of the files.
 pub(crate) fn place_of(file: FileId) -> usize
     ensures { result ≡ file - 1 }
 {
@@ -32,7 +32,7 @@ pub(crate) fn place_of(file: FileId) -> usize
 }
 
 impl Tally {
-    /// What is told before the file's papers are read.
+    /// The tally before the file's papers are read.
     pub(crate) fn of(state: &FileState) -> Tally
         ensures { result ≡ first_tally state.now }
     {
@@ -44,7 +44,7 @@ impl Tally {
         }
     }
 
-    /// What is told once the paper is read, where it has the next number and no earlier day, and is counted if it is open.
+    /// The tally once the paper is read, where it has the next number and no earlier day, and is counted if it is open.
     pub(crate) fn after(self, paper: &Paper) -> Option<Tally>
         ensures { result ≡ next_tally paper.now (Some self) }
     {

@@ -141,7 +141,7 @@ fn word_in<W: Word>(row: &Row, at: usize) -> Option<W> {
     W::all().get(number_in(row, at)? as usize).copied()
 }
 
-/// Whether -1 is in a column, which stands for nothing.
+/// Whether -1 is in a column, which means none.
 fn is_absent(row: &Row, at: usize) -> bool {
     whole_number(row, at) == Some(-1)
 }

@@ -30,7 +30,7 @@ use permit_store::store::{Got, StoreError};
 use sqlite::{Alter, Connection, Row};
 use std::alloc::Global;
 
-/// What papers are tested against, what is told of the files, and what is broken.
+/// What papers are tested against, the tallies of the files, and what is broken.
 #[derive(Drop)]
 struct Read {
     parties: u32,

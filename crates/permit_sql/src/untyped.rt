@@ -112,7 +112,7 @@ pub(crate) enum Table {
     Paper,
 }
 
-/// What is told of the rows that were read, and the first that breaks its type.
+/// What is known of the rows that were read, and the first that breaks its type.
 #[derive(Drop)]
 struct Rows {
     table: Table,

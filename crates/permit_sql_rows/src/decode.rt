@@ -28,7 +28,7 @@ use permit_core::state::FileState;
 use permit_store::rows::{Desk, FileRow, Found, Paper, Parcel, Party};
 use sqlite::Row;
 
-/// The edition under which tables of the version stand.
+/// The edition whose tables have the version.
 fn edition_of(version: u32) -> Option<Edition>
     ensures read { (is : TheEdition) → version ≡ version_of is → result ≡ Some is }
     ensures back { IfSome result (λ e. version ≡ version_of e) }

@@ -61,7 +61,7 @@ pub(crate) fn long_number(row: &Row, at: usize) -> Option<u64>
     u64::try_from(whole_number(row, at)?).ok()
 }
 
-/// A number where -1 stands for none.
+/// A number where -1 means none.
 pub(crate) fn number_or_minus_one(row: &Row, at: usize) -> Option<Option<u32>>
     ensures read { (o : Option ℕ) → column row.now at ≡ or_minus_one o → IfSome result (λ x. x ≡ o) }
     ensures back { IfSome result (λ x. column row.now at ≡ or_minus_one x) }
@@ -74,7 +74,7 @@ pub(crate) fn number_or_minus_one(row: &Row, at: usize) -> Option<Option<u32>>
     Some(Some(number(row, at)?))
 }
 
-/// A number where 0 stands for none.
+/// A number where 0 means none.
 pub(crate) fn number_or_zero(row: &Row, at: usize) -> Option<Option<u32>>
     ensures read { (o : Option ℕ) → o ≢ Some 0 → column row.now at ≡ or_zero o → IfSome result (λ x. x ≡ o) }
     ensures back { IfSome result (λ x. (column row.now at ≡ or_zero x) × (x ≢ Some 0)) }
@@ -159,7 +159,7 @@ pub(crate) fn day(row: &Row, at: usize) -> Option<Day>
     Day::new(number(row, at)?)
 }
 
-/// The number of a party, where 0 stands for none.
+/// The number of a party, where 0 means none.
 pub(crate) fn party_or_zero(row: &Row, at: usize) -> Option<Option<PartyId>>
     ensures read { (o : Option ℕ) → o ≢ Some 0 → column row.now at ≡ or_zero o → IfSome result (λ x. x ≡ o) }
     ensures back { IfSome result (λ x. (column row.now at ≡ or_zero x) × (x ≢ Some 0)) }
@@ -171,7 +171,7 @@ pub(crate) fn party_or_zero(row: &Row, at: usize) -> Option<Option<PartyId>>
     }
 }
 
-/// The number of a party, where Null stands for none.
+/// The number of a party, where Null means none.
 pub(crate) fn party_or_null(row: &Row, at: usize) -> Option<Option<PartyId>>
     ensures read { (o : Option ℕ) → column row.now at ≡ or_null o → IfSome result (λ x. x ≡ o) }
     ensures back { IfSome result (λ x. column row.now at ≡ or_null x) }
@@ -183,7 +183,7 @@ pub(crate) fn party_or_null(row: &Row, at: usize) -> Option<Option<PartyId>>
     }
 }
 
-/// A count of days, where 0 stands for none.
+/// A count of days, where 0 means none.
 pub(crate) fn days_or_zero(row: &Row, at: usize) -> Option<Option<Days>>
     ensures read { (o : Option ℕ) → o ≢ Some 0 → column row.now at ≡ or_zero o → IfSome result (λ x. x ≡ o) }
     ensures back { IfSome result (λ x. (column row.now at ≡ or_zero x) × (x ≢ Some 0)) }
@@ -195,7 +195,7 @@ pub(crate) fn days_or_zero(row: &Row, at: usize) -> Option<Option<Days>>
     }
 }
 
-/// A day, where -1 stands for none.
+/// A day, where -1 means none.
 pub(crate) fn day_or_minus_one(row: &Row, at: usize) -> Option<Option<Day>>
     ensures read { (o : Option ℕ) → column row.now at ≡ or_minus_one o → IfSome result (λ x. x ≡ o) }
     ensures back { IfSome result (λ x. column row.now at ≡ or_minus_one x) }
@@ -422,7 +422,7 @@ fn step_with(code: Option<u32>) -> Option<Option<Step>>
     }
 }
 
-/// A step by its code, where -1 stands for none.
+/// A step by its code, where -1 means none.
 pub(crate) fn step_or_minus_one(row: &Row, at: usize) -> Option<Option<Step>>
     ensures read { (o : Option TheStep) → column row.now at ≡ step_value o → IfSome result (λ x. x ≡ o) }
     ensures back { IfSome result (λ x. column row.now at ≡ step_value x) }

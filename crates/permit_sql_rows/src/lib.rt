@@ -7,7 +7,7 @@
 //! `specs/Kept.antt` says when a database keeps the tables of the model: it has the office's schema, and the tree of
 //! each table has a row for each row of the model's table, in any order; the rowid of an interest and of a paper is
 //! of no account. Of the tables themselves it says that no number, digest and lot comes twice, and that a file's
-//! papers stand in rising number, none above the count in the file's row. `specs/Typed.antt` says which rows are
+//! papers are in rising number, none above the count in the file's row. `specs/Typed.antt` says which rows are
 //! within the limits of the program's types.
 #![tactic(auto)]
 

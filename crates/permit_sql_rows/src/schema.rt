@@ -604,7 +604,7 @@ fn is_second(schema: &Schema) -> bool
 }
 
 /// Whether the schema is the office's under an edition: its tables and indexes, and nothing more. Of version 2 the table
-/// of the upgrade and the indexes that are no keys may stand in any order, as `VACUUM` and a dump leave them.
+/// of the upgrade and the indexes that are no keys may be in any order, as `VACUUM` and a dump leave them.
 ///
 /// # Examples
 ///

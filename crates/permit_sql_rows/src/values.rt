@@ -38,7 +38,7 @@ fn text(text: &str) -> ValueRef<'_>
     ValueRef::Text(text.as_bytes())
 }
 
-/// A number, where 0 stands for none.
+/// A number, where 0 means none.
 fn number_or_zero<'a>(n: Option<u32>) -> ValueRef<'a>
     ensures { bound_value (owned result) ≡ or_zero n }
 {
@@ -48,7 +48,7 @@ fn number_or_zero<'a>(n: Option<u32>) -> ValueRef<'a>
     }
 }
 
-/// A party, where 0 stands for none.
+/// A party, where 0 means none.
 fn party_or_zero<'a>(party: Option<PartyId>) -> ValueRef<'a>
     ensures { bound_value (owned result) ≡ or_zero party }
 {
@@ -58,7 +58,7 @@ fn party_or_zero<'a>(party: Option<PartyId>) -> ValueRef<'a>
     }
 }
 
-/// The days of an ask, where 0 stands for none.
+/// The days of an ask, where 0 means none.
 fn days_or_zero<'a>(days: Option<Days>) -> ValueRef<'a>
     ensures { bound_value (owned result) ≡ or_zero days }
 {
@@ -68,7 +68,7 @@ fn days_or_zero<'a>(days: Option<Days>) -> ValueRef<'a>
     }
 }
 
-/// A number, where -1 stands for none.
+/// A number, where -1 means none.
 fn number_or_minus_one<'a>(n: Option<u32>) -> ValueRef<'a>
     ensures { bound_value (owned result) ≡ or_minus_one n }
 {
@@ -78,7 +78,7 @@ fn number_or_minus_one<'a>(n: Option<u32>) -> ValueRef<'a>
     }
 }
 
-/// A day, where -1 stands for none.
+/// A day, where -1 means none.
 fn day_or_minus_one<'a>(day: Option<Day>) -> ValueRef<'a>
     ensures { bound_value (owned result) ≡ or_minus_one day }
 {
@@ -88,7 +88,7 @@ fn day_or_minus_one<'a>(day: Option<Day>) -> ValueRef<'a>
     }
 }
 
-/// A step by its code, where -1 stands for none.
+/// A step by its code, where -1 means none.
 fn step_or_minus_one<'a>(step: Option<Step>) -> ValueRef<'a>
     ensures { bound_value (owned result) ≡ step_value step }
 {

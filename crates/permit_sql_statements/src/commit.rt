@@ -184,7 +184,7 @@ fn write_change(step: &mut Step, desk: &Desk, change: &Change<'_>) -> Got<()>
     }
 }
 
-/// The number of the record behind so many of its kind, which is their count with it.
+/// The number of the record after so many of its kind, which is their count with it.
 fn next(count: u32) -> Got<u32>
     ensures { IfOk result (λ n. n ≡ count + 1) }
 {

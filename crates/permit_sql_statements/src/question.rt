@@ -43,7 +43,7 @@ pub(crate) const BY_INSPECTOR: &str =
 pub(crate) const BY_CONFLICT: &str =
     "SELECT DISTINCT file.id, file.parcel, applicant, contractor, reviewer, inspector, kind, valuation, description, filed, stage, deadline, done, request, requested, ask, stopped, notices, papers, temporary, parcel.owner, EXISTS (SELECT 1 FROM interest WHERE interest.parcel = file.parcel AND interest.party = ?1) FROM interest JOIN file ON interest.parcel = file.parcel LEFT JOIN parcel ON parcel.id = file.parcel WHERE interest.party = ?1 AND +stage = ?2 AND +stopped = ?3 AND +deadline >= ?4 AND +deadline < ?5 ORDER BY file.id";
 
-// By a relation alone, for several selections at once. Each cell is then told by the typed row.
+// By a relation alone, for several selections at once. The cell of each row is then found from the typed row.
 pub(crate) const AS_APPLICANT: &str =
     "SELECT file.id, file.parcel, applicant, contractor, reviewer, inspector, kind, valuation, description, filed, stage, deadline, done, request, requested, ask, stopped, notices, papers, temporary, parcel.owner, EXISTS (SELECT 1 FROM interest WHERE interest.parcel = file.parcel AND interest.party = ?1) FROM file LEFT JOIN parcel ON parcel.id = file.parcel WHERE applicant = ?1";
 
@@ -62,7 +62,7 @@ pub(crate) const AS_INSPECTOR: &str =
 pub(crate) const AS_CONFLICT: &str =
     "SELECT DISTINCT file.id, file.parcel, applicant, contractor, reviewer, inspector, kind, valuation, description, filed, stage, deadline, done, request, requested, ask, stopped, notices, papers, temporary, parcel.owner, EXISTS (SELECT 1 FROM interest WHERE interest.parcel = file.parcel AND interest.party = ?1) FROM interest JOIN file ON interest.parcel = file.parcel LEFT JOIN parcel ON parcel.id = file.parcel WHERE interest.party = ?1";
 
-// For a caller who has declared no interest none is looked for: the second parameter, 0, stands in its place.
+// For a caller who has declared no interest none is looked for: the second parameter, 0, takes its place.
 pub(crate) const EVERY_WITHOUT: &str =
     "SELECT file.id, file.parcel, applicant, contractor, reviewer, inspector, kind, valuation, description, filed, stage, deadline, done, request, requested, ask, stopped, notices, papers, temporary, parcel.owner, ?2 FROM file LEFT JOIN parcel ON parcel.id = file.parcel ORDER BY file.id";
 
@@ -230,7 +230,7 @@ pub(crate) fn count_of(route: &Route) -> usize
     }
 }
 
-/// The code of a relation as the second one: one above its own, since 0 stands for none.
+/// The code of a relation as the second one: one above its own, since 0 means none.
 fn second_code(relation: Relation) -> u32
     ensures { result ≡ suc (relation_code relation) }
 {

@@ -203,7 +203,7 @@ fn first_role(rows: &[Row]) -> Got<Option<Role>>
         → IfOk result (λ x. x ≡ option_map (λ p. p.role) found) }
     ensures ok { (found : Option TheParty) → slice_get rows.now 0 ≡ option_map shown_party found → IsOk result }
 
-    // Where there is a row, its role is told, or that it can't be read.
+    // Where there is a row, its role is returned, or an error where it can't be read.
     ensures none { IfOk result (λ role. role ≡ None → rows.now ≡ []) }
 {
     match rows.get(0) {
@@ -235,7 +235,7 @@ fn first_truth(rows: &[Row]) -> Got<bool>
     ensures read { (is : Bool) → rows.now ≡ (flag is ∷ []) ∷ [] → IfOk result (λ b. b ≡ is) }
     ensures ok { (is : Bool) → rows.now ≡ (flag is ∷ []) ∷ [] → IsOk result }
 
-    // Without a row nothing is told.
+    // Without a row the call fails.
     ensures row { rows.now ≡ [] → IsErr result }
 {
     match rows.get(0) {

@@ -45,7 +45,7 @@ fn found_rows<S: Alter>(
         (λ t. IfOk result (λ rows. ShowFound t rows.items (found_by route.now caller day t))) }
     ensures read { IsRead S.Store conn.old conn.new result }
 {
-    // Its number isn't 0, which stands for none in a row.
+    // Its number isn't 0, which means none in a row.
     let _id = caller.get();
     let values = values_of(route, caller, day);
     rows_of(conn, text_of(route), &values[..count_of(route)])
@@ -148,7 +148,7 @@ fn each_by_text<S: Alter, T: Taker<Found>>(
     ensures crash { (t : Tables) → (HasCleanDisk (state S.Store conn.new) → Keeps t (state S.Store conn.old).now)
         → Survives (state S.Store conn.old) (state S.Store conn.new) (λ _. ⊥) }
 {
-    // Its number isn't 0, which stands for none in a row.
+    // Its number isn't 0, which means none in a row.
     let _id = caller.get();
     let values = values_of(route, caller, day);
     hand_rows(
@@ -259,7 +259,7 @@ fn each_by_any_text<S: Alter, T: Taker<Found>>(
     ensures crash { (t : Tables) → (HasCleanDisk (state S.Store conn.new) → Keeps t (state S.Store conn.old).now)
         → Survives (state S.Store conn.old) (state S.Store conn.new) (λ _. ⊥) }
 {
-    // Its number isn't 0, which stands for none in a row.
+    // Its number isn't 0, which means none in a row.
     let params = [number(caller.get())];
     hand_sifted(
         conn,

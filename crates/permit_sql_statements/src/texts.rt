@@ -50,7 +50,7 @@ pub const INDEX_OWNER: &str = "CREATE INDEX parcel_owner ON parcel (owner)";
 /// The interests by party.
 pub const INDEX_INTERESTED: &str = "CREATE INDEX interest_party ON interest (party)";
 
-/// The table of the upgrade, which keeps one row. It is made behind all indexes.
+/// The table of the upgrade, which keeps one row. It is made after all indexes.
 pub const CREATE_UPGRADE: &str =
     "CREATE TABLE upgrade (id INTEGER PRIMARY KEY, files INTEGER NOT NULL) STRICT";
 

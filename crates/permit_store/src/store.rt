@@ -42,7 +42,7 @@ pub enum OpenError {
 /// all tables that the store holds. A store that can't be read any more holds any tables, and each call of it
 /// fails. A call that answers an error leaves what the store holds.
 ///
-/// A disk may return what was never written, and no call can tell. So an answer says something of the tables only where
+/// A disk may return what was never written, and no call can notice it. So an answer says something of the tables only where
 /// the store is without doubt after the call. A store in doubt holds any tables. Memory is always without doubt.
 ///
 /// The clauses of each call have the same names. `found`, `made` or `handed` says what the call answers, makes or passes to
@@ -156,7 +156,7 @@ pub trait Store {
 
     /// Passes the same rows to the taker, one at a time and in the same order, until the taker answers false, which asks to
     /// stop. Returns true where it took them all, and false where it asked to stop at the last row that it took. Where the
-    /// call fails, it took a beginning of them and never asked to stop. Each row that it took counts as handed out.
+    /// call fails, it took a prefix of them and never asked to stop. Each row that it took counts as handed out.
     fn each<T: Taker<Found>>(
         &mut self,
         route: &Route,

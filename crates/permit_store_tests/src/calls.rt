@@ -162,7 +162,7 @@ fn words<S: Store + Drop>(
     words_of(alloc, replies.as_slice())
 }
 
-/// Fails where a call isn't answered as wanted in an office after its founding. No file is there behind the requests that
+/// Fails where a call isn't answered as wanted in an office after its founding. No file is there after the requests that
 /// are too large or cut.
 fn hold<S: Store + Drop>(alloc: Global, office: Office<S>) -> Result<(), Fail> {
     let office = &mut Held::new(office).value;

@@ -1,4 +1,4 @@
-//! Each change, and what a store over a database shows behind it, by each of its reads.
+//! Each change, and what a store over a database shows after it, by each of its reads.
 
 use crate::database::founded;
 use permit_base::values::{Cents, Day, FileId, Lot, PaperNumber, ParcelId, PartyId, Text};
@@ -12,7 +12,7 @@ use permit_store::store::Store;
 use std::alloc::Global;
 use std::test::Fail;
 
-/// What the store shows behind the founding and then behind each change, in lines as `shown` writes them.
+/// What the store shows after the founding and then after each change, in lines as `shown` writes them.
 const SHOWN: [&str; 9] = [
     "desk 19700 1 0 0, party 2: 0 none none, 3: none, parcel 1: 0 0 0, 2: 0, interests false false 0 0, file 1: none none, 2: none, notices none false false",
     "desk 19701 2 0 0, party 2: 2 clerk clerk, 3: none, parcel 1: 0 0 0, 2: 0, interests false false 0 0, file 1: none none, 2: none, notices none false false",

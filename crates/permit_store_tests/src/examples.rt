@@ -1,5 +1,5 @@
 //! The examples of the doc comments of the stores over a database and over memory, and of changes that are made together, line
-//! by line as they stand there.
+//! by line as they are written there.
 
 use crate::database::founded;
 use permit_base::values::{Day, Digest, PartyId, Text};

@@ -13,7 +13,7 @@ const NAME: &str = "SELECT name FROM party WHERE id = 1 AND role = 4";
 /// The same of the token's digest.
 const DIGEST: &str = "SELECT digest FROM party WHERE id = 1 AND role = 4";
 
-/// A statement that is run in a founded database, if any, and behind it the official's name where the database is
+/// A statement that is run in a founded database, if any, and after it the official's name where the database is
 /// opened, or why it isn't.
 const OPENINGS: [(Option<&str>, Result<&str, OpenError>); 9] = [
     (None, Ok("Chief")),
@@ -64,7 +64,7 @@ fn changed(alloc: Global, statement: Option<&str>) -> Result<Connection<MemStore
     Ok(conn)
 }
 
-/// Whether the opening of a founded database is as wanted behind a statement, if any.
+/// Whether the opening of a founded database is as wanted after a statement, if any.
 fn is_opened_so(
     alloc: Global,
     statement: Option<&str>,

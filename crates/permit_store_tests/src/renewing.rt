@@ -38,7 +38,7 @@ fn renewal(
     Ok(SqlStore::renew_token(alloc, conn, party, &token(alloc, letters)?))
 }
 
-/// The database of the office behind the opening of the scenarios.
+/// The database of the office after the opening of the scenarios.
 fn played(alloc: Global) -> Result<Connection<MemStore>, Fail> {
     let mut office = Held::new(over_database(alloc)?);
     play(alloc, &mut office.value, OPENING)?;

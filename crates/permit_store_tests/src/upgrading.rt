@@ -72,7 +72,7 @@ fn an_old_office_is_upgraded_once_and_played_on(rt: HostRuntime) -> Result<(), F
     play_on(alloc, conn)
 }
 
-/// A database of version 1 in which a statement was run isn't upgraded, and shows the same desk behind that.
+/// A database of version 1 in which a statement was run isn't upgraded, and shows the same desk after that.
 fn is_refused(
     rt: &impl Abort,
     alloc: Global,

@@ -1,4 +1,4 @@
-//! The examples of the doc comments of what writes streams and serves sessions, line by line as they stand there.
+//! The examples of the doc comments of what writes streams and serves sessions, line by line as they are written there.
 
 use crate::memory_doors::MemoryDoor;
 use permit_answer::answer::Answer;

@@ -264,14 +264,14 @@ fn a_filing_and_then_its_reading(rt: HostRuntime) -> Result<(), Fail> {
     Ok(())
 }
 
-/// The office in which a house is filed.
+/// The office in which `FILED` was played.
 fn with_house(alloc: Global) -> Result<Office<PlainStore>, Fail> {
     let mut office = Held::new(opened(alloc)?);
     play(alloc, &mut office.value, FILED)?;
     Ok(office.into_inner())
 }
 
-/// A file is read twice, with a midnight between that leaves its last day behind.
+/// A file is read twice, with a midnight between that ends its last day.
 #[test]
 fn midnight_in_a_list(rt: HostRuntime) -> Result<(), Fail> {
     let alloc = rt.alloc();

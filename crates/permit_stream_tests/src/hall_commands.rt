@@ -41,7 +41,7 @@ fn added(alloc: Global, day: u32, number: u32) -> Result<String, Fail> {
     answer(alloc, "200 OK", body.as_str())
 }
 
-/// The office behind a door of these connections, the last one first, and how many answers the session has collected.
+/// The office served through a door of these connections, the last one first, and how many answers the session has collected.
 fn behind_one_door<R: Threads + Wait + Copy + Drop + Send + 'static>(
     rt: R,
     alloc: Global,
@@ -66,7 +66,7 @@ fn is_written<R: Wait>(rt: &R, alloc: Global, record: &Shared, wanted: &str) -> 
     agree(alloc, written(rt, alloc, record)?.as_str(), wanted)
 }
 
-/// Two parcels are added on one connection, and it is midnight behind so many requests.
+/// Two parcels are added on one connection, and it is midnight after so many requests.
 fn has_days<R: Threads + Wait + Copy + Drop + Send + 'static>(
     rt: R,
     alloc: Global,
@@ -90,7 +90,7 @@ fn has_days<R: Threads + Wait + Copy + Drop + Send + 'static>(
     is_written(&rt, alloc, &record, wanted.as_str())
 }
 
-/// It is midnight before both requests, between them, or behind both.
+/// It is midnight before both requests, between them, or after both.
 #[test]
 fn midnight_on_a_connection(rt: HostRuntime) -> Result<(), Fail> {
     let alloc = rt.alloc();
@@ -107,7 +107,7 @@ struct CutAnswers<R: Wait + Drop> {
 }
 
 /// Each connection adds a parcel. The writer of the first takes no byte of the answer, that of the second takes one, and so
-/// on to the one that takes the answer whole. Behind its bytes it fails, or takes no more.
+/// on to the one that takes the answer whole. After its bytes it fails, or takes no more.
 fn cut_answers<R: Wait + Copy + Drop>(
     rt: R,
     alloc: Global,
@@ -167,8 +167,8 @@ fn has_parcels(alloc: Global, office: &mut Office<PlainStore>, count: u32) -> Re
     Ok(())
 }
 
-/// What the office did stands and counts as answered, wherever its answer is cut. The longest answer has 117 bytes, since
-/// its parcel's number has three digits.
+/// What the office did remains in effect and counts as answered, wherever its answer is cut. The longest answer has 117
+/// bytes, since its parcel's number has three digits.
 fn stand<R: Threads + Wait + Copy + Drop + Send + 'static>(
     rt: R,
     alloc: Global,

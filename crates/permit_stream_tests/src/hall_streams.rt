@@ -85,7 +85,7 @@ fn closing(alloc: Global, status: &str, body: &str) -> Result<String, Fail> {
     )?)
 }
 
-/// The bytes, with an approval by party 4 behind them.
+/// The bytes, followed by an approval by party 4.
 fn with_approval(alloc: Global, bytes: &[u8]) -> Result<Vec<u8>, Fail> {
     let mut all = Vec::from_slice(alloc, bytes)?;
     all.extend_from_slice(approval_text(alloc, 4)?.as_bytes())?;
@@ -125,7 +125,7 @@ fn is_followed<R: Threads + Wait + Copy + Drop + Send + 'static>(
     }
 }
 
-/// Behind a fault that closes comes a good request, which isn't read.
+/// After a fault that closes comes a good request, which isn't read.
 fn closes<R: Threads + Wait + Copy + Drop + Send + 'static>(
     rt: R,
     alloc: Global,
@@ -168,7 +168,7 @@ fn an_oversized_request_is_followed(rt: HostRuntime) -> Result<(), Fail> {
     )
 }
 
-/// Behind a fault that keeps the connection comes a good request, which is served.
+/// After a fault that keeps the connection comes a good request, which is served.
 #[test]
 fn each_kept_fault_is_followed(rt: HostRuntime) -> Result<(), Fail> {
     let alloc = rt.alloc();
@@ -188,7 +188,7 @@ fn each_kept_fault_is_followed(rt: HostRuntime) -> Result<(), Fail> {
     Ok(())
 }
 
-/// The reader ends or fails after so many bytes of an approval: in its head, behind its head, and in its body.
+/// The reader ends or fails after so many bytes of an approval: in its head, after its head, and in its body.
 #[test]
 fn a_reader_that_stops_is_followed(rt: HostRuntime) -> Result<(), Fail> {
     let alloc = rt.alloc();
@@ -213,7 +213,7 @@ fn a_reader_that_stops_is_followed(rt: HostRuntime) -> Result<(), Fail> {
     Ok(())
 }
 
-/// A reader that fails behind whole requests has them answered.
+/// A reader that fails after whole requests has them answered.
 #[test]
 fn a_reader_that_fails_after_a_request_is_followed(rt: HostRuntime) -> Result<(), Fail> {
     let alloc = rt.alloc();
@@ -231,7 +231,7 @@ fn a_reader_that_fails_after_a_request_is_followed(rt: HostRuntime) -> Result<()
     is_followed(rt, alloc, &case)
 }
 
-/// What the office did stands, where its answer doesn't go out whole. A writer that takes one byte in one write and
+/// What the office did remains in effect where its answer doesn't go out whole. A writer that takes one byte in one write and
 /// never fails has it all.
 #[test]
 fn a_writer_that_stops_is_followed(rt: HostRuntime) -> Result<(), Fail> {
@@ -269,7 +269,7 @@ fn a_writer_that_stops_is_followed(rt: HostRuntime) -> Result<(), Fail> {
     Ok(())
 }
 
-/// Where the answer to a fault that keeps the connection doesn't go out, the request behind it isn't read.
+/// Where the answer to a fault that keeps the connection doesn't go out, the request after it isn't read.
 #[test]
 fn a_fault_whose_answer_is_cut_is_followed(rt: HostRuntime) -> Result<(), Fail> {
     let alloc = rt.alloc();

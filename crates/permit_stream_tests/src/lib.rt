@@ -1,5 +1,5 @@
 //! What reads and writes streams, through its public calls: messages, answers, serving on a connection, registers, parcel
-//! lists and the hall. They stand apart from the other calls, so that neither crate is the last that the gate waits for.
+//! lists and the hall. They are in a crate apart from the other calls, so that neither crate is the last that the gate waits for.
 #![tactic(auto)]
 
 #[cfg(test)]

@@ -54,7 +54,7 @@ fn has_begun(record: &Shared) -> bool {
 /// How the streams of a connection go wrong.
 #[derive(Clone, Copy)]
 pub struct Trouble {
-    /// Whether the reader fails, and doesn't end, behind the requests.
+    /// Whether the reader fails, and doesn't end, after the requests.
     pub reader_fails: bool,
     /// How many bytes the writer takes at most in one write.
     pub at_once: usize,
@@ -72,7 +72,7 @@ pub const NO_TROUBLE: Trouble = Trouble {
     stalls: false,
 };
 
-/// The requests of a connection, behind which its input ends, or fails.
+/// The requests of a connection, after which its input ends, or fails.
 #[derive(Drop)]
 pub struct Requests {
     bytes: Vec<u8>,

@@ -17,7 +17,7 @@ fn outcome(text: &[u8], fails: bool) -> Option<Result<(), WireError>> {
     }
 }
 
-/// The outcome is the same whether the input ends or the reader fails behind these bytes.
+/// The outcome is the same whether the input ends or the reader fails after these bytes.
 fn answers_at_once(text: &[u8], fault: Fault) -> bool {
     let told = Some(Err(WireError::Fault(fault)));
     outcome(text, false) == told && outcome(text, true) == told

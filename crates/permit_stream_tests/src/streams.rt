@@ -57,7 +57,7 @@ pub struct Narrow {
 }
 
 impl Narrow {
-    /// It fails behind so many bytes.
+    /// It fails after so many bytes.
     pub fn new(at_once: usize, room: usize) -> Narrow {
         Narrow {
             bytes: [0; 1024],
@@ -68,7 +68,7 @@ impl Narrow {
         }
     }
 
-    /// It takes no byte behind so many.
+    /// It takes no byte after so many.
     pub fn stalling(at_once: usize, room: usize) -> Narrow {
         let mut narrow = Narrow::new(at_once, room);
         narrow.stalls = true;

@@ -1,4 +1,4 @@
-//! A clock of which each reading is told.
+//! A clock with a specification of each reading.
 
 ghost use Rattle.std.specs.Prelude.{Option, ⊤};
 ghost use Rattle.jiff_core.specs.declared.timestamp.Timestamp.{Timestamp as Instant};
@@ -6,7 +6,7 @@ ghost use Rattle.jiff_core.specs.declared.timestamp.Timestamp.{Timestamp as Inst
 use jiff::Timestamp;
 use std::time::Clock;
 
-/// A clock of which each reading is told, so that a contract can say that a day is that of a reading.
+/// A clock with a specification of each reading, so that a contract can say that a day is that of a reading.
 pub trait Readings {
     /// What a reading gave: an instant, or none where the clock couldn't be read.
     ghost gave: { Self → Option Instant → Type 0 };

@@ -17,11 +17,11 @@ use std::io::{self, ErrorKind};
 /// Why the history of an office can't be used.
 #[derive(Clone, Copy, PartialEq, Eq)]
 pub enum HistoryFailure {
-    /// The office's tables are not those that the text tells.
+    /// The office's tables are not those that the text gives.
     Differs,
     /// This line of the text is none, or its entry may not follow those before it. Lines are counted from 1 on.
     Line(u64),
-    /// The text ends before its second line, so it tells of no office.
+    /// The text ends before its second line, so it describes no office.
     Short,
     /// Where an office is founded, there is a text already.
     Exists,

@@ -1,4 +1,4 @@
-//! The lines that tell what was done.
+//! The lines that report what was done.
 
 ghost use Rattle.std.specs.Prelude.{◌≡◌, IfOk, string_bytes};
 ghost use Rattle.permit_subcommands.specs.Lines.{sound_line, upgraded_line};

@@ -74,7 +74,7 @@ pub fn list<S: Store + Drop>(
 }
 
 /// Writes a register for the caller of the token, each line as the office hands its file out. The failure is the output's
-/// where that failed, else the office's refusal; a beginning of the text is then written.
+/// where that failed, else the office's refusal; a prefix of the text is then written.
 pub fn write_register<S: Store + Drop, W: Write>(
     office: &mut Office<S>,
     token: Token,

@@ -7,7 +7,7 @@ use crate::failure::Failure;
 use permit_report::write_whole;
 use std::io::Write;
 
-/// Prints bytes. A writer that fails is a failure of the output, and a beginning of the bytes is then out.
+/// Prints bytes. A writer that fails is a failure of the output, and a prefix of the bytes is then out.
 pub(crate) fn print_bytes<O: Write>(out: &mut O, bytes: &[u8]) -> Result<(), Failure>
     ensures { Prints bytes.now (O.contents out.old) (O.contents out.new) result }
 {
@@ -17,7 +17,7 @@ pub(crate) fn print_bytes<O: Write>(out: &mut O, bytes: &[u8]) -> Result<(), Fai
     }
 }
 
-/// Prints a text as it is. A writer that fails is a failure of the output, and a beginning of the text is then out.
+/// Prints a text as it is. A writer that fails is a failure of the output, and a prefix of the text is then out.
 pub fn print_text<O: Write>(out: &mut O, text: &str) -> Result<(), Failure>
     ensures { Prints text.now (O.contents out.old) (O.contents out.new) result }
 {

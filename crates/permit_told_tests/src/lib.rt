@@ -1,4 +1,4 @@
-//! The scenarios told as texts of histories and replayed: the tables are those of the office that served them.
+//! The scenarios written as texts of histories and replayed: the tables are those of the office that served them.
 #![tactic(auto)]
 
 #[cfg(test)]

@@ -1,4 +1,4 @@
-//! The scenarios, each told and replayed.
+//! The scenarios, each recorded and replayed.
 
 use crate::telling::{Told, founded, serve_script};
 use permit_replay::beginning::Beginning;

@@ -1,4 +1,4 @@
-//! An office that is told as it serves.
+//! An office whose history is recorded as it serves.
 
 use permit_base::digests::digest;
 use permit_base::request::{Asked, Request};
@@ -114,7 +114,7 @@ fn made_by(office: &mut Office<PlainStore>, asked: &Asked, on: Day) -> Option<Op
     }
 }
 
-/// Tells the request of a caller that was done on the day and made what has this number.
+/// Records the request of a caller that was done on the day and made what has this number.
 fn tell_done(
     alloc: Global,
     text: &mut Vec<u8>,
@@ -138,7 +138,7 @@ fn caller_of(line: &str) -> Option<PartyId> {
     PartyId::new(caller.parse().ok()?)
 }
 
-/// Has the office serve the request, and tells it where it was done.
+/// Has the office serve the request, and records it where it was done.
 fn serve_asked(
     alloc: Global,
     told: &mut Told,
@@ -154,7 +154,7 @@ fn serve_asked(
     }
 }
 
-/// Has the office serve the request of a line, and tells it where it was done.
+/// Has the office serve the request of a line, and records it where it was done.
 fn serve(alloc: Global, told: &mut Told, line: &str) -> Result<(), Fail> {
     let caller = caller_of(line);
     let on = day(read_ask(line)?.day)?;
@@ -164,7 +164,7 @@ fn serve(alloc: Global, told: &mut Told, line: &str) -> Result<(), Fail> {
     }
 }
 
-/// Has the office serve the requests of a script, and tells those that were done.
+/// Has the office serve the requests of a script, and records those that were done.
 pub fn serve_script(alloc: Global, told: &mut Told, script: &str) -> Result<(), Fail> {
     for line in requests(alloc, script)? {
         serve(alloc, told, line)?;

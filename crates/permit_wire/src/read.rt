@@ -32,7 +32,7 @@ fn token_in(alloc: Global, message: &Message<'_>) -> Result<Option<Token>, Alloc
     }
 }
 
-/// What a whole message asks. Of its faults it is told the first: its route, then its token, then its body.
+/// What a whole message asks. Of its faults the first is reported: its route, then its token, then its body.
 fn asked_by(routes: &mut Routes, message: &Message<'_>) -> Result<Asked, Fault>
     ensures { MeansAsked result (asked_in (view_of message.now)) }
 {
@@ -47,7 +47,7 @@ fn asked_by(routes: &mut Routes, message: &Message<'_>) -> Result<Asked, Fault>
     }
 }
 
-/// What the message that stands in the inbox asks. Its bytes are dropped; where memory ran out the connection closes.
+/// What the message that is in the inbox asks. Its bytes are dropped; where memory ran out the connection closes.
 fn read_out(routes: &mut Routes, inbox: &mut Inbox, spans: &MessageSpans) -> Result<Asked, Fault>
     requires { Holds inbox.old spans.now }
     ensures asked { MeansAsked result (asked_in (message_at inbox.old.bytes spans.now)) }

@@ -34,7 +34,7 @@ pub enum Served {
     Ended,
     /// The reader failed, or the input ended inside a request. Nothing was answered.
     ReadFailed,
-    /// The writer failed. A beginning of the answer is out; what the office accepted stands.
+    /// The writer failed. A prefix of the answer is out; what the office accepted remains in effect.
     WriteFailed,
 }
 

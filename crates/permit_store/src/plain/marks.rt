@@ -1,4 +1,4 @@
-//! Where rows stand by a text of their own.
+//! The places of rows by a text of their own.
 
 ghost use Rattle.std.specs.Prelude.{◌≡◌, ◌==◌, ◌<◌, ℕ, nat_eq};
 ghost use Rattle.std.specs.HashMap.{get, spare};

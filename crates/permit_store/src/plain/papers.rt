@@ -59,7 +59,7 @@ fn close_first(papers: &mut LinkedList<Paper>, file: FileId, number: PaperNumber
     }
 }
 
-/// Puts the list's first paper behind the others, which moves no paper and asks for no memory.
+/// Puts the list's first paper after the others, which moves no paper and asks for no memory.
 fn turn(papers: &mut LinkedList<Paper>)
     ensures { papers.new ≡ drop 1 papers.old ++ take 1 papers.old }
 {

@@ -13,11 +13,11 @@ use permit_base::values::{Lot, ParcelId, PartyId};
 use std::alloc::{AllocError, Global};
 use std::collections::HashMap;
 
-/// The parcels, numbered from 1 without a gap, so that each stands at the place that its number says.
+/// The parcels, numbered from 1 without a gap, so that each is at the place that its number says.
 #[derive(Drop)]
 pub(crate) struct Parcels {
     pub(crate) rows: Vec<Parcel>,
-    /// Where they stand by their lots.
+    /// Their places by their lots.
     pub(crate) lots: Marks,
     ghost few: { length rows.items ≤ most_records },
     ghost numbered: { AreNumbered (λ p. p.id) rows.items },

@@ -15,11 +15,11 @@ use permit_base::words::Role;
 use std::alloc::{AllocError, Global};
 use std::collections::HashMap;
 
-/// The parties, numbered from 1 without a gap, so that each stands at the place that its number says.
+/// The parties, numbered from 1 without a gap, so that each is at the place that its number says.
 #[derive(Drop)]
 pub(crate) struct Parties {
     pub(crate) rows: Vec<Party>,
-    /// Where they stand by the digests of their tokens. The mark of a digest that was given up may lead to a party still.
+    /// Their places by the digests of their tokens. The mark of a digest that was given up may lead to a party still.
     pub(crate) tokens: Marks,
     ghost few: { length rows.items ≤ most_records },
     ghost numbered: { AreNumbered (λ p. p.id) rows.items },
