@@ -226,7 +226,7 @@ changed_alike t u (NewRow file state e) day same = record {
   papers = λ n. papers_more file state.papers day n e t.papers u.papers (same.papers n);
 }
 
--- whether a change suits is told by what is alike
+-- whether a change suits follows from what is alike
 
 suits_tables : (t u : Tables) (change : Change) → AreAlike t u → suits u change ≡ suits t change
 suits_tables t u (NewParty name role digest) same = rw (same.desk, same.parties) refl

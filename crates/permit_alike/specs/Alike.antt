@@ -1,11 +1,11 @@
--- Tables that no call of a store tells apart.
+-- Tables that no call of a store distinguishes.
 use Rattle.std.specs.Prelude.{◌≡◌, ℕ, ◌==◌, filter}
 use Rattle.permit_model.specs.Tables.{Tables}
 use Rattle.permit_store.specs.Frames.{StoreView}
 use Rattle.permit_store.specs.Interests.{DeclareSame}
 
--- They are the same, but for the order of the interests and how often each stands there, and for the order in which papers of
--- different files stand.
+-- They are the same, but for the order of the interests and how often each is there, and for the order in which papers of
+-- different files come.
 pub record AreAlike (t u : Tables) : Type 0 where
   pub desk : t.desk ≡ u.desk
   pub upgrade : t.upgrade ≡ u.upgrade

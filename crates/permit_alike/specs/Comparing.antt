@@ -52,7 +52,7 @@ HaveSameRow table.Parties t u number = HaveSameParty t u number
 HaveSameRow table.Parcels t u number = HaveSameParcel t u number
 HaveSameRow table.Files t u number = HaveSameFile t u number
 
--- the first place at which the two differ, or none, where they have the same behind their desks
+-- the first place at which the two differ, or none, where they have the same after their desks
 abbrev pub Finds : Tables → Tables → Option Difference → Type 0
 Finds t u None = HaveSameBehind t u
 Finds t u (Some place) = IsFirstDifference t u place

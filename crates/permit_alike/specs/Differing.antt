@@ -58,14 +58,14 @@ HaveSameParcels t u = HaveSame t.desk.parcels (HaveSameParcel t u)
 abbrev pub HaveSameFiles : Tables → Tables → Type 0
 HaveSameFiles t u = HaveSame t.desk.files (HaveSameFile t u)
 
--- at each place behind the desk the two have the same
+-- at each place after the desk the two have the same
 pub record HaveSameBehind (t u : Tables) : Type 0 where
   pub parties : HaveSameParties t u
   pub parcels : HaveSameParcels t u
   pub interests : DeclareSame t.interests u.interests
   pub files : HaveSameFiles t u
 
--- The two differ at this place, and have the same at each place before it. The desk comes first, and behind it come the parties
+-- The two differ at this place, and have the same at each place before it. The desk comes first, and after it come the parties
 -- by their numbers, the parcels by theirs, the interests, and the files by their numbers.
 abbrev pub IsFirstDifference : Tables → Tables → Difference → Type 0
 IsFirstDifference t u difference.Desk = t.desk ≡ u.desk → ⊥

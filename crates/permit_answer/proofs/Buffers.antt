@@ -86,7 +86,7 @@ fitting now text h e = e ∙ take_all 512 text h
 pub push_as : (mid next old said piece : List ℕ) → mid ≡ take room old → said ≡ piece → next ≡ take room (mid ++ said) → next ≡ take room (old ++ piece)
 push_as mid next old said piece e s f = push_on mid next old piece e (f ∙ ap (λ x. take room (mid ++ x)) s)
 
--- a body behind a head
+-- a body after a head
 pub whole_push : (first body said next : List ℕ) → length first ≤ 256 → length body ≤ 128 → said ≡ body → next ≡ take room (first ++ said) →
     next ≡ first ++ body
 whole_push first body said next h k s f =

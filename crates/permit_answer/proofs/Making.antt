@@ -53,7 +53,7 @@ made_in_memory (Ok made) answer close kind body read k b e =
     made_of_parts answer close 200 kind body (made_bytes made) (sym (read_out_code answer read)) k b e
 made_in_memory (Err _) answer close kind body read k b e = tt
 
--- a head joined to the end of its body, and turned by as many bytes as it has, stands before it
+-- a head joined to the end of its body, and turned by as many bytes as it has, comes before it
 pub turned : (body head joined text : List ℕ) (size count : ℕ) → joined ≡ body ++ head → size ≡ length joined → count ≡ length head
     → text ≡ drop (size - count) joined ++ take (size - count) joined → text ≡ head ++ body
 turned body head joined text size count j s k e =

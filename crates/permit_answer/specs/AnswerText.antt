@@ -19,7 +19,7 @@ pub data AnswerData : Type 0 where
   Replied : (reply : Reply) (action : Action) (day : ℕ) → AnswerData
   Faulted : (fault : Fault) → AnswerData
 
--- the answer that a value of the program stands for
+-- the answer that a value of the program represents
 abbrev pub answer_data : Answer → AnswerData
 answer_data (given.Replied reply action day) = Replied (reply_of reply) action day
 answer_data (given.Fault fault) = Faulted fault

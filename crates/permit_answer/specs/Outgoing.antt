@@ -23,6 +23,6 @@ GoesOut answer close text closes =
 abbrev pub WroteAnswer : AnswerData → Bool → Option (List ℕ) → Option (List ℕ) → Bool → Type 0
 WroteAnswer answer close old new closes = (text : List ℕ) × GoesOut answer close text closes × Appends old new text
 
--- known bytes grew by a beginning of the text that goes out, which isn't the whole
+-- known bytes grew by a prefix of the text that goes out, which isn't the whole
 abbrev pub WroteFrontOfAnswer : AnswerData → Bool → Option (List ℕ) → Option (List ℕ) → Type 0
 WroteFrontOfAnswer answer close old new = (text : List ℕ) × (closes : Bool) × GoesOut answer close text closes × WroteFront old new text

@@ -1,4 +1,4 @@
--- Parcels, papers and files as JSON values. The keys stand in byte order.
+-- Parcels, papers and files as JSON values. The keys are in byte order.
 use Rattle.std.specs.Prelude.{ℕ, List, map, take, codes, Option, None, Some}
 use Rattle.serde_json.specs.Data.{Data, null, boolean, number, unsigned, string, array, object, Members, no_members, member}
 use Rattle.serde_json.specs.View.{items_of}

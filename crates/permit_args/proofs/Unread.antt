@@ -24,7 +24,7 @@ first_true false b h = h
 pub simple_of : (app : App) → is_simple_and_free app ≡ true → is_simple app ≡ true
 simple_of app h = first_true (is_simple app) _ h
 
--- an error of the library is told by its kind
+-- an error of the library is reported by its kind
 pub parser_fault : (app : App) (words : List Text) (k : ErrorKind) (fault : PlanFault) → (k ≡ OutOfMemory) ⊎ IsAmong k (fault_of app words) → IsFaultBy k fault
     → IsParserFault app words fault
 parser_fault app words k (Help text) (inl memory) told = let bad : false ≡ true = sym (ap is_help memory) ∙ told in cc
@@ -101,7 +101,7 @@ pub if_refused : {A : Type 0} (r : Result A PlanFault) (IsFault IsOther : PlanFa
 if_refused (Ok x) IsFault IsOther so is = tt
 if_refused (Err fault) IsFault IsOther so is = so fault is
 
--- what a call passes on to its caller is the fault that it was told
+-- what a call passes on to its caller is the fault that was returned to it
 pub passed_on : {A : Type 0} (IsFault : PlanFault → Type 0) (fault : PlanFault) (r : Result A PlanFault) → IsErrAnd r (λ f. f ≡ fault) → IsFault fault → IfErr r IsFault
 passed_on IsFault fault (Ok x) passed is = tt
 passed_on IsFault fault (Err f) passed is = subst IsFault (sym passed) is

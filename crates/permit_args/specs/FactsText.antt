@@ -1,5 +1,6 @@
 -- Facts in one word: ROLE,RELATIONS,ACTION,STAGE,STOPPED,TIMING.
-use Rattle.std.specs.Prelude.{ℕ, Bool, true, false, ◌==◌, List, [], ◌∷◌, Option, None, Some, option_and_then, codes, bytes_eq, if◌then◌else◌}
+use Rattle.std.specs.Prelude.{ℕ, Bool, true, false, ◌==◌, List, [], ◌∷◌, Option, None, Some, option_and_then, Result, Ok, Err, codes, bytes_eq, if◌then◌else◌}
+use Rattle.std.specs.Result.{result_err, result_ok}
 use Rattle.std.specs.List.{slice_split}
 use Rattle.permit_base.specs.Words.{named, action_word, all_actions, all_relations, all_roles, all_stages, all_timings, relation_word, role_word}
 use Rattle.permit_base.specs.Words.{stage_word, timing_word}
@@ -11,6 +12,8 @@ use Rattle.permit_base.specs.declared.words.Role.{Role}
 use Rattle.permit_base.specs.declared.words.Stage.{Stage}
 use Rattle.permit_base.specs.declared.words.Timing.{Timing}
 use Rattle.permit_model.specs.Facts.{Facts, holds, no_relations}
+use Rattle.permit_args.specs.declared.facts.FactsFault.{FactsFault}
+use Rattle.permit_args.specs.declared.facts.FactsFault.TheVariants as fault
 
 -- the texts between the letters of this kind
 abbrev pub pieces : ℕ → List ℕ → List (List ℕ)
@@ -39,15 +42,38 @@ set_from set (word ∷ words) =
 abbrev pub relations_in : List ℕ → Option Relations
 relations_in text = if bytes_eq text (codes "-") then Some no_relations else set_from no_relations (pieces 43 text)
 
--- the facts of these parts, where each is there
-abbrev pub facts_by : Option Role → Option Relations → Option Action → Option Stage → Option Bool → Option Timing → Option Facts
+-- the facts of these parts, or the first of them that isn't there
+abbrev pub facts_by : Option Role → Option Relations → Option Action → Option Stage → Option Bool → Option Timing → Result Facts FactsFault
 facts_by (Some role) (Some relations) (Some action) (Some stage) (Some stopped) (Some timing) =
-    Some (record { role = role; relations = relations; action = action; stage = stage; stopped = stopped; timing = timing })
-facts_by _ _ _ _ _ _ = None
+    Ok (record { role = role; relations = relations; action = action; stage = stage; stopped = stopped; timing = timing })
+facts_by None _ _ _ _ _ = Err fault.Role
+facts_by _ None _ _ _ _ = Err fault.Relations
+facts_by _ _ None _ _ _ = Err fault.Action
+facts_by _ _ _ None _ _ = Err fault.Stage
+facts_by _ _ _ _ None _ = Err fault.Stopped
+facts_by _ _ _ _ _ None = Err fault.Timing
 
--- six parts, each a word of its kind
-abbrev pub facts_in : List (List ℕ) → Option Facts
-facts_in (role ∷ relations ∷ action ∷ stage ∷ stopped ∷ timing ∷ []) =
+-- six parts, each a word of its kind; else the number of parts is wrong, or the first part that is no such word
+abbrev pub facts_read : List (List ℕ) → Result Facts FactsFault
+facts_read (role ∷ relations ∷ action ∷ stage ∷ stopped ∷ timing ∷ []) =
     facts_by (named role_word all_roles role) (relations_in relations) (named action_word all_actions action)
     (named stage_word all_stages stage) (truth_in stopped) (named timing_word all_timings timing)
-facts_in _ = None
+facts_read _ = Err fault.Count
+
+-- the facts of these parts, where they are facts
+abbrev pub facts_in : List (List ℕ) → Option Facts
+facts_in parts = result_ok (facts_read parts)
+
+-- what is wrong with these parts, where they are no facts
+abbrev pub fault_in : List (List ℕ) → Option FactsFault
+fault_in parts = result_err (facts_read parts)
+
+-- what is taken in place of the part that is wrong
+abbrev pub facts_reason : FactsFault → List ℕ
+facts_reason fault.Count = codes "--facts takes ROLE,RELATIONS,ACTION,STAGE,STOPPED,TIMING: six words between commas"
+facts_reason fault.Role = codes "--facts: ROLE is public, clerk, reviewer, inspector or official"
+facts_reason fault.Relations = codes "--facts: RELATIONS is - or, joined by + and each once, applicant, contractor, owner, assigned-reviewer, assigned-inspector or conflict"
+facts_reason fault.Action = codes "--facts: ACTION is add-party, add-staff, add-parcel, transfer, declare, read-parcel, file, read, list, assign-reviewer, assign-inspector, name-contractor, start-review, return, resubmit, approve-plans, reject, issue, ask-extension, grant-extension, refuse-extension, begin-work, request-inspection, approve-step, notice, clear-notice, stop, lift, revoke, temporary or certify"
+facts_reason fault.Stage = codes "--facts: STAGE is filed, review, returned, approved, rejected, issued, working, revoked, finaled, certified, abandoned, lapsed, new or office"
+facts_reason fault.Stopped = codes "--facts: STOPPED is yes or no"
+facts_reason fault.Timing = codes "--facts: TIMING is none, past, near or ahead"

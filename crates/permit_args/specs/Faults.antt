@@ -23,7 +23,7 @@ is_help kind.DisplayHelp = true
 is_help kind.DisplayVersion = true
 is_help _ = false
 
--- how an error of this kind is told; that memory ran out says nothing of it
+-- how an error of this kind is reported; that memory ran out says nothing of it
 abbrev pub IsFaultBy : ErrorKind → PlanFault → Type 0
 IsFaultBy k (Help text) = is_help k ≡ true
 IsFaultBy k (Words text) = (is_help k ≡ false) × (is_memory k ≡ false)

@@ -168,7 +168,7 @@ abbrev pub IsTokenOf : List Row → TokenWords → Type 0
 IsTokenOf rows (Given text) = (first_of (codes "token") rows ≡ Some text.now) × (first_of (codes "token-file") rows ≡ None)
 IsTokenOf rows (File path) = (first_of (codes "token") rows ≡ None) × (first_of (codes "token-file") rows ≡ Some path.now)
 
--- the files of a history that were found: the copy stands only beside the text
+-- the files of a history that were found: there is a copy only beside the text
 abbrev pub ArePathsOf : List Row → Option HistoryPaths → Type 0
 ArePathsOf rows None = (first_of (codes "history") rows ≡ None) × (first_of (codes "from") rows ≡ None)
 ArePathsOf rows (Some paths) = (first_of (codes "history") rows ≡ Some paths.text.now) × (first_of (codes "from") rows ≡ text_of paths.copy)
@@ -312,7 +312,7 @@ pub record IsReplayOf (rows : List Row) (words : ReplayWords) : Type 0 where
   pub history : ArePathsOf rows (Some words.history)
   pub why : is_given (codes "why") rows ≡ words.why
 
--- the beginning of a history that was found
+-- the words to begin a history that were found
 pub record IsBeginningOf (rows : List Row) (words : BeginHistoryWords) : Type 0 where
   pub db : first_of (codes "db") rows ≡ Some words.db.now
   pub history : first_of (codes "history") rows ≡ Some words.history.now

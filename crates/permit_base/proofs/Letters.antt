@@ -1,4 +1,4 @@
--- Digests and rules' names are ASCII, and a name with zeros behind it is padded.
+-- Digests and rules' names are ASCII, and a name with zeros after it is padded.
 use Rattle.std.proofs.Common.{◌≡◌, ℕ, ◌+◌, ◌-◌, ◌<◌, ◌≤◌, Bool, true, List, [], ◌∷◌, ◌++◌, length, take, drop, sym, ap, ◌∙◌, arith}
 use Rattle.std.specs.Prelude.{IsTrue, replicate}
 use Rattle.std.specs.List.{list_all}
@@ -32,7 +32,7 @@ pub IsUtf8-rule_name : (letters : List ℕ) → IsTrue (is_rule_name letters) �
 IsUtf8-rule_name letters h =
     IsUtf8-from_ascii letters (IsAscii-passing is_name_letter is_name_letter-small letters (and_parts _ _ h).1)
 
--- a name of at most 32 letters leaves the zeros behind it
+-- a name of at most 32 letters leaves the zeros after it
 padded-name : (name : List ℕ) → length name ≤ 32 → padded name ≡ name ++ drop (length name) (replicate 32 0)
 padded-name name short =
     let split : length name + (32 - length name) ≡ 32 = omega arith in

@@ -46,7 +46,7 @@ stage_facts stage.Office = record plain { of_file = false; stored = false }
 abbrev pub is_file_stage : Stage → Bool
 is_file_stage s = (stage_facts s).of_file
 
--- whether a deadline stands
+-- whether a deadline runs
 abbrev pub is_running : Expiry → Bool
 is_running Never = false
 is_running Application = true

@@ -1,4 +1,4 @@
--- Steps written down behind those that lead somewhere.
+-- Steps written down after those that lead somewhere.
 use Rattle.std.proofs.Common.{List, [], ◌∷◌, ◌++◌, refl, subst, sym}
 use Rattle.permit_model.specs.Tables.{Tables}
 use Rattle.permit_batch.specs.Leading.{LeadThrough}

@@ -1,4 +1,4 @@
--- One entry more is told.
+-- One entry more is printed.
 use Rattle.std.proofs.Common.{◌≡◌, refl, sym, ap, ◌∙◌, subst, ℕ, List, [], ◌∷◌, ◌++◌, Option, None, Some, option_map, append_assoc, inl, inr}
 use Rattle.std.specs.Prelude.{◌⊎◌, Ok, IfSome}
 use Rattle.std.specs.Io.BufRead.{drop_through}
@@ -34,7 +34,7 @@ given_more bytes (first ∷ later) left entry given answer = (given.0, given_mor
 
 -- ---- what is written
 
--- the roles that entries tell
+-- the roles that entries give
 abbrev pub roles_by : List (Option Role) → List Entry → List (Option Role)
 roles_by roles [] = roles
 roles_by roles (entry ∷ later) = roles_by (roles_with roles entry.deed) later
@@ -59,7 +59,7 @@ module _ (wanted : Wanted) (roles : List (Option Role)) (entries : List Entry) (
       subst (λ text. Appends old new text) (sym (told_more wanted roles entries entry))
       (Appends-trans old mid new (told_from wanted roles entries) (part wanted (roles_by roles entries) entry) has wrote)
 
-  -- and a beginning of it
+  -- and a prefix of it
   pub some_more : Appends old mid (told_from wanted roles entries) → WroteFront mid new (part wanted (roles_by roles entries) entry)
       → WritesSome wanted roles old new
   some_more has wrote = (
@@ -71,7 +71,7 @@ module _ (wanted : Wanted) (roles : List (Option Role)) (entries : List Entry) (
 -- ---- both
 
 module _ (wanted : Wanted) (roles : List (Option Role)) (bytes : List ℕ) where
-  -- nothing is told yet
+  -- nothing is printed yet
   pub has_none : (old : Option (List ℕ)) → HasTold wanted roles bytes [] bytes old old
   has_none old = record { given = refl; written = Appends-nil old }
 
@@ -83,7 +83,7 @@ module _ (wanted : Wanted) (roles : List (Option Role)) (bytes : List ℕ) where
     written = lines_more wanted roles entries entry old mid new has.written wrote;
   }
 
-  -- a beginning of what the entry adds is written
+  -- a prefix of what the entry adds is written
   pub has_front : (entries : List Entry) (left : List ℕ) (entry : Entry) (old mid new : Option (List ℕ)) → HasTold wanted roles bytes entries left old mid
       → AnswersLine (Ok entry) (next_line left) → WroteFront mid new (part wanted (roles_by roles entries) entry)
       → GivesInTurn bytes (entries ++ entry ∷ []) (drop_through 10 left) × WroteFront old new (told_from wanted roles (entries ++ entry ∷ []))
@@ -93,7 +93,7 @@ module _ (wanted : Wanted) (roles : List (Option Role)) (bytes : List ℕ) where
         (front_of_both old mid new (told_from wanted roles entries) (part wanted (roles_by roles entries) entry) has.written wrote),
   )
 
-  -- a failure while the entry was told
+  -- a failure while the entry was printed
   pub stopped_in : (entries : List Entry) (left : List ℕ) (entry : Entry) (old mid new : Option (List ℕ)) (fault : ChronicleFault)
       → HasTold wanted roles bytes entries left old mid → AnswersLine (Ok entry) (next_line left)
       → WroteFront mid new (part wanted (roles_by roles entries) entry) → (fault ≡ Output) ⊎ ((fault ≡ Memory) × (new ≡ mid))

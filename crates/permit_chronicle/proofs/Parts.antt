@@ -14,7 +14,7 @@ use Rattle.permit_chronicle.specs.Wanted.{is_wanted}
 joined : (a b c d : List ℕ) → a ++ b ++ c ++ d ≡ a ++ (b ++ (c ++ d))
 joined a b c d = append_assoc (a ++ b) c d ∙ append_assoc a b (c ++ d)
 
--- what is told, one part after another
+-- what is printed, one part after another
 pub told_is : (role : Option Role) (deed : Deed) (caller : ℕ) (done old with_who with_done whole : List ℕ) → caller ≡ caller_in deed
     → done ≡ done_word deed → with_who ≡ old ++ spaced (who role caller) → with_done ≡ with_who ++ spaced done
     → whole ≡ with_done ++ about deed → whole ≡ old ++ told role deed

@@ -12,11 +12,11 @@ use Rattle.permit_history.specs.declared.entry.Deed.TheVariants as deed
 use Rattle.permit_history.specs.declared.entry.Entry.{Entry}
 use Rattle.permit_history.specs.LineData.{caller_in, done_word}
 
--- a word behind a space
+-- a word after a space
 abbrev pub spaced : List ℕ → List ℕ
 spaced text = codes " " ++ text
 
--- a word and a number, each behind a space
+-- a word and a number, each after a space
 abbrev pub counted : List ℕ → ℕ → List ℕ
 counted name n = spaced name ++ spaced (decimal n)
 
@@ -68,7 +68,7 @@ about deed.Upgrade = []
 about (deed.RenewToken party digest) = counted (codes "party") party
 about (deed.Accepted caller act) = about_act act
 
--- the word for a role, or for a party whose role no entry tells
+-- the word for a role, or for a party whose role no entry gives
 abbrev pub role_or_party : Option Role → List ℕ
 role_or_party None = codes "party"
 role_or_party (Some role) = role_word role

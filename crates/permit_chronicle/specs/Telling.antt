@@ -17,15 +17,15 @@ use Rattle.permit_chronicle.specs.declared.wanted.Wanted.{Wanted}
 use Rattle.permit_chronicle.specs.Lines.{line}
 use Rattle.permit_chronicle.specs.Wanted.{is_wanted}
 
--- the roles of the parties, by their numbers, of which no entry has told one yet
+-- the roles of the parties, by their numbers, of which no entry has given one yet
 unfoldable pub no_roles : List (Option Role)
 no_roles = replicate (most_records + 1) None
 
--- the role of a party, where an entry told it
+-- the role of a party, where an entry gave it
 abbrev pub role_of : List (Option Role) → ℕ → Option Role
 role_of roles party = unwrap_or (slice_get roles party) None
 
--- the roles with the one that an entry tells: the founder is an official
+-- the roles with the one that an entry gives: the founder is an official
 abbrev pub roles_with : List (Option Role) → Deed → List (Option Role)
 roles_with roles (deed.Begin tables) = roles
 roles_with roles (deed.Found name digest) = slice_set roles 1 (Some Official)
@@ -51,7 +51,7 @@ told_from wanted roles (entry ∷ later) = part wanted roles entry ++ told_from 
 abbrev pub WritesLines : Wanted → List (Option Role) → Option (List ℕ) → Option (List ℕ) → Type 0
 WritesLines wanted roles old new = (entries : List Entry) × Appends old new (told_from wanted roles entries)
 
--- they grew by such lines, or by a beginning of such
+-- they grew by such lines, or by a prefix of such
 abbrev pub WritesSome : Wanted → List (Option Role) → Option (List ℕ) → Option (List ℕ) → Type 0
 WritesSome wanted roles old new =
     (entries : List Entry) × (Appends old new (told_from wanted roles entries) ⊎ WroteFront old new (told_from wanted roles entries))
@@ -63,14 +63,14 @@ pub record HasTold (wanted : Wanted) (roles : List (Option Role)) (bytes : List 
   pub given : GivesInTurn bytes entries left
   pub written : Appends old new (told_from wanted roles entries)
 
--- the text is told whole: no line is left behind its entries
+-- the text is printed whole: no line is left after its entries
 abbrev pub IsTold : Wanted → List (Option Role) → List ℕ → Option (List ℕ) → Option (List ℕ) → Type 0
 IsTold wanted roles bytes old new =
     (entries : List Entry) × (left : List ℕ) × HasTold wanted roles bytes entries left old new × (next_line left ≡ None)
 
--- Telling a text stops at the lowest line that is no entry's, or at a failure. The lines of the entries before it are written. Where a
--- write failed, a beginning of the next line is. A text that is told to have no end begins with so many entries that the next lines
--- have no number of 64 bits.
+-- Printing a text stops at the lowest line that is no entry's, or at a failure. The lines of the entries before it are written.
+-- Where a write failed, a prefix of the next line is. A text that is said to have no end begins with so many entries that the next
+-- lines have no number of 64 bits.
 abbrev pub StopsAt : Wanted → List (Option Role) → List ℕ → Option (List ℕ) → Option (List ℕ) → ChronicleFault → Type 0
 StopsAt wanted roles bytes old new (fault.Line line why) =
     (entries : List Entry) × (left : List ℕ) × HasTold wanted roles bytes entries left old new × (line ≡ length entries + 1)

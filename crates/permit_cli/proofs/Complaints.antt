@@ -26,7 +26,7 @@ known_said why known before after result is printed =
 regroup : (a b c d e : List ℕ) → (((a ++ b) ++ c) ++ d) ++ e ≡ (a ++ (b ++ c)) ++ (d ++ e)
 regroup a b c d e = simp append_assoc
 
--- two numbers, each behind a text
+-- two numbers, each after a text
 pub place_said : (front code shown between place end : List ℕ) (before middle after : Option (List ℕ)) (result : Result (Unit {0}) Failure) → shown ≡ code →
     Appends before middle (front ++ (shown ++ between)) → Prints (place ++ end) middle after result →
     Prints ((((front ++ code) ++ between) ++ place) ++ end) before after result

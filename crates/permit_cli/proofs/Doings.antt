@@ -1,4 +1,4 @@
--- What is told of a plan, by what an office makes of its question.
+-- What is reported of a plan, by what an office makes of its question.
 use Rattle.std.proofs.Common.{◌≡◌, ◌⊎◌, inl, inr, ℕ, Bool, List, Option, None, Some, Result, Ok, Err, refl, sym, subst}
 use Rattle.std.specs.Prelude.{IfOk, IfSome, IfNone, string_bytes}
 use Rattle.jiff.specs.Placed.{IsPosixZone}
@@ -39,7 +39,7 @@ use Rattle.permit_cli.specs.declared.outcome.Outcome.TheVariants as outcome
 use Rattle.permit_cli.specs.declared.question.Question.{Question}
 use Rattle.permit_cli.specs.declared.question.Question.TheVariants as question
 
--- ---- what is told of a question
+-- ---- what is reported of a question
 
 answer_told : {S : Type 0} (view : S → StoreView) (day : ℕ) (request : List ℕ) (old new : OfficeView S) (done : Outcome) →
     AnswersWith view day request old new (Ok done) → IsAnswerTo day request done
@@ -64,7 +64,7 @@ import_told view token day why path left before after old new done (Ok tally) to
     subst (IsImported why before after) is (left, imports.rows, imports.replies, imports.ends)
 import_told view token day why path left before after old new done (Err fault) told imports = let is : Ok done ≡ Err told.0 = told.2 in cc
 
--- what an office makes of a question, as the program tells it
+-- what an office makes of a question, as the program reports it
 pub told_of : {S R : Type 0} (view : S → StoreView) (remaining : R → Option (List ℕ)) (day : ℕ) (asked : Question R) (old new : OfficeView S)
     (before after : Option (List ℕ)) (result : Result Outcome Failure) → IsAnswered view remaining day asked old new before after result →
     IfOk result (IsToldOf day asked before after)
@@ -99,7 +99,7 @@ pub run_day_read : (P : Option Timestamp → Type 0) (words : DayWords) (day : �
     IsRunDay words day
 run_day_read P words day dated of_clock = run_day (λ (_ : ℕ). P) 0 words day dated of_clock
 
--- ---- what is told of the words
+-- ---- what is reported of the words
 
 pub acts_as : {R : Type 0} (words : ActWords) (token : List ℕ) (asked : Question R) (before after : Option (List ℕ)) (done : Outcome) →
     IsTokenOf words.office.token token → AsksRequest words token asked → IsToldOnRunDay words.office.days asked before after done →

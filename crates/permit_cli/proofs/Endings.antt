@@ -15,7 +15,7 @@ use Rattle.permit_sockets.specs.Ending.{HaveEnded, is_stopped}
 use Rattle.permit_sockets.specs.declared.connections.Connections.{Connections}
 use Rattle.permit_cli.specs.Served.{told_by, told_of_ends, HasEndedAs, IsUnserved}
 
--- what is told where a door found the flag set, and where none did
+-- what is reported where a door found the flag set, and where none did
 pub told_stopped : {C W : Type 0} (ends : List (Option (DoorEnd (Connections C W)))) (stopped : Bool) (why : Failure) → stopped ≡ list_any is_stopped ends →
     stopped ≡ true → why ≡ plain Store → Err why ≡ told_of_ends ends
 told_stopped ends stopped why is found memory = ap Err memory ∙ ap told_by (sym found ∙ is)
@@ -26,7 +26,7 @@ told_spent ends stopped is unfound = ap told_by (sym unfound ∙ is)
 
 module _ {S X In Out C W : Type 0} (view : S → StoreView) (tick : X → ℕ → X → Type 0) (remaining : In → Option (List ℕ)) (contents : Out → Option (List ℕ))
     (gave : Connections C W → Option (In × Out) → Connections C W → Type 0) (spent : Connections C W → Type 0) where
-  -- doors that have ended, and what is told of them
+  -- doors that have ended, and what is reported of them
   pub ended_so : (workers : ℕ) (connections : Option ℕ) (before after : Option (List ℕ)) (ends : List (Option (DoorEnd (Connections C W))))
       (old new : OfficeView S) (c d : X) (result : Result (Unit {0}) Failure) →
       ((served : List (Entry Asked Dated)) × OneHistory view tick workers old new c d served

@@ -15,7 +15,7 @@ use Rattle.permit_sql.specs.Seen.{seen}
 use Rattle.permit_cli.specs.Opening.{IsOver, Opens, OpensInMemory, StillShows}
 
 module _ {S : Type 0} (g : Ghosts S) where
-  -- the store that an open gave, told of a flag or not
+  -- the store that an open gave, given a flag or not
   pub is_over : (conn was now : Held S) (upgrade upgrade' : Option ℕ) (handed failed commits handed' failed' commits' : ℕ) →
       ((t : Tables) → (HasCleanDisk (state g was) → Shows t (state g conn)) → (seen (state g was) upgrade handed failed commits).holds t) →
       (HasCleanDisk (state g was) → ¬ HasOtherVersion Second (state g conn).now) → (handed ≡ 0) × (failed ≡ 0) × (commits ≡ 0) →

@@ -1,4 +1,4 @@
--- What is told of a renewal that is refused.
+-- What is reported of a renewal that is refused.
 use Rattle.std.proofs.Common.{◌≡◌, ◌⊎◌, inl, inr, ℕ, List, Some, Err, refl, sym, subst}
 use Rattle.sqlite.specs.Effect.{Database}
 use Rattle.permit_base.specs.Digests.{digest_of}
@@ -18,7 +18,7 @@ use Rattle.permit_subcommands.specs.declared.failure.Failure.{Failure}
 use Rattle.permit_keeping.specs.Failing.{renewal_failure}
 use Rattle.permit_cli.specs.Founded.{IsRenewedAs}
 
--- what is told of an error that is known
+-- what is reported of an error that is known
 known : (party : ℕ) (token : List ℕ) (db : Database) (is error : RenewError) → error ≡ is → IsRenewedAs party token db (Err (renewal_failure is)) →
     IsRenewedAs party token db (Err (renewal_failure error))
 known party token db is error same told = subst (λ (e : RenewError). IsRenewedAs party token db (Err (renewal_failure e))) (sym same) told

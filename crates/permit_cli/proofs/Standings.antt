@@ -1,4 +1,4 @@
--- Which tables stand in a database, by two looks at its version and two at its schema.
+-- Which tables are in a database, by two looks at its version and two at its schema.
 use Rattle.std.proofs.Common.{◌≡◌, Bool, true, false, refl, sym, ap, subst, ◌∙◌, true≢false}
 use Rattle.std.specs.Prelude.{◌↔◌, IsTrue}
 use Rattle.sqlite.specs.Effect.{Database}
@@ -9,7 +9,7 @@ use Rattle.permit_sql_rows.specs.Schema.{IsOffice}
 use Rattle.permit_sql.specs.Opening.{HasOtherVersion}
 use Rattle.permit_cli.specs.Reasons.{standing_by, HasOffice, HasUnknownVersion, Stands}
 
--- what two looks tell of an edition: whether the desk says another version, and whether the schema is an office's under it
+-- what two looks say of an edition: whether the desk says another version, and whether the schema is an office's under it
 pub record Tells (edition : Edition) (db : Database) (says_other is_schema : Bool) : Type 0 where
   pub other : IsTrue says_other → HasOtherVersion edition db
   pub told : HasOtherVersion edition db → IsTrue says_other
@@ -38,7 +38,7 @@ no_offices : (db : Database) (n m f s : Bool) → Tells First db n f → Tells S
 no_offices db n m f s first second not_first not_second First = no_office First db n f first not_first
 no_offices db n m f s first second not_first not_second Second = no_office Second db m s second not_second
 
--- the tables that the looks tell stand there
+-- the tables that the looks name are there
 pub stands_by : (db : Database) (n m f s : Bool) → Tells First db n f → Tells Second db m s → Stands db (standing_by n m f s)
 stands_by db true true f s first second = (first.other refl, second.other refl)
 stands_by db false m true s first second = office First db first
@@ -51,7 +51,7 @@ stands_by db false true false s first second =
 stands_by db false false false false first second =
     (no_offices db false false false false first second (λ says shows. true≢false (sym shows)) (λ says shows. true≢false (sym shows)), known_first db false first)
 
--- what the looks tell of a database that stays as it is
+-- what the looks say of a database that stays as it is
 pub tells : (edition : Edition) (db now : Database) (shown : Schema) (says_other is_schema : Bool) → (IsTrue says_other → HasOtherVersion edition db) →
     (HasOtherVersion edition db → IsTrue says_other) → (IsTrue is_schema ↔ IsOffice edition shown) → shown ≡ now.schema → now ≡ db →
     Tells edition db says_other is_schema

@@ -1,4 +1,4 @@
--- What is told of a database's tables, and of an office that was brought further.
+-- What is reported of a database's tables, and of an office that was brought further.
 use Rattle.std.proofs.Common.{◌≡◌, inl, ℕ, List, Option, Result, Ok, sym, subst}
 use Rattle.permit_model.specs.Tables.{Desk}
 use Rattle.permit_opening.specs.declared.bringing.Brought.{Brought}

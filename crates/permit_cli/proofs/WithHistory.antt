@@ -1,4 +1,4 @@
--- Which failures an office with its history comes to, as the program tells them.
+-- Which failures an office with its history comes to, as the program reports them.
 use Rattle.std.proofs.Common.{◌≡◌, ◌∙◌, ◌⊎◌, ℕ, Bool, List, Option, Result, Ok, Err, inl, inr, refl, sym, subst}
 use Rattle.std.specs.Prelude.{IfErr, IfOk, IsTrue}
 use Rattle.permit_answer.specs.declared.answer.Answer.{Answer}
@@ -140,7 +140,7 @@ unbegun_so failure.Zone is = cc
 unbegun_so (failure.Listen address) is = cc
 unbegun_so failure.Output is = cc
 
--- a history isn't told to its end
+-- a history isn't printed to its end
 abbrev Untold : List ℕ → Failure → Type 0
 Untold path why = (IsOfHistory why ⊎ IsUnread path why) ⊎ (why ≡ failure.Output)
 
@@ -166,7 +166,7 @@ at_ok {A = A} {E = E} P result a is said = subst (λ (r : Result A E). IfOk r P)
 pub at_err : {A E : Type 0} (P : E → Type 0) (result : Result A E) (e : E) → result ≡ Err e → IfErr result P → P e
 at_err {A = A} {E = E} P result e is said = subst (λ (r : Result A E). IfErr r P) is said
 
--- the answer of an office with its history, as the program tells it
+-- the answer of an office with its history, as the program reports it
 pub answer_told : {S T H : Type 0} (g : Ghosts S) (begins : Unsaid → Type 0) (view inner : T → StoreView) (conn_of : T → Held S) (text : H → List ℕ)
     (may_leave : H → List ℕ → Type 0) (is_clean : H → Bool) (leaves : List ℕ → List ℕ → Type 0) (policy : Policy) (conn back : Held S)
     (before : List ℕ) (day : ℕ) (request : List ℕ) (given : Answer)
@@ -181,7 +181,7 @@ pub unserved_so : (address : List ℕ) (why : Failure) → IsTrue (is_unopened w
 unserved_so address why (inl is) = inl (unopened_so why is)
 unserved_so address why (inr unheard) = inr unheard
 
--- an import by an office with its history, as the program tells it
+-- an import by an office with its history, as the program reports it
 module _ {S T H : Type 0} (g : Ghosts S) (begins : Unsaid → Type 0) (view inner : T → StoreView) (conn_of : T → Held S) (text : H → List ℕ)
     (may_leave : H → List ℕ → Type 0) (is_clean : H → Bool) (leaves : List ℕ → List ℕ → Type 0) (policy : Policy) (conn back : Held S)
     (was token : List ℕ) (day : ℕ) (asked : Bool) (records before after : Option (List ℕ)) (path : List ℕ) where

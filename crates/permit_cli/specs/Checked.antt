@@ -1,4 +1,4 @@
--- What is told of a database whose tables are tested.
+-- What is reported of a database whose tables are tested.
 use Rattle.std.specs.Prelude.{◌≡◌, Bool, IsTrue, Result, Ok, Err, Some}
 use Rattle.sqlite.specs.Effect.{Database}
 use Rattle.permit_base.specs.declared.words.Edition.TheVariants.{Second}
@@ -22,7 +22,7 @@ pub record IsPlaceOf (db : Database) (fault : Fault) : Type 0 where
   pub false_there : (t : Tables) → AreTyped t → Keeps t db → IsTrue (breaks t fault)
   pub first : (t : Tables) → AreTyped t → Keeps t db → IsFirst t (Some fault)
 
--- a place, or none, and then the tables aren't told as sound either
+-- a place, or none, and then the tables aren't reported as sound either
 abbrev pub IsNamedAs : Database → Result Outcome Failure → Type 0
 IsNamedAs db (Ok (outcome.Unsound fault)) = IsPlaceOf db fault
 IsNamedAs db (Ok _) = ⊥

@@ -46,7 +46,7 @@ IsClockDayIn rule day = (zone : TimeZone) × IsPosixZone rule zone × IsClockDay
 abbrev pub IsRunDay : DayWords → ℕ → Type 0
 IsRunDay words day = IfSome words.day (λ date. IsTextOf day date.now) × IfNone words.day (IsClockDayIn (zone_of words) day)
 
--- ---- what is told of a question
+-- ---- what is reported of a question
 
 -- the answer to what the bytes ask, with the day, or their fault
 abbrev pub IsAnswerTo : ℕ → List ℕ → Outcome → Type 0
@@ -63,13 +63,13 @@ IsListing _ = ⊥
 abbrev pub IsRegistered : RegisterKind → ℕ → Option (List ℕ) → Option (List ℕ) → Outcome → Type 0
 IsRegistered kind day before after done = (done ≡ outcome.Registered) × WritesSome kind day before after (Ok tt)
 
--- the lines of some records and their counts are written, which are told, and with a reason after a refusal where it is asked for
+-- the lines of some records and their counts are written, which are reported, with a reason after a refusal where it is asked for
 abbrev pub IsImported : Bool → Option (List ℕ) → Option (List ℕ) → Outcome → Type 0
 IsImported why before after (outcome.Imported tally) =
     (left : Option (List ℕ)) × (rows : List Fields) × (replies : List Reply) × EndsOf why left before after (Ok tally) rows (outcomes_of rows replies)
 IsImported why before after _ = ⊥
 
--- what is told of a question to some office on the day, and written on the way
+-- what is reported of a question to some office on the day, and written on the way
 abbrev pub IsToldOf : {R : Type 0} → ℕ → Question R → Option (List ℕ) → Option (List ℕ) → Outcome → Type 0
 IsToldOf day (question.Serve request) before after done = IsAnswerTo day (string_bytes request) done × (after ≡ before)
 IsToldOf day (question.List token filter) before after done = IsListing done × (after ≡ before)
@@ -80,7 +80,7 @@ IsToldOf day (question.Import token path records why) before after done = IsImpo
 abbrev pub IsToldOnRunDay : {R : Type 0} → DayWords → Question R → Option (List ℕ) → Option (List ℕ) → Outcome → Type 0
 IsToldOnRunDay words asked before after done = (day : ℕ) × IsRunDay words day × IsToldOf day asked before after done
 
--- ---- what is told of a plan
+-- ---- what is reported of a plan
 
 -- what is said of some policy
 abbrev pub Says : Check → List ℕ → Type 0

@@ -108,12 +108,12 @@ IsUnbegun history why = IsSomeAnd history (λ path. IsOfHistory why)
 abbrev pub IsRefusal : Failure → Type 0
 IsRefusal why = (refusal : Refusal) × (why ≡ failure.Refused (refused_by refusal))
 
--- an import stops before its end, and what stands of its lines
+-- an import stops before its end, and what is written of its lines
 abbrev pub StopsImport : List ℕ → Bool → Option (List ℕ) → Option (List ℕ) → Failure → Type 0
 StopsImport path asked before after why = (fault : ImportFault) × IsFailureOfImport path fault why × (left : Option (List ℕ)) × (rows : List Fields)
     × (replies : List Reply) × EndsOf asked left before after (Err fault) rows (outcomes_of rows replies)
 
--- some office that is asked on the day fails so; of a register and an import a beginning may stand
+-- some office that is asked on the day fails so; of a register and an import a prefix may be written
 abbrev pub FailsOf : {R : Type 0} → ℕ → Question R → Option (List ℕ) → Option (List ℕ) → Failure → Type 0
 FailsOf day (question.Serve request) before after why = (why ≡ plain word.Store) × (after ≡ before)
 FailsOf day (question.List token filter) before after why = IsRefusal why × (after ≡ before)
@@ -164,7 +164,7 @@ FailsToAct words why = IsUnmade words why ⊎ IsUnasked words.office why
 abbrev pub FailsToList : OfficeWords → Failure → Type 0
 FailsToList words why = IsUncalled words.token why ⊎ (IsUnasked words why ⊎ IsRefusal why)
 
--- nothing is written, or a beginning of a register of the day of the run
+-- nothing is written, or a prefix of a register of the day of the run
 abbrev pub FailsToRegister : RegisterWords → Option (List ℕ) → Option (List ℕ) → Failure → Type 0
 FailsToRegister words before after why = ((IsUncalled words.office.token why ⊎ IsUnasked words.office why) × (after ≡ before))
     ⊎ ((day : ℕ) × IsRunDay words.office.days day × WritesSome words.kind day before after (Err why))

@@ -1,4 +1,4 @@
--- What is told of a database in which an office is founded, of one that is upgraded, and of one in which a token is renewed.
+-- What is reported of a database in which an office is founded, of one that is upgraded, and of one in which a token is renewed.
 use Rattle.std.specs.Prelude.{◌≡◌, ◌≢◌, ◌⊎◌, ℕ, List, Option, None, Some, Result, Ok, Err}
 use Rattle.sqlite.specs.Effect.{Database}
 use Rattle.permit_base.specs.Digests.{digest_of}
@@ -21,7 +21,7 @@ use Rattle.permit_subcommands.specs.declared.failure.Failure.TheVariants as fail
 use Rattle.permit_cli.specs.declared.outcome.Outcome.{Outcome}
 use Rattle.permit_cli.specs.declared.outcome.Outcome.TheVariants as outcome
 
--- It is told as founded where it was empty, and as one that exists where it wasn't. A failed call says nothing of it.
+-- It is reported as founded where it was empty, and as one that exists where it wasn't. A failed call says nothing of it.
 abbrev pub IsFoundedAs : Database → Result Outcome Failure → Type 0
 IsFoundedAs db (Ok outcome.Founded) = db.schema ≡ empty_schema
 IsFoundedAs db (Ok _) = ⊥
@@ -29,7 +29,7 @@ IsFoundedAs db (Err (failure.Database opening.Exists)) = db.schema ≢ empty_sch
 IsFoundedAs db (Err (failure.Database opening.Store)) = Unit {0}
 IsFoundedAs db (Err _) = ⊥
 
--- It is told as upgraded with the count of its files, or why it isn't.
+-- It is reported as upgraded with the count of its files, or why it isn't.
 abbrev pub IsUpgradedAs : Database → Database → Result Outcome Failure → Type 0
 IsUpgradedAs old new (Ok (outcome.Upgraded files)) = IsUpgraded files old new
 IsUpgradedAs old new (Ok _) = ⊥
@@ -38,18 +38,18 @@ IsUpgradedAs old new (Err (failure.Database opening.Version)) = HasOtherVersion 
 IsUpgradedAs old new (Err (failure.Database opening.Store)) = Unit {0}
 IsUpgradedAs old new (Err _) = ⊥
 
--- what stands against giving the party the token, in the tables that the database keeps
+-- what is against giving the party the token, in the tables that the database keeps
 abbrev pub StandsAgainst : ℕ → List ℕ → Database → Option Refusal → Type 0
 StandsAgainst party token db against = (t : Tables) → Keeps t db → against_renewal t.parties party (digest_of token) ≡ against
 
--- It is told that there is no such party, or that a party has the token, where that stands against it.
+-- It is reported that there is no such party, or that a party has the token, where that is against it.
 abbrev pub IsRefusedRenewal : ℕ → List ℕ → Database → Refused → Type 0
 IsRefusedRenewal party token db why =
     (against : Refusal) × (why ≡ refused_by against) × ((against ≡ refusal.Record) ⊎ (against ≡ refusal.NotAdmitted reason.Taken))
     × StandsAgainst party token db (Some against)
 
--- It is told by the party's number where nothing stood against it, or why the party has no new token. A failed call says nothing of
--- the tables.
+-- It is reported by the party's number where nothing is against it, or why the party has no new token. A failed call says nothing
+-- of the tables.
 abbrev pub IsRenewedAs : ℕ → List ℕ → Database → Result Outcome Failure → Type 0
 IsRenewedAs party token db (Ok (outcome.Renewed number)) = (number ≡ party) × KeepsSound db × StandsAgainst party token db None
 IsRenewedAs party token db (Ok _) = ⊥

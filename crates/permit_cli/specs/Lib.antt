@@ -11,3 +11,4 @@ pub mod Running
 pub mod Served
 pub mod Telling
 pub mod Wanting
+pub mod Working

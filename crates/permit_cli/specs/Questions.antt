@@ -1,4 +1,4 @@
--- What an office makes of what it is asked, and how the program tells it.
+-- What an office makes of what it is asked, and how the program reports it.
 use Rattle.std.specs.Prelude.{◌≡◌, ℕ, Bool, List, Option, Result, Ok, Err, string_bytes}
 use Rattle.sqlite_trees.specs.declared.store.Store.{Ghosts}
 use Rattle.sqlite.specs.Held.{Held}
@@ -29,7 +29,7 @@ use Rattle.permit_cli.specs.declared.outcome.Outcome.TheVariants as outcome
 use Rattle.permit_cli.specs.declared.question.Question.{Question}
 use Rattle.permit_cli.specs.declared.question.Question.TheVariants as question
 
--- what came of it is told so; a failure stays as it is
+-- what came of it is reported so; a failure stays as it is
 abbrev pub told_as : {A : Type 0} → (A → Outcome) → Result A Failure → Result Outcome Failure
 told_as did (Ok came) = Ok (did came)
 told_as did (Err why) = Err why
@@ -46,14 +46,14 @@ pub record ServesRequest {S : Type 0} (view : S → StoreView) (day : ℕ) (requ
   pub answer : AnswersWith view day request old new result
   pub moves : Moves view day old new
 
--- files are listed by one step of the office, whose reply is told
+-- files are listed by one step of the office, whose reply is reported
 pub record ListsFiles {S : Type 0} (view : S → StoreView) (day : ℕ) (token : List ℕ) (filter : Filter) (old new : OfficeView S)
     (result : Result Outcome Failure) : Type 0 where
   pub reply : Reply
   pub step : Steps view day (record { token = token; request = request.ListFiles filter }) reply old new
   pub told : result ≡ told_as outcome.Listed (listed reply)
 
--- a register is written as `write_register` writes it, and nothing else is told of it than that, or why it isn't whole
+-- a register is written as `write_register` writes it, and nothing else is reported of it than that, or why it isn't whole
 pub record WritesRegister {S : Type 0} (view : S → StoreView) (day : ℕ) (token : List ℕ) (kind : RegisterKind) (before after : Option (List ℕ))
     (old new : OfficeView S) (result : Result Outcome Failure) : Type 0 where
   pub written : Result (Unit {0}) Failure
@@ -79,7 +79,7 @@ pub record ImportsRecords {S : Type 0} (view : S → StoreView) (day : ℕ) (why
   pub told : TellsImport path ended result
   pub imports : Imports view token day why records before after old new ended
 
--- What the office makes of the question, what is told of it, and what is written on the way: a register, or the lines of
+-- What the office makes of the question, what is reported of it, and what is written on the way: a register, or the lines of
 -- an import, and else nothing.
 abbrev pub IsAnswered : {S R : Type 0} → (S → StoreView) → (R → Option (List ℕ)) → ℕ → Question R → OfficeView S → OfficeView S
     → Option (List ℕ) → Option (List ℕ) → Result Outcome Failure → Type 0

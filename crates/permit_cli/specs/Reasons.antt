@@ -59,13 +59,13 @@ pub record HasOffice (edition : Edition) (db : Database) : Type 0 where
 abbrev pub HasUnknownVersion : Database → Type 0
 HasUnknownVersion db = HasOtherVersion First db × HasOtherVersion Second db
 
--- which tables stand in a database
+-- which tables are in a database
 abbrev pub Stands : Database → Standing → Type 0
 Stands db (standing.Office edition) = HasOffice edition db
 Stands db standing.OtherVersion = HasUnknownVersion db
 Stands db standing.OtherTables = ((edition : Edition) → ¬ HasOffice edition db) × ¬ HasUnknownVersion db
 
--- which tables stand there, by whether the desk says another version than the first and than the second, and by whether the schema
+-- which tables are there, by whether the desk says another version than the first and than the second, and by whether the schema
 -- is that of the first and of the second
 abbrev pub standing_by : (not_first not_second is_first is_second : Bool) → Standing
 standing_by not_first not_second is_first is_second =
@@ -73,7 +73,7 @@ standing_by not_first not_second is_first is_second =
     else (if not not_first && is_first then standing.Office First
     else (if not not_second && is_second then standing.Office Second else standing.OtherTables))
 
--- Why tables of the edition can't be used, though they stand there: an office is there already, its rows break the rules, or the
+-- Why tables of the edition can't be used, though they are there: an office is there already, its rows break the rules, or the
 -- disk failed.
 abbrev pub reason_of_wanted : Edition → OpenError → Reason
 reason_of_wanted First opening.Damaged = reason.BadFirstRows
@@ -91,7 +91,7 @@ reason_for First why (standing.Office Second) = reason.SecondVersion
 reason_for _ why standing.OtherVersion = reason.OtherVersion
 reason_for _ why standing.OtherTables = reason.OtherTables
 
--- What is told of the tables is so. That a call failed says nothing of them.
+-- What is reported of the tables is so. That a call failed says nothing of them.
 abbrev pub IsReasonOf : Edition → OpenError → Database → Reason → Type 0
 IsReasonOf wanted why db told = (told ≡ reason.Failed) ⊎ ((found : Standing) × Stands db found × (told ≡ reason_for wanted why found))
 
@@ -117,6 +117,6 @@ is_of_path reason.BadFirstRows = false
 is_of_path reason.BadRows = false
 is_of_path _ = true
 
--- what may be told of the failure, whatever the disk gives
+-- what may be reported of the failure, whatever the disk gives
 abbrev pub IsReasonFor : Edition → OpenError → Reason → Type 0
 IsReasonFor wanted why told = IsTrue (is_of_path told) ⊎ ((found : Standing) × (told ≡ reason_for wanted why found))

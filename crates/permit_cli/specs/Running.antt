@@ -3,32 +3,51 @@ use Rattle.std.specs.Prelude.{◌≡◌, ◌⊎◌, ℕ, List, Option, Result, O
 use Rattle.permit_args.specs.Faults.{IsNoPlan}
 use Rattle.permit_args.specs.Plans.{IsPlanOf}
 use Rattle.permit_args.specs.declared.plan.Plan.{Plan}
+use Rattle.permit_args.specs.declared.plan.Plan.TheVariants as plan
 use Rattle.permit_args.specs.declared.plan.PlanFault.{PlanFault}
 use Rattle.permit_subcommands.specs.Failures.{failure_status}
 use Rattle.permit_subcommands.specs.Printing.{TellsNoPlan}
 use Rattle.permit_subcommands.specs.declared.failure.Failure.{Failure}
+use Rattle.permit_subcommands.specs.declared.failure.Failure.TheVariants as failure
 use Rattle.permit_cli.specs.Doing.{ComesTo}
-use Rattle.permit_cli.specs.Explained.{FailsWith}
+use Rattle.permit_cli.specs.Explained.{database_of, FailsWith}
 use Rattle.permit_cli.specs.Failing.{FailsAs}
-use Rattle.permit_cli.specs.Telling.{IsTold, SaysEnd, SaysNoPlan}
+use Rattle.permit_cli.specs.Telling.{IsTold, NamesPlace, SaysEnd, SaysNoPlan, Warns}
 use Rattle.permit_cli.specs.declared.outcome.Outcome.{Outcome}
 
--- What a plan came to is told, and the run ends so; or there is a failure that the plan may come to, which is explained where
--- that is asked for, and with which the run ends.
-abbrev pub Performs : Plan → Option (List ℕ) → Option (List ℕ) → Result ℕ Failure → Type 0
-Performs plan before after result =
-    ((done : Outcome) × (between : Option (List ℕ)) × ComesTo plan before between done × IsTold done between after result)
-    ⊎ ((why : Failure) × (between : Option (List ℕ)) × FailsAs plan before between why × FailsWith plan why between after result)
+-- what is said on standard error before a plan is carried out: at most that an address isn't this machine's alone
+abbrev pub WarnsOf : Plan → Option (List ℕ) → Option (List ℕ) → Type 0
+WarnsOf (plan.Serve words) before after = Warns words.listen.now before after
+WarnsOf _ before after = after ≡ before
+
+-- a refusal that an answer gives is explained where that is asked for
+abbrev pub ExplainsAnswer : Plan → Result ℕ Failure → Option (List ℕ) → Option (List ℕ) → Type 0
+ExplainsAnswer planned (Err (failure.Refused why)) before after = FailsWith planned (failure.Refused why) before after
+ExplainsAnswer _ _ before after = after ≡ before
+
+-- what is printed of an outcome, on standard output and on standard error
+pub record Reports (planned : Plan) (done : Outcome) (before after said saying : Option (List ℕ)) (result : Result ℕ Failure) : Type 0 where
+  pub named : Option (List ℕ)
+  pub prints : IsTold done before after result
+  pub names : NamesPlace (database_of planned) done said named
+  pub explains : ExplainsAnswer planned result named saying
+
+-- What a plan came to is printed, and the run ends so; or there is a failure that the plan may come to, which is explained where
+-- that is asked for, and with which the run ends. The first two are the output before and after, the next two the errors.
+abbrev pub Performs : Plan → (before after said saying : Option (List ℕ)) → Result ℕ Failure → Type 0
+Performs planned before after said saying result = (warned : Option (List ℕ)) × WarnsOf planned said warned
+    × (((done : Outcome) × (between : Option (List ℕ)) × ComesTo planned before between done × Reports planned done between after warned saying result)
+    ⊎ ((why : Failure) × FailsAs planned before after why × FailsWith planned why warned saying × (result ≡ Err why)))
 
 -- the status: the one that is given, or the failure's
 abbrev pub status_of : Result ℕ Failure → ℕ
 status_of (Ok status) = status
 status_of (Err why) = failure_status why
 
--- How the program ends that runs on words: they give no plan, and that is told and said; or they give one, which is performed, and
--- a failure is said. The first two are the output before and after, the next two the errors.
+-- How the program ends that runs on words: they give no plan, and that is printed; or they give one, which is performed, and
+-- a failure's line is printed. The first two are the output before and after, the next two the errors.
 abbrev pub RunsAs : List (List ℕ) → (before after said saying : Option (List ℕ)) → ℕ → Type 0
 RunsAs words before after said saying status =
     ((fault : PlanFault) × IsNoPlan words fault × TellsNoPlan fault before after status × SaysNoPlan fault said saying status)
-    ⊎ ((planned : Plan) × (ended : Result ℕ Failure) × IsPlanOf words planned × Performs planned before after ended × SaysEnd ended said saying
-    × (status ≡ status_of ended))
+    ⊎ ((planned : Plan) × (ended : Result ℕ Failure) × (explained : Option (List ℕ)) × IsPlanOf words planned
+    × Performs planned before after said explained ended × SaysEnd ended explained saying × (status ≡ status_of ended))

@@ -35,7 +35,7 @@ abbrev pub IsUnserved : {T : Type 0} → OfficeView T → OfficeView T → Resul
 IsUnserved old new (Ok done) = ⊥
 IsUnserved old new (Err why) = new ≡ old
 
--- what is told of the doors' ends: the store's failure where one of them found the flag set
+-- what is reported of the doors' ends: the store's failure where one of them found the flag set
 abbrev pub told_by : (stopped : Bool) → Result (Unit {0}) Failure
 told_by true = Err (plain Store)
 told_by false = Ok tt
@@ -43,7 +43,7 @@ told_by false = Ok tt
 abbrev pub told_of_ends : {C W : Type 0} → List (Option (DoorEnd (Connections C W))) → Result (Unit {0}) Failure
 told_of_ends ends = told_by (list_any is_stopped ends)
 
--- Doors were open and have ended, by the requests served, and that is told of them.
+-- Doors were open and have ended, by the requests served, and that is reported of them.
 pub record HasEndedAs {In Out C W : Type 0} (remaining : In → Option (List ℕ)) (contents : Out → Option (List ℕ))
     (gave : Connections C W → Option (In × Out) → Connections C W → Type 0) (spent : Connections C W → Type 0) (workers : ℕ) (connections : Option ℕ)
     (before after : Option (List ℕ)) (served : List (Entry Asked Dated)) (result : Result (Unit {0}) Failure) : Type 0 where

@@ -22,7 +22,7 @@ use Rattle.permit_subcommands.specs.declared.failure.HistoryFailure.TheVariants 
 use Rattle.permit_cli.specs.declared.outcome.Outcome.{Outcome}
 use Rattle.permit_cli.specs.declared.outcome.Outcome.TheVariants as outcome
 
--- The text is printed whole, and then this is the end of the run; or the output failed, and a beginning of the text stands.
+-- The text is printed whole, and then this is the end of the run; or the output failed, and a prefix of the text.
 abbrev pub PrintsThen : List ℕ → Result ℕ Failure → Option (List ℕ) → Option (List ℕ) → Result ℕ Failure → Type 0
 PrintsThen text end before after result =
     ((result ≡ end) × Appends before after text) ⊎ ((result ≡ Err failure.Output) × Prints text before after (Err failure.Output))
@@ -50,12 +50,12 @@ abbrev pub replayed_line : Brought → List ℕ
 replayed_line brought = codes "replayed lines " ++ (decimal brought.lines ++ (codes " new " ++ (decimal (brought.lines - brought.stood) ++ codes "\n")))
 
 -- the first place at which tables differ from those of a history
-abbrev pub difference_line : Difference → List ℕ
-difference_line place.Desk = codes "differs first in the last day or a count\n"
-difference_line (place.Party number) = codes "differs first in party " ++ (decimal number ++ codes "\n")
-difference_line (place.Parcel number) = codes "differs first in parcel " ++ (decimal number ++ codes "\n")
-difference_line place.Interests = codes "differs first in the declared interests\n"
-difference_line (place.File number) = codes "differs first in file " ++ (decimal number ++ codes "\n")
+abbrev pub difference_text : Difference → List ℕ
+difference_text place.Desk = codes "differs first in the last day or a count"
+difference_text (place.Party number) = codes "differs first in party " ++ decimal number
+difference_text (place.Parcel number) = codes "differs first in parcel " ++ decimal number
+difference_text place.Interests = codes "differs first in the declared interests"
+difference_text (place.File number) = codes "differs first in file " ++ decimal number
 
 -- the line that a history is begun on a day
 abbrev pub begun_line : List ℕ → List ℕ
@@ -66,15 +66,14 @@ abbrev pub TellsBegun : ℕ → Option (List ℕ) → Option (List ℕ) → Resu
 TellsBegun day before after result =
     ((date : List ℕ) × IsTextOf day date × PrintsThen (begun_line date) (Ok 0) before after result) ⊎ ((result ≡ Err (plain Store)) × (after ≡ before))
 
--- what is printed of each outcome, and how the run ends; a place that is named is damage
+-- what is printed of each outcome, and how the run ends; a place that is named is a failure
 abbrev pub IsTold : Outcome → Option (List ℕ) → Option (List ℕ) → Result ℕ Failure → Type 0
 IsTold outcome.Name before after result = PrintsThen name_line (Ok 0) before after result
 IsTold (outcome.Checked text) before after result = PrintsThen (string_bytes text) (Ok 0) before after result
 IsTold outcome.Founded before after result = PrintsThen founded_line (Ok 0) before after result
 IsTold (outcome.Upgraded files) before after result = MakesAndPrints (upgraded_line files) (Ok 0) before after result
 IsTold (outcome.Sound desk) before after result = MakesAndPrints (sound_line desk) (Ok 0) before after result
-IsTold (outcome.Unsound fault) before after result =
-    MakesAndPrints (fault_text fault ++ codes "\n") (Err (failure.Database opening.Damaged)) before after result
+IsTold (outcome.Unsound fault) before after result = Silent (Err (failure.Database opening.Damaged)) before after result
 IsTold (outcome.Answered answer) before after result =
     (shown : Result (Unit {0}) Failure) × Shows (answer_data answer) before after shown × (result ≡ as_status shown)
 IsTold (outcome.Listed listing) before after result = MakesAndPrints (listing_text listing.files.items listing.read) (Ok 0) before after result
@@ -83,14 +82,34 @@ IsTold (outcome.Imported tally) before after result = Silent (Ok (import_status 
 IsTold outcome.Ended before after result = Silent (Ok 0) before after result
 IsTold outcome.Told before after result = Silent (Ok 0) before after result
 IsTold (outcome.Renewed party) before after result = PrintsThen (party_line party) (Ok 0) before after result
-IsTold (outcome.Differing place) before after result =
-    MakesAndPrints (difference_line place) (Err (failure.History history.Differs)) before after result
+IsTold (outcome.Differing place) before after result = Silent (Err (failure.History history.Differs)) before after result
 IsTold (outcome.Begun day) before after result = TellsBegun day before after result
 IsTold (outcome.Replayed brought) before after result = MakesAndPrints (replayed_line brought) (Ok 0) before after result
 
 -- ---- on standard error
 
--- the failure's line is said, or a beginning of it where the writer fails
+-- a line about the file at a path
+abbrev pub about : List ℕ → List ℕ → List ℕ
+about path line = path ++ (codes ": " ++ (line ++ codes "\n"))
+
+-- such a line is printed, or a prefix of it where the writer fails
+abbrev pub SaysAbout : List ℕ → List ℕ → Option (List ℕ) → Option (List ℕ) → Type 0
+SaysAbout path line before after = (said : Result (Unit {0}) Failure) × Prints (about path line) before after said
+
+-- the first place that is wrong in the database at a path, or nothing for want of memory
+abbrev pub NamesPlace : List ℕ → Outcome → Option (List ℕ) → Option (List ℕ) → Type 0
+NamesPlace path (outcome.Unsound fault) before after = SaysAbout path (fault_text fault) before after ⊎ (after ≡ before)
+NamesPlace path (outcome.Differing place) before after = SaysAbout path (difference_text place) before after ⊎ (after ≡ before)
+NamesPlace path done before after = after ≡ before
+
+-- what is said of an address that isn't this machine's alone
+abbrev pub unencrypted_text : List ℕ
+unencrypted_text = codes "no loopback address: what is sent, tokens among it, is not encrypted"
+
+abbrev pub Warns : List ℕ → Option (List ℕ) → Option (List ℕ) → Type 0
+Warns address before after = (after ≡ before) ⊎ SaysAbout address unencrypted_text before after
+
+-- the failure's line is said, or a prefix of it where the writer fails
 abbrev pub Complains : Failure → Option (List ℕ) → Option (List ℕ) → Type 0
 Complains why before after = (said : Result (Unit {0}) Failure) × Prints (failure_line why ++ codes "\n") before after said
 

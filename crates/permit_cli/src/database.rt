@@ -1,40 +1,44 @@
 //! The office's database: one file with its log beside it.
-//!
-//! What works on a database is generic over its store, and each function here names the file for one such: a call of a generic
-//! function at the file's store costs the prover half a minute.
 
-ghost use Rattle.std.specs.Prelude.{◌≡◌, ◌⊎◌, IfErr, IfOk, IfSome, IsTrue};
-ghost use Rattle.sqlite.specs.declared.error.Error.{Error as TheError};
-ghost use Rattle.permit_cli.specs.Doing.{IsCheck, IsToldOf, IsUpgrade};
-ghost use Rattle.permit_cli.specs.Failing.{FailsIn, FailsToListen, IsUnfounded, IsUnopened, IsUnrenewed, IsUnusable};
+ghost use Rattle.std.specs.Prelude.{◌≡◌, ◌⊎◌, IfErr, IfOk, IfSome, IsSomeAnd, IsTrue};
+ghost use Rattle.sqlite_std_file.specs.File.{file_is_usable};
+ghost use Rattle.permit_cli.specs.Failing.{FailsToListen, IsOfHistory, IsUnopened, IsUnusable};
 ghost use Rattle.permit_cli.specs.Opening.{opening_failure};
 ghost use Rattle.permit_cli.specs.Served.{SaysWhere};
 ghost use Rattle.permit_cli.specs.Reasons.{is_of_path, opening_reason, IsReasonFor};
+ghost use Rattle.permit_cli.specs.Working.{ComesOf, FailsAt};
 
-use crate::asking::ask_in;
-use crate::maintenance::{check_in, found_in, renew_in, upgrade_in};
+use crate::history::HistoryOnDisk;
 use crate::outcome::Outcome;
-use crate::question::Question;
 use crate::reason::Reason;
-use crate::serving::serve_on_days;
+use crate::recorded::Recording;
+use crate::serving::served_in;
 use crate::standing::reason_in;
+use crate::work::{Work, done_in};
 use permit_args::plan::ServeWords;
-use permit_base::values::{Day, Token};
 use permit_base::words::Edition;
+use permit_office_file::copies::{in_memory, on_disk};
+use permit_office_file::office_file::OfficeFile;
 use permit_policy::Policy;
-use permit_store::founder::Founder;
 use permit_store::store::OpenError;
 use permit_subcommands::days::RunDays;
 use permit_subcommands::failure::Failure;
 use sqlite::{Connection, Error, ErrorCode, FileStore};
+use sqlite_disk::{Disk, Files};
+use sqlite_pager::Options;
+use sqlite_std_file::{OpenError as FileError, Start, Unknown};
 use std::fs::{self, File, Metadata, OpenOptions};
-use std::io::{ErrorKind, Write};
+use std::hash::{BuildHasher, RandomState};
+use std::io::{BufReader, ErrorKind, Write};
 use std::os::unix::fs::MetadataExt;
 use std::sync::Wait;
 use std::thread::Threads;
 
+/// What is to be done on a database in a file, with the file of its history.
+pub(crate) type WorkOnDisk<'a> = Work<'a, HistoryOnDisk, File, BufReader<File>>;
+
 /// Why a database is not opened.
-fn of_opening(error: Error) -> Failure
+pub(crate) fn of_opening(error: Error) -> Failure
     ensures told { result ≡ opening_failure error }
     ensures kind { IsUnopened result }
 {
@@ -46,106 +50,189 @@ fn of_opening(error: Error) -> Failure
     }
 }
 
+/// The database's file or its log: on the disk, or a copy in memory of one that is only read.
+pub(crate) type DatabaseFile = OfficeFile<sqlite_std_file::File>;
+
+/// A connection to the two.
+pub(crate) type OfficeConnection = Connection<FileStore<DatabaseFile>>;
+
+/// Opens the two files of the database at a path, under SQLite's lock on them. Those that are missing are made.
+fn files_at(rt: &HostRuntime, path: &str) -> Result<Files<sqlite_std_file::File>, Error>
+    ensures { IfOk result (λ files. IsTrue (file_is_usable ⟦<Unknown as Start>⟧ files.log) × IsTrue (file_is_usable ⟦<Unknown as Start>⟧ files.db)) }
+{
+    if path == ":memory:" || path.starts_with("file:") {
+        return Err(Error::SqliteFailure(ErrorCode::CannotOpen));
+    }
+    match sqlite_std_file::open(rt, path, Unknown) {
+        Ok(files) => Ok(files),
+        Err(FileError::OutOfMemory) => Err(Error::SqliteFailure(ErrorCode::OutOfMemory)),
+        Err(FileError::Io(error)) if error.kind() == ErrorKind::OutOfMemory => Err(
+            Error::SqliteFailure(ErrorCode::OutOfMemory),
+        ),
+        Err(FileError::Busy) => Err(Error::SqliteFailure(ErrorCode::DatabaseBusy)),
+        Err(_) => Err(Error::SqliteFailure(ErrorCode::CannotOpen)),
+    }
+}
+
+/// Connects to the two files of a database.
+fn connected(rt: &HostRuntime, files: Files<DatabaseFile>) -> Result<OfficeConnection, Error>
+    requires log { IsTrue (⟦<DatabaseFile as Disk>⟧.is_usable files.log) }
+    requires db { IsTrue (⟦<DatabaseFile as Disk>⟧.is_usable files.db) }
+{
+    let Ok(random) = RandomState::new(rt) else {
+        return Err(Error::SqliteFailure(ErrorCode::CannotOpen));
+    };
+    let options = Options::new(random.hash_one(&0u8));
+    match Connection::open_files(rt.alloc(), files, options) {
+        Ok(conn) => Ok(conn),
+        Err((error, _)) => Err(error),
+    }
+}
+
 /// Opens the database at a path, which is made where there is none.
-pub(crate) fn opened(
+fn opened(rt: &HostRuntime, path: &str) -> Result<OfficeConnection, Error> {
+    match files_at(rt, path) {
+        Ok(files) => connected(rt, on_disk(files)),
+        Err(error) => Err(error),
+    }
+}
+
+/// The path of the log that SQLite keeps beside the file at a path.
+pub(crate) fn log_of(rt: &HostRuntime, path: &str) -> Option<String> {
+    let real = fs::canonicalize(rt, path).ok()?;
+    format!(in rt.alloc(); "{}-wal", real.as_str()).ok()
+}
+
+/// Removes the log at a path, which the opening of the file beside it made. One with bytes stays.
+pub(crate) fn remove_log(rt: &HostRuntime, log: &str) {
+    if let Ok(found) = fs::symlink_metadata(rt, log)
+        && found.is_file()
+        && found.len() == 0
+    {
+        let _ = fs::remove_file(rt, log);
+    }
+}
+
+/// The path of the log that an opening of the file at a path makes; none where there is one.
+fn log_made(rt: &HostRuntime, path: &str) -> Option<String> {
+    let log = log_of(rt, path)?;
+    match fs::exists(rt, log.as_str()) {
+        Ok(false) => Some(log),
+        _ => None,
+    }
+}
+
+/// Connects to a copy in memory of the database at a path, whose files stay as they are.
+pub(crate) fn copied(rt: &HostRuntime, path: &str) -> Result<OfficeConnection, Error> {
+    let made = log_made(rt, path);
+    let files = match files_at(rt, path) {
+        Ok(files) => files,
+        Err(error) => return Err(error),
+    };
+    let (files, copies) = in_memory(rt.alloc(), files);
+    if let Some(log) = made {
+        remove_log(rt, log.as_str());
+    }
+    drop(files);
+    match copies {
+        Ok(copies) => connected(rt, copies),
+        Err(error) if error.kind() == ErrorKind::OutOfMemory => Err(Error::SqliteFailure(
+            ErrorCode::OutOfMemory,
+        )),
+        Err(_) => Err(Error::SqliteFailure(ErrorCode::SystemIoFailure)),
+    }
+}
+
+/// Opens the database at a path for work on it: a copy where the work only reads it.
+fn opened_for(
     rt: &HostRuntime,
     path: &str,
-) -> Result<Connection<FileStore<sqlite::File>>, Failure>
-    ensures told { IfErr result (λ why. (error : TheError) × (why ≡ opening_failure error)) }
-    ensures kind { IfErr result IsUnopened }
+    work: &WorkOnDisk<'_>,
+) -> Result<OfficeConnection, Failure>
+    ensures { IfErr result IsUnopened }
 {
-    match Connection::open(rt, path) {
+    let opened = if work.only_reads() {
+        copied(rt, path)
+    } else {
+        opened(rt, path)
+    };
+    match opened {
         Ok(conn) => Ok(conn),
         Err(error) => Err(of_opening(error)),
     }
 }
 
-/// Closes a database, whose log is copied into the file then. Where that fails, the log stays beside the file, and what was
-/// accepted stands in it.
-pub(crate) fn closed(conn: Connection<FileStore<sqlite::File>>) {
+/// That there is a database at a path: none is made there.
+pub(crate) fn has_database(rt: &HostRuntime, path: &str) -> Result<(), Failure>
+    ensures { IfErr result IsUnusable }
+{
+    match fs::exists(rt, path) {
+        Ok(false) => Err(Failure::Database(OpenError::Store)),
+        _ => Ok(()),
+    }
+}
+
+/// Closes a database, whose log is copied into the file then. Where that fails, the log stays beside the file, with all that was
+/// accepted.
+pub(crate) fn closed(conn: OfficeConnection) {
     let _ = conn.close();
 }
 
-/// Founds an office in the database at a path.
-pub fn found_at(rt: &HostRuntime, path: &str, founder: &Founder) -> Result<Outcome, Failure>
-    ensures founds { IfOk result (λ done. done ≡ Outcome.Founded) }
-    ensures fails { IfErr result IsUnfounded }
-{
-    let (conn, founded) = found_in(rt.alloc(), opened(rt, path)?, founder);
-    closed(conn);
-    founded
-}
-
-/// Makes of the database at a path, of the version before, one of this version.
-pub fn upgrade_at(rt: &HostRuntime, path: &str) -> Result<Outcome, Failure>
-    ensures upgrades { IfOk result IsUpgrade }
-    ensures fails { IfErr result IsUnusable }
-{
-    let (conn, upgraded) = upgrade_in(rt.alloc(), opened(rt, path)?);
-    closed(conn);
-    upgraded
-}
-
-/// Tests the tables of the database at a path, and names the first place that is wrong if that is asked for.
-pub fn check_at(rt: &HostRuntime, path: &str, why: bool) -> Result<Outcome, Failure>
-    ensures checks { IfOk result (IsCheck why) }
-    ensures fails { IfErr result IsUnusable }
-{
-    let (conn, checked) = check_in(rt.alloc(), opened(rt, path)?, why);
-    closed(conn);
-    checked
-}
-
-/// Gives a party of the office in the database at a path a new token.
-pub fn renew_at(rt: &HostRuntime, path: &str, party: u32, token: &Token) -> Result<Outcome, Failure>
-    ensures renews { IfOk result (λ done. done ≡ Outcome.Renewed party) }
-    ensures fails { IfErr result IsUnrenewed }
-{
-    let (conn, renewed) = renew_in(rt.alloc(), opened(rt, path)?, party, token);
-    closed(conn);
-    renewed
-}
-
-/// Asks the office in the database at a path. A register and the lines of an import are written to `out` on the way.
-pub fn ask_at<O: Write>(
+/// Does the work on the database at a path. A register and the lines of an import are written to `out` on the way.
+pub(crate) fn done_at<O: Write>(
     rt: &HostRuntime,
     path: &str,
-    policy: Policy,
-    day: Day,
-    question: Question<'_, File>,
+    work: WorkOnDisk<'_>,
     out: &mut O,
 ) -> Result<Outcome, Failure>
-    ensures told { IfOk result (IsToldOf day question.entry (O.contents out.old) (O.contents out.new)) }
-    ensures fails { IfErr result (FailsIn day question.entry (O.contents out.old) (O.contents out.new)) }
+    ensures comes { IfOk result (ComesOf work.entry (O.contents out.old) (O.contents out.new)) }
+    ensures fails { IfErr result (FailsAt work.entry (O.contents out.old) (O.contents out.new)) }
 {
-    let conn = opened(rt, path)?;
-    let (conn, came) = ask_in(rt.alloc(), conn, policy, day, question, out);
-    closed(conn);
-    came
+    match opened_for(rt, path, &work) {
+        Ok(conn) => {
+            let (conn, done) = done_in(rt.alloc(), conn, work, out);
+            closed(conn);
+            done
+        }
+        Err(why) => {
+            // Work that ends its life here does so once, and not in each of its forms.
+            drop(work);
+            Err(why)
+        }
+    }
 }
 
-/// Serves the office in the database that the words name over TCP, until its workers have ended.
-pub fn serve_at<R, O>(
+/// Serves the office in the database that the words name over TCP, with its history where one comes with it, until its workers
+/// have ended.
+pub(crate) fn serve_at<R, O>(
     rt: &HostRuntime,
     workers: R,
     policy: Policy,
     days: &RunDays,
     words: &ServeWords<'_>,
+    history: Option<Recording<HistoryOnDisk>>,
     out: &mut O,
 ) -> Result<(), Failure>
 where
     R: Threads + Wait + Copy + Drop + Send + 'static,
     O: Write,
-    ensures fails { IfErr result (λ why. IsUnusable why ⊎ FailsToListen words.now.listen.now why) }
+    ensures fails { IfErr result (λ why. (IsUnusable why ⊎ IsSomeAnd history (λ _. IsOfHistory why)) ⊎ FailsToListen words.now.listen.now why) }
     ensures says { SaysWhere (O.contents out.old) (O.contents out.new) result }
 {
-    let conn = opened(rt, words.db)?;
-    let (conn, served) = serve_on_days(rt, workers, conn, policy, days, words, out);
-    closed(conn);
-    served
+    match opened(rt, words.db) {
+        Ok(conn) => {
+            let (conn, served) = served_in(rt, workers, conn, policy, days, words, history, out);
+            closed(conn);
+            served
+        }
+        Err(error) => {
+            drop(history);
+            Err(of_opening(error))
+        }
+    }
 }
 
-/// What stands against opening a file, where the library only says that it can't.
+/// Why a file isn't opened, where the library only says that it can't be.
 fn reason_of_file(rt: &HostRuntime, path: &str, found: &Metadata) -> Reason
     ensures { IsTrue (is_of_path result) }
 {
@@ -191,7 +278,7 @@ fn reason_absent(kind: ErrorKind, makes: bool) -> Reason
 }
 
 /// Why the database at a path can't be used from which the tables of an edition are wanted, as it is found after the failure.
-/// No file is made, whether one was to be made or not.
+/// No file is made or changed.
 pub fn reason_at(
     rt: &HostRuntime,
     path: &str,
@@ -208,7 +295,7 @@ pub fn reason_at(
     if found.is_dir() {
         return Reason::Folder;
     }
-    match Connection::open(rt, path) {
+    match copied(rt, path) {
         Ok(conn) => {
             let mut conn = conn;
             let reason = reason_in(&mut conn, wanted, why);

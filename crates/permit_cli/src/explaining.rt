@@ -1,23 +1,29 @@
-//! What is printed before a failure, where `--why` asks for it.
+//! What is printed on standard error before the line of a failure, where `--why` asks for it.
 
-ghost use Rattle.std.specs.Prelude.{◌≡◌, ◌++◌, Err, IsTrue, codes};
+ghost use Rattle.std.specs.Prelude.{◌≡◌, Err, IfSome, IsTrue, List, ℕ, Option, option_map, string_bytes};
+ghost use Rattle.permit_import.specs.Headings.{IsHeadingText};
 ghost use Rattle.permit_policy.specs.PolicyText.{meaning, Means};
-ghost use Rattle.permit_cli.specs.Explained.{asks_why, wanted_by, ExplainsPolicy, FailsWith};
-ghost use Rattle.permit_cli.specs.Telling.{PrintsThen};
+ghost use Rattle.permit_cli.specs.Explained.{asks_why, database_of, history_of, named_path, policy_of, syntax_reason, text_path, wanted_by};
+ghost use Rattle.permit_cli.specs.Explained.{Explains, ExplainsFactsOf, ExplainsFile, ExplainsPolicy, ExplainsRefusal, FailsWith};
 
-use crate::complaining::print_two;
 use crate::database::reason_at;
 use crate::reason::history_reason;
-use permit_args::plan::Plan;
+use permit_args::facts::facts_fault;
+use permit_args::plan::{Check, HistoryPaths, Plan};
 use permit_base::words::Edition;
+use permit_import::heading::heading_reason;
 use permit_policy::fault::PolicyError;
 use permit_policy::text::read_policy;
 use permit_reasons::policy_reason;
-use permit_subcommands::explaining::{day_reason, zone_reason};
+use permit_subcommands::explaining::{
+    Unread, act_reason, day_reason, founder_reason, listen_reason, token_reason, zone_reason,
+};
 use permit_subcommands::failure::Failure;
+use permit_subcommands::printing::{print_about, print_line_of};
+use permit_subcommands::refused::{RefusalWord, Refused};
 use std::alloc::Global;
-use std::fs;
-use std::io::Write;
+use std::fs::{self, File};
+use std::io::{ErrorKind, Write};
 
 /// Whether the words of a plan ask why it fails.
 fn asks_why(plan: &Plan<'_>) -> bool
@@ -57,7 +63,9 @@ fn makes_database(plan: &Plan<'_>) -> bool {
 }
 
 /// The path of a plan's database; empty where it has none.
-fn database_of<'a>(plan: &Plan<'a>) -> &'a str {
+pub(crate) fn database_of<'a>(plan: &Plan<'a>) -> &'a str
+    ensures { result.now ≡ database_of plan.now }
+{
     match plan {
         Plan::Name | Plan::CheckPolicy(_) | Plan::History(_) => "",
         Plan::Init(words) => words.db,
@@ -74,33 +82,54 @@ fn database_of<'a>(plan: &Plan<'a>) -> &'a str {
     }
 }
 
-/// The path of a plan's policy; empty where it has none.
-fn policy_of<'a>(plan: &Plan<'a>) -> &'a str {
+/// The path of its policy.
+fn policy_of<'a>(plan: &Plan<'a>) -> &'a str
+    ensures { result.now ≡ policy_of plan.now }
+{
     match plan {
-        Plan::Name
-        | Plan::Init(_)
-        | Plan::Upgrade(_)
-        | Plan::CheckDb(_)
-        | Plan::RenewToken(_)
-        | Plan::History(_)
-        | Plan::Replay(_)
-        | Plan::BeginHistory(_) => "",
         Plan::CheckPolicy(words) => words.policy,
         Plan::Act(words) => words.office.policy,
         Plan::List(words) => words.office.policy,
         Plan::Register(words) => words.office.policy,
         Plan::Import(words) => words.office.policy,
         Plan::Serve(words) => words.policy,
+        _ => "",
     }
 }
 
-/// Prints a line before a failure, and returns the failure that is told then: the same, or the output's.
-fn print_before<O: Write>(out: &mut O, line: &str, failure: Failure) -> Failure
-    ensures { PrintsThen (line.now ++ codes "\n") (Err failure) (O.contents out.old) (O.contents out.new) (Err result) }
+/// A path that is named; else empty.
+fn named_path<'a>(path: Option<&'a str>) -> &'a str
+    ensures { result.now ≡ named_path path.entry }
 {
-    match print_two(out, line, "\n") {
-        Ok(()) => failure,
-        Err(output) => output,
+    path.unwrap_or("")
+}
+
+/// The path of the text of a history; empty where none is named.
+fn text_path<'a>(history: Option<HistoryPaths<'a>>) -> &'a str
+    ensures { result.now ≡ text_path history.entry }
+{
+    match history {
+        Some(paths) => paths.text,
+        None => "",
+    }
+}
+
+/// The path of its history.
+fn history_of<'a>(plan: &Plan<'a>) -> &'a str
+    ensures { result.now ≡ history_of plan.now }
+{
+    match plan {
+        Plan::Init(words) => named_path(words.history),
+        Plan::Act(words) => text_path(words.history),
+        Plan::Import(words) => text_path(words.history),
+        Plan::Serve(words) => text_path(words.history),
+        Plan::Upgrade(words) => named_path(words.history),
+        Plan::CheckDb(words) => text_path(words.history),
+        Plan::RenewToken(words) => text_path(words.history),
+        Plan::History(words) => words.history,
+        Plan::Replay(words) => words.history.text,
+        Plan::BeginHistory(words) => words.history,
+        _ => "",
     }
 }
 
@@ -116,48 +145,155 @@ fn is_refused_by(alloc: Global, text: &str, error: &PolicyError) -> bool
 
 /// Says what is wrong with the policy at a path, whose text is read again for that. Where it isn't there any more, or memory runs
 /// out, nothing is said.
-fn explain_policy<O: Write>(
+fn explain_policy<E: Write>(
     rt: &HostRuntime,
     path: &str,
-    error: PolicyError,
-    out: &mut O,
-) -> Failure
-    ensures { ExplainsPolicy error (O.contents out.old) (O.contents out.new) (Err result) }
+    error: &PolicyError,
+    err: &mut E,
+) -> Result<(), Failure>
+    ensures { ExplainsPolicy path.now error.now (E.contents err.old) (E.contents err.new) result }
 {
     let Ok(text) = fs::read_to_string(rt, path) else {
-        return Failure::Policy(error);
+        return Ok(());
     };
-    if !is_refused_by(rt.alloc(), text.as_str(), &error) {
-        return Failure::Policy(error);
+    if !is_refused_by(rt.alloc(), text.as_str(), error) {
+        return Ok(());
     }
-    match policy_reason(rt.alloc(), text.as_str(), &error) {
-        Ok(line) => print_before(out, line.as_str(), Failure::Policy(error)),
-        Err(_) => Failure::Policy(error),
+    match policy_reason(rt.alloc(), text.as_str(), error) {
+        Ok(line) => print_about(err, path, line.as_str()),
+        Err(_) => Ok(()),
     }
 }
 
-/// Says why a plan failed, where its words ask for it, and returns the failure that is told then: the same, or the output's.
-pub(crate) fn explain<O: Write>(
+/// What is found at the path of a file that can't be read.
+fn unread_at(rt: &HostRuntime, path: &str) -> Unread {
+    let found = match fs::metadata(rt, path) {
+        Ok(found) if found.is_dir() => return Unread::Folder,
+        Ok(_) => File::open(rt, path).map(drop),
+        Err(error) => Err(error),
+    };
+    match found.map_err(|error| error.kind()) {
+        Err(ErrorKind::NotFound | ErrorKind::NotADirectory) => Unread::NoFile,
+        Err(ErrorKind::PermissionDenied) => Unread::NoRight,
+        _ => Unread::Failed,
+    }
+}
+
+/// What the first record of the records at a path is, where it isn't that of a parcel list. Only a file can be read again.
+fn heading_at(rt: &HostRuntime, path: &str) -> Option<String>
+    ensures { IfSome result (λ text. (left : Option (List ℕ)) × IsHeadingText left (string_bytes text)) }
+{
+    match fs::metadata(rt, path) {
+        Ok(found) if found.is_file() => {}
+        _ => return None,
+    }
+    let Ok(records) = File::open(rt, path) else {
+        return None;
+    };
+    match heading_reason(rt.alloc(), records) {
+        Ok(found) => found,
+        Err(_) => None,
+    }
+}
+
+/// The same, where the plan imports the records at the path.
+fn heading_of(rt: &HostRuntime, plan: &Plan<'_>, path: &str) -> Option<String>
+    ensures { IfSome result (λ text. (left : Option (List ℕ)) × IsHeadingText left (string_bytes text)) }
+{
+    match plan {
+        Plan::Import(words) if words.file == path => heading_at(rt, path),
+        _ => None,
+    }
+}
+
+/// Says why the file at a path can't be read. One of records may have another first record.
+fn explain_file<E: Write>(
     rt: &HostRuntime,
     plan: &Plan<'_>,
-    failure: Failure,
-    out: &mut O,
-) -> Failure
-    ensures { FailsWith plan.now failure (O.contents out.old) (O.contents out.new) (Err result) }
+    path: &str,
+    err: &mut E,
+) -> Result<(), Failure>
+    ensures { ExplainsFile path.now (E.contents err.old) (E.contents err.new) result }
 {
-    if !asks_why(plan) {
-        return failure;
+    match heading_of(rt, plan, path) {
+        Some(line) => print_about(err, path, line.as_str()),
+        None => print_about(err, path, unread_at(rt, path).line()),
     }
+}
+
+/// Says which of the words of the facts is wrong.
+fn explain_facts<E: Write>(alloc: Global, plan: &Plan<'_>, err: &mut E) -> Result<(), Failure>
+    ensures { ExplainsFactsOf plan.now (E.contents err.old) (E.contents err.new) result }
+{
+    let Plan::CheckPolicy(words) = plan else {
+        return Ok(());
+    };
+    let Check::Facts(text) = words.check else {
+        return Ok(());
+    };
+    match facts_fault(alloc, text) {
+        Ok(Some(fault)) => print_line_of(err, fault.line()),
+        _ => Ok(()),
+    }
+}
+
+/// Which word of a plan is refused as syntax, and what it takes.
+fn syntax_reason(plan: &Plan<'_>) -> Option<&'static str>
+    ensures { option_map (λ s. s.now) result ≡ syntax_reason plan.now }
+{
+    match plan {
+        Plan::Init(words) => Some(founder_reason(words.name, &words.token)),
+        Plan::Act(words) => Some(act_reason(words)),
+        Plan::RenewToken(words) => Some(token_reason(&words.token)),
+        _ => None,
+    }
+}
+
+/// Says why a request or a founding is refused, where it is the words' syntax.
+fn explain_refusal<E: Write>(plan: &Plan<'_>, why: &Refused, err: &mut E) -> Result<(), Failure>
+    ensures { ExplainsRefusal plan.now why.now (E.contents err.old) (E.contents err.new) result }
+{
+    match why {
+        Refused::Plain(RefusalWord::Syntax) => match syntax_reason(plan) {
+            Some(line) => print_line_of(err, line),
+            None => Ok(()),
+        },
+        _ => Ok(()),
+    }
+}
+
+/// Says why a plan failed.
+fn say_why<E: Write>(
+    rt: &HostRuntime,
+    plan: &Plan<'_>,
+    failure: &Failure,
+    err: &mut E,
+) -> Result<(), Failure>
+    ensures { Explains plan.now failure.now (E.contents err.old) (E.contents err.new) result }
+{
     match failure {
+        Failure::Refused(why) => explain_refusal(plan, why, err),
+        Failure::File(path) => explain_file(rt, plan, path.as_str(), err),
+        Failure::Policy(error) => explain_policy(rt, policy_of(plan), error, err),
+        Failure::Facts => explain_facts(rt.alloc(), plan, err),
         Failure::Database(why) => {
-            let (path, makes) = (database_of(plan), makes_database(plan));
-            let reason = reason_at(rt, path, makes, wanted_by(plan), why);
-            print_before(out, reason.line(), Failure::Database(why))
+            let path = database_of(plan);
+            let reason = reason_at(rt, path, makes_database(plan), wanted_by(plan), *why);
+            print_about(err, path, reason.line())
         }
-        Failure::History(why) => print_before(out, history_reason(why), Failure::History(why)),
-        Failure::Policy(error) => explain_policy(rt, policy_of(plan), error, out),
-        Failure::Day => print_before(out, day_reason(), Failure::Day),
-        Failure::Zone => print_before(out, zone_reason(), Failure::Zone),
-        other => other,
+        Failure::History(why) => print_about(err, history_of(plan), history_reason(*why)),
+        Failure::Day => print_line_of(err, day_reason()),
+        Failure::Zone => print_line_of(err, zone_reason()),
+        Failure::Listen(_) => print_line_of(err, listen_reason()),
+        Failure::Output => Ok(()),
+    }
+}
+
+/// Says why a plan failed, where its words ask for it. A writer that fails is left alone, as for the failure's own line.
+pub(crate) fn explain<E: Write>(rt: &HostRuntime, plan: &Plan<'_>, failure: &Failure, err: &mut E)
+    ensures { FailsWith plan.now failure.now (E.contents err.old) (E.contents err.new) }
+{
+    if asks_why(plan) {
+        let _ = say_why(rt, plan, failure, err);
     }
 }

@@ -100,7 +100,7 @@ pub(crate) fn renew_in<S: Alter + Drop>(
     }
 }
 
-/// The first place at which the tables of a damaged database aren't sound. Where it can't be told, they are damaged all the
+/// The first place at which the tables of a damaged database aren't sound. Where it can't be found, they are damaged all the
 /// same.
 fn named_in<S: Alter + Drop>(
     alloc: Global,
@@ -120,8 +120,8 @@ fn named_in<S: Alter + Drop>(
     }
 }
 
-/// Tests the tables of a database, which stays as it is, and counts their records. Where they aren't sound, the first place
-/// is told if that is asked for.
+/// Tests the tables of a database, which stays as it is, and counts their records. Where they aren't sound, it names the first
+/// place if that is asked for.
 pub(crate) fn check_in<S: Alter + Drop>(
     alloc: Global,
     conn: Connection<S>,

@@ -16,7 +16,7 @@ pub enum Outcome {
     Name,
     /// What is said of a policy.
     Checked(String),
-    /// The office stands, with its first party.
+    /// The office is founded, with its first party.
     Founded,
     /// The database is of this version, with this many files that keep their list of inspections.
     Upgraded(u32),

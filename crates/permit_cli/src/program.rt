@@ -1,11 +1,10 @@
-//! What the program does: a plan is carried out, and what it came to is told.
+//! What the program does: a plan is carried out, and what it came to is printed.
 
-ghost use Rattle.std.specs.Prelude.{◌≡◌, ◌≤◌, ◌⊎◌, ℕ, [], false, Err, IfErr, IfOk, List, None, Ok, OnErr, Option, Some, map, string_bytes};
+ghost use Rattle.std.specs.Prelude.{◌≡◌, ◌≤◌, ◌⊎◌, ℕ, [], false, true, Err, IfErr, IfOk, List, None, Ok, OnErr, Option, Some, map, string_bytes};
 ghost use Rattle.std.specs.Io.KnownBytes.{Appends};
 ghost use Rattle.permit_base.specs.Texts.{is_token};
 ghost use Rattle.permit_import.specs.declared.refused.RefusalWord.TheVariants.{Store, Syntax};
 ghost use Rattle.permit_report.specs.Outgoing.{WroteFront};
-ghost use Rattle.permit_args.specs.FactsText.{facts_in, pieces};
 ghost use Rattle.permit_args.specs.declared.plan.PlanFault.{PlanFault as TheFault};
 ghost use Rattle.permit_subcommands.specs.Failures.{plain, IsUnread};
 ghost use Rattle.permit_subcommands.specs.Lines.{name_line};
@@ -16,36 +15,33 @@ ghost use Rattle.permit_cli.specs.Doing.{RegistersAs, ServesAs};
 ghost use Rattle.permit_cli.specs.Failing.{AreUnread, FailsAs, FailsOnRunDay, FailsToAct, FailsToCheck, FailsToFound, FailsToImport, FailsToList};
 ghost use Rattle.permit_cli.specs.Failing.{FailsToRegister, FailsToRenew, FailsToServe, FailsToTell, IsOfHistory, IsPolicyFailure, IsUnasked};
 ghost use Rattle.permit_cli.specs.Failing.{IsUnbegun, IsUncalled, IsUnkept, IsUnrenewed, IsUnusable};
-ghost use Rattle.permit_cli.specs.Running.{Performs, RunsAs};
+ghost use Rattle.permit_cli.specs.Running.{ExplainsAnswer, Performs, Reports, RunsAs, WarnsOf};
 ghost use Rattle.permit_cli.specs.Served.{SaysWhere};
-ghost use Rattle.permit_cli.specs.Telling.{PrintsThen, SaysNoPlan};
+ghost use Rattle.permit_cli.specs.Telling.{PrintsThen, SaysNoPlan, Warns};
 ghost use Rattle.permit_cli.specs.Wanting.{Wants};
 
+use crate::checks::check_db;
 use crate::complaining::complain;
-use crate::database::{ask_at, check_at, found_at, renew_at, serve_at, upgrade_at};
-use crate::explaining::explain;
+use crate::database::{done_at, has_database, serve_at};
+use crate::explaining::{database_of, explain};
+use crate::history::{beginning_at, journal_at, reading_at, recording_at, tell_at};
+use crate::listening::try_address;
 use crate::outcome::Outcome;
+use crate::policies::{check_policy, policy_at};
 use crate::question::Question;
-use crate::recorded::{
-    ask_recorded_at, begin_at, beginning_at, compare_at, difference_at, found_recorded_at,
-    import_recorded_at, kept_at, renew_recorded_at, replay_at, serve_recorded_at, tell_at,
-    upgrade_recorded_at,
-};
 use crate::telling::{tell, without_plan};
-use permit_args::checking::{dead_text, explained_text, rules_text};
-use permit_args::facts::read_facts;
+use crate::work::Work;
 use permit_args::plan::{
-    ActWords, BeginHistoryWords, Check, CheckDbWords, CheckPolicyWords, HistoryPaths, HistoryWords,
-    ImportWords, InitWords, ListWords, OfficeWords, Plan, RegisterWords, RenewTokenWords,
-    ReplayWords, ServeWords, UpgradeWords,
+    ActWords, BeginHistoryWords, HistoryPaths, HistoryWords, ImportWords, InitWords, ListWords,
+    OfficeWords, Plan, RegisterWords, RenewTokenWords, ReplayWords, ServeWords, UpgradeWords,
 };
 use permit_args::words::{plan, words_given};
 use permit_base::values::{Day, FileId, ParcelId, PartyId, Token};
 use permit_chronicle::wanted::Wanted;
-use permit_policy::text::read_policy;
-use permit_policy::{Facts, Policy};
+use permit_keeping::replaying::founder_told;
+use permit_policy::Policy;
+use permit_replay::beginning::Beginning;
 use permit_store::founder::Founder;
-use permit_store::store::OpenError;
 use permit_subcommands::days::{RunDays, dated, day_of_run, days_of_run};
 use permit_subcommands::failure::{Failure, HistoryFailure};
 use permit_subcommands::founding::founder;
@@ -54,56 +50,9 @@ use permit_subcommands::request::{caller, request};
 use permit_subcommands::token::token_of;
 use std::alloc::Global;
 use std::fs::{self, File};
-use std::io::Write;
+use std::io::{Write, sink};
 use std::sync::Wait;
 use std::thread::Threads;
-
-/// Reads the policy at a path.
-fn policy_at(rt: &HostRuntime, path: &str) -> Result<Policy, Failure>
-    ensures { IfErr result (IsPolicyFailure path.now) }
-{
-    match fs::read_to_string(rt, path) {
-        Ok(text) => match read_policy(rt.alloc(), text.as_str()) {
-            Ok(policy) => Ok(policy),
-            Err(error) => Err(Failure::of_policy(error)),
-        },
-        Err(error) => Err(Failure::of_reading(rt.alloc(), path, &error)),
-    }
-}
-
-/// The facts of a word.
-fn facts_of(alloc: Global, text: &str) -> Result<Facts, Failure>
-    ensures read { IfOk result (λ facts. facts_in (pieces 44 text.now) ≡ Some facts) }
-    ensures refused { IfErr result (λ why. (why ≡ plain Store) ⊎ ((why ≡ failure.Facts) × (facts_in (pieces 44 text.now) ≡ None))) }
-{
-    match read_facts(alloc, text)? {
-        Some(facts) => Ok(facts),
-        None => Err(Failure::Facts),
-    }
-}
-
-/// Reads the policy at a path, and says of it what is asked. The facts are read first.
-fn check_policy(rt: &HostRuntime, words: &CheckPolicyWords<'_>) -> Result<Outcome, Failure>
-    ensures says { IfOk result (IsPolicyChecked words.now.check) }
-    ensures fails { IfErr result (FailsToCheck words.now) }
-{
-    let alloc = rt.alloc();
-    match words.check {
-        Check::Rules => {
-            let text = rules_text(alloc, &policy_at(rt, words.policy)?)?;
-            Ok(Outcome::Checked(text))
-        }
-        Check::Dead => {
-            let text = dead_text(alloc, &policy_at(rt, words.policy)?)?;
-            Ok(Outcome::Checked(text))
-        }
-        Check::Facts(text) => {
-            let facts = facts_of(alloc, text)?;
-            let text = explained_text(alloc, &policy_at(rt, words.policy)?, &facts)?;
-            Ok(Outcome::Checked(text))
-        }
-    }
-}
 
 /// The founder that the words name.
 fn founder_of(rt: &HostRuntime, words: &InitWords<'_>) -> Result<Founder, Failure>
@@ -123,19 +72,16 @@ fn init(rt: &HostRuntime, words: &InitWords<'_>) -> Result<Outcome, Failure>
         Ok(founder) => founder,
         Err(why) => return Err(why),
     };
+    let founder = &founder;
     match words.history {
-        None => found_at(rt, words.db, &founder),
-        Some(history) => found_recorded_at(rt, words.db, history, &founder),
-    }
-}
-
-/// That there is a database at a path: none is made there.
-fn has_database(rt: &HostRuntime, path: &str) -> Result<(), Failure>
-    ensures { IfErr result IsUnusable }
-{
-    match fs::exists(rt, path) {
-        Ok(false) => Err(Failure::Database(OpenError::Store)),
-        _ => Ok(()),
+        None => done_at(rt, words.db, Work::Found { founder }, &mut sink()),
+        Some(history) => match journal_at(rt, history) {
+            Ok(journal) => {
+                let work = Work::FoundRecorded { founder, journal };
+                done_at(rt, words.db, work, &mut sink())
+            }
+            Err(why) => Err(why),
+        },
     }
 }
 
@@ -163,7 +109,12 @@ fn ask_office<O: Write>(
     let day = day_of_run(rt, &words.days)?;
     let policy = policy_at(rt, words.policy)?;
     has_database(rt, words.db)?;
-    ask_at(rt, words.db, policy, day, question, out)
+    let work = Work::Ask {
+        policy,
+        day,
+        question,
+    };
+    done_at(rt, words.db, work, out)
 }
 
 /// Has an office without a history serve one request.
@@ -202,16 +153,16 @@ fn act_recorded(
         Ok(read) => read,
         Err(why) => return Err(why),
     };
-    match kept_at(rt, history) {
-        Ok(mut beginning) => ask_recorded_at(
-            rt,
-            words.office.db,
-            &mut beginning,
-            history.text,
-            policy,
-            day,
-            request.as_str(),
-        ),
+    match recording_at(rt, history) {
+        Ok(history) => {
+            let work = Work::AskRecorded {
+                policy,
+                day,
+                request: request.as_str(),
+                history,
+            };
+            done_at(rt, words.office.db, work, &mut sink())
+        }
         Err(why) => Err(why),
     }
 }
@@ -294,23 +245,21 @@ fn import_recorded<O: Write>(
         Ok(read) => read,
         Err(why) => return Err(why),
     };
-    let mut beginning = match kept_at(rt, history) {
-        Ok(beginning) => beginning,
-        Err(why) => return Err(why),
-    };
-    import_recorded_at(
-        rt,
-        words.office.db,
-        &mut beginning,
-        history.text,
-        policy,
-        &token,
-        day,
-        words.office.why,
-        words.file,
-        records,
-        out,
-    )
+    match recording_at(rt, history) {
+        Ok(history) => {
+            let work = Work::ImportRecorded {
+                policy,
+                day,
+                token: &token,
+                path: words.file,
+                why: words.office.why,
+                records,
+                history,
+            };
+            done_at(rt, words.office.db, work, out)
+        }
+        Err(why) => Err(why),
+    }
 }
 
 /// Imports the records of a file into an office without a history.
@@ -374,26 +323,19 @@ where
     ensures fails { IfErr result (λ why. FailsToServe words.now why ⊎ (IsOfHistory why ⊎ AreUnread history.entry why)) }
     ensures says { SaysWhere (O.contents out.old) (O.contents out.new) result }
 {
-    match kept_at(rt, history) {
-        Ok(mut beginning) => serve_recorded_at(
-            rt,
-            workers,
-            &mut beginning,
-            history.text,
-            policy,
-            days,
-            words,
-            out,
-        ),
+    match recording_at(rt, history) {
+        Ok(history) => serve_at(rt, workers, policy, days, words, Some(history), out),
         Err(why) => Err(why),
     }
 }
 
-/// Serves the office that the words name over TCP. The policy and the database are read before the address is taken.
-fn serve<R, O>(
+/// Serves an office over TCP on the days of a run, with its history where one is named.
+fn serve_on_days<R, O>(
     rt: &HostRuntime,
     workers: R,
     words: &ServeWords<'_>,
+    days: &RunDays,
+    policy: Policy,
     out: &mut O,
 ) -> Result<Outcome, Failure>
 where
@@ -403,16 +345,62 @@ where
     ensures fails { IfErr result (λ why. FailsToServe words.now why ⊎ IsUnkept words.now.history why) }
     ensures says { IfErr result (λ why. SaysWhere (O.contents out.old) (O.contents out.new) (Err why)) }
 {
+    let served = match words.history {
+        None => serve_at(rt, workers, policy, days, words, None, out),
+        Some(history) => serve_recorded(rt, workers, words, history, days, policy, out),
+    };
+    match served {
+        Ok(()) => Ok(Outcome::Ended),
+        Err(why) => Err(why),
+    }
+}
+
+/// Serves the office that the words name over TCP. The policy and the address are tested before the database is opened.
+fn serve<R, O, E>(
+    rt: &HostRuntime,
+    workers: R,
+    words: &ServeWords<'_>,
+    out: &mut O,
+    err: &mut E,
+) -> Result<Outcome, Failure>
+where
+    R: Threads + Wait + Copy + Drop + Send + 'static,
+    O: Write,
+    E: Write,
+    ensures serves { IfOk result (ServesAs (O.contents out.old) (O.contents out.new)) }
+    ensures fails { IfErr result (λ why. FailsToServe words.now why ⊎ IsUnkept words.now.history why) }
+    ensures says { IfErr result (λ why. SaysWhere (O.contents out.old) (O.contents out.new) (Err why)) }
+    ensures warns { Warns words.now.listen.now (E.contents err.old) (E.contents err.new) }
+{
     let (days, policy) = match days_and_policy(rt, words) {
         Ok(read) => read,
         Err(why) => return Err(why),
     };
-    let served = match words.history {
-        None => serve_at(rt, workers, policy, &days, words, out),
-        Some(history) => serve_recorded(rt, workers, words, history, &days, policy, out),
+    match try_address(rt, words.listen, err) {
+        Ok(()) => serve_on_days(rt, workers, words, &days, policy, out),
+        Err(why) => Err(why),
+    }
+}
+
+/// Makes of the database at a path, of the version before, one of this version, and begins the office's history in the file at
+/// the other, which has no text yet.
+fn upgrade_recorded(rt: &HostRuntime, path: &str, history: &str) -> Result<Outcome, Failure>
+    ensures upgrades { IfOk result IsUpgrade }
+    ensures fails { IfErr result (λ why. IsUnusable why ⊎ IsOfHistory why) }
+{
+    let journal = match journal_at(rt, history) {
+        Ok(journal) => journal,
+        Err(why) => return Err(why),
     };
-    match served {
-        Ok(()) => Ok(Outcome::Ended),
+    if journal.length() != 0 {
+        return Err(Failure::History(HistoryFailure::Exists));
+    }
+    let upgraded = match done_at(rt, path, Work::Upgrade, &mut sink()) {
+        Ok(upgraded) => upgraded,
+        Err(why) => return Err(why),
+    };
+    match done_at(rt, path, Work::Begin { journal }, &mut sink()) {
+        Ok(_) => Ok(upgraded),
         Err(why) => Err(why),
     }
 }
@@ -427,8 +415,38 @@ fn upgrade(rt: &HostRuntime, words: &UpgradeWords<'_>) -> Result<Outcome, Failur
         return Err(why);
     }
     match words.history {
-        None => upgrade_at(rt, words.db),
-        Some(history) => upgrade_recorded_at(rt, words.db, history),
+        None => done_at(rt, words.db, Work::Upgrade, &mut sink()),
+        Some(history) => upgrade_recorded(rt, words.db, history),
+    }
+}
+
+/// Makes an office in the database at a path of the history at the other, which may begin so, or brings the one that is there
+/// further. The history is replayed in memory before the database is opened.
+fn replay_at(
+    rt: &HostRuntime,
+    path: &str,
+    beginning: Beginning,
+    history: &str,
+) -> Result<Outcome, Failure>
+    ensures replays { IfOk result IsReplay }
+    ensures fails { IfErr result (λ why. IsUnusable why ⊎ (IsOfHistory why ⊎ IsUnread history.now why)) }
+{
+    let mut beginning = beginning;
+    let mut whole = reading_at(rt, history)?;
+    let mut first = reading_at(rt, history)?;
+    let source = reading_at(rt, history)?;
+    let founder = match founder_told(rt.alloc(), &mut beginning, &mut whole, &mut first) {
+        Ok(founder) => founder,
+        Err(why) => return Err(why),
+    };
+    let work = Work::Replay {
+        beginning,
+        founder,
+        source,
+    };
+    match done_at(rt, path, work, &mut sink()) {
+        Ok(replayed) => Ok(replayed),
+        Err(why) => Err(why),
     }
 }
 
@@ -438,7 +456,7 @@ fn replay(rt: &HostRuntime, words: &ReplayWords<'_>) -> Result<Outcome, Failure>
     ensures fails { IfErr result (λ why. IsUnusable why ⊎ (IsOfHistory why ⊎ AreUnread words.now.history why)) }
 {
     match beginning_at(rt, words.history) {
-        Ok(mut beginning) => replay_at(rt, words.db, &mut beginning, words.history.text),
+        Ok(beginning) => replay_at(rt, words.db, beginning, words.history.text),
         Err(why) => Err(why),
     }
 }
@@ -449,54 +467,10 @@ fn begin_history(rt: &HostRuntime, words: &BeginHistoryWords<'_>) -> Result<Outc
     ensures fails { IfErr result (λ why. IsUnusable why ⊎ IsOfHistory why) }
 {
     match has_database(rt, words.db) {
-        Ok(()) => begin_at(rt, words.db, words.history),
-        Err(why) => Err(why),
-    }
-}
-
-/// Tests the tables of a database by its rules. None is made where there is none.
-fn check_alone(rt: &HostRuntime, words: &CheckDbWords<'_>) -> Result<Outcome, Failure>
-    ensures checks { IfOk result (IsCheck words.now.why) }
-    ensures fails { IfErr result IsUnusable }
-{
-    has_database(rt, words.db)?;
-    check_at(rt, words.db, words.why)
-}
-
-/// What is said of tables that differ from those of a history: the first place, where that is asked for.
-fn differing(
-    rt: &HostRuntime,
-    words: &CheckDbWords<'_>,
-    history: HistoryPaths<'_>,
-) -> Result<Outcome, Failure>
-    ensures checks { IfOk result (IsCheck words.now.why) }
-    ensures fails { IfErr result (λ why. IsUnusable why ⊎ (IsOfHistory why ⊎ AreUnread history.entry why)) }
-{
-    if words.why {
-        difference_at(rt, words.db, history)
-    } else {
-        Err(Failure::History(HistoryFailure::Differs))
-    }
-}
-
-/// Tests the tables of a database, and where a history is named whether they are its own.
-fn check_db(rt: &HostRuntime, words: &CheckDbWords<'_>) -> Result<Outcome, Failure>
-    ensures checks { IfOk result (IsCheck words.now.why) }
-    ensures fails { IfErr result (λ why. IsUnusable why ⊎ IsUnkept words.now.history why) }
-{
-    let checked = match check_alone(rt, words) {
-        Ok(checked) => checked,
-        Err(why) => return Err(why),
-    };
-    let Some(history) = words.history else {
-        return Ok(checked);
-    };
-    if !matches!(checked, Outcome::Sound(_)) {
-        return Ok(checked);
-    }
-    match compare_at(rt, words.db, history) {
-        Ok(true) => Ok(checked),
-        Ok(false) => differing(rt, words, history),
+        Ok(()) => match journal_at(rt, words.history) {
+            Ok(journal) => done_at(rt, words.db, Work::Begin { journal }, &mut sink()),
+            Err(why) => Err(why),
+        },
         Err(why) => Err(why),
     }
 }
@@ -554,15 +528,18 @@ fn renew_recorded(
     ensures renews { IfOk result (λ done. done ≡ Outcome.Renewed words.now.party) }
     ensures fails { IfErr result (λ why. IsUnrenewed why ⊎ (IsOfHistory why ⊎ AreUnread history.entry why)) }
 {
-    match kept_at(rt, history) {
-        Ok(mut beginning) => renew_recorded_at(
-            rt,
-            words.db,
-            &mut beginning,
-            history.text,
-            words.party,
-            token,
-        ),
+    let Some(party) = PartyId::new(words.party) else {
+        return Err(Failure::plain(RefusalWord::Record));
+    };
+    match recording_at(rt, history) {
+        Ok(history) => {
+            let work = Work::RenewRecorded {
+                party,
+                token,
+                history,
+            };
+            done_at(rt, words.db, work, &mut sink())
+        }
         Err(why) => Err(why),
     }
 }
@@ -575,24 +552,33 @@ fn renew_token(rt: &HostRuntime, words: &RenewTokenWords<'_>) -> Result<Outcome,
     let token = new_token(token_of(rt, &words.token)?)?;
     has_database(rt, words.db)?;
     match words.history {
-        None => renew_at(rt, words.db, words.party, &token),
+        None => {
+            let work = Work::Renew {
+                party: words.party,
+                token: &token,
+            };
+            done_at(rt, words.db, work, &mut sink())
+        }
         Some(history) => renew_recorded(rt, words, history, &token),
     }
 }
 
 /// Does what a plan asks for. The database is closed before anything else is printed than a register, the lines of an
-/// import or the address that is listened on, so that what is printed stands.
-fn carry_out<R, O>(
+/// import, or the address that is listened on and what is said of it, so that nothing that was printed is undone.
+fn carry_out<R, O, E>(
     rt: &HostRuntime,
     workers: R,
     plan: &Plan<'_>,
     out: &mut O,
+    err: &mut E,
 ) -> Result<Outcome, Failure>
 where
     R: Threads + Wait + Copy + Drop + Send + 'static,
     O: Write,
+    E: Write,
     ensures comes { IfOk result (ComesTo plan.now (O.contents out.old) (O.contents out.new)) }
     ensures fails { IfErr result (FailsAs plan.now (O.contents out.old) (O.contents out.new)) }
+    ensures warns { WarnsOf plan.now (E.contents err.old) (E.contents err.new) }
     ensures name { plan.now ≡ Plan.Name → (result ≡ Ok Outcome.Name) × (O.contents out.new ≡ O.contents out.old) }
 {
     match plan {
@@ -603,7 +589,7 @@ where
         Plan::List(words) => list(rt, words, out),
         Plan::Register(words) => register(rt, words, out),
         Plan::Import(words) => import(rt, words, out),
-        Plan::Serve(words) => serve(rt, workers, words, out),
+        Plan::Serve(words) => serve(rt, workers, words, out, err),
         Plan::Upgrade(words) => upgrade(rt, words),
         Plan::CheckDb(words) => check_db(rt, words),
         Plan::RenewToken(words) => renew_token(rt, words),
@@ -613,23 +599,66 @@ where
     }
 }
 
-/// Does what a plan asks for, prints what it came to, and returns the status. Before a failure it prints why, where the words ask
-/// for that.
-fn perform<R, O>(rt: &HostRuntime, workers: R, plan: &Plan<'_>, out: &mut O) -> Result<u8, Failure>
-where
-    R: Threads + Wait + Copy + Drop + Send + 'static,
-    O: Write,
-    ensures performs { Performs plan.now (O.contents out.old) (O.contents out.new) result }
-    ensures name { plan.now ≡ Plan.Name → PrintsThen name_line (Ok 0) (O.contents out.old) (O.contents out.new) result }
-    ensures within { IfOk result (λ status. status ≤ 1) }
+/// Prints why an answer is a refusal, where the words ask for that.
+fn explain_answer<E: Write>(
+    rt: &HostRuntime,
+    plan: &Plan<'_>,
+    told: &Result<u8, Failure>,
+    err: &mut E,
+)
+    ensures { ExplainsAnswer plan.now told.now (E.contents err.old) (E.contents err.new) }
 {
-    match carry_out(rt, workers, plan, out) {
-        Ok(outcome) => tell(rt.alloc(), &outcome, out),
-        Err(failure) => Err(explain(rt, plan, failure, out)),
+    if let Err(failure) = told
+        && let Failure::Refused(_) = failure
+    {
+        explain(rt, plan, failure, err);
     }
 }
 
-/// Runs the program on the words behind its name, and gives its status: 0 done, 1 refused, 2 bad words or files.
+/// Prints what a plan came to, and returns the status. Where an answer is a refusal, it prints why on `err` if the words ask for
+/// that.
+fn report<O: Write, E: Write>(
+    rt: &HostRuntime,
+    plan: &Plan<'_>,
+    outcome: &Outcome,
+    out: &mut O,
+    err: &mut E,
+) -> Result<u8, Failure>
+    ensures reports { Reports plan.now outcome.now (O.contents out.old) (O.contents out.new) (E.contents err.old) (E.contents err.new) result }
+    ensures within { IfOk result (λ status. status ≤ 1) }
+{
+    let told = tell(rt.alloc(), database_of(plan), outcome, out, err);
+    explain_answer(rt, plan, &told, err);
+    told
+}
+
+/// Does what a plan asks for, prints what it came to, and returns the status. Before a failure it prints why on `err`, where the
+/// words ask for that.
+fn perform<R, O, E>(
+    rt: &HostRuntime,
+    workers: R,
+    plan: &Plan<'_>,
+    out: &mut O,
+    err: &mut E,
+) -> Result<u8, Failure>
+where
+    R: Threads + Wait + Copy + Drop + Send + 'static,
+    O: Write,
+    E: Write,
+    ensures performs { Performs plan.now (O.contents out.old) (O.contents out.new) (E.contents err.old) (E.contents err.new) result }
+    ensures name { plan.now ≡ Plan.Name → PrintsThen name_line (Ok 0) (O.contents out.old) (O.contents out.new) result }
+    ensures within { IfOk result (λ status. status ≤ 1) }
+{
+    match carry_out(rt, workers, plan, out, err) {
+        Ok(outcome) => report(rt, plan, &outcome, out, err),
+        Err(failure) => {
+            explain(rt, plan, &failure, err);
+            Err(failure)
+        }
+    }
+}
+
+/// Runs the program on the words after its name, and returns its status: 0 done, 1 refused, 2 bad words or files.
 /// What it prints goes to `out`, its faults to `err`. Where it serves, its workers are started by `workers`.
 ///
 /// # Examples
@@ -658,7 +687,7 @@ where
     ensures within { result ≤ 2 }
 {
     match plan(rt.alloc(), words) {
-        Ok(plan) => match perform(rt, workers, &plan, out) {
+        Ok(plan) => match perform(rt, workers, &plan, out, err) {
             Ok(status) => status,
             Err(failure) => complain(&failure, err),
         },

@@ -97,7 +97,7 @@ fn reason_of_wanted(wanted: Edition, why: OpenError) -> Reason
     }
 }
 
-/// Why a database can't be used from which the tables of an edition are wanted, by what stands in it.
+/// Why a database can't be used from which the tables of an edition are wanted, by what is in it.
 pub(crate) fn reason_for(wanted: Edition, why: OpenError, standing: Standing) -> Reason
     ensures { result ≡ reason_for wanted why standing }
 {

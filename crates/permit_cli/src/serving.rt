@@ -1,6 +1,6 @@
 //! An office in a database that is served over TCP, with its tables in memory.
 
-ghost use Rattle.std.specs.Prelude.{◌≡◌, ◌≤◌, ◌⊎◌, IfErr, IfOk, List};
+ghost use Rattle.std.specs.Prelude.{◌≡◌, ◌≤◌, ◌⊎◌, IfErr, IfOk, IsSomeAnd, List};
 ghost use Rattle.permit_base.specs.declared.request.Asked.{Asked};
 ghost use Rattle.permit_model.specs.Sound.{IsSoundTables};
 ghost use Rattle.permit_model.specs.Tables.{Tables};
@@ -8,15 +8,18 @@ ghost use Rattle.permit_store.specs.Frames.{HasOneDesk};
 ghost use Rattle.permit_wire.specs.declared.service.Dated.{Dated};
 ghost use Rattle.permit_hall.specs.OneHistory.{OneHistory};
 ghost use Rattle.permit_hall.specs.Runs.{Entry};
-ghost use Rattle.permit_cli.specs.Failing.{FailsToListen, IsOfStore, IsUnusable};
+ghost use Rattle.permit_cli.specs.Failing.{FailsToListen, IsOfHistory, IsOfStore, IsUnusable};
 ghost use Rattle.permit_cli.specs.Opening.{IsUnopened, IsWithoutMemory};
 ghost use Rattle.permit_cli.specs.Served.{HasEndedAs, IsDayOfRun, IsServed, IsServedOnDays, IsUnserved, SaysWhere};
 
 use crate::asking::store_in;
+use crate::recorded::Recording;
 use crate::shut::flag;
 use permit_args::plan::ServeWords;
 use permit_base::values::Day;
 use permit_hall::doors::Door;
+use permit_journal::file::HistoryFile;
+use permit_keeping::serving::serve_recorded;
 use permit_mirror::indexed::Indexed;
 use permit_mirror::mirrored::Mirrored;
 use permit_office::office::Office;
@@ -139,7 +142,7 @@ where
 }
 
 /// Serves the office in a database so on the days of a run.
-pub(crate) fn serve_on_days<S, R, O>(
+fn serve_on_days<S, R, O>(
     rt: &HostRuntime,
     workers: R,
     conn: Connection<S>,
@@ -165,4 +168,85 @@ where
         ensures { IsDayOfRun days.entry.now result }
     { days.today(rt) };
     serve_in(rt, workers, conn, policy, &mut today, words, out)
+}
+
+/// Serves the office in a database so with its history.
+fn serve_recorded_on_days<S, H, R, O>(
+    rt: &HostRuntime,
+    workers: R,
+    conn: Connection<S>,
+    policy: Policy,
+    days: &RunDays,
+    words: &ServeWords<'_>,
+    history: Recording<H>,
+    out: &mut O,
+) -> (Connection<S>, Result<(), Failure>)
+where
+    S: Alter + Drop,
+    H: HistoryFile + Drop,
+    R: Threads + Wait + Copy + Drop + Send + 'static,
+    O: Write,
+    ensures fails { IfErr result.1 (λ why. (IsUnusable why ⊎ IsOfHistory why) ⊎ FailsToListen words.now.listen.now why) }
+    ensures says { SaysWhere (O.contents out.old) (O.contents out.new) result.1 }
+{
+    let Recording {
+        mut beginning,
+        file,
+    } = history;
+    let Ok((set, shut)) = flag(rt.alloc()) else {
+        return (conn, Err(Failure::memory()));
+    };
+    let mut today = ||
+        ensures { IsDayOfRun days.entry.now result }
+    { days.today(rt) };
+    let (conn, served) = serve_recorded(
+        rt,
+        workers,
+        &mut beginning,
+        conn,
+        policy,
+        file,
+        &mut today,
+        words,
+        set,
+        &shut,
+        out,
+    );
+    match served {
+        Ok(ends) => {
+            if any_stopped(&ends) {
+                (conn, Err(Failure::memory()))
+            } else {
+                (conn, Ok(()))
+            }
+        }
+        Err(failure) => (conn, Err(failure)),
+    }
+}
+
+/// Serves the office in a database on the days of a run, with its history where one comes with it.
+pub(crate) fn served_in<S, H, R, O>(
+    rt: &HostRuntime,
+    workers: R,
+    conn: Connection<S>,
+    policy: Policy,
+    days: &RunDays,
+    words: &ServeWords<'_>,
+    history: Option<Recording<H>>,
+    out: &mut O,
+) -> (Connection<S>, Result<(), Failure>)
+where
+    S: Alter + Drop,
+    H: HistoryFile + Drop,
+    R: Threads + Wait + Copy + Drop + Send + 'static,
+    O: Write,
+    ensures fails { IfErr result.1 (λ why. (IsUnusable why ⊎ IsSomeAnd history (λ _. IsOfHistory why)) ⊎ FailsToListen words.now.listen.now why) }
+    ensures says { SaysWhere (O.contents out.old) (O.contents out.new) result.1 }
+{
+    match history {
+        None => serve_on_days(rt, workers, conn, policy, days, words, out),
+        Some(history) => serve_recorded_on_days(
+            rt, workers, conn, policy, days, words, history, out,
+        ),
+    }
 }

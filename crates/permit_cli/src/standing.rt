@@ -1,4 +1,4 @@
-//! Which tables stand in a database that can't be used.
+//! Which tables there are in a database that can't be used.
 
 ghost use Rattle.std.specs.Prelude.{◌≡◌, IfOk};
 ghost use Rattle.sqlite.specs.State.{HasCleanDisk};
@@ -13,7 +13,7 @@ use permit_sql_rows::schema::is_office;
 use permit_store::store::{Got, OpenError};
 use sqlite::{Alter, Connection};
 
-/// Which tables stand in a database, by its schema and by the version that its desk says.
+/// Which tables there are in a database, by its schema and by the version that its desk says.
 #[derive(Clone, Copy, PartialEq, Eq)]
 pub(crate) enum Standing {
     /// Those of an edition, and the desk says no other version.
@@ -24,7 +24,7 @@ pub(crate) enum Standing {
     OtherTables,
 }
 
-/// Which tables stand in a database, by whether its desk says another version than the first and than the second, and by whether
+/// Which tables there are in a database, by whether its desk says another version than the first and than the second, and by whether
 /// its schema is that of the first and of the second.
 fn standing_by(not_first: bool, not_second: bool, is_first: bool, is_second: bool) -> Standing
     ensures { result ≡ standing_by not_first not_second is_first is_second }
@@ -40,7 +40,7 @@ fn standing_by(not_first: bool, not_second: bool, is_first: bool, is_second: boo
     }
 }
 
-/// Which tables stand in a database, which stays as it is.
+/// Which tables there are in a database, which stays as it is.
 fn standing_in<S: Alter>(conn: &mut Connection<S>) -> Got<Standing>
     ensures stands { HasCleanDisk (state S.Store conn.new) → IfOk result (Stands (state S.Store conn.old).now) }
     ensures left { LeavesRows S.Store conn.old conn.new }

@@ -1,12 +1,8 @@
 //! What is printed of an outcome or a failure, and the program's status.
 
-ghost use Rattle.std.specs.Prelude.{◌≡◌, ◌≤◌, ◌++◌, Err, IfOk, Ok, codes, string_bytes};
-ghost use Rattle.permit_store.specs.declared.store.OpenError.TheVariants as opening;
-ghost use Rattle.permit_sql.specs.FaultText.{fault_text};
-ghost use Rattle.permit_subcommands.specs.declared.failure.Failure.TheVariants as failure;
-ghost use Rattle.permit_subcommands.specs.declared.failure.HistoryFailure.TheVariants as history;
+ghost use Rattle.std.specs.Prelude.{◌≡◌, ◌≤◌, IfOk, Ok, string_bytes};
 ghost use Rattle.permit_subcommands.specs.Printing.{TellsNoPlan};
-ghost use Rattle.permit_cli.specs.Telling.{begun_line, difference_line, party_line, replayed_line, IsTold, MakesAndPrints, PrintsThen, SaysNoPlan, TellsBegun};
+ghost use Rattle.permit_cli.specs.Telling.{begun_line, difference_text, party_line, replayed_line, IsTold, NamesPlace, PrintsThen, SaysNoPlan, TellsBegun};
 
 use crate::complaining::{complain, print_three};
 use crate::outcome::Outcome;
@@ -22,7 +18,7 @@ use permit_subcommands::answering::show;
 use permit_subcommands::failure::{Failure, HistoryFailure, status_after};
 use permit_subcommands::lines::{sound_text, upgraded_text};
 use permit_subcommands::listing::listing_text;
-use permit_subcommands::printing::print_text;
+use permit_subcommands::printing::{print_about, print_text};
 use std::alloc::{AllocError, Global};
 use std::io::Write;
 
@@ -61,13 +57,13 @@ fn tell_party<O: Write>(out: &mut O, party: u32) -> Result<u8, Failure>
     Ok(0)
 }
 
-/// Prints the first place at which a database is damaged, and reports the damage.
-fn tell_unsound<O: Write>(alloc: Global, fault: Fault, out: &mut O) -> Result<u8, Failure>
-    ensures { MakesAndPrints (fault_text fault ++ codes "\n") (Err (failure.Database opening.Damaged))
-        (O.contents out.old) (O.contents out.new) result }
+/// Says the first place at which the database at a path is damaged. Without memory for its text nothing is said.
+fn say_unsound<E: Write>(alloc: Global, path: &str, fault: Fault, err: &mut E)
+    ensures { NamesPlace path.now (Outcome.Unsound fault) (E.contents err.old) (E.contents err.new) }
 {
-    print_text(out, format!(in alloc; "{fault}\n")?.as_str())?;
-    Err(Failure::Database(OpenError::Damaged))
+    if let Ok(text) = format!(in alloc; "{fault}") {
+        let _ = print_about(err, path, text.as_str());
+    }
 }
 
 /// The line on an office that has the tables of a history: how many lines that has, and how many of them are new.
@@ -97,31 +93,40 @@ fn tell_begun<O: Write>(alloc: Global, day: Day, out: &mut O) -> Result<u8, Fail
     }
 }
 
-/// The line on the first place at which tables differ from those of a history.
+/// The first place at which tables differ from those of a history, in words.
 fn difference_text(alloc: Global, place: Difference) -> Result<String, AllocError>
-    ensures { IfOk result (λ text. string_bytes text ≡ difference_line place) }
+    ensures { IfOk result (λ text. string_bytes text ≡ difference_text place) }
 {
     match place {
-        Difference::Desk => format!(in alloc; "differs first in the last day or a count\n"),
-        Difference::Party(number) => format!(in alloc; "differs first in party {number}\n"),
-        Difference::Parcel(number) => format!(in alloc; "differs first in parcel {number}\n"),
-        Difference::Interests => format!(in alloc; "differs first in the declared interests\n"),
-        Difference::File(number) => format!(in alloc; "differs first in file {number}\n"),
+        Difference::Desk => format!(in alloc; "differs first in the last day or a count"),
+        Difference::Party(number) => format!(in alloc; "differs first in party {number}"),
+        Difference::Parcel(number) => format!(in alloc; "differs first in parcel {number}"),
+        Difference::Interests => format!(in alloc; "differs first in the declared interests"),
+        Difference::File(number) => format!(in alloc; "differs first in file {number}"),
     }
 }
 
-/// Prints the first place at which tables differ from those of a history, and reports that they do.
-fn tell_differing<O: Write>(alloc: Global, place: Difference, out: &mut O) -> Result<u8, Failure>
-    ensures { MakesAndPrints (difference_line place) (Err (failure.History history.Differs)) (O.contents out.old) (O.contents out.new) result }
+/// Says the first place at which the tables of the database at a path differ from those of a history. Without memory for its text
+/// nothing is said.
+fn say_differing<E: Write>(alloc: Global, path: &str, place: Difference, err: &mut E)
+    ensures { NamesPlace path.now (Outcome.Differing place) (E.contents err.old) (E.contents err.new) }
 {
-    print_text(out, difference_text(alloc, place)?.as_str())?;
-    Err(Failure::History(HistoryFailure::Differs))
+    if let Ok(text) = difference_text(alloc, place) {
+        let _ = print_about(err, path, text.as_str());
+    }
 }
 
-/// Prints what a plan came to, and gives the status. The refusal that an answer says is the failure then, and damage is once
-/// its place is printed.
-pub(crate) fn tell<O: Write>(alloc: Global, outcome: &Outcome, out: &mut O) -> Result<u8, Failure>
+/// Prints what a plan came to on the database at a path, and gives the status. The refusal that an answer has is the failure then,
+/// and damage is once its place is said on `err`.
+pub(crate) fn tell<O: Write, E: Write>(
+    alloc: Global,
+    path: &str,
+    outcome: &Outcome,
+    out: &mut O,
+    err: &mut E,
+) -> Result<u8, Failure>
     ensures told { IsTold outcome.now (O.contents out.old) (O.contents out.new) result }
+    ensures named { NamesPlace path.now outcome.now (E.contents err.old) (E.contents err.new) }
     ensures within { IfOk result (λ status. status ≤ 1) }
 {
     match outcome {
@@ -130,8 +135,14 @@ pub(crate) fn tell<O: Write>(alloc: Global, outcome: &Outcome, out: &mut O) -> R
         Outcome::Founded => tell_text(out, "party 1\n"),
         Outcome::Upgraded(files) => tell_text(out, upgraded_text(alloc, *files)?.as_str()),
         Outcome::Sound(desk) => tell_text(out, sound_text(alloc, desk)?.as_str()),
-        Outcome::Unsound(fault) => tell_unsound(alloc, *fault, out),
-        Outcome::Differing(place) => tell_differing(alloc, *place, out),
+        Outcome::Unsound(fault) => {
+            say_unsound(alloc, path, *fault, err);
+            Err(Failure::Database(OpenError::Damaged))
+        }
+        Outcome::Differing(place) => {
+            say_differing(alloc, path, *place, err);
+            Err(Failure::History(HistoryFailure::Differs))
+        }
         Outcome::Answered(answer) => {
             show(alloc, answer, out)?;
             Ok(0)

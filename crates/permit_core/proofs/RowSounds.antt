@@ -47,7 +47,7 @@ sound_facts s h = grind (arith, parts)
 not_stopped : (b : Bool) → not b ≡ true → b ≡ false
 not_stopped b e = grind arith
 
--- a certified file has every step approved, no open notice and no standing stop work order
+-- a certified file has every step approved, no open notice and no stop work order in force
 pub certified_facts : (s : State) → IsSoundState s → s.stage ≡ stage.Certified → (s.done ≡ length (required_steps s.edition s.kind)) × (s.notices ≡ 0)
     × (s.stopped ≡ false)
 certified_facts s sound at = grind (arith, sound_facts, parts, eqb-true, not_stopped)

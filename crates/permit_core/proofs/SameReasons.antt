@@ -1,4 +1,4 @@
--- What stands against a command on the row is what stands against it on the history.
+-- The reason against a command on the row is the reason against it on the history.
 use Rattle.std.proofs.Common.{◌≡◌, ℕ, suc, Bool, true, not, List, [], ◌∷◌, length, refl, ◌∙◌, ap, arith}
 use Rattle.std.specs.Prelude.{Option, Some, option_map, is_some, nat_lt, ◌||◌, ◌&&◌}
 use Rattle.permit_base.specs.declared.words.Role.{Role}
@@ -54,7 +54,7 @@ pub same_reason : (h : History) (day : ℕ) (file : CaseFile) (command : Command
     first_failing (file_tests h day file command) ≡ first_failing (row_tests day (state_of file) (people_of h file command) command)
 same_reason h day file command next = grind (arith, assigned_same, some_known, among_some)
 
--- what stands against a command on a file of a history is read off its row and the people
+-- the reason against a command on a file of a history is read off its row and the people
 pub reason_on_row : (h : History) (id day caller : ℕ) (file : CaseFile) (command : Command) (s : State) (people : People) → IsHistory h →
     case_numbered h id ≡ Some file → s ≡ state_of file → people ≡ people_of h file command →
     first_failing (row_tests day s people command) ≡ reason_against h day caller (OnFile id command)

@@ -1,4 +1,4 @@
--- What stands against a command on a file, read off its row and the people about it.
+-- The reason against a command on a file, read off its row and the people about it.
 use Rattle.std.specs.Prelude.{◌≡◌, Result, Ok, Err, ℕ, Bool, false, not, ◌||◌, ◌&&◌, ◌==◌, ◌+◌, nat_lt, nat_le, List, [], ◌∷◌, Option, None, Some, unwrap_or}
 use Rattle.std.specs.Prelude.{is_some, is_none}
 use Rattle.permit_base.specs.declared.words.Role.{Role}
@@ -34,15 +34,15 @@ facts_on day s = stage_facts (row_stage day s)
 abbrev pub not_at : ℕ → State → Stage → Test
 not_at day s wanted = unless_stage (is_stage (row_stage day s) wanted)
 
--- no deadline stands in the stage on the day
+-- no deadline runs in the stage on the day
 abbrev pub not_timed : ℕ → State → Test
 not_timed day s = unless_stage (is_running (facts_on day s).expiry)
 
--- a stop work order stands
+-- a stop work order is in force
 abbrev pub stopped : State → Test
 stopped s = (s.stopped, reason.Stopped)
 
--- no stop work order stands
+-- no stop work order is in force
 abbrev pub not_stopped : State → Test
 not_stopped s = (not s.stopped, reason.NothingPending)
 
@@ -141,7 +141,7 @@ row_tests day s people (Temporary days text) = not_at day s stage.Working ∷ st
     ∷ no_certificates s ∷ papers_full s ∷ []
 row_tests day s people Certify = not_at day s stage.Finaled ∷ stopped s ∷ no_certificates s ∷ papers_full s ∷ []
 
--- the answer to a command: done where nothing stands against it, else the reason
+-- the answer to a command: done where there is no reason against it, else the reason
 abbrev pub Admits : Result Unit Reason → Option Reason → Type 0
 Admits (Ok done) against = against ≡ None
 Admits (Err reason) against = against ≡ Some reason

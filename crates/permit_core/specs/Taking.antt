@@ -7,11 +7,11 @@ module _ {T I : Type 0} (took : T → I → T → Bool → Type 0) where
   TookAll [] old new = new ≡ old
   TookAll (item ∷ items) old new = (mid : T) × took old item mid true × TookAll items mid new
 
-  -- a beginning, whose last item was answered false
+  -- a prefix, whose last item was answered false
   abbrev pub StoppedIn : List I → T → T → Type 0
   StoppedIn all old new = (given : List I) × (last : I) × (rest : List I) × (all ≡ given ++ last ∷ rest) × (mid : T) × TookAll given old mid
       × took mid last new false
 
-  -- a beginning, with each answer true
+  -- a prefix, with each answer true
   abbrev pub BeganOf : List I → T → T → Type 0
   BeganOf all old new = (given : List I) × (rest : List I) × (all ≡ given ++ rest) × TookAll given old new

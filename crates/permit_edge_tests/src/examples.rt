@@ -2,8 +2,8 @@
 //! what ends the serving, line by line as they are written there.
 
 use permit_args::checking::explained_text;
-use permit_args::facts::read_facts;
-use permit_args::plan::Plan;
+use permit_args::facts::{FactsFault, facts_fault, read_facts};
+use permit_args::plan::{Plan, TokenWords};
 use permit_args::words::plan;
 use permit_base::request::Filter;
 use permit_base::words::Role;
@@ -15,8 +15,10 @@ use permit_samples::offices::over_vectors;
 use permit_sockets::serving::{Ends, any_stopped};
 use permit_sockets::stop::Stop;
 use permit_subcommands::answering::{ask, show};
+use permit_subcommands::explaining::{founder_reason, name_reason, token_reason};
 use permit_subcommands::founding::founder;
 use permit_subcommands::listing::{list, listing_text};
+use permit_subcommands::printing::print_about;
 use std::alloc::Global;
 use std::process::Abort;
 use std::sync::Arc;
@@ -43,6 +45,23 @@ fn policies(rt: &impl Abort, alloc: Global) -> Result<(), Fail> {
     let explained = explained_text(alloc, &policy, &facts)?;
     assert!(rt; explained.as_str() == "plans match\ndecided plans allow\n");
     Ok(())
+}
+
+fn faults(rt: &impl Abort, alloc: Global) -> Result<(), Fail> {
+    let text = "reviewer,friend,approve-plans,review,maybe,ahead";
+    assert!(rt; facts_fault(alloc, text)? == Some(FactsFault::Relations));
+    assert!(rt; facts_fault(alloc, "reviewer")? == Some(FactsFault::Count));
+    assert!(rt; facts_fault(alloc, "clerk,-,list,filed,no,near")?.is_none());
+    Ok(())
+}
+
+fn words_taken(rt: &impl Abort, alloc: Global) {
+    let words = TokenWords::File("chief.token");
+    assert_eq!(rt; founder_reason("", &words), name_reason());
+    assert_eq!(rt; founder_reason("Ada", &words), token_reason(&words));
+    let mut err = Vec::new(alloc);
+    assert!(rt; print_about(&mut err, "office.db", "no such file or folder").is_ok());
+    assert!(rt; err.as_slice() == b"office.db: no such file or folder\n".as_slice());
 }
 
 fn reasons(rt: &impl Abort, alloc: Global) -> Result<(), Fail> {
@@ -99,6 +118,8 @@ fn examples_hold(rt: HostRuntime) -> Result<(), Fail> {
     let alloc = rt.alloc();
     words(&rt, alloc)?;
     policies(&rt, alloc)?;
+    faults(&rt, alloc)?;
+    words_taken(&rt, alloc);
     reasons(&rt, alloc)?;
     founders(&rt, alloc)?;
     offices(&rt, alloc)

@@ -11,7 +11,7 @@ use Rattle.permit_hall.specs.declared.session.Session.{Session}
 use Rattle.permit_hall.specs.Doors.{Talk, capped, IsHeld, HasGiven, puts_of, gots_of}
 use Rattle.permit_hall.specs.Session.{Asks, IsSamePlace, put_by, got_by}
 
--- what is counted behind the greatest count
+-- what is counted past the greatest count
 capped_more : (n k : ℕ) → min (capped n + k) (2 ^ 64 - 1) ≡ capped (n + k)
 capped_more n k = omega arith
 
@@ -40,7 +40,7 @@ module _ (s t : Session Asked Dated) where
       )
   more first false same x = (x.0, ap put_by same ∙ x.1, ap got_by same ∙ x.2)
 
-  -- a request more is an answer more, and the count has it unless it stands at the greatest
+  -- a request more is an answer more, and the count has it unless it is at the greatest
   pub counts : (b : Bool) (n k m : ℕ) → AsksOnce Asks s t b → k ≡ from_bool b → m ≡ min (n + k) (2 ^ 64 - 1)
       → length (put_by s) ≡ length (got_by s) → n ≡ capped (length (put_by s))
       → (length (put_by t) ≡ length (got_by t)) × (m ≡ capped (length (put_by t)))

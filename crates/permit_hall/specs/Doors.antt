@@ -32,7 +32,7 @@ abbrev pub capped : ℕ → ℕ
 capped n = min n (2 ^ 64 - 1)
 
 module _ {In Out : Type 0} (remaining : In → Option (List ℕ)) (contents : Out → Option (List ℕ)) where
-  -- Where the reader tells its bytes, what they ask was served. The requests put are those of the bytes. What the writer holds
+  -- Where the reader's bytes are known, what they ask was served. The requests put are those of the bytes. What the writer holds
   -- more than before is the answers to them, and to the faults between them.
   abbrev pub IsHeld : Talk In Out → Type 0
   IsHeld talk = (bytes : List ℕ) → remaining talk.reader ≡ Some bytes

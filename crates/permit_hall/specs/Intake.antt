@@ -1,6 +1,6 @@
 -- The rule of the intake: what a session put is what was taken of it, and then what is queued.
 --
--- A pass is the library's: a value that goes with each call on a channel, and stands in proofs for what its holder knows of
+-- A pass is the library's: a value that goes with each call on a channel, and represents in proofs what its holder knows of
 -- that channel. What it knows is its note, an `IntakeNote` here; v is the note before a call, and w the one after it. Passes
 -- have numbers. A pass has its seat at a channel (`IsSeatAt`) where it is one of that channel's. m is an envelope, the log
 -- all envelopes that were ever put, and the items are those that are queued.

@@ -1,4 +1,4 @@
--- A text without the line of a beginning means the same over any start, and the text of a history has no such line.
+-- A text without a line that begins with an office means the same over any start, and the text of a history has no such line.
 use Rattle.std.proofs.Common.{arith, ◌≡◌, refl, ap, ◌∙◌, ℕ, Bool, List, [], ◌∷◌, Option}
 use Rattle.std.proofs.Common.{option_map}
 use Rattle.std.specs.Prelude.{IsTrue}
@@ -13,7 +13,7 @@ use Rattle.permit_history.specs.declared.entry.Entry.{Entry}
 use Rattle.permit_history.specs.Meaning.{begins_none, meant_with, meant_after, meant}
 use Rattle.permit_history.specs.Told.{deed_told, told_on, told_history}
 
--- the entry is no beginning
+-- the entry doesn't begin with an office that was there
 abbrev is_later : Entry → Bool
 is_later entry = begins_none entry.deed
 

@@ -61,7 +61,7 @@ line_of_one a b h k same = ap (ok_or a) (sym (line_read a h) ∙ ap reading_of s
 
 -- ---- texts
 
--- what stands before the first LF, and what stands behind it
+-- what is before the first LF, and what is after it
 split_at_lf : (a b r s : List ℕ) → is_mild a ≡ true → is_mild b ≡ true → a ++ 10 ∷ r ≡ b ++ 10 ∷ s → (a ≡ b) × (r ≡ s)
 split_at_lf [] [] r s h k same = let rest : r ≡ s = cc in (refl, rest)
 split_at_lf [] (y ∷ b) r s h k same =

@@ -1,4 +1,4 @@
--- A renewal behind the text of a history makes it that of the history in which the party had the token.
+-- A renewal after the text of a history makes it that of the history in which the party had the token.
 use Rattle.std.proofs.Common.{arith, ◌≡◌, refl, ap, ap₂, ◌∙◌, ℕ, Bool, if◌then◌else◌, List, [], ◌∷◌, ◌++◌, map, Option, Some}
 use Rattle.std.proofs.Common.{option_map}
 use Rattle.std.proofs.lemmas.List.{map-append}
@@ -24,7 +24,7 @@ after-append : (start before first later : List Entry)
 after-append start before [] later = refl
 after-append start before (entry ∷ first) later = after-append start (meant_with start before entry entry.deed) first later
 
--- one more entry that was told
+-- one more entry that the text gives
 told_last : (start es : List Entry) (day caller : ℕ) (made : Option ℕ) (done : model.Deed)
     → meant start (add_last es (option_map (told_on day) (deed_told caller made done)))
     ≡ add_last (meant start es) (option_map (told_on day) (deed_told caller made done))
@@ -46,7 +46,7 @@ chosen_party b caller day name role token before made = grind arith
 same_either : {A : Type 0} (b : Bool) (x : A) → (if b then x else x) ≡ x
 same_either b x = grind arith
 
--- the deed of a request, renewed, is told as the deed told, renewed
+-- the text's entry for the renewed deed of a request is its entry for the deed, renewed
 request_renewed : (party : ℕ) (token : List ℕ) (caller day : ℕ) (made : Option ℕ) (request : Request)
     → option_map (told_on day) (deed_told caller made (renewal.renewed_deed party token (Accepted request) made))
     ≡ option_map (renewed_entry party (digest_of token)) (option_map (told_on day) (deed_told caller made (Accepted request)))
@@ -57,7 +57,7 @@ chosen_founder : (b : Bool) (caller day : ℕ) (name token digest : List ℕ)
     ≡ Some (told_on day (deed.Found name (if b then digest_of token else digest)))
 chosen_founder b caller day name token digest = grind arith
 
--- an entry that may stand in a history, renewed, is told as the entry told, renewed
+-- the text's entry for a renewed entry that may be in a history is its entry for that entry, renewed
 abbrev IsRenewedTold : ℕ → List ℕ → model.Entry → model.Deed → Type 0
 IsRenewedTold party token entry done =
     option_map (told_on entry.day) (deed_told entry.caller entry.number (renewal.renewed_deed party token done entry.number))

@@ -42,7 +42,7 @@ abbrev mutual
   IsPlain zero (object ms) = ⊥
   IsPlain (suc depth) (object ms) = ArePlain depth no_members ms
 
-  -- the members may stand behind those that were found
+  -- the members may come after those that were found
   pub ArePlain : ℕ → Members → Members → Type 0
   ArePlain depth found no_members = ⊤
   ArePlain depth found (member k d ms) = IsTrue (is_last k found) × IsPlain depth d × ArePlain depth (join found (member k d no_members)) ms

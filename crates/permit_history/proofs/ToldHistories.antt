@@ -1,4 +1,4 @@
--- Each entry of a history is told.
+-- The text gives each entry of a history.
 use Rattle.std.proofs.Common.{◌≡◌, ap, ◌∙◌, suc, true, List, [], ◌∷◌, length, Option, option_map, is_some, arith, length-append}
 use Rattle.std.proofs.lemmas.Bool.{false≢true}
 use Rattle.permit_base.specs.declared.request.Request.{Request}

@@ -1,4 +1,4 @@
--- What stands in a JSON value, member by member.
+-- What is in a JSON value, member by member.
 use Rattle.std.specs.Prelude.{ℕ, List, Bool, if◌then◌else◌, Option, Some, None, option_and_then, option_map, is_some}
 use Rattle.std.specs.Str.{is_utf8}
 use Rattle.serde_json.specs.Data.{Data}
@@ -19,11 +19,11 @@ said bytes = only_if is_utf8 bytes >>= read
 abbrev pub number_at : (ℕ → Bool) → List ℕ → Data → Option ℕ
 number_at limits key d = get key d >>= as_number >>= as_u64 >>= only_if limits
 
--- null stands at the key
+-- null is at the key
 abbrev pub is_null_at : List ℕ → Data → Bool
 is_null_at key d = is_some (get key d >>= as_null)
 
--- the number at the key, within the limits, or None where null stands there
+-- the number at the key, within the limits, or None where null is there
 abbrev pub number_or_null_at : (ℕ → Bool) → List ℕ → Data → Option (Option ℕ)
 number_or_null_at limits key d = if is_null_at key d then Some None else option_map Some (number_at limits key d)
 

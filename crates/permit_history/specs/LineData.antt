@@ -162,7 +162,7 @@ number_in (deed.Accepted caller act) = act_number act
 
 -- ---- the line
 
--- the members behind the body
+-- the members after the body
 abbrev pub members_after_body : Entry → Members
 members_after_body entry =
     member (codes "caller") (count (caller_in entry.deed))
@@ -179,7 +179,7 @@ line_data entry = object (member (codes "body") (object (deed_body entry.deed)) 
 abbrev pub line_of : Entry → List ℕ
 line_of entry = compact_text (line_data entry)
 
--- the text of a history whose entries stand oldest first: each line, and LF
+-- the text of a history whose entries come oldest first: each line, and LF
 abbrev pub text_of : List Entry → List ℕ
 text_of [] = []
 text_of (entry ∷ later) = line_of entry ++ 10 ∷ text_of later

@@ -165,7 +165,7 @@ renewal_in body =
     (text_at is_digest (codes "digest") body >>= λ digest.
     Some (deed.RenewToken party digest))
 
--- a beginning with an office that was there already
+-- the deed that begins with an office that was there already
 abbrev pub beginning_in : Data → Option Deed
 beginning_in body = option_map deed.Begin (text_at is_digest (codes "tables") body)
 

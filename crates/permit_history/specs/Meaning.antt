@@ -32,8 +32,8 @@ renewed_deed party digest (deed.Accepted caller act) = deed.Accepted caller (ren
 abbrev pub renewed_entry : ℕ → List ℕ → Entry → Entry
 renewed_entry party digest entry = record entry { deed = renewed_deed party digest entry.deed }
 
--- what the entries mean with one more: behind a beginning the start is what was, and another token changes the entry that made
--- its party, and adds none
+-- what the entries mean with one more: one that begins with an office means the start, and another token changes the entry that
+-- made its party, and adds none
 abbrev pub meant_with : (start before : List Entry) → Entry → Deed → List Entry
 meant_with start before entry (deed.Begin tables) = start
 meant_with start before entry (deed.RenewToken party digest) = map (renewed_entry party digest) before
@@ -45,7 +45,7 @@ abbrev pub meant_after : (start before : List Entry) → List Entry → List Ent
 meant_after start before [] = before
 meant_after start before (entry ∷ later) = meant_after start (meant_with start before entry entry.deed) later
 
--- the entries without beginnings and renewals that these mean, over the start
+-- the entries that these mean, over the start: none begins with an office, and none renews a token
 abbrev pub meant : List Entry → List Entry → List Entry
 meant start entries = meant_after start [] entries
 
@@ -57,6 +57,6 @@ begins_none deed.Upgrade = true
 begins_none (deed.RenewToken party digest) = true
 begins_none (deed.Accepted caller act) = true
 
--- the text tells the history, over some start
+-- the text gives the history, over some start
 abbrev pub Tells : List ℕ → History → Type 0
 Tells text h = (start : List Entry) × (entries : List Entry) × (text ≡ text_of entries) × (meant start entries ≡ told_history h)

@@ -1,4 +1,4 @@
--- What the text of a history tells of the history: its entries, with a token's digest in place of the token.
+-- What the text of a history says of the history: its entries, with a token's digest in place of the token.
 use Rattle.std.specs.Prelude.{ℕ, List, Option, None, Some, option_map}
 use Rattle.permit_base.specs.declared.request.Request.{Request}
 use Rattle.permit_base.specs.declared.request.Request.TheVariants.{AddParty, AddParcel, Transfer, Declare, ReadParcel, File, ReadFile, ListFiles, Register}
@@ -13,7 +13,7 @@ use Rattle.permit_history.specs.declared.entry.Deed.{Deed}
 use Rattle.permit_history.specs.declared.entry.Deed.TheVariants as deed
 use Rattle.permit_history.specs.declared.entry.Entry.{Entry}
 
--- an accepted request, with the number of what it made: nothing is told of one that only reads
+-- an accepted request, with the number of what it made: nothing is said of one that only reads
 abbrev pub act_told : Request → Option ℕ → Option Act
 act_told (AddParty name role token) made = option_map (act.AddParty name role (digest_of token)) made
 act_told (AddParcel lot address owner) made = option_map (act.AddParcel lot address owner) made

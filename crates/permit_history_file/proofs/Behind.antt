@@ -1,4 +1,4 @@
--- What the calls of a disk do behind a text.
+-- What the calls of a disk do after a text.
 use Rattle.std.proofs.Common.{◌≡◌, ◌<◌, ◌≤◌, ◌+◌, ℕ, List, [], ◌∷◌, ◌++◌, length, take, drop, sym, ◌∙◌, ap, arith, ext_get_or, length-append, length-drop, subst}
 use Rattle.std.specs.Prelude.{slice_index}
 use Rattle.std.proofs.lemmas.List.{get_or-take, get_or_append_left, get_or-drop, length-take, take-append-drop}
@@ -6,7 +6,7 @@ use Rattle.sqlite_disk.specs.Disk.{Holds, Torn, Cut, Follows}
 use Rattle.permit_journal.specs.Files.{Grown, LeavesGrown, Only}
 use Rattle.permit_history_file.specs.Parts.{AreNoMore}
 
--- what agrees with a text up to its end is that text with something behind it
+-- what agrees with a text up to its end is that text with something after it
 begins : (base new : List ℕ) → length base ≤ length new → ((i : ℕ) → i < length base → slice_index new i ≡ slice_index base i)
     → new ≡ base ++ drop (length base) new
 begins base new long same =
@@ -42,7 +42,7 @@ written_behind (b ∷ bytes) base new end is torn holds =
     let there : length base + i ≡ end + i = omega arith in
     get_or-drop (length base) new i 0 ∙ ap (slice_index new) there ∙ all.each i (omega (arith, same))))
 
--- a text that is cut where it ended before something stood behind it
+-- a text that is cut where it ended before something was appended
 pub cut_behind : (bytes base old new : List ℕ) (to : ℕ) → length base ≡ to → Grown AreNoMore bytes base old → Cut to old new → Grown AreNoMore bytes base new
 cut_behind bytes base old new to is grown cut =
     let long : length old ≡ length base + length grown.part = ap (λ (l : List ℕ). length l) grown.grown ∙ length-append base grown.part in
@@ -54,7 +54,7 @@ pub cut_there : (old new : List ℕ) (to : ℕ) → to ≤ length old → Cut to
 cut_there old new to inside cut there =
     ext_get_or 0 new (take to old) (omega (arith, length-take to old)) λ i low. cut.below i (omega arith) (omega arith) ∙ sym (get_or-take to old i 0 (omega arith))
 
--- what a crash leaves of a text on the disk behind which something is written
+-- what a crash leaves of a text on the disk to which something is appended
 pub crash_behind : (bytes base : List ℕ) (end : ℕ) (old new : List ℕ → Type 0) → end ≡ length base → Only base old
     → Follows (Torn end (length bytes)) old new → LeavesGrown AreNoMore bytes base new
 crash_behind bytes base end old new is only follows c left =

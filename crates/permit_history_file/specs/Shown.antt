@@ -8,6 +8,6 @@ module _ {D : Type 0} {g : Ghosts D} where
   abbrev pub disk_of : DiskFile D g → D
   disk_of file = file.disk
 
-  -- where the text ends: none behind a write or a cut that failed
+  -- where the text ends: none after a write or a cut that failed
   abbrev pub end_of : DiskFile D g → Option ℕ
   end_of file = file.end

@@ -20,7 +20,7 @@ span-append bytes more s n w le =
     ap (take (s.end - s.start)) (drop-append-le s.start bytes more (omega (arith, w.0, w.1)))
     ∙ take-append-le (s.end - s.start) (drop s.start bytes) more (omega (arith, w.0, w.1, length-drop s.start bytes))
 
--- and when they are cut behind it
+-- and when they are cut after it
 pub span-take : (bytes : List ℕ) (m : ℕ) (s : Span) (n : ℕ) → IsWithin n s → n ≤ m → n ≤ length bytes → span_bytes bytes s ≡ span_bytes (take m bytes) s
 span-take bytes m s n w le long =
     ap (λ x. span_bytes x s) (sym (take-append-drop m bytes))
@@ -42,7 +42,7 @@ message_same : (m m' p p' : List ℕ) (a a' : Option (List ℕ)) (c c' : Bool) (
     let other : MessageData = record { method = m'; path = p'; authorization = a'; closes = c'; body = body } in one ≡ other)
 message_same m m' p p' a a' c c' body e1 e2 e3 e4 = rw (e1, e2, e3, e4) refl
 
--- the head is no longer than the bytes that it stands in
+-- the head is no longer than the bytes that it is in
 pub head_fits : (bytes : List ℕ) (h : RequestHead) (n : ℕ) → HeadAt bytes h (drop n bytes) → n ≡ length (print_request h) → n ≤ length bytes
 head_fits bytes h n x e = omega (arith, e, ap length x.reads.1, length-append (print_request h) (drop n bytes))
 

@@ -1,4 +1,4 @@
--- Bytes that were read behind the bytes there.
+-- Bytes that were read after the bytes there.
 use Rattle.std.proofs.Common.{append-nil, ◌≡◌, ℕ, Bool, length-append, ◌+◌, ◌≤◌, List, [], ◌∷◌, ◌++◌, length, take, Option, Some, None, refl, sym, ap}
 use Rattle.std.proofs.Common.{◌∙◌, arith, append_assoc, subst}
 use Rattle.permit_http.specs.Head.{IsOpen}

@@ -25,7 +25,7 @@ lacks_now bytes s h now short =
       omega (arith, short, fits, length-drop s.body.start bytes),
     )
 
--- reads that are made while the body isn't there whole are made behind bytes that decide nothing
+-- reads that are made while the body isn't there whole are made after bytes that decide nothing
 pub needed : {R : Type 0} (gave : R → List ℕ → R → Type 0) (bytes last : List ℕ) (reader after : R) (s : MessageSpans) (h : RequestHead)
     → Covers bytes s h → AreOrdered (length bytes) s → ReadsWhile (λ bs. length bs < s.body.end) gave bytes reader last after
     → ReadsWhile IsWaiting gave bytes reader last after
@@ -43,7 +43,7 @@ module _ (i k : InboxData) (before after : Option (List ℕ)) (s : MessageSpans)
   stops short = lacks_now k.bytes s h covers-now short
 
   module _ (bytes : List ℕ) (known : stream i before ≡ Some bytes) where
-    -- the message stands there whole, and what comes behind it is the rest
+    -- the message is there whole, and what comes after it is the rest
     pub whole : s.body.end ≤ length k.bytes → GivesMessage bytes k after s
     whole enough =
         let now : Covers k.bytes s h = covers-now in

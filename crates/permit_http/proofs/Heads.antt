@@ -10,11 +10,11 @@ use Rattle.httparse.proofs.GrammarLemmas.{ReadsRequest-append}
 use Rattle.permit_http.specs.Head.{LacksHead, NeverHasHead, head_limit}
 use Rattle.permit_http.specs.Spans.{IsFound}
 
--- what stands after a head is what is left when its bytes are gone
+-- what comes after a head is what is left when its bytes are gone
 pub rest_is : (bytes rest : List ℕ) (h : RequestHead) (n : ℕ) → ReadsRequest bytes h rest → n ≡ length (print_request h) → rest ≡ drop n bytes
 rest_is bytes rest h n x e = sym (ap (drop n) x.1 ∙ drop_at (print_request h) rest n (sym e))
 
--- a head stands in the first bytes, if it is no longer
+-- a head is in the first bytes, if it is no longer
 pub front_reads : (bytes rest : List ℕ) (h : RequestHead) (n : ℕ) → ReadsRequest bytes h rest → length (print_request h) ≤ n
     → ReadsRequest (take n bytes) h (take (n - length (print_request h)) rest)
 front_reads bytes rest h n x le =

@@ -42,7 +42,7 @@ length_digits bs h = IsUtf8-from_ascii bs (digits_ascii bs (and_parts (nat_le 1 
 pub length_yes : (bs : List ℕ) → is_length bs ≡ true → Some (digits_value 10 bs) ≡ length_in bs
 length_yes bs h = sym (ap (λ b. cond b (Some (digits_value 10 bs)) None) h)
 
--- the bytes behind the first n of the len that are kept
+-- the bytes after the first n of the len that are kept
 pub consumed : (bytes : List ℕ) (len n : ℕ) → len ≤ length bytes → n ≤ len → take (len - n) (drop n bytes ++ take n bytes) ≡ drop n (take len bytes)
 consumed bytes len n h k =
     let size : n + (len - n) ≡ len = omega arith in

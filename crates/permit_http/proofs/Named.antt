@@ -37,7 +37,7 @@ abbrev pub listed : Option (List ℕ) → List (List ℕ)
 listed None = []
 listed (Some value) = value ∷ []
 
--- of at most one value, the one is what stands there
+-- of at most one value, the one is what is there
 pub length_from-few : (values : List (List ℕ)) → length values ≤ 1 → (length_from values ≡ length_from (listed (only values)))
 length_from-few [] h = refl
 length_from-few (x ∷ []) h = refl

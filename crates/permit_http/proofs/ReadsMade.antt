@@ -41,7 +41,7 @@ module _ {R : Type 0} (gave : R → List ℕ → R → Type 0) where
         (λ more x. subst wide (sym (append_assoc bytes piece more)) (each (piece ++ more) (subst narrow (append_assoc bytes piece more) x))) h.3,
   )
 
-  -- what waits by one word, behind these bytes, waits by another
+  -- what waits by one word, after these bytes, waits by another
   pub reads_as : (narrow wide : List ℕ → Type 0) (bytes last : List ℕ) (reader after : R)
       → ((more : List ℕ) → narrow (bytes ++ more) → wide (bytes ++ more))
       → ReadsWhile narrow gave bytes reader last after → ReadsWhile wide gave bytes reader last after

@@ -15,7 +15,7 @@ head-append bytes more after h x = record { reads = ReadsRequest-append bytes h 
 pub never-append : (bytes more : List ℕ) → NeverHasHead bytes → NeverHasHead (bytes ++ more)
 never-append bytes more nope extra h rest x = nope (more ++ extra) h rest (rw (← append_assoc) x)
 
--- a whole message stays in front of what comes behind it
+-- a whole message stays in front of what comes after it
 pub message-append : (bytes rest more : List ℕ) (m : MessageData) → IsMessage bytes m rest → IsMessage (bytes ++ more) m (rest ++ more)
 message-append bytes rest more m x = (
   x.0,
@@ -57,7 +57,7 @@ at_end i left bytes e end =
     let none = rw s.2 at end in
     s.1 ∙ ap (λ x. i.bytes ++ x) none ∙ append-nil i.bytes
 
--- a head at the front of the inbox stands at the front of the stream
+-- a head at the front of the inbox is at the front of the stream
 pub on_stream : (i : InboxData) (left : Option (List ℕ)) (bytes after : List ℕ) (h : RequestHead)
     → stream i left ≡ Some bytes → HeadAt i.bytes h after → (rest : List ℕ) × HeadAt bytes h rest
 on_stream i left bytes after h e x =

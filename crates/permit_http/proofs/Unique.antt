@@ -1,4 +1,4 @@
--- A stream's beginning means one thing.
+-- The start of a stream means one thing.
 use Rattle.std.proofs.Common.{◌≡◌, ℕ, List, [], append-nil, length, take, drop, subst, Result, Ok, Err, inl, inr, sym, ap, ◌∙◌, arith}
 use Rattle.httparse.specs.Grammar.{RequestHead}
 use Rattle.httparse.proofs.GrammarLemmas.{request_unique}
@@ -9,7 +9,7 @@ use Rattle.permit_http.specs.declared.message.MessageSpans.{MessageSpans}
 use Rattle.permit_http.specs.declared.fault.Fault.{Fault}
 use Rattle.permit_http.specs.declared.fault.Fault.TheVariants.{Head}
 
--- one head, and one rest behind it
+-- one head, and one rest after it
 one_head : (bytes after other : List ℕ) (h k : RequestHead) → HeadAt bytes h after → HeadAt bytes k other → (h ≡ k) × (after ≡ other)
 one_head bytes after other h k x y = request_unique bytes h k after other x.reads y.reads
 

@@ -1,4 +1,4 @@
--- What stood against reading a message or a request.
+-- Why a message or a request couldn't be read.
 use Rattle.std.specs.Prelude.{List, ℕ, Option, None, Some}
 use Rattle.permit_http.specs.Head.{IsHeadFault}
 use Rattle.permit_http.specs.Message.{IsUnfinished}
@@ -12,7 +12,7 @@ fault_of ReadFailed = None
 fault_of Ended = None
 fault_of (Fault fault) = Some fault
 
--- Where the reader failed or ended, no whole message stands in the bytes. A fault of a head that stands there would have
+-- Where the reader failed or ended, no whole message is in the bytes. A fault of a head that is there would have
 -- been reported in place of it.
 abbrev pub StopsAt : List ℕ → WireError → Type 0
 StopsAt bytes ReadFailed = IsUnfinished bytes

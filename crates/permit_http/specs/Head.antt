@@ -22,21 +22,21 @@ field_limit = 32
 abbrev pub body_limit : ℕ
 body_limit = 16384
 
--- a head within the limits stands at the front of the bytes
+-- a head within the limits is at the front of the bytes
 pub record HeadAt (bytes : List ℕ) (h : RequestHead) (rest : List ℕ) : Type 0 where
   pub reads : ReadsRequest bytes h rest
   pub short : length (print_request h) ≤ head_limit
   pub few : length h.fields ≤ field_limit
 
--- no head within the limits stands there
+-- no head within the limits is there
 abbrev pub LacksHead : List ℕ → Type 0
 LacksHead bytes = (h : RequestHead) (rest : List ℕ) → HeadAt bytes h rest → ⊥
 
--- no head stands there, and fewer bytes than one may have
+-- no head is there, and fewer bytes than one may have
 abbrev pub IsOpen : List ℕ → Type 0
 IsOpen bytes = LacksHead bytes × (length bytes < head_limit)
 
--- no head within the limits can stand there, whatever bytes follow
+-- no head within the limits can be there, whatever bytes follow
 abbrev pub NeverHasHead : List ℕ → Type 0
 NeverHasHead bytes = (more : List ℕ) → LacksHead (bytes ++ more)
 
@@ -56,7 +56,7 @@ values_named name pairs = map (λ p. p.1) (filter (λ p. str_eq_ignore_ascii_cas
 abbrev pub count_named : List ℕ → List Pair → ℕ
 count_named name pairs = length (values_named name pairs)
 
--- the value that stands alone
+-- the value that is the only one
 abbrev pub only : List (List ℕ) → Option (List ℕ)
 only [] = None
 only (x ∷ []) = Some x
@@ -95,7 +95,7 @@ body_length pairs =
 abbrev pub judged : ℕ → List Pair → Result ℕ Fault
 judged minor pairs = if is_served minor pairs then body_length pairs else Err Version
 
--- the faults of a head: that no head can stand there, and those that a head has
+-- the faults of a head: that no head can be there, and those that a head has
 abbrev pub IsHeadFault : Fault → Type 0
 IsHeadFault Head = Unit {0}
 IsHeadFault Version = Unit {0}

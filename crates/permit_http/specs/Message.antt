@@ -1,4 +1,4 @@
--- What a stream's beginning gives: a message and the rest, a fault, or the end.
+-- What the start of a stream gives: a message and the rest, a fault, or the end.
 use Rattle.std.specs.Prelude.{◌≡◌, ℕ, ◌<◌, ◌≤◌, ◌⊎◌, Bool, List, [], length, take, drop, codes, Option, Ok, Err}
 use Rattle.httparse.specs.Grammar.{RequestHead}
 use Rattle.permit_http.specs.Head.{HeadAt, LacksHead, NeverHasHead, head_limit, judged, pairs_of, values_named, only, closes}
@@ -23,7 +23,7 @@ message_of h body = record {
   body = body;
 }
 
--- a head without a fault, the length of its body, and what stands after it
+-- a head without a fault, the length of its body, and what comes after it
 pub record GoodHead (bytes : List ℕ) (h : RequestHead) (after : List ℕ) (n : ℕ) : Type 0 where
   pub head : HeadAt bytes h after
   pub length : judged h.minor (pairs_of h) ≡ Ok n
@@ -46,19 +46,19 @@ IsUnfinished bytes = LacksHead bytes ⊎ LacksBody bytes
 abbrev pub HasFault : List ℕ → Fault → Type 0
 HasFault bytes fault = (h : RequestHead) × (after : List ℕ) × HeadAt bytes h after × (judged h.minor (pairs_of h) ≡ Err fault)
 
--- The bytes show a fault, whatever comes after them. Either a head stands there that has it. Or none does, and the bytes
+-- The bytes show a fault, whatever comes after them. Either a head is there that has it. Or none is, and the bytes
 -- are as many as a head may have, so that none can come.
 abbrev pub ShowsFault : List ℕ → Fault → Type 0
 ShowsFault bytes fault = HasFault bytes fault ⊎ ((fault ≡ Head) × LacksHead bytes × (head_limit ≤ length bytes))
 
--- what the beginning of a stream can give
+-- what the start of a stream can give
 pub data Incoming : Type 0 where
   nothing : Incoming
   cut : Incoming
   refused : Fault → Incoming
   message : MessageData → List ℕ → Incoming
 
--- What these bytes give, where no more come. Of bytes at whose front no head can stand, both a refusal and a cut are
+-- What these bytes give, where no more come. Of bytes at whose front no head can be, both a refusal and a cut are
 -- allowed.
 abbrev pub IsIncoming : List ℕ → Incoming → Type 0
 IsIncoming bytes nothing = bytes ≡ []

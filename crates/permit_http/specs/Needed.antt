@@ -4,14 +4,14 @@ use Rattle.permit_http.specs.Head.{IsOpen}
 use Rattle.permit_http.specs.Message.{LacksBody}
 use Rattle.permit_http.specs.Stream.{InboxData}
 
--- Bytes that decide nothing yet. Either a head may still come: none stands there, and the bytes are fewer than a head may
--- have. Or a head stands there whose body isn't whole.
+-- Bytes that decide nothing yet. Either a head may still come: none is there, and the bytes are fewer than a head may
+-- have. Or a head is there whose body isn't whole.
 abbrev pub IsWaiting : List ℕ → Type 0
 IsWaiting bytes = IsOpen bytes ⊎ LacksBody bytes
 
 module _ {R : Type 0} (waits : List ℕ → Type 0) (gave : R → List ℕ → R → Type 0) where
   -- The reads gave these pieces, one after the other. Each read was made where the bytes so far still waited for more.
-  -- `last` and `after` are the bytes and the reader behind the last read.
+  -- `last` and `after` are the bytes and the reader after the last read.
   abbrev pub ReadsOn : List ℕ → R → List (List ℕ) → List ℕ → R → Type 0
   ReadsOn bytes reader [] last after = (last ≡ bytes) × (after ≡ reader)
   ReadsOn bytes reader (piece ∷ pieces) last after =

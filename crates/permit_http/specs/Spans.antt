@@ -1,4 +1,4 @@
--- Where the parts of a message stand among the bytes of an inbox, and what reading gives.
+-- Where the parts of a message are among the bytes of an inbox, and what reading gives.
 use Rattle.std.specs.Prelude.{◌≡◌, ℕ, ◌+◌, ◌-◌, ◌<◌, ◌≤◌, List, length, take, drop, Bool, true, false, Option, Some, None, Result, Ok, Err}
 use Rattle.std.specs.Option.{option_map, ForSome}
 use Rattle.std.specs.Io.KnownBytes.{prepend_known, IsAtEnd}
@@ -50,7 +50,7 @@ pub record AreOrdered (bound : ℕ) (s : MessageSpans) : Type 0 where
   pub body : s.body.start ≤ s.body.end
   pub limit : s.body.end ≤ head_limit + body_limit
 
--- a whole message stands in the inbox where the spans say
+-- a whole message is in the inbox where the spans say
 pub record Holds (inbox : InboxData) (s : MessageSpans) : Type 0 where
   pub ordered : AreOrdered (length inbox.bytes) s
   pub whole : s.body.end ≤ length inbox.bytes
@@ -86,7 +86,7 @@ view_of m = record {
   body = m.body.now;
 }
 
--- a whole message stands in the inbox, and the rest of the stream after it
+-- a whole message is in the inbox, and the rest of the stream after it
 abbrev pub GivesMessage : List ℕ → InboxData → Option (List ℕ) → MessageSpans → Type 0
 GivesMessage bytes new left s =
     (rest : List ℕ) × IsMessage bytes (message_at new.bytes s) rest × (prepend_known (drop s.body.end new.bytes) left ≡ Some rest)

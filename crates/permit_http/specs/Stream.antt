@@ -8,7 +8,7 @@ pub record InboxData : Type 0 where
   pub count : ℕ
   pub closed : Bool
 
--- an inbox at the beginning of a connection
+-- an inbox at the start of a connection
 abbrev pub fresh : InboxData
 fresh = record { bytes = []; count = 0; closed = false }
 

@@ -8,7 +8,7 @@ use Rattle.csv.specs.declared.reader.Reader.{Reader}
 use Rattle.permit_base.specs.declared.request.Asked.{Asked}
 use Rattle.permit_wire.specs.declared.service.Dated.{Dated}
 use Rattle.permit_import.specs.Importing.{EndsOf, ImportsBy}
-use Rattle.permit_import.specs.Headings.{IsHeadless}
+use Rattle.permit_import.specs.Headings.{StopsAtHeading}
 use Rattle.permit_import.specs.Lines.{count_line, lines_from, record_lines}
 use Rattle.permit_import.specs.Outcomes.{outcomes_of, tally_of}
 use Rattle.permit_import.specs.Reading.{AreAll, Behind, BeginWith}
@@ -23,13 +23,13 @@ use Rattle.permit_import.proofs.Progress.{Progress, more_tried, outcomes_each}
 use Rattle.permit_import.proofs.ReadLemmas.{begins}
 use Rattle.permit_import.proofs.WriteLemmas.{wrote_into}
 
--- how an import ends whose first record isn't that of a parcel list
-headless_ends : (asked : Bool) (left before after : Option (List ℕ)) (fault : ImportFault) → IsHeadless asked left before after fault →
-    EndsOf asked left before after (Err fault) [] []
-headless_ends asked left before after FirstRecord headless = (refl, headless)
-headless_ends asked left before after Reading headless = (inl refl, Appends-kept before before after [] (Appends-nil before) headless)
-headless_ends asked left before after Memory headless = (inl refl, inl (Appends-kept before before after [] (Appends-nil before) headless))
-headless_ends asked left before after Writing headless = inr (inr (refl, headless))
+-- how an import ends whose first record isn't read as that of a parcel list
+headless_ends : (asked : Bool) (left before : Option (List ℕ)) (fault : ImportFault) → StopsAtHeading left fault →
+    EndsOf asked left before before (Err fault) [] []
+headless_ends asked left before FirstRecord headless = (refl, headless, refl)
+headless_ends asked left before Reading failed = (inl refl, Appends-nil before)
+headless_ends asked left before Memory none = absurd none
+headless_ends asked left before Writing none = absurd none
 
 -- the line of the last record that was tried stopped short
 line_out : (asked : Bool) (left before mid after : Option (List ℕ)) (rows : List Fields) (told outcomes : List Outcome) (last : Outcome) (number : ℕ) (fault : ImportFault) →
@@ -58,26 +58,26 @@ counts_out : (asked : Bool) (left before mid after : Option (List ℕ)) (rows : 
 counts_out asked left before mid after rows outcomes tally Memory begin all wrote is short =
     (inr begin, inl (Appends-kept before mid after (lines_from asked 1 outcomes) wrote short))
 counts_out asked left before mid after rows outcomes tally Writing begin all wrote is short =
-    inr (inl (
+    inr (
       all,
       subst (λ t. WroteInto before after (lines_from asked 1 outcomes) (count_line t)) is
           (wrote_into before mid after (lines_from asked 1 outcomes) (count_line tally) wrote short),
-    ))
+    )
 counts_out asked left before mid after rows outcomes tally FirstRecord begin all wrote is short = absurd short
 counts_out asked left before mid after rows outcomes tally Reading begin all wrote is short = absurd short
 
 module _ {T : Type 0} (did : T → Asked → ℕ → Dated → T → Type 0) (token : List ℕ) (day : ℕ) (asked : Bool) (left : Option (List ℕ)) where
   -- no record was tried
-  untried : (before after : Option (List ℕ)) (service : T) (fault : ImportFault) → EndsOf asked left before after (Err fault) [] [] →
-      ImportsBy did token day asked left before after service service (Err fault)
-  untried before after service fault ends = record { rows = []; replies = []; few = omega arith; run = refl; ends = ends }
+  untried : (before : Option (List ℕ)) (service : T) (fault : ImportFault) → EndsOf asked left before before (Err fault) [] [] →
+      ImportsBy did token day asked left before before service service (Err fault)
+  untried before service fault ends = record { rows = []; replies = []; few = omega arith; run = refl; ends = ends }
 
   pub no_memory : (before : Option (List ℕ)) (service : T) → ImportsBy did token day asked left before before service service (Err Memory)
-  no_memory before service = untried before before service Memory (inl refl, inl (Appends-nil before))
+  no_memory before service = untried before service Memory (inl refl, inl (Appends-nil before))
 
-  pub no_header : (before after : Option (List ℕ)) (service : T) (fault : ImportFault) → IsHeadless asked left before after fault →
-      ImportsBy did token day asked left before after service service (Err fault)
-  no_header before after service fault headless = untried before after service fault (headless_ends asked left before after fault headless)
+  pub no_header : (before : Option (List ℕ)) (service : T) (fault : ImportFault) → StopsAtHeading left fault →
+      ImportsBy did token day asked left before before service service (Err fault)
+  no_header before service fault stops = untried before service fault (headless_ends asked left before fault stops)
 
 module _ {T R : Type 0} (did : T → Asked → ℕ → Dated → T → Type 0) (remaining : R → Option (List ℕ)) (token : List ℕ) (day : ℕ)
     (asked : Bool) (left before : Option (List ℕ)) where
@@ -97,7 +97,7 @@ module _ {T R : Type 0} (did : T → Asked → ℕ → Dated → T → Type 0) (
   ended mid after old new reader number tally p few all line = ends_there mid after old new reader number tally (Ok tally) p few
       (all, p.tally_is, Appends-trans before mid after (lines_from asked 1 (outcomes_of p.rows p.replies)) (count_line tally) p.written line)
 
-  -- the reader failed, or too many records stand there
+  -- the reader failed, or there are too many records
   pub unread : (after : Option (List ℕ)) (old new : T) (reader : Reader R) (number : ℕ) (tally : Tally) →
       Progress did remaining token day asked left before after old new reader number tally → number ≤ 1000000 →
       ImportsBy did token day asked left before after old new (Err Reading)

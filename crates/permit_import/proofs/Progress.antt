@@ -200,7 +200,7 @@ module _ {T R : Type 0} (did : T → Asked → ℕ → Dated → T → Type 0) (
   outcomes_each after old new reader number tally p =
       length-outcomes token day p.rows p.replies (runs_each did (requests_of token day p.rows) p.replies old new p.run)
 
-  -- the import goes on behind a record whose line was written
+  -- the import goes on after a record whose line was written
   pub went_on : (mid after : Option (List ℕ)) (old between new : T) (reader next : Reader R) (number : ℕ) (tally : Tally) (row : Fields)
       (outcome : Outcome) (p : Progress did remaining token day asked left before mid old between reader number tally) →
       Behind remaining left next (header ∷ (p.rows ++ row ∷ [])) → Tries did token day row (request_of_record row) between new outcome →

@@ -37,7 +37,7 @@ next_read remaining left rows old new fields (Ok found) told Q behind took read 
     subst (λ t. IfOk t (ReadsNext remaining left rows fields new)) (sym same) (next_by remaining left rows old new fields found behind took read)
 next_read remaining left rows old new fields (Err e) told Q behind took read same = no_value told (Q e) (ReadsNext remaining left rows fields new) same
 
--- a reader behind these records shows that the bytes begin with them
+-- a reader that is after these records shows that the bytes begin with them
 pub begins : {R : Type 0} (remaining : R → Option (List ℕ)) (left : Option (List ℕ)) (reader : Reader R) (rows : List Fields) →
     Behind remaining left reader rows → BeginWith left rows
 begins remaining left reader rows behind = λ bytes e. let k = behind.reached bytes e in (reader.state, k.0, k.2)

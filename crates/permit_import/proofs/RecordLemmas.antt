@@ -42,7 +42,7 @@ lot_then fields v r n e word = ((λ t. (n, word.0 (sym e ∙ t))), λ h. e ∙ w
 pub lot_not : (fields : Fields) (v : Bool) → (length fields ≡ 3 → ⊥) → v ≡ false → (IsTrue v ↔ HasLot fields)
 lot_not fields v n e = ((λ t. let bad : false ≡ true = sym e ∙ t in cc), λ h. absurd (n h.0))
 
--- one test behind another
+-- one test after another
 pub and_then : {P Q : Type 0} (u v r : Bool) → (IsTrue u ↔ P) → u ≡ true → v ≡ r → (IsTrue r ↔ Q) → (IsTrue v ↔ (P × Q))
 and_then u v r first on e word = ((λ t. (first.0 on, word.0 (sym e ∙ t))), λ h. e ∙ word.1 h.1)
 

@@ -5,7 +5,7 @@ use Rattle.std.proofs.lemmas.List.{take_all, take_min}
 use Rattle.std.specs.Io.KnownBytes.{Appends}
 use Rattle.permit_import.specs.Written.{WroteFront, WroteInto}
 
--- a beginning of the next text behind the whole of one
+-- a prefix of the next text after the whole of one
 pub wrote_into : (old mid new : Option (List ℕ)) (text next : List ℕ) → Appends old mid text → WroteFront mid new next → WroteInto old new text next
 wrote_into old mid new text next wrote front = record {
   count = front.count;

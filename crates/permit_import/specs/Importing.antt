@@ -8,7 +8,7 @@ use Rattle.permit_office.specs.Office.{OfficeView}
 use Rattle.permit_office.specs.Runs.{Ran}
 use Rattle.permit_office.specs.declared.reply.Reply.{Reply}
 use Rattle.permit_wire.specs.declared.service.Dated.{Dated}
-use Rattle.permit_import.specs.Headings.{StopsInHeading, TellsHeading}
+use Rattle.permit_import.specs.Headings.{IsHeadless}
 use Rattle.permit_import.specs.Lines.{count_line, lines_from, record_lines}
 use Rattle.permit_import.specs.Outcomes.{outcomes_of, tally_of}
 use Rattle.permit_import.specs.Reading.{AreAll, BeginWith}
@@ -20,7 +20,7 @@ use Rattle.permit_import.specs.declared.fault.ImportFault.TheVariants.{FirstReco
 use Rattle.permit_import.specs.declared.outcome.Outcome.{Outcome}
 use Rattle.permit_import.specs.declared.tally.Tally.{Tally}
 
--- no record was tried, or those that a beginning of the list has after the first
+-- no record was tried, or those that a prefix of the list has after the first
 abbrev pub HaveBegun : Option (List ℕ) → List Fields → Type 0
 HaveBegun left rows = (rows ≡ []) ⊎ BeginWith left (header ∷ rows)
 
@@ -31,7 +31,7 @@ pub record LosesLast (asked : Bool) (before after : Option (List ℕ)) (outcomes
   pub are : outcomes ≡ told ++ lost ∷ []
   pub wrote : Appends before after (lines_from asked 1 told)
 
--- each record that was tried has its line, but of that of the last only a beginning is out
+-- each record that was tried has its line, but of that of the last only a prefix is out
 pub record StopsInLast (asked : Bool) (before after : Option (List ℕ)) (outcomes : List Outcome) : Type 0 where
   pub told : List Outcome
   pub last : Outcome
@@ -39,21 +39,20 @@ pub record StopsInLast (asked : Bool) (before after : Option (List ℕ)) (outcom
   pub wrote : WroteInto before after (lines_from asked 1 told) (record_lines asked (length told + 1) last)
 
 -- Which records were tried, and what is written. With a tally these are all after the first, with their lines and the
--- counts. Where the first is wrong nothing is tried, where reading fails each that was tried has its line, and where memory
--- runs out each, or each but the last. Where the writer fails it was inside the line of the last record that was tried, or
--- after the lines of all, inside the counts, or inside the line of a heading that is wrong. With a line goes the one that says
--- why the record is refused, where that is asked for.
+-- counts. Where the first is wrong nothing is tried or written, where reading fails each that was tried has its line, and where
+-- memory runs out each, or each but the last. Where the writer fails it was inside the line of the last record that was tried,
+-- or after the lines of all, inside the counts. With a line goes the one that says why the record is refused, where that is
+-- asked for.
 abbrev pub EndsOf : Bool → Option (List ℕ) → Option (List ℕ) → Option (List ℕ) → Result Tally ImportFault → List Fields → List Outcome → Type 0
 EndsOf asked left before after (Ok tally) rows outcomes =
     AreAll left (header ∷ rows) × (tally ≡ tally_of outcomes) × Appends before after (lines_from asked 1 outcomes ++ count_line tally)
-EndsOf asked left before after (Err FirstRecord) rows outcomes = (rows ≡ []) × TellsHeading asked left before after
+EndsOf asked left before after (Err FirstRecord) rows outcomes = (rows ≡ []) × IsHeadless left × (after ≡ before)
 EndsOf asked left before after (Err Reading) rows outcomes = HaveBegun left rows × Appends before after (lines_from asked 1 outcomes)
 EndsOf asked left before after (Err Memory) rows outcomes =
     HaveBegun left rows × (Appends before after (lines_from asked 1 outcomes) ⊎ LosesLast asked before after outcomes)
 EndsOf asked left before after (Err Writing) rows outcomes =
     (BeginWith left (header ∷ rows) × StopsInLast asked before after outcomes)
     ⊎ (AreAll left (header ∷ rows) × WroteInto before after (lines_from asked 1 outcomes) (count_line (tally_of outcomes)))
-    ⊎ ((rows ≡ []) × StopsInHeading asked left before after)
 
 -- An import of the bytes that a reader has left, with a writer that held some before and after. It tried these records, at
 -- most 999999, and the service gave these replies to those that are requests: it served them one after the other, each once.

@@ -5,13 +5,13 @@ pub use Rattle.permit_report.specs.Outgoing.{WroteFront}
 use Rattle.permit_import.specs.declared.fault.ImportFault.{ImportFault}
 use Rattle.permit_import.specs.declared.fault.ImportFault.TheVariants.{FirstRecord, Reading, Memory, Writing}
 
--- known bytes grew by the whole of a text, and after it by a beginning of the next, which isn't the whole
+-- known bytes grew by the whole of a text, and after it by a prefix of the next, which isn't the whole
 pub record WroteInto (old new : Option (List ℕ)) (text next : List ℕ) : Type 0 where
   pub count : ℕ
   pub within : count < length next
   pub wrote : Appends old new (text ++ take count next)
 
--- a line was not written whole: where memory ran out not at all, else a beginning of it
+-- a line was not written whole: where memory ran out not at all, else a prefix of it
 abbrev pub StopsShort : Option (List ℕ) → Option (List ℕ) → List ℕ → ImportFault → Type 0
 StopsShort old new text Memory = Keeps old new
 StopsShort old new text Writing = WroteFront old new text

@@ -1,20 +1,17 @@
 //! The first record of a parcel list.
 
-ghost use Rattle.std.specs.Prelude.{◌≡◌, ◌++◌, ◌<◌, ℕ, List, [], ◌∷◌, map, take, Option, option_map, OnOk, IfOk, IfErr, string_bytes};
+ghost use Rattle.std.specs.Prelude.{◌≡◌, ◌++◌, ◌<◌, ℕ, List, [], ◌∷◌, map, take, Option, option_map, OnOk, IfOk, IfErr, IfSome, string_bytes};
 ghost use Rattle.std.specs.Bool.{MatchBool};
-ghost use Rattle.std.specs.Io.KnownBytes.{Appends};
 ghost use Rattle.csv.specs.Records.{fields_of};
-ghost use Rattle.permit_import.specs.Headings.{heading_line, shown_byte, shown_field, IsHeadless};
+ghost use Rattle.permit_import.specs.Headings.{heading_text, shown_byte, shown_field, IsHeadingText, StopsAtHeading};
 ghost use Rattle.permit_import.specs.Reading.{Behind, LacksHeader};
 ghost use Rattle.permit_import.specs.Records.{header};
-ghost use Rattle.permit_import.specs.Written.{StopsShort};
 
 use crate::fault::ImportFault;
-use crate::records::{is_header, read_next};
-use crate::writing::write_whole;
+use crate::records::{is_header, read_next, records};
 use csv::{ByteRecord, Reader};
-use std::alloc::AllocError;
-use std::io::{Read, Write};
+use std::alloc::{AllocError, Global};
+use std::io::Read;
 
 /// The most bytes of a field that are shown.
 const MOST_SHOWN: usize = 60;
@@ -32,54 +29,41 @@ fn shown_byte(byte: u8) -> char
 }
 
 /// Appends the first bytes of a field.
-fn push_bytes(line: &mut String, field: &[u8]) -> Result<(), AllocError>
-    ensures { OnOk result (string_bytes line.new ≡ string_bytes line.old ++ map shown_byte (take 60 field.now)) }
+fn push_bytes(text: &mut String, field: &[u8]) -> Result<(), AllocError>
+    ensures { OnOk result (string_bytes text.new ≡ string_bytes text.old ++ map shown_byte (take 60 field.now)) }
 {
     let count = MOST_SHOWN.min(field.len());
     for byte in &field[..count] {
-        line.push(shown_byte(*byte))?;
+        text.push(shown_byte(*byte))?;
     }
     Ok(())
 }
 
 /// Appends a field as it is shown, where it is there.
-fn push_field(line: &mut String, field: Option<&[u8]>) -> Result<(), AllocError>
-    ensures { OnOk result (string_bytes line.new ≡ string_bytes line.old ++ shown_field (option_map (λ s. s.now) field.entry)) }
+fn push_field(text: &mut String, field: Option<&[u8]>) -> Result<(), AllocError>
+    ensures { OnOk result (string_bytes text.new ≡ string_bytes text.old ++ shown_field (option_map (λ s. s.now) field.entry)) }
 {
     match field {
         Some(field) => {
-            line.push_str(" `")?;
-            push_bytes(line, field)?;
-            line.push('`')
+            text.push_str(" `")?;
+            push_bytes(text, field)?;
+            text.push('`')
         }
         None => Ok(()),
     }
 }
 
-/// Makes the line of a first record that isn't that of a parcel list.
-fn make_heading(line: &mut String, row: &ByteRecord) -> Result<(), AllocError>
-    ensures { OnOk result (string_bytes line.new ≡ heading_line (fields_of row.now)) }
+/// The text on a first record that isn't that of a parcel list.
+fn heading_text(alloc: Global, row: &ByteRecord) -> Result<String, AllocError>
+    ensures { IfOk result (λ text. string_bytes text ≡ heading_text (fields_of row.now)) }
 {
-    line.clear();
-    line.push_str("heading")?;
-    push_field(line, row.get(0))?;
-    push_field(line, row.get(1))?;
-    push_field(line, row.get(2))?;
-    push_field(line, row.get(3))?;
-    line.push_str(": lot,address,owner\n")
-}
-
-/// Writes that line. It is made whole first, in `line`.
-fn write_heading<W: Write>(
-    out: &mut W,
-    line: &mut String,
-    row: &ByteRecord,
-) -> Result<(), ImportFault>
-    ensures whole { OnOk result (Appends (W.contents out.old) (W.contents out.new) (heading_line (fields_of row.now))) }
-    ensures short { IfErr result (StopsShort (W.contents out.old) (W.contents out.new) (heading_line (fields_of row.now))) }
-{
-    make_heading(line, row)?;
-    write_whole(out, line.as_bytes())
+    let mut text = String::from_str(alloc, "heading")?;
+    push_field(&mut text, row.get(0))?;
+    push_field(&mut text, row.get(1))?;
+    push_field(&mut text, row.get(2))?;
+    push_field(&mut text, row.get(3))?;
+    text.push_str(": lot,address,owner")?;
+    Ok(text)
 }
 
 /// Reads the first record, and says whether it is that of a parcel list. Without a record the row is empty.
@@ -95,24 +79,43 @@ fn read_first<R: Read>(records: &mut Reader<R>, row: &mut ByteRecord) -> Result<
     Ok(is_header(row))
 }
 
-/// Reads the first record, which has to be that of a parcel list. Where it isn't, its line is written if `why` is asked for.
-pub(crate) fn read_heading<R: Read, W: Write>(
+/// Reads the first record, which has to be that of a parcel list.
+pub(crate) fn read_heading<R: Read>(
     records: &mut Reader<R>,
     row: &mut ByteRecord,
-    out: &mut W,
-    line: &mut String,
-    why: bool,
 ) -> Result<(), ImportFault>
     ensures reads { (left : Option (List ℕ)) → Behind R.remaining left records.old [] → OnOk result (Behind R.remaining left records.new (header ∷ [])) }
-    ensures kept { OnOk result (W.contents out.new ≡ W.contents out.old) }
-    ensures headless { (left : Option (List ℕ)) → Behind R.remaining left records.old []
-        → IfErr result (IsHeadless why left (W.contents out.old) (W.contents out.new)) }
+    ensures headless { (left : Option (List ℕ)) → Behind R.remaining left records.old [] → IfErr result (StopsAtHeading left) }
 {
     if read_first(records, row)? {
-        return Ok(());
+        Ok(())
+    } else {
+        Err(ImportFault::FirstRecord)
     }
-    if why {
-        write_heading(out, line, row)?;
+}
+
+/// What the first record of a text is, where it isn't that of a parcel list: at most four of its fields, and at most 60 bytes of
+/// each. None where it is that of a parcel list, or where the reader fails or has no memory for it.
+///
+/// # Examples
+///
+/// ```
+/// let list = b"lot;address;owner\nA-1;1 Main St;1\n".as_slice();
+/// let reason = heading_reason(alloc, list)?.ok_or("a reason")?;
+/// let wanted = "heading `lot;address;owner`: lot,address,owner";
+/// assert_eq!(rt; reason.as_str(), wanted);
+/// assert!(rt; heading_reason(alloc, b"lot,address,owner\n".as_slice())?.is_none());
+/// ```
+pub fn heading_reason<R: Read + Drop>(
+    alloc: Global,
+    reader: R,
+) -> Result<Option<String>, AllocError>
+    ensures { IfOk result (λ found. IfSome found (λ text. IsHeadingText (R.remaining reader) (string_bytes text))) }
+{
+    let mut records = records(alloc, reader);
+    let mut row = ByteRecord::new(alloc);
+    match read_first(&mut records, &mut row) {
+        Ok(false) => Ok(Some(heading_text(alloc, &row)?)),
+        Ok(true) | Err(_) => Ok(None),
     }
-    Err(ImportFault::FirstRecord)
 }

@@ -20,7 +20,7 @@ use std::io::{Read, Write};
 /// The most records after the first.
 const MOST_RECORDS: u32 = 999999;
 
-/// More bytes than the lines of one record have, or the line of a heading.
+/// More bytes than the lines of one record have.
 const LINE_ROOM: usize = 384;
 
 /// Imports a parcel list for the caller of the token, on the day, by a service.
@@ -31,8 +31,8 @@ const LINE_ROOM: usize = 384;
 /// record that has another number of fields, a field that is not UTF-8 or a value out of its limits. The line of the
 /// counts follows them. One record is held at a time, so memory does not grow with the list.
 ///
-/// With `why`, a line `K why: FIELD: WHAT` follows each `K refused: ..`, with the field and what is wrong with it, and a first
-/// record that isn't the one above has a line that shows it.
+/// With `why`, a line `K why: FIELD: WHAT` follows each `K refused: ..`, with the field and what is wrong with it. Where the first
+/// record isn't the one above nothing is written, and `heading::heading_reason` says what it is.
 ///
 /// After a fault what was tried before remains in effect, and the lines of the records that were tried are out. Of the last one's
 /// only a prefix is out where the writer failed, and maybe nothing where memory ran out. Where the writer failed inside the
@@ -64,7 +64,7 @@ pub fn import_by<M: Service<Day>, R: Read + Drop, W: Write>(
     let mut line = String::with_capacity(alloc, LINE_ROOM)?;
     let mut records = records(alloc, reader);
     let mut row = ByteRecord::new(alloc);
-    read_heading(&mut records, &mut row, out, &mut line, why)?;
+    read_heading(&mut records, &mut row)?;
     let mut tally = Tally::new();
     for number in 1..MOST_RECORDS + 2 {
         if !read_next(&mut records, &mut row)? {

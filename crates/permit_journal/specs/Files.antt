@@ -1,13 +1,13 @@
 -- What the calls of a file do to its text, and what a crash may leave of it.
 use Rattle.std.specs.Prelude.{◌≡◌, List, ℕ, ◌++◌}
 
--- the text with a part of the bytes behind it, of those parts that `leaves` allows
+-- the text with a part of the bytes after it, of those parts that `leaves` allows
 pub record Grown (leaves : List ℕ → List ℕ → Type 0) (bytes old new : List ℕ) : Type 0 where
   pub part : List ℕ
   pub allowed : leaves bytes part
   pub grown : new ≡ old ++ part
 
--- a beginning of the bytes: nothing, a part of them, or all
+-- a prefix of the bytes: nothing, a part of them, or all
 abbrev pub IsFront : List ℕ → List ℕ → Type 0
 IsFront bytes part = (rest : List ℕ) × (bytes ≡ part ++ rest)
 
@@ -15,6 +15,6 @@ IsFront bytes part = (rest : List ℕ) × (bytes ≡ part ++ rest)
 abbrev pub Only : List ℕ → (List ℕ → Type 0) → Type 0
 Only text outcomes = (c : List ℕ) → outcomes c → c ≡ text
 
--- a crash leaves this text, with a part of the bytes behind it
+-- a crash leaves this text, with a part of the bytes after it
 abbrev pub LeavesGrown : (List ℕ → List ℕ → Type 0) → List ℕ → List ℕ → (List ℕ → Type 0) → Type 0
 LeavesGrown leaves bytes base outcomes = (c : List ℕ) → outcomes c → Grown leaves bytes base c

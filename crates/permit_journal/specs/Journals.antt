@@ -6,10 +6,10 @@ pub record JournalView (H : Type 0) : Type 0 where
   pub file : H
   -- the bytes of the text
   pub length : ℕ
-  -- whether no line is entered any longer: what stands in the file isn't known, or not whether it is the text
+  -- whether no line is entered any longer: what is in the file isn't known, or not whether it is the text
   pub is_shut : Bool
 
--- The length is that of the text, all of which is on the disk. The file has told nothing false.
+-- The length is that of the text, all of which is on the disk. The file has reported nothing false.
 pub record IsSettled {H : Type 0} (text : H → List ℕ) (may_leave : H → List ℕ → Type 0) (is_clean : H → Bool) (journal : JournalView H) : Type 0 where
   pub is_open : journal.is_shut ≡ false
   pub clean : IsTrue (is_clean journal.file)

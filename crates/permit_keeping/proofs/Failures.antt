@@ -87,7 +87,7 @@ resuming_is (resuming.Compare f) = comparing_is f
 resuming_is resuming.Differs = refl
 resuming_is resuming.File = refl
 
--- the failure that is told of it
+-- the failure that is reported of it
 pub resuming_told : (f : ResumeFault) (told : Failure) → told ≡ resuming_failure f → IsTrue (is_unopened told)
 resuming_told f told is = subst (λ (w : Failure). IsTrue (is_unopened w)) (sym is) (resuming_is f)
 
@@ -96,7 +96,7 @@ pub in_second : {A E : Type 0} (P Q : E → Type 0) (result : Result A E) → If
 in_second P Q (Ok a) said = tt
 in_second P Q (Err e) said = inr said
 
--- a writer that is as it was has told what it told
+-- a writer that is as it was has written what it had written
 pub told_same : {A E X Y : Type 0} (f : X → Y) (old new : X) (P : E → Type 0) (Q : Type 0) (result : Result A E) →
     IfErr result (λ e. P e ⊎ ((new ≡ old) ⊎ Q)) → IfErr result (λ e. P e ⊎ ((f new ≡ f old) ⊎ Q))
 told_same f old new P Q (Ok a) said = tt

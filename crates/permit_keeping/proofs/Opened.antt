@@ -41,7 +41,7 @@ module _ {S : Type 0} (g : Ghosts S) where
   pub none_unsound : (conn now back : Held S) → (HasCleanDisk (state g now) → KeepsSound (state g conn).now) → back ≡ now → LeavesUnsound g conn back
   none_unsound conn now back sound same = λ unsound fine. absurd (unsound (sound (subst (λ (h : Held S). HasCleanDisk (state g h)) same fine.0)))
 
-  -- the store that an open gave, told of a flag
+  -- the store that an open gave, given a flag
   pub held_still : (conn was now : Held S) (upgrade upgrade' : Option ℕ) (handed failed commits handed' failed' commits' : ℕ) →
       ((t : Tables) → (HasCleanDisk (state g was) → Shows t (state g conn)) → (seen (state g was) upgrade handed failed commits).holds t) →
       now ≡ was → upgrade' ≡ upgrade → (t : Tables) → Shows t (state g conn) → (seen (state g now) upgrade' handed' failed' commits').holds t

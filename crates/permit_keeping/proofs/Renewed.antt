@@ -1,4 +1,4 @@
--- A party's new token behind a text that was cut to the history of the tables.
+-- A party's new token after a text that was cut to the history of the tables.
 use Rattle.std.proofs.Common.{◌≡◌, ◌∙◌, inl, inr, sym, ap, subst, ℕ, Bool, List, [], ◌∷◌, ◌++◌, map, None, Result, Ok, Err, append_assoc}
 use Rattle.std.specs.Prelude.{IsTrue, OnErr, OnOk}
 use Rattle.sqlite_trees.specs.declared.store.Store.{Ghosts}
@@ -46,7 +46,7 @@ abbrev renewal : ℕ → ℕ → List ℕ → Entry
 renewal day party digest = told_on day (deed.RenewToken party digest)
 
 module _ (begins : Unsaid → Type 0) where
-  -- what one more entry tells, of a new token that nothing stands against
+  -- what one more entry records, of a new token that nothing is against
   tells_renewed : (entries : List Entry) (day party : ℕ) (digest : List ℕ) (t : Tables) → TellTables begins entries t → against_renewal t.parties party digest ≡ None
       → TellTables begins (entries ++ renewal day party digest ∷ []) (with_renewed party digest t)
   tells_renewed entries day party digest t tells none unsaid have =
@@ -64,14 +64,14 @@ module _ (begins : Unsaid → Type 0) where
         subst (λ u. AreAlike u (with_renewed party digest t)) (sym (ap tables more ∙ same)) (alike_renewed party digest (tables h) t before.1),
       )
 
-  -- the text that was cut to the tables' history tells them
+  -- the text that was cut to the tables' history records them
   cut_tells : (before after : List ℕ) (t : Tables) → IsCutTo begins before t after → TellsTables begins after t
   cut_tells before after t (size, inl (entries, left, text, tells, of), cut) = (entries, cut ∙ whole_length entries before left size text.text of, tells)
   cut_tells before after t (size, inr (entries, last, left, text, other, alone, tells, of), cut) =
       let whole = whole_length entries before _ size (text.text ∙ ap (λ bs. bs ++ left) (text_split entries last) ∙ append_assoc (text_of entries) _ left) of in
       (entries, cut ∙ whole, tells)
 
-  -- with the line of a new token behind it, it tells the tables with that
+  -- with the line of a new token after it, it records the tables with that
   renewed_by : (opened after : List ℕ) (day party : ℕ) (digest : List ℕ) (t : Tables) → TellsTables begins opened t
       → after ≡ opened ++ renewal_line day party digest → against_renewal t.parties party digest ≡ None → TellsTables begins after (with_renewed party digest t)
   renewed_by opened after day party digest t (entries, text, tells) grown none = (
@@ -85,7 +85,7 @@ module _ (begins : Unsaid → Type 0) where
   renewal_tells before opened after day party digest t cut grown none =
       renewed_by opened after day party digest t (cut_tells before opened t cut) grown none
 
--- what is said of a renewal behind the opening is said of the database that was given
+-- what is said of a renewal after the opening is said of the database that was given
 module _ {S H : Type 0} (g : Ghosts S) (begins : Unsaid → Type 0) (text : H → List ℕ) (may_leave : H → List ℕ → Type 0) (is_clean : H → Bool) (conn mid back : Held S)
     (before : List ℕ) (day party : ℕ) (digest : List ℕ) (opened left : JournalView H) where
   pub renews_with : {E : Type 0} (result : Result (Unit {0}) E) → SettlesWith g begins text may_leave is_clean conn mid before day opened
@@ -113,7 +113,7 @@ module _ {S H : Type 0} (g : Ghosts S) (begins : Unsaid → Type 0) (text : H �
         (entered (settles.settled told)).bytes_there (admitted clean t there);
   }
 
--- a renewal that failed behind the opening was one of sound tables
+-- a renewal that failed after the opening was one of sound tables
 pub unsound_renewed : {S E : Type 0} (g : Ghosts S) (conn mid back : Held S) (result : Result (Unit {0}) E) → (HasCleanDisk (state g mid) → KeepsSound (state g conn).now)
     → (IsFine (state g back) → IsFine (state g mid)) → OnErr result (LeavesUnsound g conn back)
 unsound_renewed g conn mid back (Ok done) sound fine = tt

@@ -24,6 +24,6 @@ HasCopied view t (beginning.Copy copied) = (view copied.store).holds t × IsSeal
 abbrev pub IsSealedOn : Tables → ℕ → List ℕ → Type 0
 IsSealedOn t day tables = (day ≡ t.desk.last) × IsSealOf t tables
 
--- the text is the line that tells the last day of these tables and the digest of their text
+-- the text is the line that says the last day of these tables and the digest of their text
 abbrev pub Begins : {H : Type 0} → (H → List ℕ) → (H → List ℕ → Type 0) → (H → Bool) → Tables → ℕ → JournalView H → Type 0
 Begins text may_leave is_clean t day journal = (digest : List ℕ) × IsSealedOn t day digest × Has text may_leave is_clean journal (begin_line day digest)

@@ -1,4 +1,4 @@
--- Why an office isn't opened with its history, as the program tells it.
+-- Why an office isn't opened with its history, as the program reports it.
 use Rattle.permit_chronicle.specs.declared.fault.ChronicleFault.{ChronicleFault}
 use Rattle.permit_chronicle.specs.declared.fault.ChronicleFault.TheVariants as telling
 use Rattle.permit_history.specs.declared.fault.LineFault.{LineFault}
@@ -26,7 +26,7 @@ use Rattle.permit_subcommands.specs.declared.failure.Failure.TheVariants as fail
 use Rattle.permit_subcommands.specs.declared.failure.HistoryFailure.TheVariants as history
 use Rattle.std.specs.Prelude.{ℕ, Bool, true, false}
 
--- a line that is none is told by its number, want of memory as the store's refusal, and a copy that isn't the text's as such
+-- a line that is none is reported by its number, want of memory as the store's refusal, and a copy that isn't the text's as such
 abbrev pub line_failure : ℕ → LineFault → Failure
 line_failure line reading.Memory = plain Store
 line_failure line _ = failure.History (history.Line line)

@@ -1,4 +1,4 @@
--- The beginning of an office's history.
+-- The first entries of an office's history.
 use Rattle.std.specs.Prelude.{List, [], ◌∷◌}
 use Rattle.permit_history.specs.Told.{told_on}
 use Rattle.permit_history.specs.declared.entry.Deed.TheVariants as deed

@@ -14,9 +14,9 @@ use Rattle.permit_sql_rows.specs.Kept.{IsFine, Keeps, Shows}
 use Rattle.permit_sql.specs.Found.{KeepsSound}
 
 module _ {S : Type 0} (g : Ghosts S) where
-  -- The connection showed these tables, which are sound. Where the disk and the history's file have told nothing false, the store
-  -- over the connection has them, the text was cut to their history and tells it, and the journal is settled. What the text begins with is
-  -- told by `begins`. Over a database that keeps no sound tables no office is opened.
+  -- The connection showed these tables, which are sound. Where the disk and the history's file have reported nothing false, the
+  -- store over the connection has them, the text was cut to their history and records it, and the journal is settled. What the text
+  -- begins with is said by `begins`. Over a database that keeps no sound tables no office is opened.
   pub record OpensWith {H : Type 0} (begins : Unsaid → Type 0) (text : H → List ℕ) (may_leave : H → List ℕ → Type 0) (is_clean : H → Bool) (conn now : Held S)
       (before : List ℕ) (store : StoreView) (journal : JournalView H) : Type 0 where
     pub held : (t : Tables) → Shows t (state g conn) → IsSoundTables t → store.holds t

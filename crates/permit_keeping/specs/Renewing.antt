@@ -23,14 +23,14 @@ use Rattle.permit_keeping.specs.Opening.{StillKeepsSound}
 abbrev pub renewal_line : ℕ → ℕ → List ℕ → List ℕ
 renewal_line day party digest = whole_line_of (told_on day (deed.RenewToken party digest))
 
--- the text is that of entries, and the history that they tell has these tables
+-- the text is that of entries, and the history that they record has these tables
 abbrev pub TellsTables : (Unsaid → Type 0) → List ℕ → Tables → Type 0
 TellsTables begins text t = (entries : List Entry) × (text ≡ text_of entries) × TellTables begins entries t
 
 module _ {S H : Type 0} (g : Ghosts S) (begins : Unsaid → Type 0) (text : H → List ℕ) (may_leave : H → List ℕ → Type 0) (is_clean : H → Bool) where
-  -- The connection showed these tables, which are sound, and shows them still. Where the disk and the history's file have told
-  -- nothing false, the day is the last of the tables, the text was cut to their history, and the journal is settled. A database that
-  -- keeps no sound tables isn't settled.
+  -- The connection showed these tables, which are sound, and shows them still. Where the disk and the history's file have reported
+  -- nothing false, the day is the last of the tables, the text was cut to their history, and the journal is settled. A database
+  -- that keeps no sound tables isn't settled.
   pub record SettlesWith (conn now : Held S) (before : List ℕ) (last : ℕ) (journal : JournalView H) : Type 0 where
     pub shown : StillKeepsSound g conn now
     pub last_is : HasCleanDisk (state g now) → (t : Tables) → Keeps t (state g conn).now → IsSoundTables t → last ≡ t.desk.last
@@ -39,8 +39,8 @@ module _ {S H : Type 0} (g : Ghosts S) (begins : Unsaid → Type 0) (text : H �
     pub settled : IsTrue (is_clean journal.file) → IsSettled text may_leave is_clean journal
     pub sound : HasCleanDisk (state g now) → KeepsSound (state g conn).now
 
-  -- The database kept sound tables. Of these nothing stood against the renewal, and it keeps them renewed. The text was cut to their
-  -- history, the line of the renewal stands behind it, and the whole tells the tables that are renewed.
+  -- The database kept sound tables. Of these nothing was against the renewal, and it keeps them renewed. The text was cut to their
+  -- history, the line of the renewal is after it, and the whole records the tables that are renewed.
   pub record RenewsWith (conn back : Held S) (before : List ℕ) (party : ℕ) (digest : List ℕ) : Type 0 where
     pub sound : HasCleanDisk (state g back) → KeepsSound (state g conn).now
     pub day : ℕ

@@ -1,4 +1,4 @@
--- A database that is brought to the history that a text tells.
+-- A database that is brought to the history that a text records.
 use Rattle.std.specs.Prelude.{◌≡◌, ℕ, List, Some, Ok, option_map}
 use Rattle.sqlite_trees.specs.declared.store.Store.{Ghosts}
 use Rattle.sqlite.specs.State.{State}
@@ -18,7 +18,7 @@ use Rattle.permit_sql_rows.specs.Kept.{IsFine, Shows}
 abbrev pub shown : State → StoreView
 shown s = record { holds = λ t. Shows t s; doubt = 0; handed = 0; failed = 0; commits = 0 }
 
--- the first line of the text tells the founding by this founder
+-- the first line of the text records the founding by this founder
 abbrev pub IsFoundedBy : List ℕ → Founder → Type 0
 IsFoundedBy bytes founder =
     option_map reading_of (next_line bytes) ≡ Some (Ok (told_on founder.day (deed.Found founder.name founder.digest)))

@@ -95,7 +95,7 @@ numbered_states n k state (f ∷ files) numbered = (id_by (f.id == n) state f �
 different_up : (a b : ℕ) → b < a → (a == b) ≡ false
 different_up a b h = grind (arith, nat_tests)
 
--- no file behind has the number
+-- no later file has the number
 unchanged : (n k : ℕ) (state : State) (files : List FileRow) → n < k → IsNumberedFrom (λ (f : FileRow). f.id) k files → map (with_state n state) files ≡ files
 unchanged n k state [] h numbered = refl
 unchanged n k state (f ∷ files) h numbered =

@@ -71,7 +71,7 @@ module _ (p : Found → Bool) (g : FileRow → Found) where
       let before : n < m = omega (arith, h, rise.0) in
       ap (λ b. b || is_in numbers n) (different_up m n before) ∙ not_in n (m + 1) numbers (omega (arith, before)) rise.1
 
-  -- the first number is none of the files behind
+  -- the first number is that of no later file
   behind : (n k : ℕ) (numbers : List ℕ) (files : List FileRow) → n < k → IsNumberedFrom (λ (f : FileRow). f.id) k files → AreAmongNumbers (n ∷ numbers) files →
       AreAmongNumbers numbers files
   behind n k numbers [] h numbered all = tt

@@ -5,7 +5,7 @@ use Rattle.std.specs.Ordering.{ordering_then, nat_cmp}
 use Rattle.std.specs.declared.cmp.Ordering.{Ordering}
 use Rattle.permit_mirror.specs.declared.pairs.Pairs.{Pairs}
 
--- pairs stand by their keys, and those of one key by their numbers
+-- pairs are ordered by their keys, and those of one key by their numbers
 abbrev pub pair_cmp : ℕ × ℕ → ℕ × ℕ → Ordering
 pair_cmp a b = ordering_then (nat_cmp a.0 b.0) (nat_cmp a.1 b.1)
 

@@ -24,7 +24,7 @@ abbrev pub found_at : List Route → ℕ → ℕ → Tables → List ℕ → Lis
 found_at routes caller day t [] = []
 found_at routes caller day t (number ∷ numbers) = found_one routes caller day t number ++ found_at routes caller day t numbers
 
--- A beginning of the rows found was handed to the taker, or all of them, and each was counted.
+-- A prefix of the rows found was handed to the taker, or all of them, and each was counted.
 pub record HandsOut {T E : Type 0} (took : T → Found → T → Bool → Type 0) (holds : Tables → Type 0) (found : Tables → List Found) (old new : ℕ)
     (before after : T) (result : Result Bool E) : Type 0 where
   pub given : List Found

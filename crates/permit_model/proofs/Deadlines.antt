@@ -195,7 +195,7 @@ pub filed_first : (filing : Filing) (acts : List Act) → WereAdmitted filing ac
 filed_first filing [] w = omega arith
 filed_first filing (act ∷ before) w = omega (arith, filed_first filing before w.1, w.0.in_time)
 
--- a deadline, where one stands, is at least the number
+-- a deadline, where there is one, is at least the number
 abbrev pub IsFrom : ℕ → Option ℕ → Type 0
 IsFrom least deadline = (d : ℕ) → deadline ≡ Some d → least ≤ d
 
@@ -214,7 +214,7 @@ deadline_from filing (act ∷ before) w =
     (from_more filing.filed act.day act.command (pending_ask before) (deadline (case_of filing before)) (filed_first filing (act ∷ before) w)
     (deadline_from filing before w.1))
 
--- a deadline, where one stands, is at most the last one
+-- a deadline, where there is one, is at most the last one
 abbrev pub IsWithin : Option ℕ → Type 0
 IsWithin deadline = (d : ℕ) → deadline ≡ Some d → d ≤ latest_deadline
 

@@ -1,4 +1,4 @@
--- The edition of a file is the one in force when it was filed, and is told by its number.
+-- The edition of a file is the one in force when it was filed, and its number gives it.
 use Rattle.std.proofs.Common.{◌≡◌, ◌≤◌, ◌+◌, ℕ, ◌==◌, Bool, List, [], ◌∷◌, ◌++◌, length, refl, sym, ◌∙◌, ap, arith, length-append}
 use Rattle.std.specs.Prelude.{Option, None, Some, option_map, nat_le, if◌then◌else◌}
 use Rattle.std.proofs.lemmas.List.{length-map}
@@ -98,7 +98,7 @@ edition_first : (id caller day : ℕ) (deed : Deed) (number : Option ℕ) (filin
     filing.edition ≡ edition_numbered (files_at_upgrade (record { caller = caller; day = day; deed = deed; number = number } ∷ [])) id
 edition_first id caller day deed number filing is found = grind arith
 
--- a filing has the edition that its number tells
+-- a filing has the edition that its number gives
 pub edition_of_filing : (h : History) (id : ℕ) (filing : Filing) → IsHistory h → filing_numbered (filings h) id ≡ Some filing →
     filing.edition ≡ edition_numbered (files_at_upgrade h) id
 edition_of_filing [] id filing is found = absurd is

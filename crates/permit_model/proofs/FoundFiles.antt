@@ -145,7 +145,7 @@ kept_cell day state = record { stage = state.stage; stopped = state.stopped; tim
 cell_of_day : (day : ℕ) (state : State) → cell_on_day (kept_cell day state) ≡ day_cell day state
 cell_of_day day state = grind arith
 
--- what a sound row keeps to that selections need: its stage is a stored one, and a deadline stands where one can
+-- what a sound row keeps to that selections need: its stage is a stored one, and there is a deadline where there can be one
 abbrev pub IsKept : State → Type 0
 IsKept state = (is_stored state.stage ≡ true) × (deadline_stands state ≡ true)
 

@@ -55,7 +55,7 @@ found_at number first (y ∷ ys) (suc place) numbered =
 pub all_at : {A : Type 0} (P : A → Type 0) (records : List A) → ((place : ℕ) (x : A) → slice_get records place ≡ Some x → P x) → All P records
 all_at P records each = λ place d inside. each place (get_or records place d) (slice_get-get_or records place d inside)
 
--- what stands at a place of a mapped list
+-- the item at a place of a mapped list
 pub slice_get_mapped : {A B : Type 0} (f : A → B) (xs : List A) (place : ℕ) → option_map f (slice_get xs place) ≡ slice_get (map f xs) place
 slice_get_mapped f [] place = refl
 slice_get_mapped f (x ∷ xs) zero = refl

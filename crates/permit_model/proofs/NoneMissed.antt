@@ -51,7 +51,7 @@ one_there q r e = any_weaker (is_relation r) q (λ s f. ap q (sym (same_relation
 
 -- ---- pairs
 
--- whether it is this pair, whichever stands first
+-- whether it is this pair, whichever comes first
 abbrev pub is_pair : Relation → Relation → Pair → Bool
 is_pair a b pair = (is_relation a pair.0 && is_relation b pair.1) || (is_relation b pair.0 && is_relation a pair.1)
 

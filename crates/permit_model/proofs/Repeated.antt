@@ -17,7 +17,7 @@ use Rattle.permit_model.specs.Policy.{Policy, decision, is_allow}
 use Rattle.permit_model.specs.Laws.{Wanted, parcel_wanted, parcels_asked}
 use Rattle.permit_model.specs.Machine.{entry_of, outcome_by_caller, step, history_after}
 
--- ---- what stands against a parcel
+-- ---- the reasons against a parcel
 
 -- whether the caller's requests for parcels come to be admitted: it is known, in time and allowed
 abbrev is_open : Policy → ℕ → ℕ → Option Party → Bool
@@ -30,7 +30,7 @@ is_held h lot = list_any (λ (p : Parcel). bytes_eq p.lot lot) (parcels h)
 abbrev is_full : History → Bool
 is_full h = nat_le most_records (length (parcels h))
 
--- whether a reason stands against the parcel
+-- whether there is a reason against the parcel
 abbrev is_blocked : History → Wanted → Bool
 is_blocked h p = not (is_party h p.2) || is_held h p.0 || is_full h
 
@@ -82,14 +82,14 @@ or_left a b e = grind arith
 or_right : (a b : Bool) → b ≡ true → (a || b) ≡ true
 or_right a b e = grind arith
 
--- what stands against a parcel still does behind another
+-- a reason against a parcel still holds after another
 still_blocked : (h : History) (day caller : ℕ) (p q : Wanted) → is_blocked h q ≡ true → is_blocked (added h day caller p ∷ h) q ≡ true
 still_blocked h day caller p q e = grind (arith, still_any, is_held-added, or_left, still_full, length-added)
 
 same_bytes : (bytes : List ℕ) → bytes_eq bytes bytes ≡ true
 same_bytes bytes = (bytes_eq-Decides bytes bytes).1 refl
 
--- behind a parcel its lot is taken
+-- after a parcel its lot is taken
 now_blocked : (h : History) (day caller : ℕ) (p : Wanted) → is_blocked (added h day caller p ∷ h) p ≡ true
 now_blocked h day caller p = grind (arith, is_held-added, or_right, same_bytes, or_left)
 

@@ -34,7 +34,7 @@ pub how_many-none : {A : Type 0} (xs : List A) → how_many (λ x. false) xs ≡
 how_many-none [] = refl
 how_many-none (x ∷ xs) = how_many-none xs
 
--- behind a test that doesn't depend on the item
+-- after a test that doesn't depend on the item
 pub how_many-gate : {A : Type 0} (b : Bool) (p : A → Bool) (xs : List A) → how_many (λ x. b && p x) xs ≡ cond b (how_many p xs) 0
 how_many-gate true p xs = refl
 how_many-gate false p xs = how_many-none xs

@@ -1,4 +1,4 @@
--- Tests of lists: those that stay where the list grows, and those that are told by facts of the items.
+-- Tests of lists: those that stay where the list grows, and those that are decided by facts of the items.
 use Rattle.std.proofs.Common.{arith, ◌≡◌, ◌≤◌, ℕ, ◌+◌, Bool, true, false, not, cond, List, [], ◌∷◌, ◌++◌, refl}
 use Rattle.std.specs.Prelude.{Option, Some, is_some, option_map, find}
 use Rattle.std.specs.List.{list_all, All}

@@ -242,7 +242,7 @@ fall_last first (q ∷ qs) p low falls all =
     let a = and_parts (nat_le q.day p.day) (list_all (λ (x : Paper). nat_le x.day p.day) qs) all in
     and_from _ _ f.0 (fall_last q.day qs p (leb-true q.day p.day a.0) f.1 a.1)
 
--- the papers stand in the order of their days, up to the day
+-- the papers are in the order of their days, up to the day
 pub record InOrder (filed until : ℕ) (papers : List Paper) : Type 0 where
   pub falls : never_fall filed (map (λ (p : Paper). p.day) papers) ≡ true
   pub by : list_all (λ (p : Paper). nat_le p.day until) papers ≡ true

@@ -43,7 +43,7 @@ pub base_stored : (acts : List Act) → is_stored (base_stage acts) ≡ true
 base_stored [] = refl
 base_stored (act ∷ before) = rw (base_stage-more act before) (stored_more act.command (base_stage before) (base_stored before))
 
--- ---- a deadline that stands
+-- ---- whether there is a deadline
 
 -- whether it is the permit that expires
 abbrev pub is_permits : Expiry → Bool
@@ -73,7 +73,7 @@ stands_by : (e : Expiry) (filed : ℕ) (acts : List Act) → (is_permits e ≡ t
     (if is_running e then is_some (deadline_by e filed acts) else is_none (deadline_by e filed acts)) ≡ true
 stands_by e filed acts late = grind arith
 
--- a deadline stands in the six stages, and in no other
+-- there is a deadline in the six stages, and in no other
 pub stands_in : (s : Stage) (filed : ℕ) (acts : List Act) → (is_permits (stage_facts s).expiry ≡ true → is_some (greatest (anchor_reaches acts)) ≡ true) →
     (if is_timed s then is_some (deadline_in s filed acts) else is_none (deadline_in s filed acts)) ≡ true
 stands_in s filed acts late = stands_by (stage_facts s).expiry filed acts late
@@ -160,7 +160,7 @@ unstopped_more : (filing : Filing) (caller day : ℕ) (command : Command) (numbe
     UnstoppedWhenCertified (act_by caller day command number ∷ before)
 unstopped_more filing caller day command number before w ih = grind arith
 
--- no stop work order stands on a certified file
+-- no stop work order is in force on a certified file
 pub unstopped : (filing : Filing) (acts : List Act) → WereAdmitted filing acts → UnstoppedWhenCertified acts
 unstopped filing [] w = λ e. cc
 unstopped filing (act ∷ before) w = unstopped_more filing act.caller act.day act.command act.number before w.0 (unstopped filing before w.1)

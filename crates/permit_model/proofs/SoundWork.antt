@@ -334,7 +334,7 @@ some_steps : (steps : List Step) → ends_final steps ≡ true → 0 < length st
 some_steps [] e = cc
 some_steps (step ∷ later) e = omega arith
 
--- behind a step that doesn't finish the work there is another
+-- after a step that doesn't finish the work there is another
 more_steps : (steps : List Step) (n : ℕ) (step : Step) → ends_final steps ≡ true → slice_get steps n ≡ Some step → is_step step Final ≡ false →
     suc n < length steps
 more_steps [] n step ends there other = cc

@@ -40,7 +40,7 @@ pub was_in : (day : ℕ) (file : CaseFile) (wanted : Stage) → is_stored wanted
     base_stage file.acts ≡ wanted
 was_in day file wanted stored h = grind arith
 
--- a stop work order and a lift come in the stages in which one may stand
+-- a stop work order and a lift come in the stages in which an order may be in force
 pub stoppable_from : (s : Stage) (past : Bool) → is_stored s ≡ true → not (stage_facts (if past then past_stage s else s)).stoppable ≡ false →
     may_be_stopped s ≡ true
 stoppable_from s past stored h = grind arith

@@ -25,7 +25,7 @@ turns_more : (filing : Filing) (caller day : ℕ) (command : Command) (number : 
     WasAdmitted filing (act_by caller day command number) before → TakeTurns before → TakeTurns (act_by caller day command number ∷ before)
 turns_more filing caller day command number before w ih = grind arith
 
--- stop work orders and lifts take turns, beginning with an order
+-- stop work orders and lifts take turns, starting with an order
 pub take_turns : (filing : Filing) (acts : List Act) → WereAdmitted filing acts → TakeTurns acts
 take_turns filing [] w = (omega arith, omega arith)
 take_turns filing (act ∷ before) w = turns_more filing act.caller act.day act.command act.number before w.0 (take_turns filing before w.1)

@@ -1,4 +1,4 @@
--- What stands against a command: its tests in the order of the reasons, of which the first that holds is answered.
+-- The reason against a command: its tests in the order of the reasons, of which the first that holds is answered.
 use Rattle.std.specs.Prelude.{ℕ, Bool, false, ◌||◌, not, ◌==◌, ◌+◌, nat_lt, nat_le, if◌then◌else◌, List, [], ◌∷◌, length, Option, None, Some, unwrap_or}
 use Rattle.std.specs.Prelude.{is_some, is_none, bytes_eq}
 use Rattle.std.specs.List.{list_any}
@@ -58,11 +58,11 @@ unless_stage admitted = (not admitted, reason.Stage)
 abbrev pub not_at : ℕ → CaseFile → Stage → Test
 not_at day file wanted = unless_stage (is_stage (stage_on day file) wanted)
 
--- no deadline stands in the stage on the day
+-- no deadline runs in the stage on the day
 abbrev pub not_timed : ℕ → CaseFile → Test
 not_timed day file = unless_stage (is_running (facts_on day file).expiry)
 
--- a stop work order stands
+-- a stop work order is in force
 abbrev pub stopped : CaseFile → Test
 stopped file = (is_stopped file.acts, reason.Stopped)
 
@@ -114,7 +114,7 @@ inspection_pending file = (is_some (pending_step file.acts), reason.Pending)
 abbrev pub no_inspection_pending : CaseFile → Test
 no_inspection_pending file = (is_none (pending_step file.acts), reason.NothingPending)
 
--- no stop work order stands
+-- no stop work order is in force
 abbrev pub not_stopped : CaseFile → Test
 not_stopped file = (not (is_stopped file.acts), reason.NothingPending)
 

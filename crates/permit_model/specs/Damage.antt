@@ -56,7 +56,7 @@ parcel_too_many t = record t { desk = record t.desk { parcels = 3 } }
 abbrev pub upgrade_missing : Tables → Tables
 upgrade_missing t = record t { desk = record t.desk { edition = Second } }
 
--- the parcels stand in another order than that of their numbers
+-- the parcels are in another order than that of their numbers
 abbrev pub parcels_turned : Tables → Tables
 parcels_turned t = record t { parcels = reverse t.parcels }
 

@@ -42,6 +42,6 @@ deadline_by Permit filed acts = greatest (anchor_reaches acts)
 abbrev pub deadline_in : Stage → ℕ → List Act → Option ℕ
 deadline_in s filed acts = deadline_by (stage_facts s).expiry filed acts
 
--- the deadline of a file, where one stands
+-- the deadline of a file, where there is one
 abbrev pub deadline : CaseFile → Option ℕ
 deadline file = deadline_in (base_stage file.acts) file.filing.filed file.acts

@@ -1,4 +1,4 @@
--- The scripts of the worked examples, whose values stand on the functions of this crate.
+-- The scripts of the worked examples, whose values are written on the functions of this crate.
 use Rattle.std.specs.Prelude.{ℕ, false, List, [], ◌∷◌, ◌++◌, map, length, Option, None, Some, codes}
 use Rattle.permit_base.specs.declared.words.Role.TheVariants.{Public, Clerk, Reviewer, Inspector}
 use Rattle.permit_base.specs.declared.words.Role.{Role}
@@ -357,7 +357,7 @@ worked_with_ask =
 abbrev pub answered_asks : List Turn
 answered_asks = on_one 1 19850 GrantExtension ∷ on_one 5 19850 (AskExtension 20 (codes "Ill")) ∷ on_one 1 19850 (RefuseExtension (codes "No")) ∷ []
 
--- work begun on a day that no type allows, which stands for many extensions
+-- work begun on a day that no type allows, in place of many extensions
 abbrev pub far_turns : List Turn
 far_turns = approved_file Construct 199700 ++ on_one 1 199700 Issue ∷ on_one 6 199720 BeginWork ∷ []
 

@@ -28,7 +28,7 @@ use Rattle.permit_model.specs.Admission.{reason_against}
 use Rattle.permit_model.specs.Tables.{FileView, file_view, Paper, papers_of}
 use Rattle.permit_model.specs.Listing.{listing, register_filter}
 
--- what a caller is told
+-- what is reported to a caller
 pub data Reply : Type 0 where
   Done : (number : Option ℕ) → Reply
   ParcelShown : (parcel : Parcel) → Reply
@@ -123,7 +123,7 @@ abbrev pub shown_file : History → ℕ → Option CaseFile → Reply
 shown_file h day None = Refused refusal.Record
 shown_file h day (Some file) = FileShown (file_view day file) (papers_of h file.filing.id)
 
--- a command that nothing stands against adds its entry and gives its number
+-- a command with no reason against it adds its entry and gives its number
 abbrev pub outcome_by_reason : History → Entry → Option Reason → Outcome
 outcome_by_reason h entry None = record { reply = Done entry.number; history = entry ∷ h }
 outcome_by_reason h entry (Some reason) = refused h (refusal.NotAdmitted reason)
@@ -229,7 +229,7 @@ pub record IsUpgrade (before : History) (entry : Entry) : Type 0 where
   pub numberless : entry.number ≡ None
   pub once : edition before ≡ First
 
--- the deed may stand after the entries before it
+-- the deed may follow the entries before it
 abbrev pub MayFollow : History → Entry → Deed → Type 0
 MayFollow before entry (Founding name digest) = ⊥
 MayFollow before entry Upgrade = IsUpgrade before entry

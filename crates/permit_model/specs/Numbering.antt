@@ -1,7 +1,7 @@
 -- Numbering in order of acceptance.
 use Rattle.std.specs.Prelude.{◌≡◌, ℕ, ◌+◌, Bool, true, ◌&&◌, ◌==◌, List, [], ◌∷◌}
 
--- the records have the numbers from the first one on, in the order in which they stand
+-- the records have the numbers from the first one on, in the order of the list
 abbrev pub IsNumberedFrom : {A : Type 0} → (A → ℕ) → ℕ → List A → Type 0
 IsNumberedFrom number first [] = Unit {0}
 IsNumberedFrom number first (x ∷ xs) = (number x ≡ first) × IsNumberedFrom number (first + 1) xs

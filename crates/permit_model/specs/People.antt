@@ -1,4 +1,4 @@
--- The people of a file: each is the one last named in what was done to it. Each list of acts stands newest first.
+-- The people of a file: each is the one last named in what was done to it. Each list of acts is newest first.
 use Rattle.std.specs.Prelude.{ℕ, List, Option}
 use Rattle.permit_model.specs.Search.{latest}
 use Rattle.permit_model.specs.Effects.{effects}

@@ -47,7 +47,7 @@ with_digest id digest p = if p.id == id then record p { digest = digest } else p
 abbrev pub with_renewed : ℕ → List ℕ → Tables → Tables
 with_renewed id digest t = record t { parties = map (with_digest id digest) t.parties }
 
--- what stands against giving the party with the number the digest: there is no such party, or a party has it
+-- the reason against giving the party with the number the digest: there is no such party, or a party has it
 abbrev pub against_renewal : List Party → ℕ → List ℕ → Option Refusal
 against_renewal ps id digest =
     if is_some (find (λ p. p.id == id) ps) then when (is_some (find (λ p. bytes_eq p.digest digest) ps)) (refusal.NotAdmitted reason.Taken)

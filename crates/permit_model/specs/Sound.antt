@@ -113,7 +113,7 @@ abbrev pub has_sound_people : Tables → State → Bool
 has_sound_people t s =
     if_any (has_party t) s.contractor && if_any (has_party_of t Reviewer) s.reviewer && if_any (has_party_of t Inspector) s.inspector
 
--- a file has the edition that its number tells: the one in force when it was filed
+-- a file has the edition that its number gives: the one in force when it was filed
 abbrev pub has_own_edition : Tables → FileRow → Bool
 has_own_edition t f = is_edition f.state.edition (edition_numbered t.upgrade f.id)
 
@@ -137,7 +137,7 @@ are_sound_stages t = list_all (λ f. has_sound_stage f.state) t.files
 abbrev pub is_begun : Stage → Bool
 is_begun s = (stage_facts s).begun
 
--- a stop work order may stand in the stage
+-- a stop work order may be in force in the stage
 abbrev pub may_be_stopped : Stage → Bool
 may_be_stopped s = (stage_facts s).stopped
 
@@ -186,12 +186,12 @@ is_sound_work t = list_all (has_sound_work t) t.files
 
 -- ---- papers
 
--- no day is before the one that stands before it
+-- no day is earlier than the one before it
 abbrev pub never_fall : ℕ → List ℕ → Bool
 never_fall first [] = true
 never_fall first (day ∷ later) = nat_le first day && never_fall day later
 
--- the papers of a file are counted, numbered from 1, and stand in the order of their days, from that of the filing on
+-- the papers of a file are counted, numbered from 1, and in the order of their days, from that of the filing on
 abbrev pub are_sound_papers_of : List Paper → State → Bool
 are_sound_papers_of papers s =
     (s.papers == length papers) && nat_le s.papers most_papers && is_numbered (λ (p : Paper). p.number) papers && never_fall s.filed (map (λ p. p.day) papers)

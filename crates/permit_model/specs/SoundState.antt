@@ -11,7 +11,7 @@ use Rattle.permit_model.specs.Tables.{State, next_in_row}
 abbrev pub is_stored : Stage → Bool
 is_stored s = (stage_facts s).stored
 
--- the six stages in which a deadline stands
+-- the six stages in which there is a deadline
 abbrev pub is_timed : Stage → Bool
 is_timed s = is_running (stage_facts s).expiry
 
@@ -23,7 +23,7 @@ is_completed s = (stage_facts s).complete
 abbrev pub is_certified : Stage → Bool
 is_certified s = (stage_facts s).certified
 
--- a deadline stands in the six stages, and in no other
+-- there is a deadline in the six stages, and in no other
 abbrev pub deadline_stands : State → Bool
 deadline_stands s = if is_timed s.stage then is_some s.deadline else is_none s.deadline
 
@@ -41,7 +41,7 @@ request_dated s = if is_some s.request then is_some s.requested else is_none s.r
 abbrev pub is_finished : State → Bool
 is_finished s = (s.done == length (required_steps s.edition s.kind)) && (s.notices == 0)
 
--- a stored stage; no more steps done than required; the deadline where one stands; a request for the next step alone;
+-- a stored stage; no more steps done than required; a deadline exactly where one runs; a request for the next step alone;
 -- a finaled or certified file is finished, and a certified one isn't stopped
 abbrev pub is_sound_state : State → Bool
 is_sound_state s =

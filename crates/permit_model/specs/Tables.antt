@@ -228,7 +228,7 @@ pub record Tables : Type 0 where
 abbrev pub desk_of : History → Desk
 desk_of h = record { edition = edition h; last = last_day h; parties = length (parties h); parcels = length (parcels h); files = length (case_files h) }
 
--- the tables after a history; interests and papers stand in the order in which they were made
+-- the tables after a history; interests and papers are in the order in which they were made
 abbrev pub tables : History → Tables
 tables h = record {
   desk = desk_of h;

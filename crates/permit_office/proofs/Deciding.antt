@@ -100,7 +100,7 @@ party_suits h day caller name role token digest d e =
 
 -- ---- what is admitted
 
--- nothing stands against what is admitted
+-- there is no reason against what is admitted
 pub none_against : (r : Result (Option ℕ) Reason) (number : Option ℕ) → r ≡ Ok number → reason_in r ≡ None
 none_against r number e = ap reason_in e
 

@@ -224,7 +224,7 @@ files_gathered policy h day caller wanted is given views kept e moved up from al
 pub few_read : (read n m : ℕ) → read ≡ n % 2 ^ 32 → n ≡ m → m ≤ 21 * most_records → read ≡ m
 few_read read n m e f few = omega arith
 
--- the rows that all selections hand out are those opened, and their count is told
+-- the rows that all selections hand out are those opened, and their count is reported
 pub rows_read : (policy : Policy) (h : History) (day : ℕ) (caller : Party) (wanted : Filter) → IsHistory h →
     (given : List Found) (listing : Listing) (old new : ℕ) →
     IsPermutation given (flat_map (λ r. found_by r caller.id day (tables h)) (routes_of (allowed_by policy caller.role action.List) wanted)) →

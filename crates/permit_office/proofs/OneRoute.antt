@@ -68,7 +68,7 @@ one_listed policy h day caller wanted is route e =
 
 -- ---- what was passed on
 
--- a beginning of the rows gives a beginning of the listing
+-- a prefix of the rows gives a prefix of the listing
 listed_apart : (policy : Policy) (h : History) (day : ℕ) (caller : Party) (wanted : Filter) → IsHistory h → (route : Route) →
     routes_for policy caller wanted ≡ route ∷ [] → (given rest : List Found)
     → found_by route caller.id day (tables h) ≡ given ++ rest → listing policy h day caller wanted ≡ views_found policy caller day given

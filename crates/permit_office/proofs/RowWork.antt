@@ -191,7 +191,7 @@ some_steps : (steps : List Step) → ends_final steps ≡ true → 0 < length st
 some_steps [] e = cc
 some_steps (step ∷ later) e = omega arith
 
--- behind a step that doesn't finish the work there is another
+-- after a step that doesn't finish the work there is another
 more_steps : (steps : List Step) (n : ℕ) (step : Step) → ends_final steps ≡ true → slice_get steps n ≡ Some step → is_step step Final ≡ false →
     suc n < length steps
 more_steps [] n step ends there other = cc
@@ -217,7 +217,7 @@ for_step : (step : Step) (next : Option Step) → is_for (Some step) next ≡ tr
 for_step step None h = cc
 for_step step (Some next) h = ap Some (same_step next step h)
 
--- the step that is approved is the next one, and there is another behind it
+-- the step that is approved is the next one, and there is another after it
 step_done : (day : ℕ) (s : State) (step : Step) → s.stage ≡ stage.Working → is_for s.request (next_in_row s) ≡ true → s.request ≡ Some step →
     is_step step Final ≡ false → is_done_in s.stage (required s) (s.done + 1) ≡ true
 step_done day s step was for_next asked other =

@@ -69,7 +69,7 @@ own_last (r ∷ rs) reply = own_by (is_store_refusal r) r rs (if is_store_refusa
 longer : {A B : Type 0} (xs : List A) (ys : List B) (x : A) (y : B) → length ys ≡ length xs → length (ys ++ y ∷ []) ≡ length (xs ++ x ∷ [])
 longer xs ys x y e = length-append ys (y ∷ []) ∙ ap (λ n. n + 1) e ∙ sym (length-append xs (x ∷ []))
 
--- ---- the counts that listings tell
+-- ---- the counts that listings report
 
 later_by : (policy : Policy) (b : Bool) (request : Asked × ℕ) (done : List (Asked × ℕ)) (h : History) →
     history_after policy (if b then done else request ∷ done) h ≡ history_after policy done (if b then h else (step policy h request.0 request.1).history)

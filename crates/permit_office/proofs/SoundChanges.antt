@@ -30,7 +30,7 @@ use Rattle.permit_office.proofs.RowWork.{work_later}
 use Rattle.permit_office.proofs.Growing.{numbered_more, all_and, numbered_same, there_same}
 use Rattle.permit_office.proofs.SoundLater.{role_front, IsLater, parcel_later, interest_later, file_later, paper_later}
 
--- ---- what a call told
+-- ---- what a call reported
 
 -- what is said of a success holds where there was one
 pub on_ok : {A E : Type 0} (P : Type 0) (r : Result A E) (x : A) → r ≡ Ok x → OnOk r P → P

@@ -1,4 +1,4 @@
--- A command as a history records it, and what comes of it behind a history, whatever a policy says.
+-- A command as a history records it, and what comes of it after a history, whatever a policy says.
 use Rattle.std.specs.Prelude.{◌≡◌, ℕ, Bool, nat_lt, if◌then◌else◌, List, [], ⊤}
 use Rattle.permit_base.specs.declared.refusal.Refusal.TheVariants as refusal
 use Rattle.permit_base.specs.declared.request.Request.{Request}

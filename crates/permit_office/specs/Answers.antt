@@ -56,7 +56,7 @@ CommittedBy reply old new = new ≡ commits_after reply old
 
 -- ---- failed calls
 
--- the count of failed calls after a reply: the store's refusal stands for one, any other reply for none
+-- the count of failed calls after a reply: the store's refusal means one, any other reply none
 abbrev pub failed_by : Given → ℕ → ℕ
 failed_by reply n = if is_store_refusal reply then next_count n else n
 

@@ -26,7 +26,7 @@ papers_with file number day author days command (Some sort) cleared papers = pap
 papers_with file number day author days command None (Some cleared) papers = map (closed_by file cleared) papers
 papers_with file number day author days command None None papers = papers
 
--- the same, with the days told by what was done to the file before
+-- the same, with the days given by what was done to the file before
 abbrev pub papers_entered : (file number day author : ℕ) → Command → List Act → Option PaperSort → Option ℕ → List Paper → List Paper
 papers_entered file number day author command before sort cleared papers =
     papers_with file number day author (paper_days command before) command sort cleared papers

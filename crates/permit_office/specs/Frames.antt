@@ -49,7 +49,7 @@ pub record IsMaking {A : Type 0} (old new : StoreView) (result : Result A StoreE
 
 -- A step leaves the policy, and any tables, unless a command is done, which makes one change of sound tables and leaves
 -- them sound; no doubt goes. After any reply but the store's refusal, a store that is without doubt can be read. That
--- refusal stands for a call that failed, and comes exactly where one did, but for that of a listing or a register, which
+-- refusal means a call that failed, and comes exactly where one did, but for that of a listing or a register, which
 -- may be for want of memory. The rows handed out for a listing are those that it opens.
 pub record IsStep {S : Type 0} (view : S → StoreView) (digest : List ℕ) (asked : Request) (day : ℕ) (old new : OfficeView S) (reply : Given) : Type 0 where
   pub policy : new.policy ≡ old.policy

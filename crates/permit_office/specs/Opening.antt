@@ -1,4 +1,4 @@
--- The rows that a listing opens, by the definition, and what it tells of them.
+-- The rows that a listing opens, by the definition, and what it reports of them.
 use Rattle.std.specs.Prelude.{◌≡◌, ℕ, List, length, Option, None, Some, option_and_then, ⊤}
 use Rattle.permit_base.specs.declared.request.Request.{Request}
 use Rattle.permit_base.specs.declared.request.Request.TheVariants as request
@@ -29,7 +29,7 @@ opened_for policy h day caller (request.OnFile file command) = None
 abbrev pub rows_opened : Policy → History → List ℕ → Request → ℕ → Option ℕ
 rows_opened policy h digest asked day = option_and_then (λ caller. opened_for policy h day caller asked) (who h digest)
 
--- a listing tells the count of these rows, and so many were handed out for it
+-- a listing reports the count of these rows, and so many were handed out for it
 pub record OpensRows (rows : ℕ) (listing : Listing) (old new : ℕ) : Type 0 where
   pub told : listing.read ≡ rows
   pub handed : HandedMore rows old new

@@ -33,7 +33,7 @@ pub record Passes {T : Type 0} (took : T → FileView → T → Bool → Type 0)
   pub went : Went took found before after more
 
 -- what the taker did with the files among these rows that may be listed: it took each, or it stopped at the last row's, or
--- it took a beginning before a failure
+-- it took a prefix before a failure
 abbrev pub TakenOf : {T : Type 0} → (T → FileView → T → Bool → Type 0) → Policy → Party → ℕ → List Found → T → T → Result RowsEnd StoreError → Type 0
 TakenOf took policy caller day given before after (Ok (ended.All read)) = (read ≡ length given % 2 ^ 32)
     × TookAll took (views_found policy caller day given) before after
@@ -46,7 +46,7 @@ abbrev pub LeftAt : Result RowsEnd StoreError → List Found → Type 0
 LeftAt (Ok (ended.All read)) rest = rest ≡ []
 LeftAt result rest = ⊤
 
--- The rows that were handed to a taker are a beginning of those that one route finds, or some of those that several find.
+-- The rows that were handed to a taker are a prefix of those that one route finds, or some of those that several find.
 abbrev pub AreHandedBy : {E : Type 0} → List Route → ℕ → ℕ → Tables → Result Bool E → List Found → Type 0
 AreHandedBy (route ∷ []) caller day t result given = AreHanded t result given (found_by route caller day t)
 AreHandedBy routes caller day t result given = AreAmong result given (found_by_any routes caller day t)

@@ -50,7 +50,7 @@ HandedOne reply old new = new ≡ next_count old
 abbrev pub HandedMore : ℕ → ℕ → ℕ → Type 0
 HandedMore rows old new = new % 2 ^ 64 ≡ more_handed rows old
 
--- so many rows were handed out for a listing as it tells, by a count of 32 bits that goes round
+-- so many rows were handed out for a listing as it reports, by a count of 32 bits that goes round
 pub record WereRead (listing : Listing) (old new : ℕ) : Type 0 where
   pub rows : ℕ
   pub told : listing.read ≡ rows % 2 ^ 32
@@ -79,7 +79,7 @@ HandedIn ManyRows (Err e) old new = ⊤
 
 -- ---- failed calls
 
--- The count of failed calls after a reply. The store's refusal of a listing stands for a call that failed, or for want
+-- The count of failed calls after a reply. The store's refusal of a listing means a call that failed, or want
 -- of memory with no call failed.
 abbrev pub FailedBy : Reach → Given → ℕ → ℕ → Type 0
 FailedBy NoRow reply old new = new ≡ failed_by reply old

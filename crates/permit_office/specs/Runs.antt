@@ -21,13 +21,13 @@ answered (request ∷ requests) (reply ∷ replies) = if is_store_refusal reply 
 abbrev pub own_replies : List Given → List Reply
 own_replies replies = map reply_of (filter (λ r. not (is_store_refusal r)) replies)
 
--- a listing or a register tells the count of these rows
+-- a listing or a register reports the count of these rows
 abbrev pub Tells : Option ℕ → Given → Type 0
 Tells (Some rows) (given.Listed listing) = listing.read ≡ rows
 Tells (Some rows) (given.Register kind listing) = listing.read ≡ rows
 Tells rows reply = ⊤
 
--- each listing and register tells the count of the rows that it opens in the history at its place
+-- each listing and register reports the count of the rows that it opens in the history at its place
 abbrev pub AllTell : Policy → List (Asked × ℕ) → List Given → History → Type 0
 AllTell policy [] replies h = ⊤
 AllTell policy (request ∷ requests) [] h = ⊤
@@ -36,7 +36,7 @@ AllTell policy (request ∷ requests) (reply ∷ replies) h =
     × AllTell policy requests replies (if is_store_refusal reply then h else (step policy h request.0 request.1).history)
 
 -- Each request has its reply. The replies and the tables are the machine's over the requests that the store didn't
--- refuse, and listings tell how many rows they opened.
+-- refuse, and listings report how many rows they opened.
 pub record Ran (holds : Tables → Type 0) (policy : Policy) (requests : List (Asked × ℕ)) (replies : List Given) (h : History) : Type 0 where
   pub each : length replies ≡ length requests
   pub told : own_replies replies ≡ replies_to policy (answered requests replies) h

@@ -22,7 +22,7 @@ abbrev pub TakesUp : {T : Type 0} → (T → FileView → T → Bool → Type 0)
 TakesUp took files old new true = TookAll took files old new
 TakesUp took files old new false = StoppedIn took files old new
 
--- What the taker was given is the listing of the machine's reply: all of it, or a beginning. Where the machine refuses,
+-- What the taker was given is the listing of the machine's reply: all of it, or a prefix. Where the machine refuses,
 -- nothing was taken.
 abbrev pub Shows : {T : Type 0} → (T → FileView → T → Bool → Type 0) → Reply → T → T → RowsEnd → Type 0
 Shows took (Listed files) old new (ended.All read) = TookAll took files old new
@@ -47,12 +47,12 @@ abbrev pub is_store_end : RowsEnd → Bool
 is_store_end (ended.Refused refusal.Store) = true
 is_store_end _ = false
 
--- such an end may stand for a call that failed, another for none
+-- such an end may mean a call that failed, another means none
 abbrev pub FailedAt : RowsEnd → ℕ → ℕ → Type 0
 FailedAt (ended.Refused refusal.Store) old new = (new ≡ old) ⊎ (new ≡ next_count old)
 FailedAt end old new = new ≡ old
 
--- so many rows were handed out for a listing as its end tells; none for a caller or a clock that is refused
+-- so many rows were handed out for a listing as its end reports; none for a caller or a clock that is refused
 abbrev pub HandedAt : RowsEnd → ℕ → ℕ → Type 0
 HandedAt (ended.All read) old new = (rows : ℕ) × (read ≡ rows % 2 ^ 32) × HandedMore rows old new
 HandedAt ended.Stopped old new = ⊤

@@ -25,7 +25,7 @@ use permit_base::words::{RegisterKind, Stage};
 use permit_core::taker::Taker;
 use permit_policy::Policy;
 use permit_store::rows::{FileView, Party};
-use permit_store::store::{Got, Store};
+use permit_store::store::{Got, Store, StoreError};
 
 /// How the passing of a listing's files to a taker ended.
 #[derive(Clone, Copy)]
@@ -102,7 +102,9 @@ fn hand_files<S: Store, T: Taker<FileView>>(
     if let Some(route) = only_route(&selections) {
         return pass_on(store, policy, caller, day, &[route], taker);
     }
-    let listing = list_selected(store, policy, caller, day, &selections)?;
+    let Ok(listing) = list_selected(store, policy, caller, day, &selections) else {
+        return Err(StoreError);
+    };
     if hand_out(listing.files, taker) {
         Ok(RowsEnd::All { read: listing.read })
     } else {

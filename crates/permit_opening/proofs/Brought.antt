@@ -1,4 +1,4 @@
--- Where a store stands beside a text, with one more line.
+-- Where a store is beside a text, with one more line.
 use Rattle.std.proofs.Common.{◌≡◌, ◌<◌, ◌≤◌, inl, inr, refl, sym, ap, ◌∙◌, subst, ℕ, zero, suc, ◌+◌, Bool, true, false, List, [], ◌∷◌, ◌++◌, length, take, get_or, Option, None, Some, arith, append_assoc, append-nil}
 use Rattle.std.specs.Prelude.{◌⊎◌, Result, Ok, Err, IfErr, IfOk, IsTrue, is_some}
 use Rattle.std.specs.Result.{IsErrAnd}
@@ -40,9 +40,9 @@ take_all count xs whole = ap (take count) (sym (append-nil xs)) ∙ take_at xs [
 all_or_fewer : (count before : ℕ) → count ≤ before + 1 → (count ≤ before) ⊎ (count ≡ before + 1)
 all_or_fewer count before few = grind arith
 
--- ---- where the tables stand
+-- ---- where the tables are
 
--- before the first line they stand nowhere
+-- before the first line they are nowhere
 pub elsewhere_first : (begins : Unsaid → Type 0) (t : Tables) → AreElsewhere begins [] t
 elsewhere_first begins t zero few = λ unsaid have second alike. absurd cc
 elsewhere_first begins t (suc count) few = absurd (omega (arith, few))
@@ -85,7 +85,7 @@ stands_found begins entries t store tells upgraded held unsaid have = record {
   held = (t, held, alike_back (tables (history_by unsaid entries)) t (tells unsaid have).1);
 }
 
--- the store stands where its tables are found
+-- the store is where its tables are found
 pub placed : (begins : Unsaid → Type 0) (o : Option ℕ) (entries waiting : List Entry) (entry : Entry) (t : Tables) (store : StoreView) → AreElsewhere begins entries t → store.holds t
     → waiting ≡ [] → IsFound begins o (entries ++ entry ∷ []) t → IsPlaced begins o (entries ++ entry ∷ []) waiting t store
 placed begins None entries waiting entry t store elsewhere held empty none = (elsewhere_more begins entries entry t elsewhere none, held, empty)
@@ -171,7 +171,7 @@ history_held view unsaid (replayed.Nothing first) h holds second = let one = sub
 history_held view unsaid (replayed.Founded founder) h holds second = let first = subst (λ (hs : History). edition hs ≡ Second) holds second in absurd cc
 history_held view unsaid (replayed.Open store) h holds second = holds.history
 
--- whether the tables that were told are these
+-- whether the tables that were replayed are these
 pub found_so : (view : PlainStore → StoreView) (begins : Unsaid → Type 0) (fine : BeginsFine begins) (bytes : List ℕ) (entries : List Entry) (left : List ℕ) (told : Told) (t : Tables) (alike : Bool) (o : Option ℕ)
     → HasTold view begins bytes entries left told
     → ((unsaid : Unsaid) (h : History) → Holds view unsaid told.replayed h → (IsHistory h → IsSoundTables (tables h)) → Decides alike ((edition h ≡ Second) × AreAlike (tables h) t))
@@ -218,7 +218,7 @@ pub never_differs : (view : PlainStore → StoreView) (begins : Unsaid → Type 
 never_differs view begins bytes (bring_fault.Stopped why) stopped is = absurd cc
 never_differs view begins bytes bring_fault.Differs stopped is = stopped
 
--- a fault that stops it is told on
+-- a fault that stops it is returned
 pub told_on : {A : Type 0} (view : PlainStore → StoreView) (begins : Unsaid → Type 0) (bytes : List ℕ) (r : Result A BringFault) (why : CompareFault)
     → IsErrAnd r (λ told. told ≡ bring_fault.Stopped why) → StopsAs view begins bytes why → IfErr r (IsStopped view begins bytes)
 told_on view begins bytes (Ok done) why told stops = tt

@@ -1,4 +1,4 @@
--- What was told where a text might begin so holds where it might begin as it did before.
+-- What was said where a text might begin so holds where it might begin as it did before.
 use Rattle.std.proofs.Common.{ℕ, List, [], ◌∷◌, ◌++◌}
 use Rattle.std.specs.Prelude.{Result, IfErr, Ok, Err}
 use Rattle.permit_model.specs.Tables.{Tables}

@@ -12,22 +12,22 @@ use Rattle.permit_opening.specs.declared.compare.Compared.{Compared}
 use Rattle.permit_opening.specs.declared.compare.Compared.TheVariants as compared
 use Rattle.permit_opening.specs.Texts.{IsTextOf}
 
--- the entries tell a history, and its tables are these
+-- the entries give a history, and its tables are these
 abbrev pub TellTables : (Unsaid → Type 0) → List Entry → Tables → Type 0
 TellTables begins entries t =
     (unsaid : Unsaid) → Completes begins unsaid entries
     → IsHistory (history_by unsaid entries) × AreAlike (tables (history_by unsaid entries)) t
 
--- the tables of the history that the entries tell are others
+-- the tables of the history that the entries give are others
 abbrev pub TellOthers : (Unsaid → Type 0) → List Entry → Tables → Type 0
 TellOthers begins entries t = (unsaid : Unsaid) → Completes begins unsaid entries → AreAlike (tables (history_by unsaid entries)) t → ⊥
 
--- the tables are those that the whole lines of the text tell, and these have so many bytes
+-- the tables are those that the whole lines of the text give, and these have so many bytes
 abbrev pub IsAlike : (Unsaid → Type 0) → List ℕ → Tables → ℕ → Type 0
 IsAlike begins bytes t size =
     (entries : List Entry) × (left : List ℕ) × IsTextOf begins bytes entries left × TellTables begins entries t × (size ≡ length (text_of entries))
 
--- the tables are not those, but those that the lines before the last tell: these are a text by themselves, of so many bytes
+-- the tables are not those, but those that the lines before the last give: these are a text by themselves, of so many bytes
 abbrev pub HasOneMore : (Unsaid → Type 0) → List ℕ → Tables → ℕ → Type 0
 HasOneMore begins bytes t size =
     (entries : List Entry) × (last : Entry) × (left : List ℕ) × IsTextOf begins bytes (entries ++ last ∷ []) left
@@ -44,7 +44,7 @@ Says begins bytes t (compared.Alike size) = IsAlike begins bytes t size
 Says begins bytes t (compared.OneMore size) = HasOneMore begins bytes t size
 Says begins bytes t compared.Differs = IsOther begins bytes t
 
--- at this place they differ first from those that the whole lines of the text tell
+-- at this place they differ first from those that the whole lines of the text give
 abbrev pub DiffersFirst : (Unsaid → Type 0) → List ℕ → Tables → Difference → Type 0
 DiffersFirst begins bytes t place =
     (entries : List Entry) × (left : List ℕ) × IsTextOf begins bytes entries left

@@ -1,4 +1,4 @@
--- What the first lines of a text tell.
+-- What the first lines of a text give.
 use Rattle.std.specs.Prelude.{◌≡◌, ◌<◌, ◌≤◌, ℕ, IsTrue, List, [], length, None}
 use Rattle.std.specs.List.{list_all}
 use Rattle.permit_store.specs.declared.plain.PlainStore.{PlainStore}

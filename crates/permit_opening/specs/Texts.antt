@@ -17,13 +17,13 @@ use Rattle.permit_replay.specs.Texts.{StopsAt}
 use Rattle.permit_opening.specs.declared.fault.CompareFault.{CompareFault}
 use Rattle.permit_opening.specs.declared.fault.CompareFault.TheVariants as compare_fault
 
--- nothing stands against any of the entries behind the history and those before it
+-- there is no reason against any of the entries after the history and those before it
 abbrev pub AreNext : Unsaid → History → List Entry → Type 0
 AreNext unsaid h [] = ⊤
 AreNext unsaid h (entry ∷ later) =
     (against unsaid h entry.day entry.deed ≡ None) × AreNext unsaid (history_with unsaid h entry.day entry.deed) later
 
--- the whole lines of the text are those of the entries, which tell a history, and this stands behind them
+-- the whole lines of the text are those of the entries, which give a history, and this comes after them
 pub record IsTextOf (begins : Unsaid → Type 0) (bytes : List ℕ) (entries : List Entry) (left : List ℕ) : Type 0 where
   pub text : bytes ≡ text_of entries ++ left
   pub given : GivesInTurn bytes entries left

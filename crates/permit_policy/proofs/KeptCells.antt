@@ -16,7 +16,7 @@ numbers = refl
 nth_number : (n : ℕ) (d : Cell) → n < 112 → cell_number (get_or cells n d) ≡ n
 nth_number n d h = sym (get_or-map cell_number cells n d 0 h) ∙ ap (λ xs. get_or xs n 0) numbers ∙ get_or-range_with_len 0 112 n 0 h ∙ zero-add n
 
--- the one cell of the number stands at its place
+-- the one cell of the number is at its place
 pub at_place : (n : ℕ) (here : Cell) → n < 112 → ((cell : Cell) → cell_number cell ≡ n → here ≡ cell) → here ≡ get_or cells n here
 at_place n here h numbered = numbered (get_or cells n here) (nth_number n here h)
 

@@ -14,12 +14,12 @@ use Rattle.permit_policy.specs.Fault.{place_of}
 use Rattle.permit_policy.specs.Reading.{IsRefusal, IsListFault}
 use Rattle.permit_policy.proofs.Items.{map-view-drop}
 
--- the fault stands here
+-- the fault is here
 pub place_here : (test : Data → Bool) (values : List Value) (i : ℕ) (v : Value) → i < length values → v ≡ get_or values i v
     → test (view v) ≡ true → position_from test (i + 1) (map view (drop i values)) ≡ Some (i + 1)
 place_here test values i v h e t = grind (arith, map-view-drop)
 
--- the fault stands further on, if it does
+-- the fault is further on, if there is one
 pub place_next : (test : Data → Bool) (values : List Value) (i : ℕ) (v : Value) → i < length values → v ≡ get_or values i v
     → test (view v) ≡ false → position_from test (i + 1) (map view (drop i values)) ≡ position_from test (i + 1 + 1) (map view (drop (i + 1) values))
 place_next test values i v h e t = grind (arith, map-view-drop)

@@ -11,7 +11,7 @@ use Rattle.permit_policy.specs.Dead.{deciding, IsLive}
 abbrev pub is_marked : List Bool → ℕ → Bool
 is_marked marks place = slice_index_or marks place false
 
--- Each mark was there before, or stands at a rule that decides for some facts. Each rule that decides for facts that were seen is
+-- Each mark was there before, or is at a rule that decides for some facts. Each rule that decides for facts that were seen is
 -- marked.
 pub record Marks (policy : Policy) (seen : Facts → Type 0) (old new : List Bool) : Type 0 where
   pub kept : (place : ℕ) → is_marked old place ≡ true → is_marked new place ≡ true

@@ -19,7 +19,7 @@ use Rattle.permit_policy.specs.declared.fault.PolicyError.{PolicyError}
 use Rattle.permit_policy.specs.declared.fault.PolicyFault.{PolicyFault}
 use Rattle.permit_policy.specs.declared.fault.PolicyFault.TheVariants as fault
 
--- ---- what stands in a table
+-- ---- what is in a table
 
 -- the items of an array
 abbrev pub items_list : Items → List Data
@@ -146,7 +146,7 @@ effect_of entry = unwrap_or (effect_named (text_at (codes "effect") entry)) Deny
 
 -- ---- lists of words, each word read by its spelling
 
--- each text is a word, and none stands twice
+-- each text is a word, and none comes twice
 abbrev pub are_words : {A : Type 0} → (List ℕ → Option A) → List (List ℕ) → Bool
 are_words read [] = true
 are_words read (text ∷ texts) = is_some (read text) && not (is_among texts text) && are_words read texts

@@ -1,4 +1,4 @@
--- What an entry is told as, by what was read of the tables.
+-- What the text gives for an entry, by what was read of the tables.
 use Rattle.std.proofs.Common.{◌≡◌, ℕ, ◌+◌, ◌==◌, refl, sym, ap, ◌∙◌, Option, None, Some}
 use Rattle.std.specs.Prelude.{find, option_map, unwrap_or}
 use Rattle.permit_base.specs.declared.request.Command.{Command}

@@ -1,4 +1,4 @@
--- What a probe tells of its store.
+-- What a probe says of its store.
 use Rattle.std.proofs.Common.{◌≡◌, inl, inr, sym, ap, subst, arith, ℕ, false, [], Option, None, Some}
 use Rattle.std.specs.Prelude.{is_some, Result, Ok, Err, OnOk}
 use Rattle.permit_base.specs.declared.words.Edition.TheVariants.{Second}
@@ -56,7 +56,7 @@ pub one_desk : (store : StoreView) (asked : Option ℕ) (failed : ℕ) → is_so
 one_desk store None failed none one = one
 one_desk store (Some n) failed none one = cc
 
--- at the beginning it holds what the store holds
+-- at first it holds what the store holds
 pub begins : {S : Type 0} (view : S → StoreView) (before begun : S) (asked : Option ℕ) (t : Tables) → begun ≡ before → asked ≡ None
     → (view before).holds t → probed_tables (view begun) asked t
 begins view before begun asked t same none held =

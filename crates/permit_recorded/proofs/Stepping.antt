@@ -36,7 +36,7 @@ module _ {H : Type 0} (text : H → List ℕ) (may_leave : H → List ℕ → Ty
       → TellsOver start (text journal.file) h
   kept tells has unshut = subst (λ (l : List ℕ). TellsOver start l h) (sym (has_unless text may_leave is_clean journal journal.is_shut before has unshut)) tells
 
-  -- behind a failure
+  -- after a failure
   pub failed_tells : (e : StoreError) → Records text may_leave is_clean (Err e) h digest asked day before journal → TellsOver start before h
       → TellsAfter text start (given.Refused refusal.Store) h outcome.history journal
   failed_tells e has tells = kept tells has
@@ -46,7 +46,7 @@ module _ {H : Type 0} (text : H → List ℕ) (may_leave : H → List ℕ → Ty
   done_reply number (inl answered) = answered.0
   done_reply number (inr refused) = cc (refused.0)
 
-  -- behind a reply
+  -- after a reply
   pub replied_tells : ((id : ℕ) (number : Option ℕ) → number_of h digest ≡ Some id → outcome.reply ≡ Done number → outcome.history ≡ entry_of h day id asked ∷ h)
       → (reply : Given) → Attempts holds (Ok reply) outcome h
       → Records text may_leave is_clean (Ok reply) h digest asked day before journal → TellsOver start before h

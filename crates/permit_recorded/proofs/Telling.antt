@@ -1,4 +1,4 @@
--- A text with the line of one entry more tells the history with it.
+-- A text with the line of one entry more gives the history with it.
 use Rattle.std.proofs.Common.{◌≡◌, refl, sym, ap, ◌∙◌, ℕ, List, [], ◌∷◌, ◌++◌, append_assoc, Some}
 use Rattle.permit_model.specs.History.{Entry as TheEntry, History}
 use Rattle.permit_model.specs.Search.{add_last}

@@ -20,7 +20,7 @@ whole_line_of entry = line_of entry ++ 10 ∷ []
 abbrev pub number_of : History → List ℕ → Option ℕ
 number_of h digest = option_map (λ (p : Party). p.id) (who h digest)
 
--- the line tells the entry that the request of the party with the digest adds to the history on the day
+-- the line gives the entry that the request of the party with the digest adds to the history on the day
 pub record IsLineBehind (h : History) (digest : List ℕ) (asked : Request) (day : ℕ) (line : List ℕ) : Type 0 where
   pub caller : ℕ
   pub known : number_of h digest ≡ Some caller

@@ -26,7 +26,7 @@ pub record RecordedView (D S H : Type 0) : Type 0 where
   pub store : S
   pub journal : JournalView H
 
--- after a command that is done the text has the line behind it; after anything else it is as it was, or the journal is shut
+-- after a command that is done the text has the line at its end; after anything else it is as it was, or the journal is shut
 abbrev pub Enters : {H : Type 0} → (H → List ℕ) → (H → List ℕ → Type 0) → (H → Bool) → Result Given StoreError → List ℕ → List ℕ → JournalView H → Type 0
 Enters text may_leave is_clean (Ok (given.Done number)) before line journal = Has text may_leave is_clean journal (before ++ line)
 Enters text may_leave is_clean (Ok reply) before line journal = HasUnlessShut text may_leave is_clean journal journal.is_shut before
@@ -40,7 +40,7 @@ pub record IsRecording (old new : StoreView) (result : Result Given StoreError) 
 
 -- ---- with the history
 
--- after a command that is done the text has the line of its entry behind it; after anything else it is as it was, or the journal
+-- after a command that is done the text has the line of its entry at the end; after anything else it is as it was, or the journal
 -- is shut
 abbrev pub Records : {H : Type 0} → (H → List ℕ) → (H → List ℕ → Type 0) → (H → Bool) → Result Given StoreError → History → List ℕ → Request → ℕ
     → List ℕ → JournalView H → Type 0
@@ -49,7 +49,7 @@ Records text may_leave is_clean (Ok (given.Done number)) h digest asked day befo
 Records text may_leave is_clean (Ok reply) h digest asked day before journal = HasUnlessShut text may_leave is_clean journal journal.is_shut before
 Records text may_leave is_clean (Err e) h digest asked day before journal = HasUnlessShut text may_leave is_clean journal journal.is_shut before
 
--- A crash leaves the text, with nothing, a part or all of one line behind it: that of the request's entry.
+-- A crash leaves the text, with nothing, a part or all of one line after it: that of the request's entry.
 pub record LeavesText (leaves : List ℕ → List ℕ → Type 0) (text : List ℕ) (outcomes : List ℕ → Type 0) (before after : StoreView) (digest : List ℕ)
     (asked : Request) (day : ℕ) : Type 0 where
   pub line : List ℕ
@@ -65,12 +65,12 @@ IsUndone reply = ⊤
 abbrev pub Stands : {H : Type 0} → (H → List ℕ) → (H → List ℕ → Type 0) → (H → Bool) → JournalView H → Type 0
 Stands text may_leave is_clean journal = journal.is_shut ≡ false → IsSettled text may_leave is_clean journal
 
--- The text tells the history over this start, which is the history of before where the text begins with an office that was there.
+-- The text gives the history over this start, which is the history of before where the text begins with an office that was there.
 abbrev pub TellsOver : List Entry → List ℕ → History → Type 0
 TellsOver start text h = (entries : List Entry) × (text ≡ text_of entries) × (meant start entries ≡ told_history h)
 
--- After a command that is done the text tells the history with it, over the same start, and the journal isn't shut. After any other
--- reply it tells the history of before, unless the journal is shut.
+-- After a command that is done the text gives the history with it, over the same start, and the journal isn't shut. After any other
+-- reply it gives the history of before, unless the journal is shut.
 abbrev pub TellsAfter : {H : Type 0} → (H → List ℕ) → List Entry → Given → (before after : History) → JournalView H → Type 0
 TellsAfter text start (given.Done number) before after journal = (journal.is_shut ≡ false) × TellsOver start (text journal.file) after
 TellsAfter text start reply before after journal = journal.is_shut ≡ false → TellsOver start (text journal.file) before

@@ -1,4 +1,4 @@
--- An office that was opened with its history goes on behind it.
+-- An office that was opened with its history goes on after it.
 use Rattle.std.proofs.Common.{ℕ, Bool, List}
 use Rattle.permit_base.specs.declared.request.Request.{Request}
 use Rattle.permit_model.specs.History.{History}

@@ -25,7 +25,7 @@ was_open true after same unshut = sym (same refl) ∙ unshut
 was_open false after same unshut = refl
 
 module _ {D S H : Type 0} (view : S → StoreView) (text : H → List ℕ) (may_leave : H → List ℕ → Type 0) (is_clean : H → Bool) (start : List Entry) where
-  -- ---- behind one request
+  -- ---- after one request
 
   module _ (t : RecordedView D S H) (outcome : Outcome) (h : History) where
     abbrev IsAfter : Bool → Given → Type 0
@@ -132,7 +132,7 @@ module _ {D S H : Type 0} (decides : D → History → List ℕ → Request → 
         (one.1, subst (λ (d : D). AreReplies decides d es behind) same more.1),
       )
 
-  -- the office is that of its history at the beginning
+  -- the office is that of its history at first
   pub keeps_its_history : KeepsItsHistory decides view text may_leave is_clean leaves
   keeps_its_history = λ start office h keeps of es after run sure.
       let ran = run_keeps start office es after h keeps (record { history = of.has.history; held = of.has.held; stands = λ unshut. of }) run sure in

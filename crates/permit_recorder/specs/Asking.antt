@@ -1,4 +1,4 @@
--- One request that stands as bytes, and the answer to it.
+-- One request that is written as bytes, and the answer to it.
 use Rattle.std.specs.Prelude.{◌≡◌, ℕ, List, Option, Some, Result, Ok, Err}
 use Rattle.permit_base.specs.Actions.{action_of}
 use Rattle.permit_base.specs.declared.request.Asked.{Asked}

@@ -17,7 +17,7 @@ use Rattle.permit_recorder.specs.Serving.{ServesWithHistory}
 
 module _ {D S H : Type 0} (decides : D → History → List ℕ → Request → ℕ → Outcome) (view : S → StoreView) (text : H → List ℕ)
     (may_leave : H → List ℕ → Type 0) (is_clean : H → Bool) (leaves : List ℕ → List ℕ → Type 0) where
-  -- Behind the history the requests were served: what is left is the history that the decider makes of them, and each reply is
+  -- After the history the requests were served: what is left is the history that the decider makes of them, and each reply is
   -- the decider's or the store's refusal.
   pub record Served (start : List Entry) (before : RecordedView D S H) (es : List Exchange) (after : RecordedView D S H) (h : History) : Type 0 where
     pub left : IsLeftWith view text may_leave is_clean start after (history_behind decides before.decider es h)
@@ -37,7 +37,7 @@ module _ {D S H : Type 0} (decides : D → History → List ℕ → Request → 
 
 module _ {D S H : Type 0} (decides : D → History → List ℕ → Request → ℕ → Outcome) (view : S → StoreView) (text : H → List ℕ)
     (may_leave : H → List ℕ → Type 0) (is_clean : H → Bool) (leaves : List ℕ → List ℕ → Type 0) where
-  -- An office that was opened with its history, which began so, serves behind the history that its text tells, by whatever completes
+  -- An office that was opened with its history, which began so, serves after the history that its text gives, by whatever completes
   -- the text.
   abbrev pub GoesOnBehindItsText : (Unsaid → Type 0) → Type 0
   GoesOnBehindItsText begins =

@@ -33,21 +33,21 @@ abbrev pub is_done : Reply → Bool
 is_done (Done number) = true
 is_done reply = false
 
--- what comes of a request behind a history
+-- what comes of a request after a history
 abbrev pub outcome_for : {D : Type 0} → (D → History → List ℕ → Request → ℕ → Outcome) → D → History → Asked → ℕ → Outcome
 outcome_for decides decider h asked day = decides decider h (digest_of asked.token) asked.request day
 
 module _ {D : Type 0} (decides : D → History → List ℕ → Request → ℕ → Outcome) (decider : D) where
-  -- the history behind a request: the store's refusal leaves it
+  -- the history after a request: the store's refusal leaves it
   abbrev pub history_with : Exchange → History → History
   history_with e h = if is_store_refusal e.reply then h else (outcome_for decides decider h e.asked e.day).history
 
-  -- the history behind the requests that weren't refused for the store, one after the other
+  -- the history after the requests that weren't refused for the store, one after the other
   abbrev pub history_behind : List Exchange → History → History
   history_behind [] h = h
   history_behind (e ∷ es) h = history_behind es (history_with e h)
 
-  -- each reply is that of the decider behind the history at its place, or the store's refusal
+  -- each reply is that of the decider after the history at its place, or the store's refusal
   abbrev pub AreReplies : List Exchange → History → Type 0
   AreReplies [] h = ⊤
   AreReplies (e ∷ es) h =
@@ -62,7 +62,7 @@ module _ {D : Type 0} (decides : D → History → List ℕ → Request → ℕ 
 -- ---- the office and its history
 
 module _ {D S H : Type 0} (view : S → StoreView) (text : H → List ℕ) (may_leave : H → List ℕ → Type 0) (is_clean : H → Bool) (start : List Entry) where
-  -- the office is that of the history: its store holds the tables, its text tells the history over the start, and its journal is
+  -- the office is that of the history: its store holds the tables, its text gives the history over the start, and its journal is
   -- settled
   pub record IsOf (office : RecordedView D S H) (h : History) : Type 0 where
     pub has : HasHistory start (text office.journal.file) (view office.store) h

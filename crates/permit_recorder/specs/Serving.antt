@@ -24,14 +24,14 @@ module _ {D S H : Type 0} (decides : D → History → List ℕ → Request → 
     pub model : OverHistory (view old.store) (view new.store) (λ h. Answers (view new.store).holds reply (decides old.decider h digest asked day) h)
     pub sound : KeepsSound (view old.store) (view new.store)
     pub step : IsRecordedStep view day old new reply
-    -- where the text told the history, it tells it afterwards, over the same start: with a command that is done
+    -- where the text gave the history, it gives it afterwards, over the same start: with a command that is done
     pub told : IsSettled text may_leave is_clean old.journal → OverHistory (view old.store) (view new.store) (λ h.
         (start : List Entry) → TellsOver start (text old.journal.file) h
         → TellsAfter text start reply h (decides old.decider h digest asked day).history new.journal)
     pub stands : Stands text may_leave is_clean old.journal → Stands text may_leave is_clean new.journal
     -- once it is shut nothing is done
     pub shut : old.journal.is_shut ≡ true → (reply ≡ given.Refused refusal.Store) × (new.journal ≡ old.journal)
-    -- a crash leaves the text, with nothing, a part or all of the command's line behind it
+    -- a crash leaves the text, with nothing, a part or all of the command's line after it
     pub crash : IsSettled text may_leave is_clean old.journal → LeavesText leaves (text old.journal.file) (may_leave new.journal.file)
         (view old.store) (view new.store) digest asked day
 

@@ -163,7 +163,7 @@ follows holds unsaid h day caller a (Ok reply) result is second (inl answered) o
     judged holds unsaid h day caller a result is second answered.1
     (subst (λ (r : Reply). IsAgainst result (against_reply (act_number a) r)) answered.0 said)
 
--- ---- behind the upgrade
+-- ---- after the upgrade
 
 -- the upgrade doesn't come again
 pub second_upgrade : (h : History) → edition h ≡ Second → against_upgrade (edition h) ≡ Some why.SecondUpgrade

@@ -72,7 +72,7 @@ from_more : (unsaid : Unsaid) (h : History) (entries : List Entry) (entry : Entr
 from_more unsaid h [] entry = refl
 from_more unsaid h (first ∷ later) entry = from_more unsaid (history_with unsaid h first.day first.deed) later entry
 
--- the history that one entry more tells
+-- the history that one entry more gives
 pub told_more : (unsaid : Unsaid) (entries : List Entry) (entry : Entry)
     → history_by unsaid (entries ++ entry ∷ []) ≡ history_with unsaid (history_by unsaid entries) entry.day entry.deed
 told_more unsaid entries entry = from_more unsaid [] entries entry
@@ -107,7 +107,7 @@ replayed_more view begins bytes entries left entry before_it after has answer ta
       ∙ sym (meant_last (told_history (history_before unsaid)) entries entry);
 }
 
--- what stands against it
+-- the reason against it
 pub stopped_there : (view : PlainStore → StoreView) (begins : Unsaid → Type 0) (bytes : List ℕ) (entries : List Entry) (left : List ℕ) (entry : Entry) (before : Replayed) (why : Why)
     → HasReplayed view begins bytes entries left before
     → ((unsaid : Unsaid) (h : History) → Holds view unsaid before h → HasToken unsaid entry.deed → Takes view unsaid h entry.day entry.deed (Err why))

@@ -25,7 +25,7 @@ itself (Some m) = eq-eqb m m refl
 timely : (last day : ℕ) → last ≤ day → nat_lt day last ≡ false
 timely last day h = grind (arith, nat_tests)
 
--- nothing stands against what was accepted
+-- there is no reason against what was accepted
 pub accepted_stands : (h : History) (day caller : ℕ) (asked : Request) (number : Option ℕ) → IsAccepted h (numbered day caller asked number) asked
     → against_reply number (outcome_unjudged h day caller asked).reply ≡ None
 accepted_stands h day caller asked number may =

@@ -1,4 +1,4 @@
--- The history that entries tell is one that their text tells.
+-- The history that entries give is one that their text gives.
 use Rattle.std.proofs.Common.{◌≡◌, refl, sym, ap, ◌∙◌, subst, ℕ, List, [], ◌∷◌, ◌++◌, map, None}
 use Rattle.permit_base.specs.Digests.{digest_of}
 use Rattle.permit_model.specs.History.{History}
@@ -18,7 +18,7 @@ use Rattle.permit_replay.specs.Against.{against}
 use Rattle.permit_replay.specs.Histories.{Unsaid, HasToken, HasTokenIn, history_before, history_with}
 use Rattle.permit_replay.specs.Holding.{Holds}
 
--- an accepted command is told as it stood
+-- the text gives an accepted command as it was
 act_again : (unsaid : Unsaid) (h : History) (day caller : ℕ) (a : Act) → HasTokenIn unsaid.token_of a
     → told_history (history_with unsaid h day (deed.Accepted caller a)) ≡ told_history h ++ told_on day (deed.Accepted caller a) ∷ []
 act_again unsaid h day caller (act.AddParty name role digest made) token =
@@ -40,7 +40,7 @@ renewal_again view (replayed.Open store) unsaid h day party digest holds token n
     told_renewed party (unsaid.token_of digest) h holds.history
     ∙ ap (λ (d : List ℕ). map (renewed_entry party d) (told_history h)) (sym token)
 
--- what is held with one more deed is told with it
+-- what is held with one more deed is given with it
 pub told_with : (view : PlainStore → StoreView) (as_far : Replayed) (unsaid : Unsaid) (h : History) (day : ℕ) (done : Deed)
     → Holds view unsaid as_far h → HasToken unsaid done → against unsaid h day done ≡ None
     → told_history (history_with unsaid h day done) ≡ meant_with (told_history (history_before unsaid)) (told_history h) (told_on day done) done

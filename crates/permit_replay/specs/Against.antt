@@ -1,4 +1,4 @@
--- What stands against an entry behind a history.
+-- The reason against an entry after a history.
 use Rattle.std.specs.Prelude.{ℕ, Bool, true, false, ◌==◌, nat_lt, if◌then◌else◌, List, [], ◌∷◌, Option, None, Some, option_map, bytes_eq}
 use Rattle.permit_base.specs.declared.words.Edition.{Edition}
 use Rattle.permit_base.specs.declared.words.Edition.TheVariants as edition_word
@@ -21,13 +21,13 @@ is_same None (Some n) = false
 is_same (Some m) None = false
 is_same (Some m) (Some n) = m == n
 
--- a beginning has to be that of the office that was there: with the digest of its tables, and on its last day
+-- an entry that begins with an office has to have the digest of the tables of the one that was there, and its last day
 abbrev pub against_copy : Option Begun → List ℕ → ℕ → Option Why
 against_copy None tables day = Some why.NoCopy
 against_copy (Some begun) tables day =
     if bytes_eq tables begun.tables then if day == last_day begun.history then None else Some why.CopyDay else Some why.OtherCopy
 
--- the first entry has to be a beginning, or a founding from day 1 on
+-- the first entry has to begin with an office that was there, or be a founding from day 1 on
 abbrev pub against_first : Option Begun → ℕ → Deed → Option Why
 against_first begun day (deed.Begin tables) = against_copy begun tables day
 against_first begun day (deed.Found name digest) = if nat_lt 0 day then None else Some why.NoFounding
@@ -57,7 +57,7 @@ abbrev pub against_upgrade : Edition → Option Why
 against_upgrade edition_word.First = Some why.FirstEdition
 against_upgrade edition_word.Second = Some why.SecondUpgrade
 
--- those behind have to be accepted commands, or give another token to a party that is there, of a digest that nobody has
+-- the later ones have to be accepted commands, or give another token to a party that is there, of a digest that nobody has
 abbrev pub against_later : Unsaid → History → ℕ → Deed → Option Why
 against_later unsaid h day (deed.Begin tables) = Some why.SecondBeginning
 against_later unsaid h day (deed.Found name digest) = Some why.SecondFounding
@@ -66,7 +66,7 @@ against_later unsaid h day (deed.RenewToken party digest) = option_map why.Refus
 against_later unsaid h day (deed.Accepted caller act) =
     against_reply (act_number act) (outcome_unjudged h day caller (request_by unsaid.token_of act)).reply
 
--- what stands against a deed of the day behind the history
+-- after the history, the reason against a deed of the day
 abbrev pub against : Unsaid → History → ℕ → Deed → Option Why
 against unsaid [] day done = against_first unsaid.begun day done
 against unsaid (first ∷ []) day done = against_second first.day day done

@@ -1,4 +1,4 @@
--- The history that entries tell, by what their text doesn't say.
+-- The history that entries give, by what their text doesn't say.
 use Rattle.std.specs.Prelude.{◌≡◌, ℕ, Bool, true, false, List, [], ◌∷◌, Option, None, Some, ⊤}
 use Rattle.permit_base.specs.declared.request.Request.{Request}
 use Rattle.permit_base.specs.declared.request.Request.TheVariants.{AddParty, AddParcel, Transfer, Declare, File, OnFile}
@@ -80,7 +80,7 @@ request_by token_of (act.Declare parcel) = Declare parcel
 request_by token_of (act.File parcel kind valuation description made) = File parcel kind valuation description
 request_by token_of (act.OnFile file command made) = OnFile file command
 
--- the history with one more deed of the day: behind a beginning it is the one that was there, and a party that got another token is meant to have had it from the start
+-- the history with one more deed of the day: one that begins with an office gives that office's, and a party with another token is meant to have had it from the start
 abbrev pub history_with : Unsaid → History → ℕ → Deed → History
 history_with unsaid h day (deed.Begin tables) = history_before unsaid
 history_with unsaid h day (deed.Found name digest) = record { caller = 1; day = day; deed = Founding name digest; number = Some 1 } ∷ h
@@ -89,7 +89,7 @@ history_with unsaid h day (deed.RenewToken party digest) = renewed party (unsaid
 history_with unsaid h day (deed.Accepted caller act) =
     record { caller = caller; day = day; deed = Accepted (request_by unsaid.token_of act); number = act_number act } ∷ h
 
--- whether the deed adds an entry: a beginning stands for many, and another token changes the entry that made its party
+-- whether the deed adds an entry: to begin with an office means many, and another token changes the entry that made its party
 abbrev pub adds_entry : Deed → Bool
 adds_entry (deed.Begin tables) = false
 adds_entry (deed.RenewToken party digest) = false
@@ -102,6 +102,6 @@ abbrev pub history_from : Unsaid → History → List Entry → History
 history_from unsaid h [] = h
 history_from unsaid h (entry ∷ later) = history_from unsaid (history_with unsaid h entry.day entry.deed) later
 
--- the history that the entries tell
+-- the history that the entries give
 abbrev pub history_by : Unsaid → List Entry → History
 history_by unsaid entries = history_from unsaid [] entries

@@ -1,4 +1,4 @@
--- What was replayed, against the history that was told.
+-- What was replayed, against the history that the text gives.
 use Rattle.std.specs.Prelude.{◌≡◌, ◌≤◌, ℕ, [], ◌∷◌, Option, None, Some, Result, Ok, Err, ⊤}
 use Rattle.permit_base.specs.declared.words.Edition.TheVariants.{Second}
 use Rattle.permit_base.specs.Limits.{latest_day}
@@ -49,7 +49,7 @@ Holds view unsaid (replayed.Founded founder) h =
     h ≡ record { caller = 1; day = founder.day; deed = Founding founder.name founder.digest; number = Some 1 } ∷ []
 Holds view unsaid (replayed.Open store) h = HoldsHistory (view store).holds h
 
--- this is what stands against it; that memory was refused says nothing
+-- this is the reason against it; that memory was refused says nothing
 abbrev pub FailsAs : Why → Option Why → Type 0
 FailsAs why.Memory said = ⊤
 FailsAs why.NoFounding said = said ≡ Some why.NoFounding
@@ -64,17 +64,17 @@ FailsAs why.SecondUpgrade said = said ≡ Some why.SecondUpgrade
 FailsAs (why.Refused refusal) said = said ≡ Some (why.Refused refusal)
 FailsAs why.Number said = said ≡ Some why.Number
 
--- nothing stands against it, or this does
+-- there is no reason against it, or this one
 abbrev pub IsAgainst : {A : Type 0} → Result A Why → Option Why → Type 0
 IsAgainst (Ok done) said = said ≡ None
 IsAgainst (Err why) said = said ≡ Some why
 
--- the deed is taken behind the history where nothing stands against it, and then it is held with those before it
+-- the deed is taken after the history where there is no reason against it, and then it is held with those before it
 abbrev pub Takes : (PlainStore → StoreView) → Unsaid → History → ℕ → Deed → Result Replayed Why → Type 0
 Takes view unsaid h day done (Ok next) = (against unsaid h day done ≡ None) × Holds view unsaid next (history_with unsaid h day done)
 Takes view unsaid h day done (Err why) = FailsAs why (against unsaid h day done)
 
--- likewise of a deed behind the founding and the upgrade
+-- likewise of a deed after the founding and the upgrade
 abbrev pub Follows : (Tables → Type 0) → Unsaid → History → ℕ → Deed → Result Unit Why → Type 0
 Follows holds unsaid h day done (Ok taken) = (against_later unsaid h day done ≡ None) × HoldsHistory holds (history_with unsaid h day done)
 Follows holds unsaid h day done (Err why) = FailsAs why (against_later unsaid h day done)

@@ -17,13 +17,13 @@ use Rattle.permit_replay.specs.Histories.{Unsaid, Completes, history_before, his
 use Rattle.permit_replay.specs.Against.{against}
 use Rattle.permit_replay.specs.Holding.{Holds, FailsAs}
 
--- the entries are the first of the text, these bytes stand behind them, and the history that they tell is held
+-- the entries are the first of the text, these bytes come after them, and the history that they give is held
 pub record HasReplayed (view : PlainStore → StoreView) (begins : Unsaid → Type 0) (bytes : List ℕ) (entries : List Entry) (left : List ℕ) (as_far : Replayed) : Type 0 where
   pub given : GivesInTurn bytes entries left
   pub held : (unsaid : Unsaid) → Completes begins unsaid entries → Holds view unsaid as_far (history_by unsaid entries)
   pub told : (unsaid : Unsaid) → Completes begins unsaid entries → told_history (history_by unsaid entries) ≡ meant (told_history (history_before unsaid)) entries
 
--- a text is replayed whole: no line is left behind its entries, and the store holds the tables of the history that they tell
+-- a text is replayed whole: no line is left after its entries, and the store holds the tables of the history that they give
 abbrev pub IsReplayed : (PlainStore → StoreView) → (Unsaid → Type 0) → List ℕ → PlainStore → Type 0
 IsReplayed view begins bytes store =
     (entries : List Entry) × (left : List ℕ) × HasReplayed view begins bytes entries left (replayed.Open store) × (next_line left ≡ None)
@@ -43,7 +43,7 @@ IsShort (replayed.Founded founder) = ⊤
 IsShort (replayed.Open store) = ⊥
 
 -- Replaying a text stops at the lowest line that is no entry's or no next entry: the lines before it are those of a history.
--- A text that is told to have no end begins with so many entries that the next lines have no number of 64 bits. Of a source that
+-- A text that is said to have no end begins with so many entries that the next lines have no number of 64 bits. Of a source that
 -- failed nothing is said.
 abbrev pub StopsAt : (PlainStore → StoreView) → (Unsaid → Type 0) → List ℕ → ReplayFault → Type 0
 StopsAt view begins bytes (replay_fault.Line line fault) =

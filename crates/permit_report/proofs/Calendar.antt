@@ -50,7 +50,7 @@ of_month year month day at n civil from first less is =
           (same, omega (arith, rw same at here, rw same at is))
     ]
 
--- a day behind the month is of a later one
+-- a day after the month is of a later one
 past : (year month day at n days : ℕ) → days ≡ days_in_month (pos year) at → IsCivilDate (pos year) month day → at ≤ month → 1 ≤ at → days ≤ n
     → day_count (pos year) month day ≡ day_count (pos year) at 1 + n → at + 1 ≤ month
 past year month day at n days here civil from first more is =

@@ -11,11 +11,11 @@ abbrev pub parts : Progress → List FileView → List ℕ
 parts at [] = []
 parts at (file ∷ files) = part at file ++ parts (one_line_more at) files
 
--- where a register stands after so many lines more
+-- where a register is after so many lines more
 abbrev pub later : Progress → ℕ → Progress
 later at n = record at { lines = at.lines + n }
 
--- behind a line no header follows
+-- after a line no header follows
 opening_later : (kind : RegisterKind) (n : ℕ) → opening kind (n + 1) ≡ []
 opening_later kind n = let later : n + 1 == 0 ≡ false = grind (arith, nat_tests) in rw later refl
 

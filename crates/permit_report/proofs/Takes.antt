@@ -28,7 +28,7 @@ pub take_next : {I : Type 0} (items : List I) (i : ℕ) (item : I) → i < lengt
     take (i + 1) items ≡ take i items ++ item ∷ []
 take_next items i item h is = take_more items i item h ∙ ap (λ x. take i items ++ x ∷ []) (sym is)
 
--- the items before one, it, and those behind it
+-- the items before one, it, and those after it
 pub taken_apart : {I : Type 0} (items : List I) (i : ℕ) (item : I) → i < length items → item ≡ get_or items i item →
     items ≡ take i items ++ item ∷ drop (i + 1) items
 taken_apart items i item h is =
@@ -84,7 +84,7 @@ module _ {W : Type 0} (contents : W → Option (List ℕ)) where
       let P : List ℕ → Type 0 = λ t. Appends (contents old.writer.now) after t in
       subst P (text_is kind day files old new begun is) (appends_both (contents old.writer.now) (contents new.writer.now) after _ _ is.wrote ended)
 
-  -- all files and then a beginning of the ending
+  -- all files and then a prefix of the ending
   pub whole_front : (kind : RegisterKind) (day : ℕ) (files : List FileView) (old new : RegisterWriter W) (after : Option (List ℕ)) → IsBegun kind day old
       → TookAll (TakesFile contents) files old new → WroteFront (contents new.writer.now) after (ending (progress new)) →
       WroteFront (contents old.writer.now) after (register_text kind day files)
@@ -93,7 +93,7 @@ module _ {W : Type 0} (contents : W → Option (List ℕ)) where
       let P : List ℕ → Type 0 = λ t. WroteFront (contents old.writer.now) after t in
       subst P (text_is kind day files old new begun is) (front_of_both (contents old.writer.now) (contents new.writer.now) after _ _ is.wrote ended)
 
-  -- the text of all files, cut behind some of them
+  -- the text of all files, cut after some of them
   text_cut : (kind : RegisterKind) (day : ℕ) (given rest : List FileView) (old new : RegisterWriter W) → IsBegun kind day old → Holds old new given
       → parts (progress old) given ++ (parts (progress new) rest ++ ending (later (progress old) (length (given ++ rest))))
       ≡ register_text kind day (given ++ rest)
@@ -103,7 +103,7 @@ module _ {W : Type 0} (contents : W → Option (List ℕ)) where
       ∙ ap (λ t. t ++ ending (later (progress old) (length (given ++ rest)))) (sym (parts-append (progress old) given rest))
       ∙ sym (register_text_parts kind day (given ++ rest) (progress old) begun)
 
-  -- a file that is answered false leaves a beginning of the text
+  -- a file that is answered false leaves a prefix of the text
   pub stopped : (kind : RegisterKind) (day : ℕ) (files : List FileView) (old new : RegisterWriter W) → IsBegun kind day old
       → StoppedIn (TakesFile contents) files old new → WroteFront (contents old.writer.now) (contents new.writer.now) (register_text kind day files)
       × IsSameOutput old new
@@ -120,7 +120,7 @@ module _ {W : Type 0} (contents : W → Option (List ℕ)) where
         ends.0 ∙ is.same,
       )
 
-  -- some of the files, each answered true, leave a beginning of the text
+  -- some of the files, each answered true, leave a prefix of the text
   pub began : (kind : RegisterKind) (day : ℕ) (files : List FileView) (old new : RegisterWriter W) → IsBegun kind day old
       → BeganOf (TakesFile contents) files old new → WroteFront (contents old.writer.now) (contents new.writer.now) (register_text kind day files)
       × IsSameOutput old new

@@ -15,7 +15,7 @@ appends_more old mid new bs at n h k = subst (λ t. Appends old new t) (sym (tak
 pub appends_both : (old mid new : Option (List ℕ)) (a b : List ℕ) → Appends old mid a → Appends mid new b → Appends old new (a ++ b)
 appends_both = Appends-trans
 
--- a beginning of the first text is one of both
+-- a prefix of the first text is one of both
 pub front_of_first : (old new : Option (List ℕ)) (a b : List ℕ) → WroteFront old new a → WroteFront old new (a ++ b)
 front_of_first old new a b h = record {
   count = h.count;
@@ -24,7 +24,7 @@ front_of_first old new a b h = record {
       rw (take-append-le h.count a b within) h.wrote;
 }
 
--- a text, and then a beginning of the next
+-- a text, and then a prefix of the next
 pub front_of_both : (old mid new : Option (List ℕ)) (a b : List ℕ) → Appends old mid a → WroteFront mid new b → WroteFront old new (a ++ b)
 front_of_both old mid new a b h k = record {
   count = length a + k.count;
@@ -32,7 +32,7 @@ front_of_both old mid new a b h k = record {
   wrote = rw (take-append-add a b k.count) (appends_both old mid new a (take k.count b) h k.wrote);
 }
 
--- nothing is a beginning of what isn't empty
+-- the empty text is a prefix of what isn't empty
 pub front_of_none : (old : Option (List ℕ)) (text : List ℕ) → 0 < length text → WroteFront old old text
 front_of_none old text h = record { count = 0; within = h; wrote = Appends-nil old }
 

@@ -15,7 +15,7 @@ abbrev pub IsSameOutput : {W : Type 0} → RegisterWriter W → RegisterWriter W
 IsSameOutput old new = new.writer.ghost_name ≡ old.writer.ghost_name
 
 -- A file was taken. Where the answer is true, known bytes grew by the file's part. Where it is false, they grew by a
--- beginning of that part, which isn't the whole.
+-- prefix of that part, which isn't the whole.
 abbrev pub TakesFile : {W : Type 0} → (W → Option (List ℕ)) → RegisterWriter W → FileView → RegisterWriter W → Bool → Type 0
 TakesFile contents old file new true =
     IsSameOutput old new × (progress new ≡ one_line_more (progress old))

@@ -25,19 +25,19 @@ module _ {W : Type 0} (contents : W → Option (List ℕ)) where
       → TookAll (TakesFile contents) files old new → Appends (contents new.writer.now) after (ending (progress new)) →
       Appends (contents old.writer.now) after (register_text kind day files)
 
-  -- all files and then a beginning of the ending make a beginning of the text
+  -- all files and then a prefix of the ending make a prefix of the text
   abbrev pub CutsEnding : Type 0
   CutsEnding = (kind : RegisterKind) (day : ℕ) (files : List FileView) (old new : RegisterWriter W) (after : Option (List ℕ)) → IsBegun kind day old
       → TookAll (TakesFile contents) files old new → WroteFront (contents new.writer.now) after (ending (progress new)) →
       WroteFront (contents old.writer.now) after (register_text kind day files)
 
-  -- files of which the last was answered false make a beginning of the text of all
+  -- files of which the last was answered false make a prefix of the text of all
   abbrev pub CutsLine : Type 0
   CutsLine = (kind : RegisterKind) (day : ℕ) (files : List FileView) (old new : RegisterWriter W) → IsBegun kind day old
       → StoppedIn (TakesFile contents) files old new → WroteFront (contents old.writer.now) (contents new.writer.now) (register_text kind day files)
       × IsSameOutput old new
 
-  -- the first of the files, without the ending, make a beginning of the text of all
+  -- the first of the files, without the ending, make a prefix of the text of all
   abbrev pub LacksEnding : Type 0
   LacksEnding = (kind : RegisterKind) (day : ℕ) (files : List FileView) (old new : RegisterWriter W) → IsBegun kind day old
       → BeganOf (TakesFile contents) files old new → WroteFront (contents old.writer.now) (contents new.writer.now) (register_text kind day files)

@@ -8,7 +8,7 @@ use Rattle.permit_replay.specs.Histories.{Unsaid}
 use Rattle.permit_resuming.specs.Resuming.{HasPart, IsKept, IsPartlyCut}
 
 module _ (leaves : List ℕ → List ℕ → Type 0) where
-  -- the whole text has all of what stands behind the length
+  -- the whole text has all of what is after the length
   pub whole : (text : List ℕ) (size : ℕ) → leaves (drop size text) (drop size text) → HasPart leaves text size text
   whole text size all = record { part = drop size text; allowed = all; grown = sym (take-append-drop size text) }
 

@@ -1,4 +1,4 @@
--- A text that was cut to the lines of a store's tables tells their history.
+-- A text that was cut to the lines of a store's tables gives their history.
 use Rattle.std.proofs.Common.{◌≡◌, inl, inr, sym, ap, ◌∙◌, ℕ, List, [], ◌++◌, take, append_assoc}
 use Rattle.std.specs.Prelude.{Result, Ok, Err, OnOk}
 use Rattle.permit_model.specs.Tables.{Tables, tables}
@@ -12,7 +12,7 @@ use Rattle.permit_opening.proofs.Brought.{alike_back}
 use Rattle.permit_opening.proofs.Opened.{text_split, whole_length}
 use Rattle.permit_resuming.specs.Resuming.{IsCutTo, IsKept, IsResumed}
 
--- the text of entries that tell a history, whose tables are held
+-- the text of entries that give a history, whose tables are held
 resumed_by : (begins : Unsaid → Type 0) (bytes : List ℕ) (entries : List Entry) (left : List ℕ) (text : List ℕ) (store : StoreView) (t : Tables) → IsTextOf begins bytes entries left
     → TellTables begins entries t → text ≡ text_of entries → store.holds t → IsResumed begins text store
 resumed_by begins bytes entries left text store t of tells is held = record {

@@ -18,8 +18,8 @@ use Rattle.permit_recorded.specs.Recorded.{TellsOver}
 use Rattle.permit_resuming.specs.declared.fault.ResumeFault.{ResumeFault}
 use Rattle.permit_resuming.specs.declared.fault.ResumeFault.TheVariants as fault
 
--- The lines of the text that are the history of the tables have so many bytes. Behind them stands nothing or a part of a line, or
--- one whole line, behind which the tables would be others, with perhaps a part of another.
+-- The lines of the text that are the history of the tables have so many bytes. After them comes nothing or a part of a line, or
+-- one whole line, after which the tables would be others, with perhaps a part of another.
 abbrev pub IsKept : (Unsaid → Type 0) → List ℕ → Tables → ℕ → Type 0
 IsKept begins bytes t size = IsAlike begins bytes t size ⊎ HasOneMore begins bytes t size
 
@@ -27,11 +27,11 @@ IsKept begins bytes t size = IsAlike begins bytes t size ⊎ HasOneMore begins b
 abbrev pub IsCutTo : (Unsaid → Type 0) → List ℕ → Tables → List ℕ → Type 0
 IsCutTo begins before t after = (size : ℕ) × IsKept begins before t size × (after ≡ take size before)
 
--- so many bytes of the text are there, with a part of what stood behind them
+-- so many bytes of the text are there, with a part of what came after them
 abbrev pub HasPart : (List ℕ → List ℕ → Type 0) → List ℕ → ℕ → List ℕ → Type 0
 HasPart leaves before size after = Grown leaves (drop size before) (take size before) after
 
--- The text is as it was, or it has those lines with a part of what stood behind them.
+-- The text is as it was, or it has those lines with a part of what came after them.
 abbrev pub IsPartlyCut : (Unsaid → Type 0) → (List ℕ → List ℕ → Type 0) → List ℕ → Tables → List ℕ → Type 0
 IsPartlyCut begins leaves before t after = (after ≡ before) ⊎ ((size : ℕ) × IsKept begins before t size × HasPart leaves before size after)
 
@@ -47,13 +47,13 @@ StopsBy view begins bytes (fault.Compare why) = StopsAs view begins bytes why
 StopsBy view begins bytes fault.Differs = ⊤
 StopsBy view begins bytes fault.File = ⊤
 
--- the store holds the history's tables, and the text tells it over the start
+-- the store holds the history's tables, and the text gives it over the start
 pub record HasHistory (start : List Entry) (text : List ℕ) (store : StoreView) (h : History) : Type 0 where
   pub history : IsHistory h
   pub held : store.holds (tables h)
   pub told : TellsOver start text h
 
--- The text is that of entries. By whatever completes these it tells a history whose tables the store holds, but for orders that no
+-- The text is that of entries. By whatever completes these it gives a history whose tables the store holds, but for orders that no
 -- call shows: the history that was there before, and what the entries mean over it.
 pub record IsResumed (begins : Unsaid → Type 0) (text : List ℕ) (store : StoreView) : Type 0 where
   pub entries : List Entry

@@ -39,6 +39,6 @@ behind : (value : List ℕ) (b : Bool) → is_bearer value ≡ b → only_if is_
 behind value true e h = rw (e, h) refl
 behind value false e h = rw e refl
 
--- a value whose bytes behind the scheme are no text has no token
+-- a value whose bytes after the scheme are no text has no token
 pub no_text_behind : (value secret : List ℕ) → secret ≡ drop 7 value → (IsUtf8 secret → ⊥) → None ≡ token_of value
 no_text_behind value secret e h = sym (behind value _ refl (rw e at (no_text_no_token secret h)))

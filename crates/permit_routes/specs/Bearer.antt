@@ -8,6 +8,6 @@ use Rattle.permit_base.specs.Texts.{is_token}
 abbrev pub is_bearer : List ℕ → Bool
 is_bearer value = str_eq_ignore_ascii_case (take 7 value) (codes "Bearer ")
 
--- what stands after the scheme, where that is a token
+-- what comes after the scheme, where that is a token
 abbrev pub token_of : List ℕ → Option (List ℕ)
 token_of value = option_and_then (λ v. only_if is_token (drop 7 v)) (only_if is_bearer value)

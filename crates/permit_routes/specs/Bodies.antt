@@ -24,7 +24,7 @@ text_in body = if length body == 0 then Some (codes "{}") else only_if is_utf8 b
 abbrev pub said : List ℕ → Option Data
 said body = text_in body >>= read
 
--- an object of that many members; each key stands once in it
+-- an object of that many members; each key is in it once
 abbrev pub has_members : ℕ → Data → Bool
 has_members n d = unwrap_or (option_map (λ ms. members_len ms == n) (as_object d)) false
 

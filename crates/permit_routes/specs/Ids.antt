@@ -14,7 +14,7 @@ starts_with_zero (c ∷ rest) = c == 48
 abbrev pub is_plain_number : List ℕ → Bool
 is_plain_number word = nat_le 1 (length word) && list_all is_ascii_digit word && not (starts_with_zero word)
 
--- the number that the digits write, where no leading zero stands before them
+-- the number that the digits write, where no leading zero is before them
 abbrev pub number_in : List ℕ → Option ℕ
 number_in word = if is_plain_number word then Some (digits_value 10 word) else None
 

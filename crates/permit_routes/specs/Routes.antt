@@ -1,4 +1,4 @@
--- The routes: the patterns that `matchit` reads, and the place that each stands for.
+-- The routes: the patterns that `matchit` reads, and the place that each leads to.
 use Rattle.std.specs.Prelude.{ℕ, List, [], ◌∷◌, Result, Ok, Err, codes}
 use Rattle.matchit.specs.Rows.{RowsOf}
 use Rattle.matchit.specs.Order.{placed}
@@ -9,7 +9,7 @@ use Rattle.permit_routes.specs.declared.requests.Endpoint.{Endpoint}
 use Rattle.permit_routes.specs.declared.requests.Endpoint.TheVariants.{Parties, Parcels, ParcelAction, Files, FileAction, Parcel, Listing}
 use Rattle.permit_routes.specs.declared.requests.Endpoint.TheVariants.{StageListing, File, Register}
 
--- a pattern, and what it stands for
+-- a pattern, and what it leads to
 abbrev pub Entry : Type 0
 Entry = List ℕ × Endpoint
 

@@ -1,4 +1,4 @@
--- One text added behind another.
+-- One text added after another.
 use Rattle.std.proofs.Common.{◌≡◌, ◌<◌, ℕ, ◌+◌, List, [], ◌∷◌, ◌++◌, length, get_or, map, take, sym, ◌∙◌, ap, subst, append_assoc}
 use Rattle.std.proofs.lemmas.List.{append-nil, map-append, take_more}
 use Rattle.std.proofs.lemmas.Grind.{flat_map-append}
@@ -38,7 +38,7 @@ adds_column word xs i d x y z less first second =
     append_assoc word (columns before) (9 ∷ text) ∙ ap (λ t. word ++ t) (sym (ap columns all ∙ columns_more before text)) in
     adds_same _ _ x z is (adds_both _ _ x y z first second)
 
--- one row more behind a text
+-- one row more after a text
 pub adds_row : {A : Type 0} (text : List ℕ) (row_line : A → List ℕ) (xs : List A) (i : ℕ) (d : A) (x y z : Sha256) → i < length xs
     → Adds (text ++ flat_map row_line (take i xs)) x y → Adds (row_line (get_or xs i d)) y z
     → Adds (text ++ flat_map row_line (take (i + 1) xs)) x z

@@ -18,7 +18,7 @@ has xs i = is_declared i.parcel i.party xs
 has_first : (x : Interest) (xs : List Interest) → has (x ∷ xs) x ≡ true
 has_first x xs = ap (λ b. b || has xs x) (same_equivalence.refl x)
 
--- each of these is behind the interest
+-- each of these comes after the interest
 abbrev AreBehind : Interest → List Interest → Type 0
 AreBehind x ys = AllByRecursion (λ y. interest_order x y ≡ Less) ys
 
@@ -49,7 +49,7 @@ same_first x y xs ys Equal at up down same = same_one x y (ties.ties x y ∙ ap 
 same_first x y xs ys Greater at up down same =
     absurd (true≢false (sym (has_first y ys) ∙ sym (same y.parcel y.party) ∙ before y x xs (turned x y at) up))
 
--- what is declared behind a first interest that both lists have
+-- what is declared after a first interest that both lists have
 same_rest : (x : Interest) (xs ys : List Interest) → AreBehind x xs → AreBehind x ys → DeclareSame (x ∷ xs) (x ∷ ys) → DeclareSame xs ys
 same_rest x xs ys up down same parcel party =
     by (same_interest x one) refl (same parcel party)

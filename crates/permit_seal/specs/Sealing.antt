@@ -13,7 +13,7 @@ use Rattle.permit_seal.specs.TablesText.{tables_text}
 abbrev pub interest_order : Interest → Interest → Ordering
 interest_order a b = ordering_then (nat_cmp a.parcel b.parcel) (nat_cmp a.party b.party)
 
--- the digest of the tables' text, in which each declared interest stands once, in rising order
+-- the digest of the tables' text, in which each declared interest is written once, in rising order
 pub record IsSealOf (t : Tables) (digest : List ℕ) : Type 0 where
   pub interests : List Interest
   pub declared : DeclareSame interests t.interests

@@ -1,4 +1,4 @@
--- The text of tables: a line for each row. A line is the word of its table, each column behind a TAB, and LF.
+-- The text of tables: a line for each row. A line is the word of its table, each column after a TAB, and LF.
 use Rattle.std.specs.Prelude.{ℕ, List, [], ◌∷◌, ◌++◌, Bool, true, false, Option, None, Some, codes, decimal}
 use Rattle.std.specs.List.{flat_map}
 use Rattle.permit_base.specs.declared.words.Step.{Step}
@@ -10,7 +10,7 @@ use Rattle.permit_model.specs.Tables.{Desk, FileRow, Paper, Tables, version_of}
 
 -- ---- lines
 
--- each column behind a TAB
+-- each column after a TAB
 abbrev pub columns : List (List ℕ) → List ℕ
 columns [] = []
 columns (c ∷ cs) = (9 ∷ c) ++ columns cs
@@ -33,7 +33,7 @@ truth false = codes "false"
 
 -- ---- rows
 
--- The version of the tables stands for the edition that is in force. How many files there were at the upgrade follows from the
+-- The version of the tables gives the edition that is in force. How many files there were at the upgrade follows from the
 -- editions of the files.
 abbrev pub desk_line : Desk → List ℕ
 desk_line d = line (codes "desk")
@@ -61,7 +61,7 @@ paper_line p = line (codes "paper")
     (decimal p.file ∷ decimal p.number ∷ decimal p.day ∷ decimal p.author ∷ sort_word p.sort ∷ decimal p.days ∷ p.text ∷ p.terms
     ∷ truth p.is_open ∷ [])
 
--- a file's line, and those of its papers behind it
+-- a file's line, and those of its papers after it
 abbrev pub file_lines : FileRow → List Paper → List ℕ
 file_lines f papers = file_line f ++ flat_map paper_line papers
 

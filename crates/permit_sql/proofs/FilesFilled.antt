@@ -1,4 +1,4 @@
--- What is told of the files before their papers are read.
+-- The tallies of the files before their papers are read.
 use Rattle.std.proofs.Common.{◌≡◌, ℕ, zero, suc, ◌+◌, ◌≤◌, Bool, true, eqb, List, [], ◌∷◌, map, filter, length, refl, sym, ap, subst}
 use Rattle.std.proofs.Common.{◌∙◌, arith, IsPermutation}
 use Rattle.std.specs.Prelude.{◌&&◌, ◌||◌, ◌==◌, not, nat_le, Some, slice_get}
@@ -22,7 +22,7 @@ use Rattle.permit_sql.proofs.SameOrder.{same_rising}
 use Rattle.permit_sql.proofs.Soundness.{all_true, true_all, all_by_two, all_by_one, among, file_there}
 use Rattle.permit_sql.proofs.Tallies.{AreLeft, of_file}
 
--- the file at a place, and what is told of it
+-- the file at a place, and its tally
 pub file_at : (fs : List FileRow) (n : ℕ) → IsNumbered (λ f. f.id) n fs → (i : ℕ) (u : Tally) → slice_get (map (λ f. first_tally f.state) fs) i ≡ Some u →
     (f : FileRow) × (slice_get fs i ≡ Some f) × (u ≡ first_tally f.state) × (f.id ≡ n + i)
 file_at [] n up i u got = absurd (let e = got in cc)
@@ -48,7 +48,7 @@ each_at P (f ∷ fs) n up each =
 
 module _ (t : Tables) (typed : AreTyped t) (keyed : AreKeyed t) (xs : List Paper) (same : IsPermutation t.papers xs) (up : IsRising 0 0 xs)
     (few : list_all (λ (f : FileRow). nat_le f.state.papers most_papers) t.files ≡ true) where
-  -- the papers of a file stand in one order
+  -- the papers of a file are in one order
   pub in_file : (id : ℕ) → papers_in t id ≡ of_file id xs
   in_file id = same_rising (papers_in t id) (of_file id xs) (keyed.papers id) (rise_in 0 0 xs up id) (IsPermutation-filter (λ p. eqb p.file id) _ _ same)
 

@@ -1,4 +1,4 @@
--- A taker that stops at the first fault of typed rows tells the first fault that they have.
+-- A taker that stops at the first fault of typed rows reports the first fault that they have.
 use Rattle.std.proofs.Common.{◌≡◌, ◌⊎◌, inl, inr, ℕ, Bool, true, false, Some, None, Option, List, [], ◌∷◌, refl, sym, ap, subst}
 use Rattle.std.proofs.Common.{◌∙◌, true≢false}
 use Rattle.std.specs.Prelude.{IsSome, IsPermutation, MatchBool}
@@ -29,11 +29,11 @@ pub some_first : (o other : Option Fault) → IsSome o → or_else o other ≡ o
 some_first None other some = absurd (true≢false (sym some))
 some_first (Some f) other some = refl
 
--- what is there is first, whatever comes behind it
+-- what is there is first, whatever comes after it
 pub is_first : {f : Fault} {o : Option Fault} (other : Option Fault) → Some f ≡ o → Some f ≡ or_else o other
 is_first other is = ap (λ o. or_else o other) is
 
--- what is told of a taker of rows of a kind, and of the values that are left
+-- what holds of a taker of rows of a kind, and of the values that are left
 module _ {X T : Type 0} (IsGood : X → Type 0) (shown : X → Row) (took : T → Row → T → Bool → Type 0) (IsSame : T → Type 0) (fault_of : X → Option Fault)
     (told : T → Option Fault)
     (next : (a b : T) (x : X) → IsSame a → IsGood x → took a (shown x) b true → IsSame b × (fault_of x ≡ None))
@@ -52,7 +52,7 @@ module _ {X T : Type 0} (IsGood : X → Type 0) (shown : X → Row) (took : T �
       let it = stop a b x left.1 left.0.0 h in
       it.0 ∙ sym (some_first (fault_of x) (first_in fault_of xs) (subst IsSome it.0 it.1)) ∙ left.2
 
--- ---- what the takers tell
+-- ---- what the takers report
 
 abbrev pub owned_took : Owned → Row → Owned → Bool → Type 0
 owned_took a row b good = MatchBool good
@@ -70,7 +70,7 @@ tested_took a row b good = MatchBool good
     × Passes (IsGoodFile a.upgrade) shown_file (of_file a.roles.items a.parcels a.last) row)
     (Names (IsGoodFile a.upgrade) shown_file (of_file a.roles.items a.parcels a.last) row b.fault)
 
--- none was told and all rows were taken, or the one that was told
+-- none was reported and all rows were taken, or the one that was reported
 abbrev pub Told : Bool → Option Fault → (Option Fault → Type 0) → Type 0
 Told all found IsIt = ((all ≡ true) × IsIt None) ⊎ ((all ≡ false) × IsIt found)
 

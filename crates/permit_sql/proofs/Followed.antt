@@ -1,4 +1,4 @@
--- What a tally tells of the papers of its file that were read.
+-- What a tally says of the papers of its file that were read.
 use Rattle.std.proofs.Common.{◌≡◌, ℕ, suc, ◌+◌, ◌-◌, ◌≤◌, Bool, true, false, cond, not, List, [], ◌∷◌, length, refl, sym}
 use Rattle.std.proofs.Common.{ap, subst, ◌∙◌, arith, true≢false}
 use Rattle.std.specs.Prelude.{◌&&◌, ◌||◌, ◌==◌, nat_lt, nat_le, Some, slice_get, slice_set, if◌then◌else◌}
@@ -9,7 +9,7 @@ use Rattle.permit_sql.specs.Named.{first_gap, first_fall}
 use Rattle.permit_sql.specs.declared.tally.Tally.{Tally}
 use Rattle.permit_sql.proofs.Tallies.{of_file, open_in, set_here, set_other}
 
--- of all papers of a file, of which the first tally tells, those before the ones that are left were read
+-- of all papers of the file of the first tally, those before the ones that are left were read
 pub record Follows (first : Tally) (all : List Paper) (u : Tally) (left : List Paper) : Type 0 where
   pub gap : first_gap 1 all ≡ first_gap (u.number + 1) left
   pub fall : first_fall first.day all ≡ first_fall u.day left

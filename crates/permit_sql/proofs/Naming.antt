@@ -42,7 +42,7 @@ second_fails false b e = refl
 pub itself : (n : ℕ) → is_it (Some n) n ≡ true
 itself n = eq-eqb n n refl
 
--- what is told of a fault, where it is the one that was found
+-- what holds of a fault, where it is the one that was found
 pub found_is : (t : Tables) (o : Option Fault) (f : Fault) → o ≡ Some f → breaks t f ≡ true → IfSome o (λ g. IsTrue (breaks t g))
 found_is t o f is told = subst (λ x. IfSome x (λ g. breaks t g ≡ true)) (sym is) told
 
@@ -97,7 +97,7 @@ broken_fails {R} holds (r ∷ rs) rule is = go (holds r) refl is (broken_fails h
     go true e is later = later is
     go false e is later = let same : r ≡ rule = cc in ap holds (sym same) ∙ e
 
--- a rule that is broken among the first of some rules, and one behind rules that all hold
+-- a rule that is broken among the first of some rules, and one after rules that all hold
 pub broken_in : {R : Type 0} (holds : R → Bool) (rules more : List R) (rule : R) → Some rule ≡ first_broken holds rules →
     Some rule ≡ first_broken holds (rules ++ more)
 broken_in holds [] more rule is = absurd (let e = is in cc)

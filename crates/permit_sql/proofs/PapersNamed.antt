@@ -90,7 +90,7 @@ unended_at (u ∷ us) number found is = go (is_ended u) refl is (unended_at us (
         (suc it.0, it.1, it.2, it.3, it.4 ∙ ap (fault_at_end it.1) (omega arith))
     go false unended is later = (0, u, refl, unended, (let e : found ≡ fault_at_end u number = cc in e) ∙ ap (fault_at_end u) (omega arith))
 
--- ---- what is told of the papers
+-- ---- what is reported of the papers
 
 module _ (t : Tables) (typed : AreTyped t) (keyed : AreKeyed t) (xs : List Paper) (same : IsPermutation t.papers xs) (up : IsRising 0 0 xs)
     (few : list_all (λ (f : FileRow). nat_le f.state.papers most_papers) t.files ≡ true) where
@@ -204,7 +204,7 @@ module _ (t : Tables) (typed : AreTyped t) (keyed : AreKeyed t) (xs : List Paper
           let of = tallied at it.0 it.1 in
           subst (λ x. breaks t x ≡ true) (sym (same ∙ ap (fault_at_end u) (omega arith))) (ended_wrong at u unended it.0 of.0 it.2 of.1 of.2 of.3 of.4 (u.number == u.papers) refl)
 
--- ---- what is told of one paper after another
+-- ---- what is reported of one paper after another
 
 or_none : (a b : Option Fault) → or_else a b ≡ None → (a ≡ None) × (b ≡ None)
 or_none None b is = (refl, is)
@@ -223,7 +223,7 @@ turned p (Some u) is = (u, refl, go (is_next u p) is)
     go true is = refl
     go false is = absurd (let e = is in cc)
 
--- ---- what the taker tells
+-- ---- what the taker reports
 
 abbrev pub read_took : Read → Row → Read → Bool → Type 0
 read_took a row b good = MatchBool good
@@ -241,7 +241,7 @@ module _ (edition : Edition) {S : Type 0} (g : Ghosts S) (old new : Held S) (t :
   abbrev alone_of : Paper → Option Fault
   alone_of = of_paper t.desk.parties t.desk.last
 
-  -- what is told of a taker and of the papers that are left
+  -- what holds of a taker and of the papers that are left
   record Fits (d : Read) (ps : List Paper) : Type 0 where
     good : AllByRecursion IsPaper ps
     parties : d.parties ≡ t.desk.parties
@@ -387,11 +387,11 @@ module _ (edition : Edition) {S : Type 0} (g : Ghosts S) (old new : Held S) (t :
           each_file [] = refl
           each_file (f ∷ fs) = ap₂ ◌++◌ (sym (in_file t typed k.keyed ps same up few f.id)) (each_file fs)
 
-  -- what a pass tells at its end
+  -- what a pass reports at its end
   abbrev pub IsEnd : List Tally → Type 0
   IsEnd ts = ((found : Fault) → unended_from 1 ts ≡ Some found → IsTrue (breaks t found)) × (length ts ≡ t.desk.files) × (unended_from 1 ts ≡ first_of_papers t)
 
-  -- it took all papers, and what it tells of a file that isn't ended is so; or it stopped, and what it names is so
+  -- it took all papers, and what it reports of a file that isn't ended is so; or it stopped, and what it names is so
   pub papers_told : (a b : Read) (all : Bool) → a.parties ≡ t.desk.parties → a.last ≡ t.desk.last → a.tallies.items ≡ tallies →
       TookRows read_took g EACH_PAPER.now [] old new a b all → b.lacks_memory ≡ false → ((all ≡ true) × IsEnd b.tallies.items) ⊎ ((all ≡ false) × IsTold b.fault)
   papers_told a b all parties last has h enough =

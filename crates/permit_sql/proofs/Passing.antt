@@ -1,4 +1,4 @@
--- What the tests of soundness tell of typed tables.
+-- What the tests of soundness report of typed tables.
 use Rattle.std.proofs.Common.{◌≡◌, inl, inr, ℕ, zero, suc, ◌-◌, ◌<◌, ◌≤◌, Bool, true, false, Some, None, List}
 use Rattle.std.proofs.Common.{[], ◌∷◌, ◌++◌, map, length, refl, sym, ap, subst}
 use Rattle.std.proofs.Common.{◌∙◌, arith, append-nil, append_assoc, true≢false, IsPermutation}
@@ -191,7 +191,7 @@ module _ (edition : Edition) {S : Type 0} (g : Ghosts S) (old new : Held S) (t :
           × ((d.upgrade ≡ t.upgrade) × ((d.roles.items ≡ a.roles.items) × ((d.parcels ≡ a.parcels) × (d.last ≡ a.last))))
           × (list_all (λ f. fits_file a.roles.items a.parcels a.last f.state) fs ≡ total) × (d.tallies.items ++ first_of fs ≡ first_of t.files)
 
-      -- what is told of the taker's values is told of the first ones
+      -- what holds of the taker's values holds of the first ones
       moved : (d : Filed) (f : FileRow) (good : Bool) → d.roles.items ≡ a.roles.items → d.parcels ≡ a.parcels → d.last ≡ a.last →
           fits_file d.roles.items d.parcels d.last f.state ≡ good → fits_file a.roles.items a.parcels a.last f.state ≡ good
       moved d f good roles parcels last told =

@@ -112,7 +112,7 @@ renews_held s upgrade upgrade' id digest t (Ok (Ok done)) was kept shown = (show
 renews_held s upgrade upgrade' id digest t (Ok (Err why)) was kept shown = (shown.0, λ clean. (was ∙ sym kept, shown.1))
 renews_held s upgrade upgrade' id digest t (Err e) was kept shown = λ clean. (was ∙ sym kept, shown)
 
--- two reads, of which the first left the connection open, and a renewal behind them
+-- two reads, of which the first left the connection open, and a renewal after them
 module _ {S A B E F : Type 0} (g : Ghosts S) (old mid now : Held S) (one : Result A E) (two : Result B F) (first : IsRead g old mid one)
     (up : HasCleanDisk (state g mid) → IsTrue (state g mid).is_open) (second : IsRead g mid now two) (outlasts : ReadOutlasts g mid now) (t : Tables)
     (k : Keeps t (state g old).now) where
@@ -189,7 +189,7 @@ pub always : {A E P : Type 0} (r : Result A E) → P → OnOk r P
 always (Ok x) p = p
 always (Err e) p = tt
 
--- once the tables were tested, nothing is told as damaged
+-- once the tables were tested, nothing is reported as damaged
 pub never_damaged : {A : Type 0} (P : Type 0) (r : Result A RenewError) →
     IfErr r (λ e. (e ≡ renew_error.Refused refused.Record) ⊎ ((e ≡ renew_error.Refused (refused.NotAdmitted reason.Taken))
     ⊎ (e ≡ renew_error.Open open_error.Store)))

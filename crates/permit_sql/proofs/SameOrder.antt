@@ -12,7 +12,7 @@ use Rattle.permit_model.specs.Tables.{Paper}
 abbrev pub Rises : List Paper → Type 0
 Rises = IsAscending (λ a b. a.number < b.number)
 
--- whether it stands behind
+-- whether it comes after
 abbrev is_behind : Paper → Paper → Bool
 is_behind p q = nat_lt p.number q.number
 

@@ -32,7 +32,7 @@ long_is (c ∷ cs) at row (v ∷ vs) same full typed there =
     ap suc (long_is cs (at + 1) row vs (λ k. let next : at + 1 + 1 + k ≡ at + 1 + suc k = omega arith in ap (column row) next ∙ same (suc k)) full.1
     (and_parts _ _ typed).1 (and_parts (not c.not_null || not (is_null (column row (at + 1)))) _ there).1)
 
--- the same past the column that the rowid stands for
+-- the same past the column that is the rowid
 long_keyed : (cs : List Column) (at : ℕ) (row tail : Row) → ((k : ℕ) → column row (suc at + 1 + k) ≡ column tail k) →
     AllByRecursion (λ (c : Column). c.not_null ≡ true) cs
     → are_typed (Some 0) (suc at) cs tail ≡ true → are_present (Some 0) (suc at) cs row ≡ true → length tail ≡ length cs

@@ -93,7 +93,7 @@ module _ (t : Tables) (typed : AreTyped t) where
   pub among : (id : ℕ) → IsObject id → has_party t id ≡ nat_le id t.desk.parties
   among id is = party_there id is ∙ ap (nat_le id) typed.party_count
 
--- ---- what a row's type tells
+-- ---- what a row's type says
 
 any_same : (P Q : ℕ → Bool) (o : Option ℕ) → ((n : ℕ) → o ≡ Some n → P n ≡ Q n) → if_any P o ≡ if_any Q o
 any_same P Q None each = refl

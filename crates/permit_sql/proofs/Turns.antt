@@ -1,4 +1,4 @@
--- What a paper breaks behind what is told of its file, by what was tested of it.
+-- What a paper breaks after the tally of its file, by what was tested of it.
 use Rattle.std.proofs.Common.{◌≡◌, ℕ, ◌-◌, Bool, true, false, Some, None, List, refl, sym, ap, ap₂, ◌∙◌}
 use Rattle.std.specs.Prelude.{if◌then◌else◌, option_map, slice_get, slice_set}
 use Rattle.permit_model.specs.Tables.{Paper}

@@ -1,4 +1,4 @@
--- What the text that reads the table of the upgrade means, in whatever tree that stands.
+-- What the text that reads the table of the upgrade means, in whatever tree that is.
 use Rattle.std.proofs.Common.{◌≡◌, ◌<◌, refl, sym, subst, arith, eqb, true≢false, codes, [], ◌∷◌, ℕ}
 use Rattle.std.specs.Prelude.{Bool, true, false, if◌then◌else◌, nat_le, ◌^◌, Result, Ok, Err, None}
 use Rattle.std.proofs.lemmas.Bool.Decides.{nat_tests}
@@ -27,7 +27,7 @@ use Rattle.permit_sql.proofs.WholeMeanings.{IsText}
 abbrev pub read_upgrade_query : ℕ → Query
 read_upgrade_query tree = plain_query (inner tree end) [] (col 1 0 ∷ columns_of 1 2) []
 
--- the types of the query are accepted, since the table that stands in the tree is that of the upgrade
+-- the types of the query are accepted, since the table in the tree is that of the upgrade
 accepted : (o : Order) → 9 < o.tree → o.tree < 65536 →
     ¬ IsShown (λ (r : Row). r) (record { schema = schema_in o; trees = λ tree. [] }) (alone (read_upgrade_query o.tree)) [] None
 accepted o apart low refused =

@@ -99,17 +99,17 @@ abbrev pub of_paper : (parties last : ℕ) → Paper → Option Fault
 of_paper parties last p =
     option_map (fault.Paper (Some p.file) (Some p.number)) (first_broken (λ rule. fits_paper_rule parties last rule p) paper_rules)
 
--- of a paper behind what is told of its file, if that is there
+-- of a paper after the tally of its file, if there is one
 abbrev pub of_turn : Paper → Option Tally → Option Fault
 of_turn p None = Some (fault.Paper (Some p.file) (Some p.number) paper.File)
 of_turn p (Some u) = if is_next u p then None else Some (fault_at u p)
 
--- what is told of the files once the paper is read
+-- the tallies of the files once the paper is read
 abbrev pub told_after : List Tally → Paper → Option Tally → List Tally
 told_after told p None = told
 told_after told p (Some u) = slice_set told (p.file - 1) (tally_after u p)
 
--- of papers that are read, each behind what is told of its file; and then of the files that they don't end
+-- of papers that are read, each after the tally of its file; and then of the files that they don't end
 abbrev pub of_papers : (parties last : ℕ) → List Tally → List Paper → Option Fault
 of_papers parties last told [] = unended_from 1 told
 of_papers parties last told (p ∷ ps) =
@@ -141,7 +141,7 @@ first_of_rows t =
 abbrev pub first_of : Tables → Option Fault
 first_of t = or_else (first_of_desk t) (first_of_rows t)
 
--- it is the first of the interests, which stand in an order that the database leaves open
+-- it is the first of the interests, which are in an order that the database leaves open
 abbrev pub IsFirstInterest : (parcels parties : ℕ) → List Interest → Option Fault → Type 0
 IsFirstInterest parcels parties interests found =
     (given : List Interest) × IsPermutation interests given × (found ≡ first_in (of_interest parcels parties) given)
@@ -153,17 +153,17 @@ IsFirstWith t first found = (given : List Interest) × IsPermutation t.interests
 abbrev pub IsFirst : Tables → Option Fault → Type 0
 IsFirst t = IsFirstWith t first_of
 
--- ---- what a taker tells of a row
+-- ---- what a taker reports of a row
 
 -- a row that is passed breaks nothing
 abbrev pub Passes : {X : Type 0} → (X → Type 0) → (X → Row) → (X → Option Fault) → Row → Type 0
 Passes {X} IsGood shown fault_of row = (x : X) → IsGood x → row ≡ shown x → fault_of x ≡ None
 
--- the fault that is told is that of the row
+-- the fault that is reported is that of the row
 abbrev pub Names : {X : Type 0} → (X → Type 0) → (X → Row) → (X → Option Fault) → Row → Option Fault → Type 0
 Names {X} IsGood shown fault_of row found = (x : X) → IsGood x → row ≡ shown x → (found ≡ fault_of x) × IsSome found
 
--- of a paper, with what is told of the files before it and after it
+-- of a paper, with the tallies of the files before it and after it
 abbrev pub ReadsPaper : (parties last : ℕ) → List Tally → Row → List Tally → Type 0
 ReadsPaper parties last before row after =
     (p : Paper) → IsPaper p → row ≡ shown_paper p → (or_else (of_paper parties last p) (of_turn p (slice_get before (p.file - 1))) ≡ None)

@@ -146,7 +146,7 @@ abbrev pub first_gap : ℕ → List Paper → Option ℕ
 first_gap next [] = None
 first_gap next (p ∷ ps) = if p.number == next then first_gap (next + 1) ps else Some p.number
 
--- the number of the first paper whose day is before the one that stands before it
+-- the number of the first paper whose day is earlier than the one before it
 abbrev pub first_fall : ℕ → List Paper → Option ℕ
 first_fall day [] = None
 first_fall day (p ∷ ps) = if nat_le day p.day then first_fall p.day ps else Some p.number
@@ -188,7 +188,7 @@ breaks t (fault.Interest of_parcel of_party rule) =
 breaks t (fault.File number rule) = list_any (λ f. is_it number f.id && not (holds_of_file t rule f)) t.files
 breaks t (fault.Paper of_file number rule) = list_any (λ p. is_it of_file p.file && is_it number p.number && not (holds_of_paper t rule p)) t.papers
 
--- ---- what a tally tells
+-- ---- what a tally says
 
 -- what is wrong where the paper isn't the next one of its file
 abbrev pub fault_at : Tally → Paper → Fault

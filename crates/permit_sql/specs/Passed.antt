@@ -1,4 +1,4 @@
--- What is told of the rows of typed tables that a test of their soundness passes, and of those at which it stops.
+-- What holds of the rows of typed tables that a test of their soundness passes, and of those at which it stops.
 use Rattle.std.specs.Prelude.{◌≡◌, ◌⊎◌, ◌-◌, ℕ, Bool, true, false, IsTrue, Option, Some, None, List, [], ◌∷◌, ◌++◌, slice_get, slice_set}
 use Rattle.sqlite_value.specs.Order.{Row}
 use Rattle.permit_base.specs.declared.words.Role.{Role}
@@ -30,7 +30,7 @@ PassesInterest parcels parties row = (i : Interest) → IsInterest i → row ≡
 abbrev pub StopsInterest : (parcels parties : ℕ) → Row → Type 0
 StopsInterest parcels parties row = (i : Interest) → IsInterest i → row ≡ shown_interest i → fits_interest parcels parties i ≡ false
 
--- what is told of the file before its papers are read is added
+-- the tally of the file before its papers are read is added
 abbrev pub PassesFile : Option ℕ → List Role → (parcels last : ℕ) → List Tally → Row → List Tally → Type 0
 PassesFile upgrade roles parcels last before row after =
     (f : FileRow) → IsFile f → IsNamed upgrade f.id f.state → row ≡ shown_file f
@@ -40,7 +40,7 @@ abbrev pub StopsFile : Option ℕ → List Role → (parcels last : ℕ) → Row
 StopsFile upgrade roles parcels last row lacks_memory =
     (f : FileRow) → IsFile f → IsNamed upgrade f.id f.state → row ≡ shown_file f → (fits_file roles parcels last f.state ≡ false) ⊎ IsTrue lacks_memory
 
--- what is told of a paper's file changes
+-- the tally of a paper's file changes
 abbrev pub PassesPaper : (parties last : ℕ) → List Tally → Row → List Tally → Type 0
 PassesPaper parties last before row after =
     (p : Paper) → IsPaper p → row ≡ shown_paper p → (fits_paper parties last p ≡ true)

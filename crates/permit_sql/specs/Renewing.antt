@@ -13,7 +13,7 @@ use Rattle.permit_sql_rows.specs.Kept.{Keeps}
 abbrev pub OverKept : {S : Type 0} → Ghosts S → Held S → Held S → (Tables → Type 0) → Type 0
 OverKept g old new said = HasCleanDisk (state g new) → (t : Tables) → Keeps t (state g old).now → said t
 
--- Nothing stood against the renewal of the tables that the database kept, and these are the trees of one that keeps them renewed.
+-- There was no reason against renewing the tables that the database kept, and these are the trees of one that keeps them renewed.
 abbrev pub IsRenewed : ℕ → List ℕ → Database → Trees → Type 0
 IsRenewed party digest old trees =
     (t : Tables) → Keeps t old → (against_renewal t.parties party digest ≡ None)

@@ -66,12 +66,12 @@ fits_file roles parcels last s = names_known roles parcels s && fits_days last s
 
 -- ---- papers
 
--- a paper without those that stand before it, by the count of parties and the last day
+-- a paper without those before it, by the count of parties and the last day
 abbrev pub fits_paper : (parties last : ℕ) → Paper → Bool
 fits_paper parties last p =
     nat_le p.author parties && nat_le p.day last && has_sound_days p && has_sound_text p && has_sound_terms p && (not p.is_open || is_notice p.sort)
 
--- what is told of a file before its papers are read
+-- the tally of a file before its papers are read
 abbrev pub first_tally : State → Tally
 first_tally s = record { day = s.filed; number = 0; papers = s.papers; notices = s.notices }
 
@@ -79,7 +79,7 @@ first_tally s = record { day = s.filed; number = 0; papers = s.papers; notices =
 abbrev pub is_next : Tally → Paper → Bool
 is_next t p = (p.number == t.number + 1) && nat_le t.day p.day && (not p.is_open || nat_lt 0 t.notices)
 
--- what is told of the file once the paper is read
+-- the tally of the file once the paper is read
 abbrev pub tally_after : Tally → Paper → Tally
 tally_after t p = record { day = p.day; number = p.number; papers = t.papers; notices = if p.is_open then t.notices - 1 else t.notices }
 

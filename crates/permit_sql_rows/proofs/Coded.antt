@@ -1,4 +1,4 @@
--- Each word stands at its code among the words of its type.
+-- Each word is at its code among the words of its type.
 use Rattle.std.proofs.Common.{◌≡◌, refl, ap, Some, slice_get, zero, suc, ℕ}
 use Rattle.permit_base.specs.declared.words.Role.{Role}
 use Rattle.permit_base.specs.declared.words.Role.TheVariants as role

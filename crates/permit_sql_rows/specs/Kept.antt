@@ -17,7 +17,7 @@ use Rattle.permit_sql_rows.specs.Rows.{desk_row, upgrade_row, party_row, parcel_
 abbrev pub papers_counted : ℕ → List FileRow → ℕ
 papers_counted file files = unwrap_or (option_map (λ f. f.state.papers) (find (λ f. f.id == file) files)) 0
 
--- Of none of these is a number 0, which stands for none; and the file's number tells its edition, which is stored nowhere.
+-- Of none of these is a number 0, which means none; and the file's number gives its edition, which is stored nowhere.
 pub record IsNamed (upgrade : Option ℕ) (id : ℕ) (s : FileState) : Type 0 where
   pub contractor : s.contractor ≢ Some 0
   pub reviewer : s.reviewer ≢ Some 0
@@ -25,7 +25,7 @@ pub record IsNamed (upgrade : Option ℕ) (id : ℕ) (s : FileState) : Type 0 wh
   pub ask : s.ask ≢ Some 0
   pub edition : s.edition ≡ edition_numbered upgrade id
 
--- There were no more files at the upgrade than there are. No number, digest and lot comes twice, and a file's papers stand in rising number, none above the count in the file's row.
+-- There were no more files at the upgrade than there are. No number, digest and lot comes twice, and a file's papers are in rising number, none above the count in the file's row.
 pub record AreKeyed (t : Tables) : Type 0 where
   pub upgraded : IfSome t.upgrade (λ files. files ≤ t.desk.files)
   pub edition : t.desk.edition ≡ edition_by t.upgrade
@@ -38,7 +38,7 @@ pub record AreKeyed (t : Tables) : Type 0 where
   pub papers : (file : ℕ) → IsAscending (λ a b. a.number < b.number) (filter (λ p. p.file == file) t.papers)
   pub counted : (file : ℕ) → AllByRecursion (λ p. p.number ≤ papers_counted file t.files) (filter (λ p. p.file == file) t.papers)
 
--- The trees of the tables have a row for each row of these, in any order; the upgrade's table stands in this tree. The rowid of an interest and of a paper is of no account, but none comes twice.
+-- The trees of the tables have a row for each row of these, in any order; the upgrade's table is in this tree. The rowid of an interest and of a paper is of no account, but none comes twice.
 pub record AreInTrees (t : Tables) (tree : ℕ) (db : Trees) : Type 0 where
   pub desk : db 0 ≡ desk_row t.desk ∷ []
   pub upgrade : IfSome t.upgrade (λ files. db tree ≡ upgrade_row files ∷ [])

@@ -16,22 +16,22 @@ use Rattle.permit_model.specs.Routes.{Found}
 abbrev pub int : ℕ → Value
 int n = Int (pos n)
 
--- a party or the days of an ask; 0 stands for none
+-- a party or the days of an ask; 0 means none
 abbrev pub or_zero : Option ℕ → Value
 or_zero None = int 0
 or_zero (Some n) = int n
 
--- a day; -1 stands for none
+-- a day; -1 means none
 abbrev pub or_minus_one : Option ℕ → Value
 or_minus_one None = Int (negsuc 0)
 or_minus_one (Some n) = int n
 
--- a party that another table may not name; Null stands for none
+-- a party that another table may not name; Null means none
 abbrev pub or_null : Option ℕ → Value
 or_null None = Null
 or_null (Some n) = int n
 
--- a step by its code; -1 stands for none
+-- a step by its code; -1 means none
 abbrev pub step_value : Option Step → Value
 step_value step = or_minus_one (option_map step_code step)
 
@@ -87,7 +87,7 @@ row_params id s =
     ∷ or_minus_one s.deadline ∷ int s.done ∷ step_value s.request
     ∷ or_minus_one s.requested ∷ or_zero s.ask ∷ flag s.stopped ∷ int s.notices ∷ int s.papers ∷ or_minus_one s.temporary ∷ []
 
--- ---- the rows in the trees: a number that is the rowid comes before the columns, and Null stands in its column
+-- ---- the rows in the trees: a number that is the rowid comes before the columns, and Null is in its column
 
 -- the desk's one row
 abbrev pub desk_row : Desk → Row

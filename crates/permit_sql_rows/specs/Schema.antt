@@ -143,7 +143,7 @@ search_indexes = cell_index ∷ applicant_index ∷ contractor_index ∷ reviewe
 abbrev pub first_schema : Schema
 first_schema = record { tables = first_tables; indexes = key_indexes ++ search_indexes; views = [] }
 
--- Where in a database of version 2 that stands which VACUUM and a dump move: the tree of the upgrade's table, and the indexes that are no keys.
+-- The places in a database of version 2 that VACUUM and a dump move: the tree of the upgrade's table, and the indexes that are no keys.
 pub record Order : Type 0 where
   pub tree : ℕ
   pub searches : List Index
@@ -169,7 +169,7 @@ pub record AreSearches (indexes : List Index) : Type 0 where
   pub eight : length indexes ≡ 8
   pub each : AllByRecursion (λ index. IsAmong index indexes) search_indexes
 
--- The schema of version 2 in any order in which SQLite writes it. The six tables of version 1 and the indexes of their keys stand in trees
+-- The schema of version 2 in any order in which SQLite writes it. The six tables of version 1 and the indexes of their keys are in trees
 -- 0 to 9, and the library has none above 65535.
 pub record IsSecond (s : Schema) : Type 0 where
   pub order : Order

@@ -76,7 +76,7 @@ some_so : {X : Type 0} (o : Option X) (x : X) (P : X → Type 0) → o ≡ Some 
 some_so None x P e all = absurd cc
 some_so (Some y) x P e all = let same : y ≡ x = cc in subst P same all
 
--- the number of the file tells also the edition of its new row
+-- the number of the file gives also the edition of its new row
 still_named : (t : Tables) (k : AreKeyed t) (file : ℕ) (s : FileState) (e : RowEffect) → FitsRow t file s e → Names s → IsNamed t.upgrade file s
 still_named t k file s e it names =
     let was = some_so _ it.row (λ (f : FileRow). IsNamed t.upgrade f.id f.state) it.found
@@ -84,7 +84,7 @@ still_named t k file s e it names =
     let number = found_number (λ (f : FileRow). f.id) file t.files it.row it.found in
     names t.upgrade file (it.edition ∙ was.edition ∙ ap (edition_numbered t.upgrade) number)
 
--- the next file's number tells the edition in force
+-- the next file's number gives the edition in force
 next_named : (t : Tables) (k : AreKeyed t) (s : FileState) → s.edition ≡ t.desk.edition → Names s → IsNamed t.upgrade (t.desk.files + 1) s
 next_named t k s now names = names t.upgrade (t.desk.files + 1) (now ∙ k.edition ∙ edition_next t.upgrade t.desk.files (within t.upgrade k.upgraded))
   where

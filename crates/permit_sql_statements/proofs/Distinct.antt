@@ -1,4 +1,4 @@
--- What DISTINCT leaves of rows that stand as often as they were met: each once.
+-- What DISTINCT leaves of rows that are there as often as they were met: each once.
 use Rattle.std.proofs.Common.{◌≡◌, ◌⊎◌, inl, inr, refl, sym, ap, ap₂, subst, ◌∙◌, Bool, true, false, cond, ◌||◌, not, List, [], ◌∷◌, ◌++◌, map, append-nil}
 use Rattle.std.proofs.Common.{filter, arith, IsPermutation, Ordering, Equal, is_eq}
 use Rattle.std.specs.List.{flat_map, list_any, AllByRecursion}
@@ -63,7 +63,7 @@ module _ {X R B : Type 0} (cmp : B → B → Ordering) (total : IsTotalOrder cmp
           next true rest = inr (_, refl, refl)
           next false rest = rest
 
-  -- a test that tells no equals apart takes whole groups
+  -- a test with the same answer for equals takes whole groups
   sift : (p : B → Bool) → ((a b : B) → cmp a b ≡ Equal → p a ≡ p b) → (groups : List (B × List B)) → AreAlike groups →
       filter p (flat_map members groups) ≡ flat_map members (filter (λ g. p g.0) groups)
   sift p same [] alike = refl

@@ -1,4 +1,4 @@
--- Where statements lead, one behind another.
+-- Where statements lead, one after another.
 use Rattle.std.proofs.Common.{◌≡◌, ℕ, true, List, [], ◌∷◌, ◌++◌, None, refl, sym, subst, ◌∙◌}
 use Rattle.sqlite.specs.declared.types.Value.TheVariants.{Text}
 use Rattle.sqlite_trees.specs.declared.store.Store.{Ghosts}

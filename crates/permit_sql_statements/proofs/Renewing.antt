@@ -143,7 +143,7 @@ module _ (id : ℕ) (digest : List ℕ) where
 
 -- ---- the statement
 
--- nothing stands against it where the party is there, and nobody has the digest
+-- there is no reason against it where the party is there, and nobody has the digest
 against_none : (a b : Option Party) (taken missing : Refusal) → (if is_some a then when (is_some b) taken else Some missing) ≡ None →
     ((p : Party) × (a ≡ Some p)) × (b ≡ None)
 against_none None b taken missing none = absurd (let bad = none in cc)

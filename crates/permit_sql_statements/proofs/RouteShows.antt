@@ -93,7 +93,7 @@ after_both true true k = refl
 after_both true false k = refl
 after_both false b k = refl
 
--- no number stands twice
+-- no number comes twice
 files_apart : (fs : List FileRow) → ((id : ℕ) → length (filter (λ f. eqb f.id id) fs) ≤ 1) → IsAscending (λ f g. eqb g.id f.id ≡ false) fs
 files_apart [] once = tt
 files_apart (f ∷ fs) once = (
@@ -390,7 +390,7 @@ module _ (caller : ℕ) (there : 0 < caller) (t : Tables) (db : Trees) (keyed : 
         && (is_true (binary (Compare Eq Binary) (column i 2) (int caller)) && k)) (kept_plus s b timing day f.state true ∙ and_all _)
         ∙ after_both _ _ (kept f)) rows a)
 
-    -- by a relation that stands in a column of the file
+    -- by a relation that is in a column of the file
     pub direct_shown : (place : ℕ) (r : Relation) → ((f : FileRow) → holds (params [] ∷ file_row f ∷ []) (equals (col 1 place) (col 0 0)) ≡ has (set_of f) r) →
         (code : ℕ) (rows : List Row)
         → IsAnswer (direct_query place) db (cell_params caller day s b timing ++ int code ∷ []) rows →
@@ -501,7 +501,7 @@ module _ (caller : ℕ) (there : 0 < caller) (t : Tables) (db : Trees) (keyed : 
   unkeyed_as : (f : FileRow) → ([], shown_file f ++ column (beside_row (parcel_of f)) 4 ∷ flag (conflict f) ∷ []) ≡ unkeyed t caller f
   unkeyed_as f = ap (λ v. ([], shown_file f ++ v ∷ flag (conflict f) ∷ [])) (owner_shown [] (parcel_of f))
 
-  -- by a relation that stands in a column of the file
+  -- by a relation that is in a column of the file
   column_shown : (place : ℕ) (test : FileRow → Bool) → ((f : FileRow) → holds (params [] ∷ file_row f ∷ []) (equals (col 1 place) (col 0 0)) ≡ test f) →
       (rows : List Row) → IsAnswer (column_alone place) db (params []) rows → ShowTested test rows
   column_shown place test tests rows a =

@@ -15,7 +15,7 @@ use Rattle.permit_sql_statements.specs.Written.{Writes, written_in}
 use Rattle.permit_sql_statements.specs.declared.step.Step.{Step}
 use Rattle.permit_sql_statements.proofs.Leading.{lead_all, lead_change}
 
--- two statements, one behind the other
+-- two statements, one after the other
 pub writes_two : {A E : Type 0} (a b : Statement) (old mid new : Step) (r : Result A E) → written_in mid ≡ written_in old ++ a ∷ []
     → Writes (b ∷ []) mid new r → Writes (a ∷ b ∷ []) old new r
 writes_two a b old mid new (Ok x) one two = two ∙ ap (λ l. l ++ b ∷ []) one ∙ append_assoc (written_in old) (a ∷ []) (b ∷ [])

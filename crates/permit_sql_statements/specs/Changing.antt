@@ -37,7 +37,7 @@ row_statements d (NewRow file s effect) = (WRITE_FILE.now, row_params file s) �
 abbrev pub change_statements : Desk → Change → List Statement
 change_statements d change = row_statements d change ++ desk_statement d ∷ []
 
--- of a row in which no number is 0, whatever its number, where that tells its edition
+-- of a row in which no number is 0, whatever its number, where that gives its edition
 abbrev pub Names : FileState → Type 0
 Names s = (upgrade : Option ℕ) (id : ℕ) → s.edition ≡ edition_numbered upgrade id → IsNamed upgrade id s
 

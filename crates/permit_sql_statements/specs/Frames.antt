@@ -47,7 +47,7 @@ module _ {S : Type 0} (g : Ghosts S) where
   abbrev pub ReadSurvives : Held S → Held S → Type 0
   ReadSurvives old new = (t : Tables) → Keeps t (state g old).now → Survives (state g old) (state g new) (λ _. ⊥)
 
-  -- The same where the tables are known to be kept only if the disk is clean afterwards, as behind another read.
+  -- The same where the tables are known to be kept only if the disk is clean afterwards, as after another read.
   abbrev pub ReadOutlasts : Held S → Held S → Type 0
   ReadOutlasts old new =
       (t : Tables) → (HasCleanDisk (state g new) → Keeps t (state g old).now) → Survives (state g old) (state g new) (λ _. ⊥)

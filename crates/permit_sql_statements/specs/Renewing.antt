@@ -16,11 +16,11 @@ use Rattle.permit_sql_statements.specs.declared.texts.TheConstants.{SET_DIGEST}
 abbrev pub renewal_statements : Row → List Statement
 renewal_statements party = (SET_DIGEST.now, party) ∷ []
 
--- The tables that a database keeps, where nothing stands against giving the party the digest, lead to what this says.
+-- The tables that a database keeps, where there is no reason against giving the party the digest, lead to what this says.
 abbrev pub OverRenewal : ℕ → List ℕ → Database → (Tables → Type 0) → Type 0
 OverRenewal party digest db said = (t : Tables) → against_renewal t.parties party digest ≡ None → Keeps t db → said t
 
--- A party's digest is set where nothing stands against it, or nothing is done.
+-- A party's digest is set where there is no reason against it, or nothing is done.
 pub record IsRenewal {S A E : Type 0} (g : Ghosts S) (party : ℕ) (digest : List ℕ) (old new : Held S) (result : Result A E) : Type 0 where
   pub made : (t : Tables) → HasCleanDisk (state g new) → Shows t (state g old) → against_renewal t.parties party digest ≡ None
       → OnOk result (Shows (with_renewed party digest t) (state g new))

@@ -52,7 +52,7 @@ set_at id f files i d new false other old named e h =
     let not_new : (new.row.id == f) ≡ false = ap (λ n. n == f) (eqb-true new.row.id id named) ∙ other in
     ap papers_in (find_past (λ (k : KeptFile). k.row.id == f) files i new d not_this not_new)
 
--- the papers of each file, after a file of the same number stands at its place
+-- the papers of each file, after a file of the same number is put at its place
 pub papers_put : (id f : ℕ) (files : List KeptFile) (i : ℕ) (d new : KeptFile) → new.row.id ≡ (get_or files i d).row.id →
     i ≡ position_or_len (λ k. k.row.id == id) files → i < length files →
     papers_at f (set files i new) ≡ (if id == f then new.papers else papers_at f files)

@@ -104,7 +104,7 @@ either_side (suc k) (suc i) = by (either_side k i)
 -- ---- all marks
 
 module _ {A S : Type 0} (text : A → List ℕ) (rows : List A) (marks : HashMap ℕ ℕ S) (before : LeadBefore text rows marks) where
-  -- one more row behind the others
+  -- one more row after the others
   module _ (later : HashMap ℕ ℕ S) (row : A) (mark : ℕ) (is : mark ≡ mark_of (text row))
       (put : (m : ℕ) → get nat_eq later m ≡ led_after (get nat_eq marks m) (mark == m) (length rows)) where
     more_led : (k : ℕ) (d : A) → (k ≡ length rows) ⊎ ((k < length rows) ⊎ (length rows < k)) → k < length (rows ++ row ∷ [])

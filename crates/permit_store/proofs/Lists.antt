@@ -6,7 +6,7 @@ use Rattle.std.proofs.lemmas.List.{append_assoc}
 abbrev first_changed : {A : Type 0} → (A → A) → List A → List A
 first_changed f xs = map f (take 1 xs) ++ drop 1 xs
 
--- the list with its first item behind the others
+-- the list with its first item after the others
 abbrev turned : {A : Type 0} → List A → List A
 turned xs = drop 1 xs ++ take 1 xs
 

@@ -15,7 +15,7 @@ more_either : (b here : Bool) (place last : ℕ) (later before : Option ℕ) →
 more_either true here place last later before e = refl
 more_either false here place last later before e = e
 
--- one more row behind the others
+-- one more row after the others
 first_more : {A : Type 0} (test : A → Bool) (place last : ℕ) (rows : List A) (row : A) → last ≡ place + length rows →
     position_from test place (rows ++ row ∷ []) ≡ led_after (position_from test place rows) (test row) last
 first_more test place last [] row e =
@@ -101,7 +101,7 @@ module _ {A : Type 0} (test wanted : A → Bool) (marked : (row : A) → wanted 
 -- ---- marks
 
 module _ {A S : Type 0} (text : A → List ℕ) (rows : List A) (marks : HashMap ℕ ℕ S) (led : LeadToFirst text rows marks) where
-  -- one more row behind the others
+  -- one more row after the others
   pub led_more : (later : HashMap ℕ ℕ S) (row : A) (mark : ℕ) → mark ≡ mark_of (text row) →
       ((m : ℕ) → get nat_eq later m ≡ led_after (get nat_eq marks m) (mark == m) (length rows)) → LeadToFirst text (rows ++ row ∷ []) later
   led_more later row mark is put = λ m.

@@ -54,7 +54,7 @@ rows_later id first state (k ∷ files) less numbered =
     (past_test k.row.id id (omega (arith, less, numbered.0)))
     ∙ ap (λ rows. k.row ∷ rows) (rows_later id (first + 1) state files (omega (arith, less)) numbered.1)
 
--- a file's new row stands at its place alone
+-- a file's new row is at its place alone
 pub rows_at : (id first place : ℕ) (state : State) (files : List KeptFile) (d new : KeptFile) → new.row ≡ record (get_or files place d).row { state = state } →
     id ≡ first + place → place < length files → IsNumberedFrom (λ k. k.row.id) first files →
     map (λ k. k.row) (set files place new) ≡ map (with_state id state) (map (λ k. k.row) files)

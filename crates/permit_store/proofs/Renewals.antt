@@ -19,7 +19,7 @@ use Rattle.permit_model.specs.Tables.{file_row, paper_by, paper_of_deed, papers_
 use Rattle.permit_model.specs.Renewal.{with_token, renewed_deed, renewed_entry, renewed, with_digest, with_renewed}
 use Rattle.permit_model.proofs.Lists.{find_mapped}
 
--- ---- lists of which each item tells the same
+-- ---- lists of which each item gives the same
 
 in_order_alike : {A B : Type 0} (tell : A → Option B) (f : A → A) → ((x : A) → tell (f x) ≡ tell x) → (xs : List A) →
     in_order tell (map f xs) ≡ in_order tell xs
@@ -84,7 +84,7 @@ module _ (party : ℕ) (digest : List ℕ) where
   found_alike ps id = find_mapped (with_digest party digest) (λ (p : Party). p.id == id) (λ (p : Party). p.id == id) (λ p. ap (λ n. n == id) (number_alike p)) ps
 
 module _ (party : ℕ) (token : List ℕ) where
-  -- ---- what a deed tells whatever its token is
+  -- ---- what a deed says whatever its token is
 
   pub told_by : {A : Type 0} (F : Deed → A) (deed : Deed) (b : Bool) → F (with_token token deed) ≡ F deed → F (cond b (with_token token deed) deed) ≡ F deed
   told_by F deed true same = same

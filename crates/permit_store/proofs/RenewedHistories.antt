@@ -174,7 +174,7 @@ module _ (party : ℕ) (token : List ℕ) where
 
   -- ---- what may follow
 
-  -- a request that was accepted is accepted, where nothing stands against it
+  -- a request that was accepted is accepted, where there is no reason against it
   accepted : (h : History) (caller day : ℕ) (deed other : Deed) (number : Option ℕ) (request more : Request) →
       is_command more ≡ is_command request → object_of more ≡ object_of request →
       number_made (renewed party token h) more ≡ number_made h request →
@@ -296,6 +296,6 @@ module _ (party : ℕ) (token : List ℕ) where
   not_taken (Some p) None none = refl
   not_taken (Some p) (Some q) none = absurd (let bad = none in cc)
 
-  -- a history in which the party had the token is one, where nothing stands against it
+  -- a history in which the party had the token is one, where there is no reason against it
   pub renewed_follows : (h : History) → IsHistory h → against_renewal (parties h) party digest ≡ None → IsHistory (renewed party token h)
   renewed_follows h is none = renewed_is h is (not_taken (find (λ (p : Party). p.id == party) (parties h)) (who h digest) none)

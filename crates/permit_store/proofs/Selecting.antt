@@ -229,7 +229,7 @@ found_by_one r caller day t = one_of_one r caller day (map (found_row t caller) 
 pub are_found : (t : Tables) (given found : List Found) → given ≡ found → AreFound t given found
 are_found t given found e = record { same = subst (λ xs. IsPermutation given xs) e (IsPermutation-refl given); order = λ _. e }
 
--- what was handed out, told by the answer of the call around it
+-- what was handed out, by the answer of the call around it
 pub told_ok : {T E F : Type 0} (took : T → Found → T → Bool → Type 0) (found : List Found) (n m : ℕ) (a b : T) (inner : Result Bool E) (all : Bool) →
     inner ≡ Ok all
     → HandsOut took found n m a b inner → HandsOut {E = F} took found n m a b (Ok all)
@@ -291,7 +291,7 @@ hands took found found_in old new a b result same r p = (
   λ _ t h. (p.rest, p.left, are_found t (p.given ++ p.rest) (found_in t) (p.whole ∙ same t h)),
 )
 
--- the same, where the order isn't told
+-- the same, where the order isn't given
 pub hands_among : {T E : Type 0} (took : T → Found → T → Bool → Type 0) (found : List Found) (found_in : Tables → List Found) (old new : StoreView) (a b : T)
     (result : Result Bool E)
     → ((t : Tables) → old.holds t → found ≡ found_in t) → Reads ⊤ new.handed old new result → HandsOut took found old.handed new.handed a b result

@@ -39,7 +39,7 @@ IsLeft (Ok true) rest = rest ≡ []
 IsLeft (Ok false) rest = ⊤
 IsLeft (Err e) rest = ⊤
 
--- The rows that were handed to a taker are a beginning of those found, or all of them.
+-- The rows that were handed to a taker are a prefix of those found, or all of them.
 abbrev pub AreHanded : {E : Type 0} → Tables → Result Bool E → List Found → List Found → Type 0
 AreHanded t result given found = (rest : List Found) × IsLeft result rest × AreFound t (given ++ rest) found
 

@@ -26,7 +26,7 @@ papers_in (Some kept) = kept.papers
 abbrev pub papers_at : ℕ → List KeptFile → List Paper
 papers_at file files = papers_in (find (λ k. k.row.id == file) files)
 
--- the files are numbered from 1 without a gap, so each stands where its number says
+-- the files are numbered from 1 without a gap, so each is where its number says
 abbrev pub AreInPlace : List KeptFile → Type 0
 AreInPlace files = AreNumbered (λ k. k.row.id) files
 
@@ -69,7 +69,7 @@ row_seen s row = record {
 abbrev pub rows_found : Selection → List KeptFile → List Found
 rows_found s files = filter (is_found_by_any s.routes.now s.caller s.day) (map (λ k. row_seen s k.row) files)
 
--- A beginning of the rows found was handed to the taker, or all of them, and each was counted.
+-- A prefix of the rows found was handed to the taker, or all of them, and each was counted.
 pub record HandsOut {T E : Type 0} (took : T → Found → T → Bool → Type 0) (found : List Found) (old new : ℕ) (before after : T)
     (result : Result Bool E) : Type 0 where
   pub given : List Found

@@ -59,7 +59,7 @@ abbrev pub IsShownAs : AnswerData → AnswerData → Type 0
 IsShownAs given shown = (shown ≡ given) ⊎ (IsTrue (is_read_out given) × (shown ≡ Faulted fault.Memory))
 
 -- a body and a line end are printed, and then the refusal, where there is one, is the failure; or the output failed, and a
--- beginning of them stands
+-- prefix of them is printed
 abbrev pub Tells : List ℕ → Option Refused → Option (List ℕ) → Option (List ℕ) → Result (Unit {0}) Failure → Type 0
 Tells body refusal before after (Ok done) = (refusal ≡ None) × Appends before after (body ++ 10 ∷ [])
 Tells body refusal before after (Err (failure.Refused why)) = (refusal ≡ Some why) × Appends before after (body ++ 10 ∷ [])

@@ -25,7 +25,7 @@ IsDayAtReading zone None day = day ≡ 0
 IsDayAtReading zone (Some now) day = (IsDayAt zone now.nanosecond day × (day ≤ latest_day))
     ⊎ ((day ≡ 0) × ((shown : ℕ) → shown ≤ latest_day → IsDayAt zone now.nanosecond shown → ⊥))
 
--- the day at some reading of a clock that doesn't tell its readings
+-- the day at some reading of a clock that doesn't report its readings
 abbrev pub IsClockDay : TimeZone → ℕ → Type 0
 IsClockDay zone day = (now : Option Timestamp) × IsDayAtReading zone now day
 

@@ -70,7 +70,7 @@ abbrev pub is_memory : PolicyFault → Bool
 is_memory policy.Memory = true
 is_memory _ = false
 
--- a policy that is refused is told by its place, and want of memory as the store's refusal
+-- a policy that is refused is reported by its place, and want of memory as the store's refusal
 abbrev pub policy_failure : PolicyError → Failure
 policy_failure error = if is_memory error.code then plain Store else Policy error
 

@@ -1,4 +1,4 @@
--- The lines that tell what was done.
+-- The lines that say what was done.
 use Rattle.std.specs.Prelude.{ℕ, List, ◌++◌, codes, decimal}
 use Rattle.permit_model.specs.Tables.{Desk}
 

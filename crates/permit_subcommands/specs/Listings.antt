@@ -58,7 +58,7 @@ IsRegisterOf kind (RegisterShown other files) = other ≡ kind
 IsRegisterOf kind (Shown.Refused why) = RefusesCaller why
 IsRegisterOf kind reply = ⊥
 
--- The register of the machine's reply is written, or a beginning of it where the output failed or the store refused. Where
+-- The register of the machine's reply is written, or a prefix of it where the output failed or the store refused. Where
 -- the machine refuses, nothing is, and its refusal is reported, or the store's.
 abbrev pub Writes : ℕ → Option (List ℕ) → Option (List ℕ) → TheReply → Result (Unit {0}) Failure → Type 0
 Writes day before after (RegisterShown kind files) (Ok done) = Appends before after (register_text kind day files)

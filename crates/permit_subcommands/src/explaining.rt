@@ -1,7 +1,11 @@
-//! What is taken where a day or a zone can't be read, in a line without its end.
+//! What is taken in place of words that are refused, and why a file can't be read, each in a line without its end.
 
 ghost use Rattle.std.specs.Prelude.{◌≡◌};
-ghost use Rattle.permit_subcommands.specs.Explaining.{day_reason, zone_reason};
+ghost use Rattle.permit_subcommands.specs.Explaining.{act_reason, day_reason, founder_reason, listen_reason, method_reason, name_reason, path_reason, request_reason, token_reason, unread_reason, zone_reason};
+
+use crate::request::is_word;
+use permit_args::plan::{ActWords, TokenWords};
+use permit_base::values::{Printable, TextKind};
 
 /// What is taken as a day.
 pub fn day_reason() -> &'static str
@@ -15,4 +19,114 @@ pub fn zone_reason() -> &'static str
     ensures { result.now ≡ zone_reason }
 {
     "--zone takes a POSIX rule, as the last line of a city's file in /usr/share/zoneinfo has it; example: --zone PST8PDT,M3.2.0,M11.1.0"
+}
+
+/// What is taken as a founder's name.
+pub fn name_reason() -> &'static str
+    ensures { result.now ≡ name_reason }
+{
+    "--name takes 1 to 2000 bytes of UTF-8 without a control character"
+}
+
+/// What is taken as a token, by where the words have it.
+pub fn token_reason(words: &TokenWords<'_>) -> &'static str
+    ensures { result.now ≡ token_reason words.now }
+{
+    match words {
+        TokenWords::Given(_) => "--token takes 16 to 64 letters and digits of ASCII",
+        TokenWords::File(_) => {
+            "the first line of --token-file's file is no token: 16 to 64 letters and digits of ASCII"
+        }
+    }
+}
+
+/// What is taken as a request's method.
+pub fn method_reason() -> &'static str
+    ensures { result.now ≡ method_reason }
+{
+    "METHOD takes printed ASCII characters without a space"
+}
+
+/// What is taken as a request's path.
+pub fn path_reason() -> &'static str
+    ensures { result.now ≡ path_reason }
+{
+    "PATH takes printed ASCII characters without a space"
+}
+
+/// Where the limits of a request are, whose method and path are words.
+pub fn request_reason() -> &'static str
+    ensures { result.now ≡ request_reason }
+{
+    "the request's path or body is refused: a number, a key or a value breaks a limit of docs/HTTP.md"
+}
+
+/// What is taken as an address to listen on.
+pub fn listen_reason() -> &'static str
+    ensures { result.now ≡ listen_reason }
+{
+    "--listen takes HOST:PORT, an address of this machine on which no other program listens; example: --listen 127.0.0.1:8080"
+}
+
+/// What is taken in place of the words for a founder that are refused: of the name where that is no name, else of the token.
+///
+/// # Examples
+///
+/// ```
+/// let words = TokenWords::File("chief.token");
+/// assert_eq!(rt; founder_reason("", &words), name_reason());
+/// assert_eq!(rt; founder_reason("Ada", &words), token_reason(&words));
+/// ```
+pub fn founder_reason(name: &str, token: &TokenWords<'_>) -> &'static str
+    ensures { result.now ≡ founder_reason name.now token.now }
+{
+    if Printable::admits(name.as_bytes()) {
+        token_reason(token)
+    } else {
+        name_reason()
+    }
+}
+
+/// What is taken in place of the words for a request that are refused as `syntax`: of the method where that is no word, else of the
+/// path, and where both are words of the request that they make.
+pub fn act_reason(words: &ActWords<'_>) -> &'static str
+    ensures { result.now ≡ act_reason words.now }
+{
+    if !is_word(words.method) {
+        method_reason()
+    } else if !is_word(words.path) {
+        path_reason()
+    } else {
+        request_reason()
+    }
+}
+
+/// Why a file can't be read.
+#[derive(Clone, Copy, PartialEq, Eq)]
+pub enum Unread {
+    /// There is nothing at the path.
+    NoFile,
+    /// The path is a folder.
+    Folder,
+    /// The program may not read it.
+    NoRight,
+    /// The path is something else than a file, as a device.
+    NotRegular,
+    /// A call of the file failed, or its bytes aren't UTF-8.
+    Failed,
+}
+
+impl Unread {
+    /// The line that says it, without its end.
+    pub fn line(self) -> &'static str
+        ensures { result.now ≡ unread_reason self }
+    {
+        match self {
+            Unread::NoFile => "no such file or folder",
+            Unread::Folder => "the path is a folder",
+            Unread::NoRight => "no right to read the file",
+            Unread::NotRegular => "the path is no regular file",
+            Unread::Failed => "the file can't be read, or isn't UTF-8",
+        }
+    }
 }

@@ -3,8 +3,8 @@
 //! `founding`, `request` and `answering` are what `init` and `act` do, and `listing` what `list` and `register` do. `token` is
 //! the text of the token that their words name.
 //! `days` is the day that a run counts, by the readings of a `clock`; `lines` and `printing` are what is printed of what was
-//! done, `failure` has the lines and statuses of all that can go wrong, and `explaining` what is taken in place of a bad day or
-//! zone.
+//! done, `failure` has the lines and statuses of all that can go wrong, and `explaining` what is taken in place of words that are
+//! refused.
 #![tactic(auto)]
 
 pub mod answering;

@@ -21,7 +21,7 @@ fn are_printed(bytes: &[u8]) -> bool
 }
 
 /// Whether a word can be a method or a path: it has a byte, and each is printed and no space.
-fn is_word(word: &str) -> bool
+pub(crate) fn is_word(word: &str) -> bool
     ensures { result ≡ is_word word.now }
 {
     1 <= word.len() && are_printed(word.as_bytes())

@@ -60,7 +60,7 @@ module _ (bytes : List ℕ) (old between : InboxData) (left : Option (List ℕ))
 
 module _ {T : Type 0} (serves : T → Asked → Dated → T → Type 0) (service service' : T) (bytes : List ℕ) (old new : InboxData)
     (left before after : Option (List ℕ)) where
-  -- the bytes behind what was answered, where the connection stays open
+  -- the bytes after what was answered, where the connection stays open
   pub behind : ServesBy serves service service' bytes old new left before after Kept → (rest : List ℕ) × (stream new left ≡ Some rest)
   behind (inl request) = (request.comes_in.1, ap (λ i. stream i left) request.shut ∙ request.comes_in.3.behind)
   behind (inr fault) =
@@ -68,7 +68,7 @@ module _ {T : Type 0} (serves : T → Asked → Dated → T → Type 0) (service
       (read.1, ap (λ i. stream i left) fault.0.shut ∙ read.3.behind)
 
 module _ {T : Type 0} (put : T → List Asked) (got : T → List Dated) (first : T) (all : List ℕ) (begun : Option (List ℕ)) where
-  -- a conversation from here is one from the beginning, with what was put till here before it
+  -- a conversation from here is one from the start, with what was put till here before it
   abbrev pub Leads : T → List ℕ → InboxData → Option (List ℕ) → Type 0
   Leads now bytes inbox before =
       (after : Option (List ℕ)) (ended : Served) (ahead whole : Exchanges)
@@ -97,7 +97,7 @@ module _ {T : Type 0} (put : T → List Asked) (got : T → List Dated) (first :
       shut = h.shut;
     }
 
-    -- what is put from here on, behind a request that was served
+    -- what is put from here on, after a request that was served
     put_on : (asked : Asked) (reply : Dated) → serves s asked reply t → (more whole : List Asked) → put t ++ more ≡ put first ++ whole
         → put s ++ asked ∷ more ≡ put first ++ whole
     put_on asked reply h more whole e =
@@ -117,7 +117,7 @@ module _ {T : Type 0} (put : T → List Asked) (got : T → List Dated) (first :
         lead end ended ahead whole (ap (λ x. put x ++ ahead.put) (sym h.1) ∙ puts) (ap (λ x. got x ++ ahead.got) (sym h.1) ∙ gots)
         (Goes new left after rest ahead (inr (h.0, refl)) known c)
 
-    -- a serving that keeps the connection leads on to the bytes behind it
+    -- a serving that keeps the connection leads on to the bytes after it
     pub goes : ServesBy serves s t bytes old new left before after Kept → (rest : List ℕ) × (stream new left ≡ Some rest) × Leads t rest new after
     goes h = let more = behind serves s t bytes old new left before after h in (more.0, more.1, leads_on more.0 more.1 h)
 
@@ -136,7 +136,7 @@ module _ {T : Type 0} (put : T → List Asked) (got : T → List Dated) (first :
         lead after ended none whole (append-nil (put s) ∙ ap put (sym h.1) ∙ puts) (append-nil (got s) ∙ ap got (sym h.1) ∙ gots)
         (Ends new left shut (as_served none (inr (h.0, refl))) (as_left none))
 
-    -- one that ends it, with what is said of it whatever the reader tells, ends the conversation
+    -- one that ends it, with what is said of it whatever the reader reports, ends the conversation
     pub ends : (ended : Served) → is_shut ended ≡ true → ServesBy serves s t bytes old new left before after ended
         → (is_silent ended ≡ true → (t ≡ s) × (after ≡ before))
         → (ended ≡ ReadFailed → IsUnfinished new.bytes × (stream new left ≡ Some bytes))

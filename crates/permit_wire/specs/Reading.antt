@@ -1,4 +1,4 @@
--- What a stream's beginning asks: a request and the rest, a fault, or the end.
+-- What the start of a stream asks: a request and the rest, a fault, or the end.
 use Rattle.std.specs.Prelude.{◌≡◌, ℕ, ◌+◌, Bool, true, false, ◌||◌, nat_le, min, List, Option, Some, None, Result, Ok, Err, drop}
 use Rattle.permit_base.specs.declared.request.Asked.{Asked}
 use Rattle.permit_http.specs.Stream.{InboxData, stream}
@@ -10,7 +10,7 @@ use Rattle.permit_http.specs.declared.fault.Fault.TheVariants.{Head, Version, Le
 use Rattle.permit_http.specs.declared.message.MessageSpans.{MessageSpans}
 use Rattle.permit_wire.specs.Asked.{asked_in}
 
--- what a stream's beginning can ask
+-- what the start of a stream can ask
 pub data Reading : Type 0 where
   -- the end, outside a request
   Nothing : Reading
@@ -23,7 +23,7 @@ pub data Reading : Type 0 where
   -- a request, whether its head closes the connection, and the rest
   Request : (asked : Asked) (closes : Bool) (rest : List ℕ) → Reading
 
--- a whole message of this meaning stands in front of the rest
+-- a whole message of this meaning is in front of the rest
 abbrev pub Asks : List ℕ → Result Asked Fault → Bool → List ℕ → Type 0
 Asks bytes meaning closes rest =
     (m : MessageData) × IsMessage bytes m rest × (asked_in m ≡ meaning) × (m.closes ≡ closes)
@@ -36,7 +36,7 @@ AskedOf bytes (Refused fault) = IsIncoming bytes (refused fault)
 AskedOf bytes (Kept fault closes rest) = Asks bytes (Err fault) closes rest
 AskedOf bytes (Request asked closes rest) = Asks bytes (Ok asked) closes rest
 
--- on a closed connection it is the end outside a request, whatever bytes stand there
+-- on a closed connection it is the end outside a request, whatever bytes are there
 abbrev pub AskedFrom : Bool → List ℕ → Reading → Type 0
 AskedFrom false bytes reading = AskedOf bytes reading
 AskedFrom true bytes reading = reading ≡ Nothing
@@ -81,7 +81,7 @@ is_kept Caller = true
 is_kept Body = true
 is_kept _ = false
 
--- the same of what stood against reading: where it is no fault, nothing more can be read
+-- the same of an error in reading: where it is no fault, nothing more can be read
 abbrev pub stays_open : WireError → Bool
 stays_open (error.Fault fault) = is_kept fault
 stays_open _ = false

@@ -7,7 +7,7 @@ use Rattle.permit_wire.specs.Reading.{Asks}
 use Rattle.permit_wire.specs.declared.serve.Served.{Served}
 use Rattle.permit_wire.specs.declared.serve.Served.TheVariants.{Ended}
 
--- whole messages of these meanings stand in front, one after the other, and then the rest
+-- whole messages of these meanings are in front, one after the other, and then the rest
 abbrev pub AskInOrder : List ℕ → List (Result Asked Fault) → List ℕ → Type 0
 AskInOrder bytes [] rest = rest ≡ bytes
 AskInOrder bytes (meaning ∷ meanings) rest = (closes : Bool) × (behind : List ℕ) × Asks bytes meaning closes behind × AskInOrder behind meanings rest

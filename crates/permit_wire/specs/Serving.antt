@@ -18,7 +18,7 @@ use Rattle.permit_wire.specs.declared.service.Dated.{Dated}
 use Rattle.permit_wire.specs.declared.serve.Served.{Served}
 use Rattle.permit_wire.specs.declared.serve.Served.TheVariants.{Kept, Closed, Ended, ReadFailed, WriteFailed}
 
--- what went out for an answer: its whole text, which keeps or closes the connection, or a beginning of it
+-- what went out for an answer: its whole text, which keeps or closes the connection, or a prefix of it
 abbrev pub GoesOutAs : AnswerData → Bool → Option (List ℕ) → Option (List ℕ) → Served → Type 0
 GoesOutAs answer close before after Kept = WroteAnswer answer close before after false
 GoesOutAs answer close before after Closed = WroteAnswer answer close before after true

@@ -27,7 +27,7 @@ exchanges_in [] = none
 exchanges_in (ByReply asked reply ∷ more) = record { put = asked ∷ (exchanges_in more).put; got = reply ∷ (exchanges_in more).got }
 exchanges_in (OfFault fault ∷ more) = exchanges_in more
 
--- the texts of the answers went out whole, one after the other; of the last a beginning may, where the writer failed
+-- the texts of the answers went out whole, one after the other; of the last a prefix may, where the writer failed
 abbrev pub Writes : Served → Option (List ℕ) → List Answered → Option (List ℕ) → Type 0
 Writes ends before [] after = after ≡ before
 Writes ends before (first ∷ more) after = (close : Bool) × (

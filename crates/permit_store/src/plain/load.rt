@@ -177,10 +177,18 @@ impl PlainStore {
         if desk.edition != Edition::Second {
             return Err(StoreError);
         }
-        let parties = load_parties(alloc, store, desk.parties)?;
-        let parcels = load_parcels(alloc, store, desk.parcels)?;
-        let interests = load_interests(alloc, store)?;
-        let files = load_files(alloc, store, desk.files)?;
+        let Ok(parties) = load_parties(alloc, store, desk.parties) else {
+            return Err(StoreError);
+        };
+        let Ok(parcels) = load_parcels(alloc, store, desk.parcels) else {
+            return Err(StoreError);
+        };
+        let Ok(interests) = load_interests(alloc, store) else {
+            return Err(StoreError);
+        };
+        let Ok(files) = load_files(alloc, store, desk.files) else {
+            return Err(StoreError);
+        };
         Ok(PlainStore {
             alloc,
             upgrade: count_first(&files),

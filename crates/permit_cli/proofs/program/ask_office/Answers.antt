@@ -4,4 +4,4 @@ use Rattle.permit_cli.proofs.program.ask_office.Goals as goal
 
 pub returns-clause-fails : goal.returns-clause-fails
 returns-clause-fails g c =
-    asks_fail c.args.words.now _ _ _ _ _ c.ask_at.ensures.fails (run_day_read _ c.args.words.now.days _ c.in_ok-day.ensures.read c.in_ok-day.ensures.clock)
+    asks_fail c.args.words.now _ _ _ _ _ c.done_at.ensures.fails (run_day_read _ c.args.words.now.days _ c.in_ok-day.ensures.read c.in_ok-day.ensures.clock)

@@ -17,14 +17,14 @@ returns-in_err-read_heading-clause-imports g c =
     let left = g.R.Read.remaining c.args.reader in
     let p = err_from_is_err_and c.from_residual-in_err-read_heading.result c.from_residual-in_err-read_heading.ensures.1 in
     rw (p.1, p.2) (no_header g.M.Service.did c.args.token.now c.args.day c.args.why left (g.W.Write.contents c.args.out.now)
-    (g.W.Write.contents c.read_heading.new.out) c.args.service.now _ (c.in_err-read_heading.ensures.headless left c.records-records.ensures))
+    c.args.service.now _ (c.in_err-read_heading.ensures.headless left c.records-records.ensures))
 
 pub loop-number-init : goal.loop-number-init
 loop-number-init g c =
     let left = g.R.Read.remaining c.args.reader in
     let behind = c.in_ok-read_heading.ensures.reads left c.records-records.ensures in
     record {
-      progress = rw (c.new-tally.ensures, c.in_ok-read_heading.ensures.kept) (begun g.M.Service.did g.R.Read.remaining c.args.token.now c.args.day
+      progress = rw c.new-tally.ensures (begun g.M.Service.did g.R.Read.remaining c.args.token.now c.args.day
           c.args.why left (g.W.Write.contents c.args.out.now) c.args.service.now c.read_heading.new.records behind);
       ready = c.requires;
       few = omega arith;

@@ -1,4 +1,4 @@
--- The file's history is a script behind the opening.
+-- The file's history is a script after the opening.
 use Rattle.permit_model.specs.Examples.{opening, far_turns}
 use Rattle.permit_model.proofs.Scripts.{script_keeps, opening_is}
 use Rattle.permit_model.proofs.applications.limits_of_text_and_deadline.Goals as goal

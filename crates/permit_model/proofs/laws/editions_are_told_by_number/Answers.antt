@@ -1,4 +1,4 @@
--- The count of files at the upgrade tells the edition of each file, and of the next one.
+-- The count of files at the upgrade gives the edition of each file, and of the next one.
 use Rattle.permit_model.proofs.Editions.{edition_by_number, edition_of_next, upgrade_follows, upgrade_once, upgrade_made}
 use Rattle.permit_model.proofs.laws.editions_are_told_by_number.Goals as goal
 

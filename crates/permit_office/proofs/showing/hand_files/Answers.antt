@@ -1,4 +1,4 @@
-use Rattle.std.proofs.Common.{◌∙◌, List, ap, sym, subst}
+use Rattle.std.proofs.Common.{◌∙◌, List, Err, refl, ap, sym, subst}
 use Rattle.permit_base.specs.declared.words.Action.TheVariants as action
 use Rattle.permit_core.specs.Taking.{TookAll, StoppedIn}
 use Rattle.permit_model.specs.Caller.{Party}
@@ -66,21 +66,21 @@ returns-clause-stopped g c = λ doubt h is held.
     (λ long.
     let one = one_selection (allowed_by a.policy.now a.caller.now.role action.List) a.wanted long in
     let some = c.in_default.ensures.other one.0 (made ∙ one.1) in cc)
-    (c.in_ok-listing.ensures.opened doubt h is held a.wanted seen).handed
+    (c.in-Ok.ensures.opened doubt h is held a.wanted seen).handed
 
 pub returns-then-hand_out-clause-shown : goal.returns-then-hand_out-clause-shown
 returns-then-hand_out-clause-shown g c = λ doubt h is held.
     let a = c.args in
     let seen = named a.policy.now a.caller.now _ a.wanted _ _ (ap (λ (p : Party). p.role) c.caller.view_is) c.deref-2.ensures.value c.in_ok-selections.ensures in
     subst (λ (vs : List FileView). TookAll g.T.Taker.took vs a.taker.now c.hand_out.new.taker)
-    (c.in_ok-listing.ensures.files doubt h is held a.wanted seen)
+    (c.in-Ok.ensures.files doubt h is held a.wanted seen)
     (rw c.if-hand_out.true at c.hand_out.ensures)
 
 pub returns-then-hand_out-clause-opened : goal.returns-then-hand_out-clause-opened
 returns-then-hand_out-clause-opened g c = λ doubt h is held.
     let a = c.args in
     let seen = named a.policy.now a.caller.now _ a.wanted _ _ (ap (λ (p : Party). p.role) c.caller.view_is) c.deref-2.ensures.value c.in_ok-selections.ensures in
-    let opens = c.in_ok-listing.ensures.opened doubt h is held a.wanted seen in
+    let opens = c.in-Ok.ensures.opened doubt h is held a.wanted seen in
     (opens.told, opens.handed)
 
 pub returns-clause-shown : goal.returns-clause-shown
@@ -88,9 +88,8 @@ returns-clause-shown g c = λ doubt h is held.
     let a = c.args in
     let seen = named a.policy.now a.caller.now _ a.wanted _ _ (ap (λ (p : Party). p.role) c.caller.view_is) c.deref-2.ensures.value c.in_ok-selections.ensures in
     subst (λ (vs : List FileView). StoppedIn g.T.Taker.took vs a.taker.now c.hand_out.new.taker)
-    (c.in_ok-listing.ensures.files doubt h is held a.wanted seen)
+    (c.in-Ok.ensures.files doubt h is held a.wanted seen)
     (rw c.if-hand_out.false at c.hand_out.ensures)
 
-pub returns-in_err-listing-clause-some : goal.returns-in_err-listing-clause-some
-returns-in_err-listing-clause-some g c =
-    failed_some g.T.Taker.took c.args.taker.now c.from_residual-in_err-listing.result c.from_residual-in_err-listing.ensures.0
+pub returns-in_default-list_selected-clause-some : goal.returns-in_default-list_selected-clause-some
+returns-in_default-list_selected-clause-some g c = failed_some g.T.Taker.took c.args.taker.now (Err _) refl

@@ -2,8 +2,8 @@ use Rattle.std.proofs.Common.{length, ap, arith, sym, tests}
 use Rattle.std.proofs.lemmas.List.{length-map}
 use Rattle.permit_args.specs.FactsText.{pieces}
 use Rattle.permit_args.proofs.SixParts.{other_count}
-use Rattle.permit_args.proofs.facts.read_facts.Goals as goal
-use Rattle.permit_args.proofs.facts.read_facts.Goals.{in_default-via-then-as_slice-lt6, in_default-via-else-as_slice-lt6+else-this-lt7}
+use Rattle.permit_args.proofs.facts.facts_read.Goals as goal
+use Rattle.permit_args.proofs.facts.facts_read.Goals.{in_default-via-then-as_slice-lt6, in_default-via-else-as_slice-lt6+else-this-lt7}
 
 pub returns : goal.returns
 returns c =

@@ -1,21 +1,21 @@
 use Rattle.std.proofs.Common.{inl}
 use Rattle.permit_cli.proofs.WithHistory.{at_err, at_ok, import_stops, import_told, unopened_so}
-use Rattle.permit_cli.proofs.recorded.import_recorded_at.Goals as goal
+use Rattle.permit_cli.proofs.recorded.import_recorded_in.Goals as goal
 
 pub returns-in-Ok-clause-told : goal.returns-in-Ok-clause-told
 returns-in-Ok-clause-told g c =
     let done = c.import_recorded-conn in
-    import_told _ _ _ _ _ _ _ _ _ _ _ _ _ _ _ _ _ _ _ c.args.list.now c.in-Ok.ended c.told_of_import.result c.told_of_import.ensures
+    import_told _ _ _ _ _ _ _ _ _ _ _ _ _ _ _ _ _ _ _ c.args.path.now c.in-Ok.ended c.told_of_import.result c.told_of_import.ensures
     (at_ok _ done.result.1 c.in-Ok.ended c.in-Ok.is done.ensures.imported)
 
 pub returns-in-Ok-clause-fails : goal.returns-in-Ok-clause-fails
 returns-in-Ok-clause-fails g c =
     let done = c.import_recorded-conn in
-    import_stops _ _ _ _ _ _ _ _ _ _ _ _ _ _ _ _ _ _ _ c.args.list.now _ c.in-Ok.ended c.told_of_import.result c.told_of_import.ensures
+    import_stops _ _ _ _ _ _ _ _ _ _ _ _ _ _ _ _ _ _ _ c.args.path.now _ c.in-Ok.ended c.told_of_import.result c.told_of_import.ensures
     (at_ok _ done.result.1 c.in-Ok.ended c.in-Ok.is done.ensures.imported)
 
-pub returns-in-Err-clause-fails : goal.returns-in-Err-clause-fails
-returns-in-Err-clause-fails g c =
+pub returns-clause-fails : goal.returns-clause-fails
+returns-clause-fails g c =
     let ended = c.import_recorded-conn in
     inl (
       unopened_so c.in-Err.failure (at_err _ ended.result.1 c.in-Err.failure c.in-Err.is ended.ensures.fails),

@@ -1,5 +1,5 @@
 use Rattle.permit_cli.proofs.WithHistory.{at_err, unserved_so}
-use Rattle.permit_cli.proofs.recorded.serve_recorded_at.Goals as goal
+use Rattle.permit_cli.proofs.serving.serve_recorded_on_days.Goals as goal
 
 pub returns-clause-fails : goal.returns-clause-fails
 returns-clause-fails g c =

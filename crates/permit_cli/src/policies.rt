@@ -1,0 +1,69 @@
+//! Reading a policy, and saying of it what is asked.
+
+ghost use Rattle.std.specs.Prelude.{◌≡◌, ◌⊎◌, IfErr, IfOk, None, Some};
+ghost use Rattle.permit_args.specs.FactsText.{facts_in, pieces};
+ghost use Rattle.permit_import.specs.declared.refused.RefusalWord.TheVariants.{Store};
+ghost use Rattle.permit_subcommands.specs.Failures.{plain};
+ghost use Rattle.permit_subcommands.specs.declared.failure.Failure.TheVariants as failure;
+ghost use Rattle.permit_cli.specs.Doing.{IsPolicyChecked};
+ghost use Rattle.permit_cli.specs.Failing.{FailsToCheck, IsPolicyFailure};
+
+use crate::outcome::Outcome;
+use permit_args::checking::{dead_text, explained_text, rules_text};
+use permit_args::facts::read_facts;
+use permit_args::plan::{Check, CheckPolicyWords};
+use permit_policy::text::read_policy;
+use permit_policy::{Facts, Policy};
+use permit_subcommands::failure::Failure;
+use std::alloc::Global;
+use std::fs;
+
+/// Reads the policy at a path.
+pub(crate) fn policy_at(rt: &HostRuntime, path: &str) -> Result<Policy, Failure>
+    ensures { IfErr result (IsPolicyFailure path.now) }
+{
+    match fs::read_to_string(rt, path) {
+        Ok(text) => match read_policy(rt.alloc(), text.as_str()) {
+            Ok(policy) => Ok(policy),
+            Err(error) => Err(Failure::of_policy(error)),
+        },
+        Err(error) => Err(Failure::of_reading(rt.alloc(), path, &error)),
+    }
+}
+
+/// The facts of a word.
+fn facts_of(alloc: Global, text: &str) -> Result<Facts, Failure>
+    ensures read { IfOk result (λ facts. facts_in (pieces 44 text.now) ≡ Some facts) }
+    ensures refused { IfErr result (λ why. (why ≡ plain Store) ⊎ ((why ≡ failure.Facts) × (facts_in (pieces 44 text.now) ≡ None))) }
+{
+    match read_facts(alloc, text)? {
+        Some(facts) => Ok(facts),
+        None => Err(Failure::Facts),
+    }
+}
+
+/// Reads the policy at a path, and says of it what is asked. The facts are read first.
+pub(crate) fn check_policy(
+    rt: &HostRuntime,
+    words: &CheckPolicyWords<'_>,
+) -> Result<Outcome, Failure>
+    ensures says { IfOk result (IsPolicyChecked words.now.check) }
+    ensures fails { IfErr result (FailsToCheck words.now) }
+{
+    let alloc = rt.alloc();
+    match words.check {
+        Check::Rules => {
+            let text = rules_text(alloc, &policy_at(rt, words.policy)?)?;
+            Ok(Outcome::Checked(text))
+        }
+        Check::Dead => {
+            let text = dead_text(alloc, &policy_at(rt, words.policy)?)?;
+            Ok(Outcome::Checked(text))
+        }
+        Check::Facts(text) => {
+            let facts = facts_of(alloc, text)?;
+            let text = explained_text(alloc, &policy_at(rt, words.policy)?, &facts)?;
+            Ok(Outcome::Checked(text))
+        }
+    }
+}
