@@ -234,7 +234,7 @@ HOSTILE = [
 ]
 BY_PAGE = HOSTILE[0], HOSTILE[2]
 SAID = "return [...document.querySelectorAll('main .said')].map(at => at.textContent)"
-# The letters of an element that stand outside of what somebody wrote, by where they are seen: from left to right, line by line.
+# The letters of an element that are outside of what somebody wrote, by where they are seen: from left to right, line by line.
 TURNED = """
 const walker = document.createTreeWalker(document.querySelector(arguments[0]), NodeFilter.SHOW_TEXT), range = document.createRange();
 let last = null, turned = 0;

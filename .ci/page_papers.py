@@ -51,7 +51,7 @@ def print_paper(person, file, number, parts):
               "not this print"]
     text = printed(person, f"paper {number}", parts)
     for part in always:
-        # Terms stand above their values: each word is wanted by itself.
+        # Terms are above their values: each word is wanted by itself.
         for word in part.split():
             want_in(word, text, f"paper {number}: printed")
     want_in("1 Main St", text, f"paper {number}: printed")

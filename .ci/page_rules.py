@@ -41,7 +41,7 @@ STATES = {
     "revoked, stopped": ("occupancy", [*ISSUED, "stop", "revoke"]),
     "working, without certificate": ("demolish", WORKING), "finaled, without certificate": ("demolish", FINALED),
 }
-# What of a file the page tells by itself; every other reason is the office's to say.
+# What of a file the page says by itself; every other reason is the office's to say.
 TOLD = {"stage", "stopped", "pending", "nothing-pending", "notice-open", "no-such-notice", "kind"}
 
 

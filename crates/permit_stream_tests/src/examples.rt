@@ -10,6 +10,7 @@ use permit_hall::doors::run_hall;
 use permit_hall::events::{Event, hall_run};
 use permit_hall::lists::run_lists;
 use permit_http::fault::Fault;
+use permit_import::heading::heading_reason;
 use permit_import::importing::{import, import_by};
 use permit_office::office::Office;
 use permit_office::reply::Reply;
@@ -82,6 +83,15 @@ fn imports_with_reasons(rt: &impl Abort, alloc: Global) -> Result<(), Fail> {
     assert!(rt; ended.is_ok());
     let told = b"1 why: owner: no party has this number\nadded 0 kept 0 refused 1\n".as_slice();
     assert!(rt; out.as_slice().ends_with(told));
+    Ok(())
+}
+
+fn headings(rt: &impl Abort, alloc: Global) -> Result<(), Fail> {
+    let list = b"lot;address;owner\nA-1;1 Main St;1\n".as_slice();
+    let reason = heading_reason(alloc, list)?.ok_or("a reason")?;
+    let wanted = "heading `lot;address;owner`: lot,address,owner";
+    assert_eq!(rt; reason.as_str(), wanted);
+    assert!(rt; heading_reason(alloc, b"lot,address,owner\n".as_slice())?.is_none());
     Ok(())
 }
 
@@ -167,6 +177,7 @@ fn examples_hold(rt: HostRuntime) -> Result<(), Fail> {
     answers(&rt, alloc);
     imports(&rt, alloc)?;
     imports_with_reasons(&rt, alloc)?;
+    headings(&rt, alloc)?;
     halls(&rt, alloc)?;
     Ok(())
 }

@@ -2,6 +2,7 @@
 
 use crate::streams::{Narrow, Trickle};
 use permit_import::fault::ImportFault;
+use permit_import::heading::heading_reason;
 use permit_import::importing::import;
 use permit_import::tally::Tally;
 use permit_office::office::Office;
@@ -297,28 +298,38 @@ fn a_heading_that_is_wrong_is_shown(rt: HostRuntime) -> Result<(), Fail> {
     let long: &[u8] =
         b"lot,an-address-that-goes-on-and-on-and-on-and-on-and-on-and-on-and-on-and-on\n";
     for (list, wanted) in [
-        (empty, "heading: lot,address,owner\n"),
-        (
-            semicolons,
-            "heading `lot;address;owner`: lot,address,owner\n",
-        ),
+        (empty, "heading: lot,address,owner"),
+        (semicolons, "heading `lot;address;owner`: lot,address,owner"),
         (
             others,
-            "heading `Lot` `?[1maddress` `owner` `more`: lot,address,owner\n",
+            "heading `Lot` `?[1maddress` `owner` `more`: lot,address,owner",
         ),
         (
             long,
-            "heading `lot` `an-address-that-goes-on-and-on-and-on-and-on-and-on-and-on-a`: lot,address,owner\n",
+            "heading `lot` `an-address-that-goes-on-and-on-and-on-and-on-and-on-and-on-a`: lot,address,owner",
         ),
     ] {
+        let reason = heading_reason(rt.alloc(), list)?.ok_or("a reason")?;
+        assert_eq!(rt; reason.as_str(), wanted);
         let mut office = opened(rt.alloc())?;
         let (whole, lines) = explained(rt.alloc(), &mut office.value, TOKENS[1], 19700, list)?;
         assert!(rt; !whole);
-        assert_eq!(rt; lines.as_str(), wanted);
+        assert_eq!(rt; lines.as_str(), "");
         let (ended, fixed) = imported(rt.alloc(), &mut office.value, TOKENS[1], 19700, list)?;
         assert!(rt; ended == Err(ImportFault::FirstRecord));
         assert_eq!(rt; fixed.as_str(), "");
         assert_eq!(rt; parcels(office)?, 2);
     }
+    Ok(())
+}
+
+#[test]
+fn no_heading_is_shown_that_is_right_or_unread(rt: HostRuntime) -> Result<(), Fail> {
+    assert!(rt; heading_reason(rt.alloc(), LIST.as_bytes())?.is_none());
+    let reader = Trickle {
+        rest: b"lot;address",
+        fails: true,
+    };
+    assert!(rt; heading_reason(rt.alloc(), reader)?.is_none());
     Ok(())
 }
