@@ -165,10 +165,15 @@ fn explain_policy<E: Write>(
     }
 }
 
-/// What is found at the path of a file that can't be read.
+/// What is found at the path of a file that can't be read; `-` is standard input. A pipe isn't opened again, since that would wait
+/// for a writer.
 fn unread_at(rt: &HostRuntime, path: &str) -> Unread {
+    if path == "-" {
+        return Unread::Failed;
+    }
     let found = match fs::metadata(rt, path) {
         Ok(found) if found.is_dir() => return Unread::Folder,
+        Ok(found) if !found.is_file() => return Unread::NotRegular,
         Ok(_) => File::open(rt, path).map(drop),
         Err(error) => Err(error),
     };

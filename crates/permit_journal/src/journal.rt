@@ -7,7 +7,7 @@ ghost use Rattle.permit_journal.specs.Journals.{IsSettled, Has, HasUnlessShut};
 use crate::file::{FileError, HistoryFile};
 use std::marker::Model;
 
-/// Writes a line at the end of the text, and puts it on the disk.
+/// Appends a line to the text, and syncs the file (fsync).
 fn write_out<H: HistoryFile>(file: &mut H, line: &[u8]) -> Result<(), FileError>
     ensures written { IsTrue (H.is_clean file.old) → OnOk result (H.text file.new ≡ H.text file.old ++ line.now) }
     ensures durable { OnOk result (Only (H.text file.new) (H.may_leave file.new)) }
@@ -20,7 +20,7 @@ fn write_out<H: HistoryFile>(file: &mut H, line: &[u8]) -> Result<(), FileError>
     file.sync()
 }
 
-/// Cuts the text, and puts it on the disk.
+/// Cuts the text, and syncs the file.
 fn cut_back<H: HistoryFile>(file: &mut H, to: u64) -> Result<(), FileError>
     ensures cut { to ≤ length (H.text file.old) → OnOk result (H.text file.new ≡ take to (H.text file.old)) }
     ensures durable { OnOk result (Only (H.text file.new) (H.may_leave file.new)) }
@@ -68,7 +68,7 @@ impl<H: HistoryFile> Model for Journal<H> {
 }
 
 impl<H: HistoryFile + Drop> Journal<H> {
-    /// A journal over the file, whose text is put on the disk. Where a call of the file fails, the file is given back, with its
+    /// A journal over the file, which is synced (fsync). Where a call of the file fails, the file is given back, with its
     /// text as it was.
     ///
     /// # Examples
@@ -113,7 +113,7 @@ impl<H: HistoryFile + Drop> Journal<H> {
         self.is_shut
     }
 
-    /// Cuts the text to the length and puts it on the disk, or shuts the journal.
+    /// Cuts the text to the length and syncs the file, or shuts the journal.
     fn cut_off(&mut self, to: u64)
         ensures cut { IsTrue (H.is_clean self.old.file) → (base line : List ℕ) → length base ≡ to → Grown H.leaves line base (H.text self.old.file)
             → HasUnlessShut H.text H.may_leave H.is_clean self.new self.new.is_shut base }
@@ -124,7 +124,7 @@ impl<H: HistoryFile + Drop> Journal<H> {
         self.is_shut = cut_back(&mut self.file, to).is_err();
     }
 
-    /// Adds a line to the text, with its LF, and puts it on the disk. Otherwise nothing of it is left, or the journal is shut.
+    /// Appends a line to the text, with its LF, and syncs the file (fsync). Otherwise nothing of it is left, or the journal is shut.
     ///
     /// # Examples
     ///

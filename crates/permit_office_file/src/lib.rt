@@ -4,5 +4,3 @@
 
 pub mod copies;
 pub mod office_file;
-#[cfg(test)]
-mod tests;

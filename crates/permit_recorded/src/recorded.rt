@@ -80,7 +80,7 @@ fn record<D: Decider, S: Store, H: HistoryFile + Drop>(
 /// An office that keeps the history of what it does: over a store, by what decides, with the file of the history. Contracts see
 /// the three.
 ///
-/// A command is decided first, without a change. Then its line is entered into the history's file and put on the disk, and then
+/// A command is decided first, without a change. Then its line is appended to the history's file and synced, and then
 /// the command is done; its answer comes after both. Where the line can't be entered, or the command isn't done after all, the
 /// line is taken back. Where that fails the office shuts: each further request is refused for the store, and nothing is done. It
 /// shuts too, and the line stays, where the command failed and the store can't be read, since it isn't known then whether the

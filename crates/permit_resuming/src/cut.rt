@@ -42,7 +42,7 @@ fn kept_length<S: Store>(
     }
 }
 
-/// Cuts the text, which has so many bytes, to a length, unless that is its own. The whole text is put on the disk before, so
+/// Cuts the text, which has so many bytes, to a length, unless that is its own. The file is synced (fsync) before, so
 /// that a crash leaves no less than what is kept.
 fn cut_to<H: HistoryFile>(file: &mut H, size: usize, kept: u64) -> Result<(), FileError>
     ensures cut { size ≡ length (H.text file.old) → OnOk result (H.text file.new ≡ take kept (H.text file.old)) }

@@ -1,5 +1,8 @@
-//! The examples of the doc comments of the stores over a database and over memory, and of changes that are made together, line
-//! by line as they are written there.
+//! The examples of the doc comments of the stores over a database and over memory, of the files of a database, and of changes
+//! that are made together, line by line as they are written there.
+
+ghost use Rattle.sqlite_disk.specs.Memory.{memory_is_usable};
+ghost use Rattle.std.specs.Prelude.{IfOk, IsTrue};
 
 use crate::database::founded;
 use permit_base::values::{Day, Digest, PartyId, Text};
@@ -8,6 +11,8 @@ use permit_batch::batching::Batching;
 use permit_batch::draft::Draft;
 use permit_mirror::indexed::Indexed;
 use permit_mirror::mirrored::Mirrored;
+use permit_office_file::copies::{copied, in_memory, on_disk};
+use permit_office_file::office_file::OfficeFile;
 use permit_samples::held::Held;
 use permit_samples::makers::{day, digest_of, party, text};
 use permit_samples::offices::founder;
@@ -26,6 +31,7 @@ use permit_store::renewing::Renewing;
 use permit_store::rows::Change;
 use permit_store::store::Store;
 use sqlite::{Connection, MemStore};
+use sqlite_disk::{Disk, Files, Memory};
 use std::alloc::Global;
 use std::marker::Brand;
 use std::process::Abort;
@@ -238,4 +244,61 @@ fn examples_of_rows_hold(rt: HostRuntime) -> Result<(), Fail> {
     knows(&rt, &conn.value);
     decodes(&rt, &mut conn.value)?;
     binds(&rt, &mut conn.value)
+}
+
+fn makes_memory(rt: &impl Abort, alloc: Global) -> Result<(), Fail> {
+    let mut file = OfficeFile::<Memory>::InMemory(Memory::new(alloc));
+    file.write_at(1, b"ab")?;
+    file.sync()?;
+    let mut read = [0; 3];
+    file.read_at(0, &mut read)?;
+    assert!(rt; read == *b"\0ab");
+    Ok(())
+}
+
+fn copies_disk(rt: &impl Abort, alloc: Global) -> Result<(), Fail> {
+    let mut disk = Memory::new(alloc);
+    disk.write_at(0, b"first")?;
+    let copy = copied(alloc, &mut disk)?;
+    assert!(rt; copy.bytes() == disk.bytes());
+    Ok(())
+}
+
+/// A log without bytes, and the file of a database.
+fn files_of(alloc: Global, bytes: &[u8]) -> Result<Files<Memory>, Fail>
+    ensures log { IfOk result (λ files. IsTrue (memory_is_usable files.log)) }
+    ensures db { IfOk result (λ files. IsTrue (memory_is_usable files.db)) }
+{
+    let (log, mut db) = (Memory::new(alloc), Memory::new(alloc));
+    db.write_at(0, bytes)?;
+    Ok(Files { log, db })
+}
+
+fn writes_disk(rt: &impl Abort, alloc: Global) -> Result<(), Fail> {
+    let files = files_of(alloc, b"other")?;
+    let mut files = on_disk(files);
+    files.db.write_at(0, b"first")?;
+    assert!(rt; matches!(&files.db, OfficeFile::OnDisk(disk) if disk.bytes() == b"first".as_slice()));
+    Ok(())
+}
+
+fn writes_copy(rt: &impl Abort, alloc: Global) -> Result<(), Fail> {
+    let files = files_of(alloc, b"first")?;
+    let (files, copies) = in_memory(alloc, files);
+    let mut copies = copies?;
+    copies.db.write_at(0, b"other")?;
+    copies.db.sync()?;
+    let mut read = [0; 5];
+    copies.db.read_at(0, &mut read)?;
+    assert!(rt; read == *b"other" && files.db.bytes() == b"first".as_slice());
+    Ok(())
+}
+
+#[test]
+fn files_on_disk_and_their_copies_do(rt: HostRuntime) -> Result<(), Fail> {
+    let alloc = rt.alloc();
+    makes_memory(&rt, alloc)?;
+    copies_disk(&rt, alloc)?;
+    writes_disk(&rt, alloc)?;
+    writes_copy(&rt, alloc)
 }
