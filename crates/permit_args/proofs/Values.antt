@@ -1,12 +1,16 @@
 -- Values that words refuse.
-use Rattle.std.proofs.Common.{◌≡◌, ◌∙◌, ℕ, IsSome, IsSomeAnd, IsTrue, List, MatchOption, None, Option, Some, false, true, refl, subst, sym, codes}
+use Rattle.std.proofs.Common.{Bool, ◌⊎◌, inl, inr, ◌+◌, ◌≤◌, arith, cond, is_some, ◌≡◌, ◌∙◌, ℕ, IsSome, IsSomeAnd, IsTrue, List, MatchOption, None, Option, Some, false, true, refl, subst, sym, codes}
 use Rattle.clap.specs.Words.{Row, Text, first_of}
 use Rattle.permit_base.specs.Stages.{is_file_stage}
 use Rattle.permit_base.specs.Words.{stage_word}
 use Rattle.permit_base.specs.declared.words.Stage.{Stage}
-use Rattle.permit_args.specs.Plans.{is_given, most_workers, ArePathsOf, IsCheckOf, IsCountOf, IsOptionalCountOf, IsStageOf, IsTokenOf, IsWorkersOf}
+use Rattle.permit_args.specs.Plans.{is_given, most_workers, ArePathsOf, Clashes, IsCheckBy, IsCountOf, IsFormOf, IsOptionalCountOf, IsStageOf, IsTokenOf, IsWorkersOf}
 use Rattle.permit_args.specs.declared.plan.Check.{Check}
-use Rattle.permit_args.specs.declared.plan.Check.TheVariants.{Rules, Dead, Facts}
+use Rattle.permit_args.specs.declared.plan.Check.TheVariants.{Rules, Dead, Facts, Against, Table}
+use Rattle.permit_args.specs.declared.plan.Clash.{Clash}
+use Rattle.permit_args.specs.declared.plan.Clash.TheVariants as clash
+use Rattle.permit_policy.specs.declared.pages.TableForm.{TableForm}
+use Rattle.permit_policy.specs.declared.pages.TableForm.TheVariants.{Columns, Csv, Markdown}
 use Rattle.permit_args.specs.declared.plan.HistoryPaths.{HistoryPaths}
 use Rattle.permit_args.specs.declared.plan.TokenWords.{TokenWords}
 use Rattle.permit_args.specs.declared.plan.TokenWords.TheVariants.{Given, File}
@@ -24,12 +28,60 @@ no_stage rows text there none (Some s) is =
     let word : stage_word s ≡ text = cc in
     none s word is.within
 
--- dead rules and facts together are no check
-pub no_check : (rows : List Row) (text : Text) → is_given (codes "dead") rows ≡ true → first_of (codes "facts") rows ≡ Some text → (check : Check)
-    → IsCheckOf rows check → ⊥
-no_check rows text dead facts Rules is = let bad : true ≡ false = sym dead ∙ is.0 in cc
-no_check rows text dead facts Dead is = let bad : Some text ≡ None = sym facts ∙ is.1 in cc
-no_check rows text dead facts (Facts x) is = let bad : true ≡ false = sym dead ∙ is.0 in cc
+-- 1 where something holds
+abbrev mark : Bool → ℕ
+mark b = cond b 1 0
+
+-- how many of four words are there
+abbrev given : Bool → Option Text → Option Text → Bool → ℕ
+given dead facts against table = mark dead + mark (is_some facts) + mark (is_some against) + mark table
+
+one : (b : Bool) → b ≡ true → mark b ≡ 1
+one b e = rw e refl
+
+zero : (b : Bool) → b ≡ false → mark b ≡ 0
+zero b e = rw e refl
+
+missing : (o : Option Text) → o ≡ None → mark (is_some o) ≡ 0
+missing o e = rw e refl
+
+few : (b : Bool) → mark b ≤ 1
+few b = grind arith
+
+one_at_most : (dead : Bool) (facts against : Option Text) (table : Bool) (check : Check) → IsCheckBy dead facts against table check → given dead facts against table ≤ 1
+one_at_most dead facts against table Rules is = let a = zero dead is.0 in let b = missing facts is.1 in let c = missing against is.2 in let d = zero table is.3 in omega arith
+one_at_most dead facts against table Dead is = let a = few dead in let b = missing facts is.1 in let c = missing against is.2 in let d = zero table is.3 in omega arith
+one_at_most dead facts against table (Facts text) is = let a = zero dead is.0 in let b = few (is_some facts) in let c = missing against is.2 in let d = zero table is.3 in omega arith
+one_at_most dead facts against table (Against path) is = let a = zero dead is.0 in let b = missing facts is.1 in let c = few (is_some against) in let d = zero table is.3 in omega arith
+one_at_most dead facts against table Table is = let a = zero dead is.0 in let b = missing facts is.1 in let c = missing against is.2 in let d = few table in omega arith
+
+two_at_least : (dead : Bool) (facts against : Option Text) (table : Bool) (two : Clash) → Clashes dead facts against table two → 2 ≤ given dead facts against table
+two_at_least dead facts against table clash.DeadFacts is = let a = one dead is.0 in let b = one (is_some facts) is.1 in omega arith
+two_at_least dead facts against table clash.DeadAgainst is = let a = one dead is.0 in let b = one (is_some against) is.1 in omega arith
+two_at_least dead facts against table clash.DeadTable is = let a = one dead is.0 in let b = one table is.1 in omega arith
+two_at_least dead facts against table clash.FactsAgainst is = let a = one (is_some facts) is.0 in let b = one (is_some against) is.1 in omega arith
+two_at_least dead facts against table clash.FactsTable is = let a = one (is_some facts) is.0 in let b = one table is.1 in omega arith
+two_at_least dead facts against table clash.AgainstTable is = let a = one (is_some against) is.0 in let b = one table is.1 in omega arith
+
+-- two words that clash are no check
+pub no_check : (dead : Bool) (facts against : Option Text) (table : Bool) (two : Clash) → Clashes dead facts against table two → (check : Check)
+    → IsCheckBy dead facts against table check → ⊥
+no_check dead facts against table two clashes check is =
+    let least = two_at_least dead facts against table two clashes in
+    let most = one_at_most dead facts against table check is in omega arith
+
+-- a form is asked for once, and beside the table
+pub two_forms : (rows : List Row) → is_given (codes "csv") rows ≡ true → is_given (codes "markdown") rows ≡ true → (form : TableForm) → IsFormOf rows form → ⊥
+two_forms rows csv markdown Columns is = let bad : true ≡ false = sym csv ∙ is.0 in cc
+two_forms rows csv markdown Csv is = let bad : true ≡ false = sym markdown ∙ is.1 in cc
+two_forms rows csv markdown Markdown is = let bad : true ≡ false = sym csv ∙ is.0 in cc
+
+pub no_table : (rows : List Row) → is_given (codes "table") rows ≡ false → (is_given (codes "csv") rows ≡ true) ⊎ (is_given (codes "markdown") rows ≡ true)
+    → (form : TableForm) → IsFormOf rows form → ⊥
+no_table rows table (inl csv) Columns is = let bad : true ≡ false = sym csv ∙ is.0 in cc
+no_table rows table (inr markdown) Columns is = let bad : true ≡ false = sym markdown ∙ is.1 in cc
+no_table rows table asked Csv is = let bad : false ≡ true = sym table ∙ is.2 in cc
+no_table rows table asked Markdown is = let bad : false ≡ true = sym table ∙ is.2 in cc
 
 -- neither a token nor its file is no token
 pub no_token : (rows : List Row) → first_of (codes "token") rows ≡ None → first_of (codes "token-file") rows ≡ None → (token : TokenWords)

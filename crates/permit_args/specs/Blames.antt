@@ -1,13 +1,14 @@
 -- Which line blames what is wrong with the words of a subcommand, where the command line library takes them.
-use Rattle.std.specs.Prelude.{◌≡◌, ◌⊎◌, ℕ, List, Option, None, Some, IsSome, IsTrue, codes}
+use Rattle.std.specs.Prelude.{◌≡◌, ◌⊎◌, ℕ, List, Option, None, Some, IsSome, IsTrue, codes, false, true}
+use Rattle.permit_args.specs.declared.plan.Clash.{Clash}
 use Rattle.clap.specs.Words.{Row, Text, first_of}
 use Rattle.permit_base.specs.Limits.{most_records}
 use Rattle.permit_base.specs.Stages.{is_file_stage}
 use Rattle.permit_base.specs.Words.{register_word, stage_word}
 use Rattle.permit_base.specs.declared.words.RegisterKind.{RegisterKind}
 use Rattle.permit_base.specs.declared.words.Stage.{Stage}
-use Rattle.permit_args.specs.Lines.{invalid_line, missing_line, no_history_line, no_subcommand_line, no_token_line, record_name, two_checks_line, two_tokens_line}
-use Rattle.permit_args.specs.Plans.{is_given, most_connections, most_workers, IsCountOf}
+use Rattle.permit_args.specs.Lines.{invalid_line, missing_line, no_history_line, no_subcommand_line, no_table_line, no_token_line, record_name, clash_line, two_forms_line, two_tokens_line}
+use Rattle.permit_args.specs.Plans.{is_given, most_connections, most_workers, Clashes, IsCountOf}
 use Rattle.permit_args.specs.declared.places.Place.{Place}
 use Rattle.permit_args.specs.declared.places.Place.TheVariants as place
 use Rattle.permit_args.specs.declared.places.RecordKind.TheVariants as kind
@@ -47,9 +48,17 @@ BlamesToken rows line =
     ((first_of (codes "token") rows ≡ None) × (first_of (codes "token-file") rows ≡ None) × (line ≡ no_token_line))
     ⊎ (IsSome (first_of (codes "token") rows) × IsSome (first_of (codes "token-file") rows) × (line ≡ two_tokens_line))
 
--- dead rules and facts are there
+-- two of the words are there that ask for something to be said of a policy
 abbrev pub BlamesCheck : List Row → Text → Type 0
-BlamesCheck rows line = IsTrue (is_given (codes "dead") rows) × IsSome (first_of (codes "facts") rows) × (line ≡ two_checks_line)
+BlamesCheck rows line =
+    (two : Clash) × Clashes (is_given (codes "dead") rows) (first_of (codes "facts") rows) (first_of (codes "against") rows) (is_given (codes "table") rows) two
+    × (line ≡ clash_line two)
+
+-- both forms of a table are there, or one without the table
+abbrev pub BlamesForm : List Row → Text → Type 0
+BlamesForm rows line =
+    ((is_given (codes "csv") rows ≡ true) × (is_given (codes "markdown") rows ≡ true) × (line ≡ two_forms_line))
+    ⊎ ((is_given (codes "table") rows ≡ false) × (((is_given (codes "csv") rows ≡ true) ⊎ (is_given (codes "markdown") rows ≡ true)) × (line ≡ no_table_line)))
 
 -- a copy of the database is there, and the history that begins with it isn't
 abbrev pub BlamesPaths : List Row → Text → Type 0
@@ -61,7 +70,7 @@ BlamesOffice rows line = Misses (codes "db") rows line ⊎ (Misses (codes "polic
 -- what can be wrong with the words of each subcommand; of none, that none is named
 abbrev pub Blames : Option Subcommand → List Row → Text → Type 0
 Blames None rows line = line ≡ no_subcommand_line
-Blames (Some CheckPolicy) rows line = Misses (codes "policy") rows line ⊎ BlamesCheck rows line
+Blames (Some CheckPolicy) rows line = Misses (codes "policy") rows line ⊎ (BlamesCheck rows line ⊎ BlamesForm rows line)
 Blames (Some Init) rows line = Misses (codes "db") rows line ⊎ (Misses (codes "name") rows line ⊎ BlamesToken rows line)
 Blames (Some Act) rows line = BlamesOffice rows line ⊎ (Misses (codes "method") rows line ⊎ (Misses (codes "path") rows line
     ⊎ BlamesPaths rows line))

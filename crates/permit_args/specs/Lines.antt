@@ -5,6 +5,8 @@ use Rattle.permit_args.specs.declared.places.Place.{Place}
 use Rattle.permit_args.specs.declared.places.Place.TheVariants.{Stage, Register, Workers, Connections, Record}
 use Rattle.permit_args.specs.declared.places.RecordKind.{RecordKind}
 use Rattle.permit_args.specs.declared.places.RecordKind.TheVariants.{File, Parcel, Party}
+use Rattle.permit_args.specs.declared.plan.Clash.{Clash}
+use Rattle.permit_args.specs.declared.plan.Clash.TheVariants as clash
 
 -- the option for the number of a file, a parcel or a party
 abbrev pub record_name : RecordKind → Text
@@ -59,9 +61,22 @@ no_token_line =
 abbrev pub two_tokens_line : Text
 two_tokens_line = codes "error: the argument '--token <TOKEN>' cannot be used with '--token-file <PATH>'\n\nFor more information, try '--help'.\n"
 
--- dead rules and facts
-abbrev pub two_checks_line : Text
-two_checks_line = codes "error: the argument '--dead' cannot be used with '--facts <FACTS>'\n\nFor more information, try '--help'.\n"
+-- two words of which each asks for something else to be said of a policy
+abbrev pub clash_line : Clash → Text
+clash_line clash.DeadFacts = codes "error: the argument '--dead' cannot be used with '--facts <FACTS>'\n\nFor more information, try '--help'.\n"
+clash_line clash.DeadAgainst = codes "error: the argument '--dead' cannot be used with '--against <OLD>'\n\nFor more information, try '--help'.\n"
+clash_line clash.DeadTable = codes "error: the argument '--dead' cannot be used with '--table'\n\nFor more information, try '--help'.\n"
+clash_line clash.FactsAgainst = codes "error: the argument '--facts <FACTS>' cannot be used with '--against <OLD>'\n\nFor more information, try '--help'.\n"
+clash_line clash.FactsTable = codes "error: the argument '--facts <FACTS>' cannot be used with '--table'\n\nFor more information, try '--help'.\n"
+clash_line clash.AgainstTable = codes "error: the argument '--against <OLD>' cannot be used with '--table'\n\nFor more information, try '--help'.\n"
+
+-- two forms of a table
+abbrev pub two_forms_line : Text
+two_forms_line = codes "error: the argument '--csv' cannot be used with '--markdown'\n\nFor more information, try '--help'.\n"
+
+-- a form without a table
+abbrev pub no_table_line : Text
+no_table_line = codes "error: the following required arguments were not provided:\n  --table\n\nFor more information, try '--help'.\n"
 
 -- a copy of the database without the history that begins with it
 abbrev pub no_history_line : Text

@@ -1,5 +1,5 @@
 -- The subcommands as simple commands of the command line library, and the plan that their words give.
-use Rattle.std.specs.Prelude.{◌≡◌, List, [], ◌∷◌, ℕ, Bool, Option, None, Some, true, false, IfSome, IsSomeAnd, IsTrue, MatchOption, option_map, codes, if◌then◌else◌}
+use Rattle.std.specs.Prelude.{IsSome, ◌≡◌, List, [], ◌∷◌, ℕ, Bool, Option, None, Some, true, false, IfSome, IsSomeAnd, IsTrue, MatchOption, option_map, codes, if◌then◌else◌}
 use Rattle.std.specs.Prelude.{decimal, bytes_eq, ◌≤◌}
 use Rattle.std.specs.Option.{option_map_or}
 use Rattle.std.specs.Borrow.{Bor}
@@ -11,7 +11,11 @@ use Rattle.permit_base.specs.Stages.{is_file_stage}
 use Rattle.permit_base.specs.Words.{register_word, stage_word}
 use Rattle.permit_base.specs.declared.words.Stage.{Stage}
 use Rattle.permit_args.specs.declared.plan.Check.{Check}
-use Rattle.permit_args.specs.declared.plan.Check.TheVariants.{Rules, Dead, Facts}
+use Rattle.permit_args.specs.declared.plan.Check.TheVariants.{Rules, Dead, Facts, Against, Table}
+use Rattle.permit_args.specs.declared.plan.Clash.{Clash}
+use Rattle.permit_args.specs.declared.plan.Clash.TheVariants as clash
+use Rattle.permit_policy.specs.declared.pages.TableForm.{TableForm}
+use Rattle.permit_policy.specs.declared.pages.TableForm.TheVariants as form
 use Rattle.permit_args.specs.declared.plan.BeginHistoryWords.{BeginHistoryWords}
 use Rattle.permit_args.specs.declared.plan.CheckPolicyWords.{CheckPolicyWords}
 use Rattle.permit_args.specs.declared.plan.CheckDbWords.{CheckDbWords}
@@ -87,8 +91,9 @@ with_office app = with_why (with_days (with_token (with_rule (with_rule app (req
 
 -- the subcommand that reads a policy
 unfoldable pub check_policy_app : App
-check_policy_app = with_why (with_rule (with_rule (with_rule (new_app (codes "check-policy"))
-    (required_option (codes "policy"))) (flag (codes "dead"))) (optional_option (codes "facts")))
+check_policy_app = with_why (with_rule (with_rule (with_rule (with_rule (with_rule (with_rule (with_rule (new_app (codes "check-policy"))
+    (required_option (codes "policy"))) (flag (codes "dead"))) (optional_option (codes "facts"))) (optional_option (codes "against")))
+    (flag (codes "table"))) (flag (codes "csv"))) (flag (codes "markdown")))
 
 -- the subcommand that founds an office
 unfoldable pub init_app : App
@@ -173,16 +178,38 @@ abbrev pub ArePathsOf : List Row → Option HistoryPaths → Type 0
 ArePathsOf rows None = (first_of (codes "history") rows ≡ None) × (first_of (codes "from") rows ≡ None)
 ArePathsOf rows (Some paths) = (first_of (codes "history") rows ≡ Some paths.text.now) × (first_of (codes "from") rows ≡ text_of paths.copy)
 
--- what is said of a policy: its dead rules or how it decides for some facts, not both, and without either its rules
+-- what is said of a policy by what is given of four words: one at most is there, and without any its rules are counted
+abbrev pub IsCheckBy : Bool → Option Text → Option Text → Bool → Check → Type 0
+IsCheckBy dead facts against table Rules = (dead ≡ false) × (facts ≡ None) × (against ≡ None) × (table ≡ false)
+IsCheckBy dead facts against table Dead = (dead ≡ true) × (facts ≡ None) × (against ≡ None) × (table ≡ false)
+IsCheckBy dead facts against table (Facts text) = (dead ≡ false) × (facts ≡ Some text.now) × (against ≡ None) × (table ≡ false)
+IsCheckBy dead facts against table (Against path) = (dead ≡ false) × (facts ≡ None) × (against ≡ Some path.now) × (table ≡ false)
+IsCheckBy dead facts against table Table = (dead ≡ false) × (facts ≡ None) × (against ≡ None) × (table ≡ true)
+
+-- two of them are there
+abbrev pub Clashes : Bool → Option Text → Option Text → Bool → Clash → Type 0
+Clashes dead facts against table clash.DeadFacts = (dead ≡ true) × IsSome facts
+Clashes dead facts against table clash.DeadAgainst = (dead ≡ true) × IsSome against
+Clashes dead facts against table clash.DeadTable = (dead ≡ true) × (table ≡ true)
+Clashes dead facts against table clash.FactsAgainst = IsSome facts × IsSome against
+Clashes dead facts against table clash.FactsTable = IsSome facts × (table ≡ true)
+Clashes dead facts against table clash.AgainstTable = IsSome against × (table ≡ true)
+
 abbrev pub IsCheckOf : List Row → Check → Type 0
-IsCheckOf rows Rules = (is_given (codes "dead") rows ≡ false) × (first_of (codes "facts") rows ≡ None)
-IsCheckOf rows Dead = (is_given (codes "dead") rows ≡ true) × (first_of (codes "facts") rows ≡ None)
-IsCheckOf rows (Facts text) = (is_given (codes "dead") rows ≡ false) × (first_of (codes "facts") rows ≡ Some text.now)
+IsCheckOf rows check =
+    IsCheckBy (is_given (codes "dead") rows) (first_of (codes "facts") rows) (first_of (codes "against") rows) (is_given (codes "table") rows) check
+
+-- how a table is written
+abbrev pub IsFormOf : List Row → TableForm → Type 0
+IsFormOf rows form.Columns = (is_given (codes "csv") rows ≡ false) × (is_given (codes "markdown") rows ≡ false)
+IsFormOf rows form.Csv = (is_given (codes "csv") rows ≡ true) × (is_given (codes "markdown") rows ≡ false) × (is_given (codes "table") rows ≡ true)
+IsFormOf rows form.Markdown = (is_given (codes "csv") rows ≡ false) × (is_given (codes "markdown") rows ≡ true) × (is_given (codes "table") rows ≡ true)
 
 -- the policy that was found, and what is said of it
 pub record IsCheckPolicyOf (rows : List Row) (words : CheckPolicyWords) : Type 0 where
   pub policy : first_of (codes "policy") rows ≡ Some words.policy.now
   pub check : IsCheckOf rows words.check
+  pub form : IsFormOf rows words.form
   pub why : is_given (codes "why") rows ≡ words.why
 
 -- the founding that was found

@@ -248,8 +248,8 @@ fn check_policy<'a>(alloc: Global) -> Result<Command<'a>, AllocError>
         alloc,
         "check-policy",
         "permit check-policy",
-        "Reads a policy and says how many rules it has, which of them are dead, or how it decides",
-        "Example: permit check-policy --policy policy.toml --facts clerk,-,list,filed,no,near",
+        "Reads a policy and says how many rules it has, which of them are dead, how it decides, what it changes, or who may do what",
+        "Example: permit check-policy --policy new.toml --against policy.toml",
     )
     .policy()
     .flag(
@@ -261,6 +261,17 @@ fn check_policy<'a>(alloc: Global) -> Result<Command<'a>, AllocError>
         "FACTS",
         "Tells how the policy decides: ROLE,RELATIONS,ACTION,STAGE,STOPPED,TIMING, where RELATIONS are joined by + or - for none, and STOPPED is yes or no",
     )
+    .option(
+        "against",
+        "OLD",
+        "Tells what the policy opens and closes beside the one at this path",
+    )
+    .flag(
+        "table",
+        "Tells who may do what: a row for each action, a column for each role",
+    )
+    .flag("csv", "Writes the table as comma-separated values")
+    .flag("markdown", "Writes the table for a page")
     .why()
     .command
 }

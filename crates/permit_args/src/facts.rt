@@ -1,20 +1,36 @@
 //! The facts that `check-policy` is asked about, as one word of the command line.
 
 ghost use Rattle.std.specs.Prelude.{◌≡◌, ◌<◌, ◌↔◌, IfOk, IsNone, IsSome, map, Some};
-ghost use Rattle.permit_args.specs.FactsText.{facts_by, facts_in, facts_reason, facts_read, fault_in, pieces, relations_in, set_from, truth_in, with_relation};
+ghost use Rattle.permit_args.specs.FactsText.{absent_in, alternative_in, facts_by, facts_in, facts_reason, facts_read, fault_in, first_from, pieces, relations_in, set_from, stage_in, timing_in, truth_in, with_relation, word_more};
+ghost use Rattle.permit_base.specs.Words.{named, all_relations, relation_word};
 ghost use Rattle.permit_model.specs.Facts.{no_relations};
 
 use permit_base::words::{Action, Relation, Relations, Role, Stage, Timing, Word};
 use permit_policy::Facts;
 use std::alloc::{AllocError, Global};
 
-/// The truth value that `yes` or `no` says.
+/// The truth value that `yes` or `no` says, and false where a hyphen says that it doesn't matter.
 fn truth(text: &str) -> Option<bool>
     ensures { result ≡ truth_in text.now }
 {
     match text {
         "yes" => Some(true),
-        "no" => Some(false),
+        "no" | "-" => Some(false),
+        _ => None,
+    }
+}
+
+/// The relation that a word says isn't there.
+fn absent(text: &str) -> Option<Relation>
+    ensures { result ≡ absent_in text.now }
+{
+    match text {
+        "not-applicant" => Some(Relation::Applicant),
+        "not-contractor" => Some(Relation::Contractor),
+        "not-owner" => Some(Relation::Owner),
+        "not-assigned-reviewer" => Some(Relation::AssignedReviewer),
+        "not-assigned-inspector" => Some(Relation::AssignedInspector),
+        "not-conflict" => Some(Relation::Conflict),
         _ => None,
     }
 }
@@ -49,19 +65,43 @@ fn no_relations() -> Relations
     }
 }
 
-/// The set of the relations of these words, none of which may come twice.
-fn set_of(words: &[&str]) -> Option<Relations>
-    ensures { result ≡ set_from no_relations (map (λ w. w.now) words.now) }
+/// A word more: the relations that were named, and those that are there. No relation may be named twice.
+fn word_more(word: &str, seen: Relations, set: Relations) -> Option<(Relations, Relations)>
+    ensures { result ≡ word_more (named relation_word all_relations word.now) (absent_in word.now) seen set }
 {
+    match (Relation::read(word), absent(word)) {
+        (Some(relation), _) if !seen.has(relation) => {
+            Some((with_relation(seen, relation), with_relation(set, relation)))
+        }
+        (None, Some(relation)) if !seen.has(relation) => {
+            Some((with_relation(seen, relation), set))
+        }
+        _ => None,
+    }
+}
+
+/// The set of the relations of these words.
+fn set_of(words: &[&str]) -> Option<Relations>
+    ensures { result ≡ set_from no_relations no_relations (map (λ w. w.now) words.now) }
+{
+    let mut seen = no_relations();
     let mut set = no_relations();
     for word in words {
-        let relation = Relation::read(word)?;
-        if set.has(relation) {
-            return None;
-        }
-        set = with_relation(set, relation);
+        (seen, set) = word_more(word, seen, set)?;
     }
     Some(set)
+}
+
+/// The first of some words, each of which has to be one of its kind.
+fn first_of<W: Word>(words: &[&str]) -> Option<W>
+    ensures { result ≡ first_from (named W.spelling W.every) None (map (λ w. w.now) words.now) }
+{
+    let mut first = None;
+    for word in words {
+        let read = W::read(word)?;
+        first = Some(first.unwrap_or(read));
+    }
+    first
 }
 
 /// The texts between the letters of this kind.
@@ -72,15 +112,51 @@ fn pieces(alloc: Global, text: &str, letter: char) -> Result<Vec<&str>, AllocErr
     text.split(letter).collect(alloc)
 }
 
-/// The set that a hyphen or relations joined by `+` name.
+/// The set of relations joined by `+`.
+fn alternative(alloc: Global, text: &str) -> Result<Option<Relations>, AllocError>
+    ensures { IfOk result (λ set. set ≡ alternative_in text.now) }
+{
+    let words = pieces(alloc, text, '+')?;
+    Ok(set_of(words.as_slice()))
+}
+
+/// The first of the sets that are named between slashes, or the empty one for a hyphen.
 fn relations(alloc: Global, text: &str) -> Result<Option<Relations>, AllocError>
     ensures { IfOk result (λ set. set ≡ relations_in text.now) }
 {
     if text == "-" {
         return Ok(Some(no_relations()));
     }
-    let words = pieces(alloc, text, '+')?;
-    Ok(set_of(words.as_slice()))
+    let mut first = None;
+    for word in &pieces(alloc, text, '/')? {
+        match alternative(alloc, word)? {
+            Some(set) => first = Some(first.unwrap_or(set)),
+            None => return Ok(None),
+        }
+    }
+    Ok(first)
+}
+
+/// The first of the stages between slashes, or `filed` for a hyphen.
+fn stage(alloc: Global, text: &str) -> Result<Option<Stage>, AllocError>
+    ensures { IfOk result (λ stage. stage ≡ stage_in text.now) }
+{
+    if text == "-" {
+        return Ok(Some(Stage::Filed));
+    }
+    let words = pieces(alloc, text, '/')?;
+    Ok(first_of(words.as_slice()))
+}
+
+/// The first of the timings between slashes, or `none` for a hyphen.
+fn timing(alloc: Global, text: &str) -> Result<Option<Timing>, AllocError>
+    ensures { IfOk result (λ timing. timing ≡ timing_in text.now) }
+{
+    if text == "-" {
+        return Ok(Some(Timing::Untimed));
+    }
+    let words = pieces(alloc, text, '/')?;
+    Ok(first_of(words.as_slice()))
 }
 
 /// What is wrong with the text of facts: how many parts it has, or the first of them that is no word of its kind.
@@ -90,13 +166,13 @@ pub enum FactsFault {
     Count,
     /// The first part is no role.
     Role,
-    /// The second is no hyphen, and isn't relations joined by `+`, each once.
+    /// The second is no hyphen, and isn't relations joined by `+`, each once, with slashes between alternatives.
     Relations,
     /// The third is no action.
     Action,
     /// The fourth is no stage.
     Stage,
-    /// The fifth is neither `yes` nor `no`.
+    /// The fifth is neither `yes` nor `no` nor a hyphen.
     Stopped,
     /// The sixth is no timing.
     Timing,
@@ -176,16 +252,17 @@ fn facts_read(alloc: Global, text: &str) -> Result<Result<Facts, FactsFault>, Al
             Role::read(role),
             relations(alloc, set)?,
             Action::read(action),
-            Stage::read(stage),
+            self::stage(alloc, stage)?,
             truth(stopped),
-            Timing::read(timing),
+            self::timing(alloc, timing)?,
         )),
         _ => Ok(Err(FactsFault::Count)),
     }
 }
 
 /// The facts of a text `ROLE,RELATIONS,ACTION,STAGE,STOPPED,TIMING`, or none where it says no facts. Relations are joined
-/// by `+`, each at most once, and a hyphen means none; a stop order is `yes` or `no`.
+/// by `+`, each at most once, with `not-` before one that isn't there; a stop order is `yes` or `no`. Of alternatives, which
+/// slashes separate, the first is taken, and for a hyphen no relation, `filed`, `no` or `none`.
 ///
 /// # Examples
 ///
@@ -194,6 +271,9 @@ fn facts_read(alloc: Global, text: &str) -> Result<Result<Facts, FactsFault>, Al
 /// let facts = read_facts(alloc, text)?.ok_or("facts")?;
 /// assert!(rt; facts.role == Role::Reviewer);
 /// assert!(rt; read_facts(alloc, "reviewer")?.is_none());
+/// let text = "public,applicant/owner+not-conflict,read,-,-,past/near";
+/// let facts = read_facts(alloc, text)?.ok_or("facts")?;
+/// assert!(rt; facts.relations.applicant && facts.timing == Timing::Past);
 /// ```
 pub fn read_facts(alloc: Global, text: &str) -> Result<Option<Facts>, AllocError>
     ensures { IfOk result (λ facts. facts ≡ facts_in (pieces 44 text.now)) }

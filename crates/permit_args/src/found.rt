@@ -5,18 +5,19 @@ ghost use Rattle.clap.specs.Words.{first_of, found_of, rows_of};
 ghost use Rattle.permit_base.specs.Limits.{most_records};
 ghost use Rattle.permit_base.specs.Stages.{is_file_stage};
 ghost use Rattle.permit_base.specs.Words.{register_word, stage_word};
-ghost use Rattle.permit_args.specs.Blames.{BlamesCheck, BlamesOffice, BlamesPaths, BlamesPlace, BlamesToken, Misses};
+ghost use Rattle.permit_args.specs.Blames.{BlamesCheck, BlamesForm, BlamesOffice, BlamesPaths, BlamesPlace, BlamesToken, Misses};
 ghost use Rattle.permit_args.specs.Faults.{Refuses};
-ghost use Rattle.permit_args.specs.Lines.{invalid_line, record_name};
-ghost use Rattle.permit_args.specs.Plans.{is_given, text_of, ArePathsOf, IsCheckOf, IsConnectionsOf, IsCountOf, IsDaysOf, IsOfficeOf, IsRecordOf, IsStageOf, IsTokenOf, IsWorkersOf};
+ghost use Rattle.permit_args.specs.Lines.{clash_line, invalid_line, record_name};
+ghost use Rattle.permit_args.specs.Plans.{is_given, text_of, ArePathsOf, Clashes, IsCheckBy, IsCheckOf, IsConnectionsOf, IsCountOf, IsDaysOf, IsFormOf, IsOfficeOf, IsRecordOf, IsStageOf, IsTokenOf, IsWorkersOf};
 ghost use Rattle.permit_args.specs.declared.places.Place.TheVariants as place;
 
 use crate::places::{Place, RecordKind, bad, invalid, missing};
-use crate::plan::{Check, DayWords, HistoryPaths, OfficeWords, PlanFault, TokenWords};
+use crate::plan::{Check, Clash, DayWords, HistoryPaths, OfficeWords, PlanFault, TokenWords};
 use clap::ArgMatches;
 use permit_base::limits::MOST_RECORDS;
 use permit_base::request::FileStage;
 use permit_base::words::{RegisterKind, Stage, Word};
+use permit_policy::TableForm;
 use std::alloc::Global;
 
 /// The most workers that serve at once.
@@ -202,18 +203,91 @@ pub(crate) fn record(
     }
 }
 
+impl Clash {
+    /// The line that names the two words.
+    fn line(self) -> &'static str
+        ensures { result.now ≡ clash_line self }
+    {
+        match self {
+            Clash::DeadFacts => {
+                "error: the argument '--dead' cannot be used with '--facts <FACTS>'\n\nFor more information, try '--help'.\n"
+            }
+            Clash::DeadAgainst => {
+                "error: the argument '--dead' cannot be used with '--against <OLD>'\n\nFor more information, try '--help'.\n"
+            }
+            Clash::DeadTable => {
+                "error: the argument '--dead' cannot be used with '--table'\n\nFor more information, try '--help'.\n"
+            }
+            Clash::FactsAgainst => {
+                "error: the argument '--facts <FACTS>' cannot be used with '--against <OLD>'\n\nFor more information, try '--help'.\n"
+            }
+            Clash::FactsTable => {
+                "error: the argument '--facts <FACTS>' cannot be used with '--table'\n\nFor more information, try '--help'.\n"
+            }
+            Clash::AgainstTable => {
+                "error: the argument '--against <OLD>' cannot be used with '--table'\n\nFor more information, try '--help'.\n"
+            }
+        }
+    }
+}
+
+/// What is said of a policy by what is given of four words, or two of them that clash.
+fn choice<'a>(
+    dead: bool,
+    facts: Option<&'a str>,
+    against: Option<&'a str>,
+    table: bool,
+) -> Result<Check<'a>, Clash>
+    ensures check { IfOk result (IsCheckBy dead (text_of facts.entry) (text_of against.entry) table) }
+    ensures clash { IfErr result (Clashes dead (text_of facts.entry) (text_of against.entry) table) }
+{
+    match (dead, facts, against, table) {
+        (false, None, None, false) => Ok(Check::Rules),
+        (true, None, None, false) => Ok(Check::Dead),
+        (false, Some(facts), None, false) => Ok(Check::Facts(facts)),
+        (false, None, Some(path), false) => Ok(Check::Against(path)),
+        (false, None, None, true) => Ok(Check::Table),
+        (true, Some(_), _, _) => Err(Clash::DeadFacts),
+        (true, None, Some(_), _) => Err(Clash::DeadAgainst),
+        (true, None, None, true) => Err(Clash::DeadTable),
+        (false, Some(_), Some(_), _) => Err(Clash::FactsAgainst),
+        (false, Some(_), None, true) => Err(Clash::FactsTable),
+        (false, None, Some(_), true) => Err(Clash::AgainstTable),
+    }
+}
+
 /// What is said of a policy.
 pub(crate) fn check<'a>(alloc: Global, matches: &ArgMatches<'a>) -> Result<Check<'a>, PlanFault>
     ensures check { IfOk result (IsCheckOf (rows_of (found_of matches.now))) }
     ensures refused { IfErr result (Refuses (IsCheckOf (rows_of (found_of matches.now))) (BlamesCheck (rows_of (found_of matches.now)))) }
 {
-    match (is_given(matches, "dead"), value(matches, "facts")) {
-        (false, None) => Ok(Check::Rules),
-        (true, None) => Ok(Check::Dead),
-        (false, Some(facts)) => Ok(Check::Facts(facts)),
-        (true, Some(_)) => Err(bad(
+    let dead = is_given(matches, "dead");
+    let facts = value(matches, "facts");
+    let against = value(matches, "against");
+    let table = is_given(matches, "table");
+    match choice(dead, facts, against, table) {
+        Ok(check) => Ok(check),
+        Err(clash) => Err(bad(alloc, clash.line())),
+    }
+}
+
+/// How a table is written: the two words for it are given only beside `--table`, and not both.
+pub(crate) fn form(alloc: Global, matches: &ArgMatches<'_>) -> Result<TableForm, PlanFault>
+    ensures form { IfOk result (IsFormOf (rows_of (found_of matches.now))) }
+    ensures refused { IfErr result (Refuses (IsFormOf (rows_of (found_of matches.now))) (BlamesForm (rows_of (found_of matches.now)))) }
+{
+    let table = is_given(matches, "table");
+    match (is_given(matches, "csv"), is_given(matches, "markdown")) {
+        (false, false) => Ok(TableForm::Columns),
+        (true, true) => Err(bad(
             alloc,
-            "error: the argument '--dead' cannot be used with '--facts <FACTS>'\n\nFor more information, try '--help'.\n",
+            "error: the argument '--csv' cannot be used with '--markdown'\n\nFor more information, try '--help'.\n",
+        )),
+        (true, false) if table => Ok(TableForm::Csv),
+        (false, true) if table => Ok(TableForm::Markdown),
+        _ => Err(bad(
+            alloc,
+            "error: the following required arguments were not provided:\n  --table\n\nFor more information, try '--help'.\n",
         )),
     }
 }

@@ -4,6 +4,7 @@ ghost use Rattle.std.specs.Prelude.{◌≡◌};
 
 use permit_base::request::FileStage;
 use permit_base::words::RegisterKind;
+use permit_policy::TableForm;
 use std::alloc::AllocError;
 
 /// What the program is to do. Each text is a word of the command line, not yet read; a stage and a register's name are.
@@ -73,6 +74,8 @@ pub struct CheckPolicyWords<'a> {
     pub policy: &'a str,
     /// What is said of it.
     pub check: Check<'a>,
+    /// How a table is written.
+    pub form: TableForm,
     /// Whether a failure is explained.
     pub why: bool,
 }
@@ -86,6 +89,21 @@ pub enum Check<'a> {
     Dead,
     /// How it decides for the facts of this text.
     Facts(&'a str),
+    /// What it decides differently from the policy at this path.
+    Against(&'a str),
+    /// Who may do what under it.
+    Table,
+}
+
+/// Two words of which each asks for something else to be said of a policy.
+#[derive(Clone, Copy)]
+pub(crate) enum Clash {
+    DeadFacts,
+    DeadAgainst,
+    DeadTable,
+    FactsAgainst,
+    FactsTable,
+    AgainstTable,
 }
 
 /// Which day it is.

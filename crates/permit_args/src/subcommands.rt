@@ -8,7 +8,7 @@ ghost use Rattle.permit_args.specs.Plans.{IsActOf, IsBeginningOf, IsCheckDbOf, I
 ghost use Rattle.permit_args.specs.declared.plan.Subcommand.TheVariants as subcommand;
 
 use crate::found::{
-    check, connections, days, is_given, kind, number, office, paths, record, required, stage,
+    check, connections, days, form, is_given, kind, number, office, paths, record, required, stage,
     token, value, workers,
 };
 use crate::places::RecordKind;
@@ -31,6 +31,7 @@ pub(crate) fn check_policy<'a>(
     Ok(CheckPolicyWords {
         policy: required(alloc, matches, "policy")?,
         check: check(alloc, matches)?,
+        form: form(alloc, matches)?,
         why: is_given(matches, "why"),
     })
 }

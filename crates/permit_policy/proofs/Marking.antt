@@ -45,6 +45,10 @@ numbered_set n h =
     let within : n < length all_sets = rw sets_count h in
     sym (get_or-map set_number all_sets n no_relations 0 within) ∙ ap (λ xs. get_or xs n 0) set_numbers ∙ get_or-range_with_len 0 64 n 0 h ∙ zero-add n
 
+-- each number below 64 is a set's
+pub set_of_number : (n : ℕ) → n < 64 → (one : Relations) × (set_number one ≡ n)
+set_of_number n h = (get_or all_sets n no_relations, numbered_set n h)
+
 pub some_set : (mask : ℕ) → mask < 2 ^ 64 → 0 < mask → (one : Relations) × (has_set mask one ≡ true)
 some_set mask h k =
     let lowest = bit_at-trailing_zeros w64 mask k h in
@@ -136,7 +140,7 @@ pub record Decides (rules : Policy) (i : ℕ) (rule : Rule) (role : Role) (actio
   pub hit : IsHit role action rule hits
   pub made : (one : Relations) → has_set decided one ≡ (covers rule cell && has_set hits one && has_set undecided one)
 
-matched_by : (rules : Policy) (i : ℕ) (rule : Rule) (role : Role) (action : Action) (cell : Cell) (hits undecided decided : ℕ) (one : Relations)
+pub matched_by : (rules : Policy) (i : ℕ) (rule : Rule) (role : Role) (action : Action) (cell : Cell) (hits undecided decided : ℕ) (one : Relations)
     → Decides rules i rule role action cell hits undecided decided
     → matches rule (cell_facts role action cell one) ≡ (covers rule cell && has_set hits one)
 matched_by rules i rule role action cell hits undecided decided one d = matches_in rule role action cell one ∙ ap (λ b. covers rule cell && b) (sym (d.hit one))

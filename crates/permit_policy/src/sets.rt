@@ -86,7 +86,7 @@ pub(crate) fn both_of(first: Relation, second: Relation) -> Relations
 }
 
 /// The sets that hold the relation.
-fn sets_with(relation: Relation) -> u64
+pub(crate) fn sets_with(relation: Relation) -> u64
     ensures { (set : TheRelations) → has_set result set ≡ holds set relation }
 {
     match relation {
