@@ -6,8 +6,10 @@ use permit_args::facts::{FactsFault, facts_fault, read_facts};
 use permit_args::plan::{Plan, TokenWords};
 use permit_args::words::plan;
 use permit_base::request::Filter;
-use permit_base::words::Role;
-use permit_policy::read_policy;
+use permit_base::words::{Action, Role, Timing};
+use permit_policy::{
+    Facts, TableForm, changes_text, differences, read_policy, table_of, table_text,
+};
 use permit_reasons::policy_reason;
 use permit_samples::ask::TOKENS;
 use permit_samples::makers::{day, token};
@@ -40,10 +42,32 @@ fn policies(rt: &impl Abort, alloc: Global) -> Result<(), Fail> {
     let facts = read_facts(alloc, text)?.ok_or("facts")?;
     assert!(rt; facts.role == Role::Reviewer);
     assert!(rt; read_facts(alloc, "reviewer")?.is_none());
+    let text = "public,applicant/owner+not-conflict,read,-,-,past/near";
+    let facts = read_facts(alloc, text)?.ok_or("facts")?;
+    assert!(rt; facts.relations.applicant && facts.timing == Timing::Past);
+    Ok(())
+}
+
+fn explanations(rt: &impl Abort, alloc: Global) -> Result<(), Fail> {
+    let facts = Facts::office(Role::Reviewer, Action::ReadParcel);
     let text = "[[rule]]\nname = \"plans\"\neffect = \"allow\"\nrole = [\"reviewer\"]\n";
     let policy = read_policy(alloc, text)?;
     let explained = explained_text(alloc, &policy, &facts)?;
     assert!(rt; explained.as_str() == "plans match\ndecided plans allow\n");
+    Ok(())
+}
+
+fn changes(rt: &impl Abort, alloc: Global) -> Result<(), Fail> {
+    let text = "[[rule]]\nname = \"plans\"\neffect = \"allow\"\nrole = [\"reviewer\"]\n";
+    let new = read_policy(alloc, text)?;
+    let old = read_policy(alloc, "")?;
+    let all = differences(alloc, &new, &old)?;
+    let said = changes_text(alloc, &all)?;
+    assert!(rt; said.as_str().ends_with("opens 222208 closes 0\n"));
+    let rows = table_of(alloc, &new)?;
+    let table = table_text(alloc, &rows, TableForm::Csv)?;
+    let head = "action,public,clerk,reviewer,inspector,official\r\nadd-party,no,no,yes,no,no\r\n";
+    assert!(rt; table.as_str().starts_with(head));
     Ok(())
 }
 
@@ -118,6 +142,8 @@ fn examples_hold(rt: HostRuntime) -> Result<(), Fail> {
     let alloc = rt.alloc();
     words(&rt, alloc)?;
     policies(&rt, alloc)?;
+    explanations(&rt, alloc)?;
+    changes(&rt, alloc)?;
     faults(&rt, alloc)?;
     words_taken(&rt, alloc);
     reasons(&rt, alloc)?;

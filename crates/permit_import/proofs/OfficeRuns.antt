@@ -78,13 +78,13 @@ module _ {S : Type 0} (view : S → StoreView) where
       IsRun view requests replies old new
   is_run requests replies old new run = run_on requests replies [] [] old old new (run_none old) run
 
-  module _ (token : List ℕ) (day : ℕ) (asked : Bool) (left before after : Option (List ℕ)) (old new : OfficeView S)
-      (result : Result Tally ImportFault) (h : ImportsBy (StepsOn view) token day asked left before after old new result) where
+  module _ (token : List ℕ) (day : ℕ) (asked : Bool) (left before after said saying : Option (List ℕ)) (old new : OfficeView S)
+      (result : Result Tally ImportFault) (h : ImportsBy (StepsOn view) token day asked left before after said saying old new result) where
     its_run : IsRun view (requests_of token day h.rows) h.replies old new
     its_run = is_run (requests_of token day h.rows) h.replies old new h.run
 
     -- an import by an office
-    pub imports : Imports view token day asked left before after old new result
+    pub imports : Imports view token day asked left before after said saying old new result
     imports = record {
       rows = h.rows;
       replies = h.replies;
@@ -92,6 +92,7 @@ module _ {S : Type 0} (view : S → StoreView) where
       steps = its_run.steps;
       model = its_run.model;
       ends = h.ends;
+      causes = h.causes;
     }
 
     pub policy : new.policy ≡ old.policy

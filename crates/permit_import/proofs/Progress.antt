@@ -12,15 +12,17 @@ use Rattle.permit_base.specs.declared.request.Asked.{Asked}
 use Rattle.permit_base.specs.declared.request.Request.{Request}
 use Rattle.permit_office.specs.declared.reply.Reply.{Reply}
 use Rattle.permit_wire.specs.declared.service.Dated.{Dated}
-use Rattle.permit_import.specs.Lines.{lines_from, record_lines}
-use Rattle.permit_import.specs.Outcomes.{counted, is_added, is_kept, is_refused, outcome_of, outcomes_of, outcomes_with, tally_of, unasked}
+use Rattle.permit_import.specs.Lines.{cause_line, causes_from, lines_from, record_line}
+use Rattle.permit_import.specs.Outcomes.{counted, is_added, is_kept, is_refused, outcome_of, outcomes_of, outcomes_with, tally_of, unasked, why_of}
 use Rattle.permit_import.specs.Reading.{Behind}
 use Rattle.permit_import.specs.Records.{Fields, asked_by, header, request_of_record, requests_of}
 use Rattle.permit_import.specs.Runs.{Gave, Runs}
 use Rattle.permit_import.specs.Trying.{Tries}
+use Rattle.permit_import.specs.Written.{WritesIf}
 use Rattle.permit_import.specs.declared.outcome.Outcome.{Outcome}
 use Rattle.permit_import.specs.declared.outcome.Outcome.TheVariants.{Added, Kept, Malformed, Refused}
 use Rattle.permit_import.specs.declared.tally.Tally.{Tally}
+use Rattle.permit_import.proofs.CauseLemmas.{causes_last, writes_none, writes_on}
 
 -- ---- requests and outcomes of one record more
 
@@ -68,12 +70,12 @@ length-outcomes token day (row ∷ rows) replies e =
 
 -- ---- lines and counts of one outcome more
 
-lines_last : (asked : Bool) (number : ℕ) (outcomes : List Outcome) (outcome : Outcome) (at : ℕ) → at ≡ number + length outcomes →
-    lines_from asked number (outcomes ++ outcome ∷ []) ≡ lines_from asked number outcomes ++ record_lines asked at outcome
-lines_last asked number [] outcome at e = append-nil (record_lines asked number outcome) ∙ ap (λ n. record_lines asked n outcome) (sym (omega arith))
-lines_last asked number (first ∷ outcomes) outcome at e =
-    ap (λ text. record_lines asked number first ++ text) (lines_last asked (number + 1) outcomes outcome at (omega arith))
-    ∙ sym (append_assoc (record_lines asked number first) (lines_from asked (number + 1) outcomes) (record_lines asked at outcome))
+lines_last : (number : ℕ) (outcomes : List Outcome) (outcome : Outcome) (at : ℕ) → at ≡ number + length outcomes →
+    lines_from number (outcomes ++ outcome ∷ []) ≡ lines_from number outcomes ++ record_line at outcome
+lines_last number [] outcome at e = append-nil (record_line number outcome) ∙ ap (λ n. record_line n outcome) (sym (omega arith))
+lines_last number (first ∷ outcomes) outcome at e =
+    ap (λ text. record_line number first ++ text) (lines_last (number + 1) outcomes outcome at (omega arith))
+    ∙ sym (append_assoc (record_line number first) (lines_from (number + 1) outcomes) (record_line at outcome))
 
 count_last : (test : Outcome → Bool) (outcomes : List Outcome) (outcome : Outcome) (more : ℕ) → count_by test (outcome ∷ []) ≡ more →
     count_by test outcomes + more ≡ count_by test (outcomes ++ outcome ∷ [])
@@ -159,30 +161,29 @@ module _ {T : Type 0} (did : T → Asked → ℕ → Dated → T → Type 0) (to
   more_tried rows replies row outcome old between new run tries =
       more_by rows replies row outcome old between new run (request_of_record row) refl tries
 
--- the lines with that of the record more
-more_lines : (token : List ℕ) (day : ℕ) (asked : Bool) (number : ℕ) (rows : List Fields) (replies given : List Reply) (row : Fields)
-    (outcome : Outcome) → length replies ≡ length (requests_of token day rows) → length rows + 1 ≡ number →
-    outcomes_of (rows ++ row ∷ []) given ≡ outcomes_of rows replies ++ outcome ∷ [] →
-    lines_from asked 1 (outcomes_of (rows ++ row ∷ []) given) ≡ lines_from asked 1 (outcomes_of rows replies) ++ record_lines asked number outcome
-more_lines token day asked number rows replies given row outcome each count same =
+-- the number of the record more
+more_at : (token : List ℕ) (day : ℕ) (number : ℕ) (rows : List Fields) (replies : List Reply) → length replies ≡ length (requests_of token day rows) →
+    length rows + 1 ≡ number → number ≡ 1 + length (outcomes_of rows replies)
+more_at token day number rows replies each count =
     let long : length (outcomes_of rows replies) ≡ length rows = length-outcomes token day rows replies each in
-    ap (lines_from asked 1) same ∙ lines_last asked 1 (outcomes_of rows replies) outcome number (omega arith)
+    omega arith
 
 -- the records that were tried so far, and what became of them
 pub record Progress {T R : Type 0} (did : T → Asked → ℕ → Dated → T → Type 0) (remaining : R → Option (List ℕ)) (token : List ℕ) (day : ℕ)
-    (asked : Bool) (left before after : Option (List ℕ)) (old new : T) (reader : Reader R) (number : ℕ) (tally : Tally) : Type 0 where
+    (asked : Bool) (left before said : Option (List ℕ)) (going : Bool) (after saying : Option (List ℕ)) (old new : T) (reader : Reader R) (number : ℕ) (tally : Tally) : Type 0 where
   pub rows : List Fields
   pub replies : List Reply
   pub behind : Behind remaining left reader (header ∷ rows)
   pub run : Runs did (requests_of token day rows) replies old new
   pub count : length rows + 1 ≡ number
-  pub written : Appends before after (lines_from asked 1 (outcomes_of rows replies))
+  pub written : Appends before after (lines_from 1 (outcomes_of rows replies))
+  pub causes : WritesIf asked going said saying (causes_from 1 (outcomes_of rows replies))
   pub tally_is : tally ≡ tally_of (outcomes_of rows replies)
 
 module _ {T R : Type 0} (did : T → Asked → ℕ → Dated → T → Type 0) (remaining : R → Option (List ℕ)) (token : List ℕ) (day : ℕ)
-    (asked : Bool) (left before : Option (List ℕ)) where
+    (asked : Bool) (left before said : Option (List ℕ)) where
   pub begun : (service : T) (reader : Reader R) → Behind remaining left reader (header ∷ []) →
-      Progress did remaining token day asked left before before service service reader 1 (record { added = 0; kept = 0; refused = 0 })
+      Progress did remaining token day asked left before said asked before said service service reader 1 (record { added = 0; kept = 0; refused = 0 })
   begun service reader behind = record {
     rows = [];
     replies = [];
@@ -190,23 +191,36 @@ module _ {T R : Type 0} (did : T → Asked → ℕ → Dated → T → Type 0) (
     run = refl;
     count = refl;
     written = Appends-nil before;
+    causes = writes_none asked said;
     tally_is = refl;
   }
 
   -- there is an outcome for each record that was tried
-  pub outcomes_each : (after : Option (List ℕ)) (old new : T) (reader : Reader R) (number : ℕ) (tally : Tally)
-      (p : Progress did remaining token day asked left before after old new reader number tally) →
+  pub outcomes_each : (going : Bool) (after saying : Option (List ℕ)) (old new : T) (reader : Reader R) (number : ℕ) (tally : Tally)
+      (p : Progress did remaining token day asked left before said going after saying old new reader number tally) →
       length (outcomes_of p.rows p.replies) ≡ length p.rows
-  outcomes_each after old new reader number tally p =
+  outcomes_each going after saying old new reader number tally p =
       length-outcomes token day p.rows p.replies (runs_each did (requests_of token day p.rows) p.replies old new p.run)
 
+  -- the cause of one record more is written, where it is asked for
+  pub more_causes : (going going_on : Bool) (mid saying next : Option (List ℕ)) (old between new : T) (reader : Reader R) (number : ℕ) (tally : Tally)
+      (row : Fields) (outcome : Outcome) (p : Progress did remaining token day asked left before said going mid saying old between reader number tally)
+      (m : More did token day p.rows p.replies row outcome old new) → WritesIf going going_on saying next (cause_line number (why_of outcome)) →
+      WritesIf asked going_on said next (causes_from 1 (outcomes_of (p.rows ++ row ∷ []) m.given))
+  more_causes going going_on mid saying next old between new reader number tally row outcome p m cause =
+      let each = runs_each did (requests_of token day p.rows) p.replies old between p.run in
+      subst (WritesIf asked going_on said next)
+      (sym (ap (causes_from 1) m.outcomes ∙ causes_last 1 (outcomes_of p.rows p.replies) outcome number
+      (more_at token day number p.rows p.replies each p.count)))
+      (writes_on asked going going_on said saying next (causes_from 1 (outcomes_of p.rows p.replies)) (cause_line number (why_of outcome)) p.causes cause)
+
   -- the import goes on after a record whose line was written
-  pub went_on : (mid after : Option (List ℕ)) (old between new : T) (reader next : Reader R) (number : ℕ) (tally : Tally) (row : Fields)
-      (outcome : Outcome) (p : Progress did remaining token day asked left before mid old between reader number tally) →
-      Behind remaining left next (header ∷ (p.rows ++ row ∷ [])) → Tries did token day row (request_of_record row) between new outcome →
-      Appends mid after (record_lines asked number outcome) →
-      Progress did remaining token day asked left before after old new next (number + 1) (counted tally outcome)
-  went_on mid after old between new reader next number tally row outcome p behind tries line =
+  pub went_on : (going going_on : Bool) (mid after saying next : Option (List ℕ)) (old between new : T) (reader reader_next : Reader R) (number : ℕ) (tally : Tally)
+      (row : Fields) (outcome : Outcome) (p : Progress did remaining token day asked left before said going mid saying old between reader number tally) →
+      Behind remaining left reader_next (header ∷ (p.rows ++ row ∷ [])) → Tries did token day row (request_of_record row) between new outcome →
+      WritesIf going going_on saying next (cause_line number (why_of outcome)) → Appends mid after (record_line number outcome) →
+      Progress did remaining token day asked left before said going_on after next old new reader_next (number + 1) (counted tally outcome)
+  went_on going going_on mid after saying next old between new reader reader_next number tally row outcome p behind tries cause line =
       let m = more_tried did token day p.rows p.replies row outcome old between new p.run tries in
       let each = runs_each did (requests_of token day p.rows) p.replies old between p.run in
       record {
@@ -216,18 +230,20 @@ module _ {T R : Type 0} (did : T → Asked → ℕ → Dated → T → Type 0) (
         run = m.run;
         count = ap (λ n. n + 1) (length-append p.rows (row ∷ []) ∙ p.count);
         written = subst (Appends before after)
-            (sym (more_lines token day asked number p.rows p.replies m.given row outcome each p.count m.outcomes))
-            (Appends-trans before mid after (lines_from asked 1 (outcomes_of p.rows p.replies)) (record_lines asked number outcome) p.written line);
+            (sym (ap (lines_from 1) m.outcomes ∙ lines_last 1 (outcomes_of p.rows p.replies) outcome number
+            (more_at token day number p.rows p.replies each p.count)))
+            (Appends-trans before mid after (lines_from 1 (outcomes_of p.rows p.replies)) (record_line number outcome) p.written line);
+        causes = more_causes going going_on mid saying next old between new reader number tally row outcome p m cause;
         tally_is = ap (λ t. counted t outcome) p.tally_is ∙ tally_last (outcomes_of p.rows p.replies) outcome ∙ ap tally_of (sym m.outcomes);
       }
 
   -- no count passes that of the records
-  pub counts_fit : (after : Option (List ℕ)) (old new : T) (reader : Reader R) (number : ℕ) (tally : Tally) →
-      Progress did remaining token day asked left before after old new reader number tally → number ≤ 1000000 →
+  pub counts_fit : (going : Bool) (after saying : Option (List ℕ)) (old new : T) (reader : Reader R) (number : ℕ) (tally : Tally) →
+      Progress did remaining token day asked left before said going after saying old new reader number tally → number ≤ 1000000 →
       (tally.added < 2 ^ 32 - 1) × (tally.kept < 2 ^ 32 - 1) × (tally.refused < 2 ^ 32 - 1)
-  counts_fit after old new reader number tally p few =
+  counts_fit going after saying old new reader number tally p few =
       let os = outcomes_of p.rows p.replies in
-      let long : length os ≡ length p.rows = outcomes_each after old new reader number tally p in
+      let long : length os ≡ length p.rows = outcomes_each going after saying old new reader number tally p in
       let n : length p.rows + 1 ≡ number = p.count in
       let added : tally.added ≤ length os =
       subst (λ t. t ≤ length os) (sym (ap (λ (t : Tally). t.added) p.tally_is)) (count_by-le-length is_added os) in

@@ -1,5 +1,5 @@
 -- What is written for each record of a list, and for all of them.
-use Rattle.std.specs.Prelude.{ℕ, ◌+◌, Bool, if◌then◌else◌, List, [], ◌∷◌, ◌++◌, codes, decimal, Option, None, Some}
+use Rattle.std.specs.Prelude.{ℕ, ◌+◌, List, [], ◌∷◌, ◌++◌, codes, decimal, Option, None, Some}
 use Rattle.permit_import.specs.Causes.{why_text}
 use Rattle.permit_import.specs.Outcomes.{why_of}
 use Rattle.permit_import.specs.Refusals.{refused_line}
@@ -25,14 +25,15 @@ abbrev pub cause_line : ℕ → Option Why → List ℕ
 cause_line number None = []
 cause_line number (Some why) = decimal number ++ codes " why: " ++ why_text why ++ codes "\n"
 
--- the record's line, and after it why it is refused, where that is asked for
-abbrev pub record_lines : Bool → ℕ → Outcome → List ℕ
-record_lines asked number outcome = record_line number outcome ++ (if asked then cause_line number (why_of outcome) else [])
-
 -- the lines of records, by what became of them; the first has this number
-abbrev pub lines_from : Bool → ℕ → List Outcome → List ℕ
-lines_from asked number [] = []
-lines_from asked number (outcome ∷ outcomes) = record_lines asked number outcome ++ lines_from asked (number + 1) outcomes
+abbrev pub lines_from : ℕ → List Outcome → List ℕ
+lines_from number [] = []
+lines_from number (outcome ∷ outcomes) = record_line number outcome ++ lines_from (number + 1) outcomes
+
+-- the lines that say why those of them that are refused are; the first record has this number
+abbrev pub causes_from : ℕ → List Outcome → List ℕ
+causes_from number [] = []
+causes_from number (outcome ∷ outcomes) = cause_line number (why_of outcome) ++ causes_from (number + 1) outcomes
 
 abbrev pub count_text : Tally → List ℕ
 count_text tally = codes "added " ++ decimal tally.added ++ codes " kept " ++ decimal tally.kept ++ codes " refused " ++ decimal tally.refused

@@ -21,6 +21,7 @@ use permit_samples::makers::{day, token};
 use permit_samples::offices::over_vectors;
 use permit_store::plain::PlainStore;
 use std::alloc::Global;
+use std::io::sink;
 use std::process::Abort;
 use std::sync::Wait;
 use std::test::Fail;
@@ -67,8 +68,8 @@ fn imports(rt: &impl Abort, alloc: Global) -> Result<(), Fail> {
     let (token, day) = (token(alloc, TOKENS[0])?, day(19700)?);
     let office = &mut Held::new(over_vectors(alloc)?).value;
     let list = b"lot,address,owner\nA-1,1 Main St,1\n".as_slice();
-    let mut out = Vec::new(alloc);
-    let ended = import(alloc, office, &token, day, false, list, &mut out);
+    let out = &mut Vec::new(alloc);
+    let ended = import(alloc, office, &token, day, false, list, out, &mut sink());
     assert!(rt; ended.is_ok());
     assert!(rt; out.as_slice() == b"1 added 1\nadded 1 kept 0 refused 0\n".as_slice());
     Ok(())
@@ -78,11 +79,12 @@ fn imports_with_reasons(rt: &impl Abort, alloc: Global) -> Result<(), Fail> {
     let (token, day) = (token(alloc, TOKENS[0])?, day(19700)?);
     let office = &mut Held::new(over_vectors(alloc)?).value;
     let list = b"lot,address,owner\nA-2,2 Main St,9\n".as_slice();
-    let mut out = Vec::new(alloc);
-    let ended = import_by(alloc, office, &token, day, true, list, &mut out);
+    let (out, causes) = (&mut Vec::new(alloc), &mut Vec::new(alloc));
+    let ended = import_by(alloc, office, &token, day, true, list, out, causes);
     assert!(rt; ended.is_ok());
-    let told = b"1 why: owner: no party has this number\nadded 0 kept 0 refused 1\n".as_slice();
-    assert!(rt; out.as_slice().ends_with(told));
+    let counts = b"added 0 kept 0 refused 1\n".as_slice();
+    assert!(rt; out.as_slice().ends_with(counts));
+    assert!(rt; causes.as_slice() == b"1 why: owner: no party has this number\n".as_slice());
     Ok(())
 }
 

@@ -15,7 +15,7 @@ use permit_samples::script::play;
 use permit_store::plain::PlainStore;
 use permit_store::store::Store;
 use std::alloc::Global;
-use std::io::Read;
+use std::io::{Read, Write, sink};
 use std::test::Fail;
 
 /// The list of the worked rows.
@@ -38,7 +38,17 @@ fn imported<R: Read + Drop>(
 ) -> Result<(Result<Tally, ImportFault>, String), Fail> {
     let token = token(alloc, letters)?;
     let mut out = Vec::new(alloc);
-    let ended = import(alloc, office, &token, day(number)?, false, reader, &mut out);
+    let day = day(number)?;
+    let ended = import(
+        alloc,
+        office,
+        &token,
+        day,
+        false,
+        reader,
+        &mut out,
+        &mut sink(),
+    );
     Ok((ended, String::from_utf8(out).ok().ok_or("lines are text")?))
 }
 
@@ -196,6 +206,7 @@ fn a_writer_that_fails_leaves_what_was_tried(rt: HostRuntime) -> Result<(), Fail
             false,
             LIST.as_bytes(),
             &mut out,
+            &mut sink(),
         );
         assert!(rt; ended == Err(ImportFault::Writing));
         assert!(rt; whole.starts_with(out.taken()) && out.taken().len() == fails_at);
@@ -231,61 +242,120 @@ fn quotes_marks_and_empty_lines_are_read_as_such(rt: HostRuntime) -> Result<(), 
     Ok(())
 }
 
-/// What an import by a party writes that is asked to say why, with whether it ended with its counts.
-fn explained(
+/// What an import by a party writes that is asked to say why, with whether it ended with its counts: the lines of the records, and,
+/// to a writer of its own, the causes.
+fn explained<E: Write>(
     alloc: Global,
     office: &mut Office<PlainStore>,
     letters: &str,
     number: u32,
     list: &[u8],
+    causes: &mut E,
 ) -> Result<(bool, String), Fail> {
     let token = token(alloc, letters)?;
+    let day = day(number)?;
     let mut out = Vec::new(alloc);
-    let ended = import(alloc, office, &token, day(number)?, true, list, &mut out);
+    let ended = import(alloc, office, &token, day, true, list, &mut out, causes);
     Ok((
         ended.is_ok(),
         String::from_utf8(out).ok().ok_or("lines are text")?,
     ))
 }
 
+/// A list with six records that are refused.
+const REFUSED: &[u8] =
+    b"lot,address,owner\nB-1,1 High St\nB-1,\xff,5\nb-1,1 High St,5\nB-1,,5\nB-1,1 High St,05\nB-1,1 High St,99\nB-1,1 High St,5\nB-1,Other,5\n";
+
+/// What is written of each of its records, and of the counts.
+const REFUSED_LINES: &str =
+    "1 refused: syntax\n2 refused: syntax\n3 refused: syntax\n4 refused: syntax\n5 refused: syntax\n6 refused: not admitted, person\n7 added 3\n8 kept\nadded 1 kept 1 refused 6\n";
+
+/// Why those records are refused.
+const REFUSED_CAUSES: &str =
+    "1 why: record: field count 2: lot,address,owner\n2 why: address: not UTF-8\n3 why: lot: 1 to 20 of A-Z, 0-9 and -\n4 why: address: 1 to 2000 bytes without a control character\n5 why: owner: a party's number, 1 to 99999\n6 why: owner: no party has this number\n";
+
 #[test]
-fn each_refusal_is_explained_after_its_line(rt: HostRuntime) -> Result<(), Fail> {
+fn each_refusal_is_explained_in_a_line(rt: HostRuntime) -> Result<(), Fail> {
     let mut office = opened(rt.alloc())?;
-    let list =
-        b"lot,address,owner\nB-1,1 High St\nB-1,\xff,5\nb-1,1 High St,5\nB-1,,5\nB-1,1 High St,05\nB-1,1 High St,99\nB-1,1 High St,5\nB-1,Other,5\n";
-    let (whole, lines) = explained(rt.alloc(), &mut office.value, TOKENS[1], 19700, list)?;
+    let mut causes = Vec::new(rt.alloc());
+    let (whole, lines) = explained(
+        rt.alloc(),
+        &mut office.value,
+        TOKENS[1],
+        19700,
+        REFUSED,
+        &mut causes,
+    )?;
     assert!(rt; whole);
-    assert_eq!(rt;
-        lines.as_str(),
-        "1 refused: syntax\n1 why: record: field count 2: lot,address,owner\n2 refused: syntax\n2 why: address: not UTF-8\n3 refused: syntax\n3 why: lot: 1 to 20 of A-Z, 0-9 and -\n4 refused: syntax\n4 why: address: 1 to 2000 bytes without a control character\n5 refused: syntax\n5 why: owner: a party's number, 1 to 99999\n6 refused: not admitted, person\n6 why: owner: no party has this number\n7 added 3\n8 kept\nadded 1 kept 1 refused 6\n"
-    );
+    assert_eq!(rt; lines.as_str(), REFUSED_LINES);
+    assert!(rt; causes.as_slice() == REFUSED_CAUSES.as_bytes());
+    Ok(())
+}
+
+#[test]
+fn causes_that_cannot_be_written_change_no_line(rt: HostRuntime) -> Result<(), Fail> {
+    for fails_at in [0, 20, 48, 60, 200] {
+        for stalls in [false, true] {
+            let mut office = opened(rt.alloc())?;
+            let mut causes = if stalls {
+                Narrow::stalling(7, fails_at)
+            } else {
+                Narrow::new(7, fails_at)
+            };
+            let (whole, lines) = explained(
+                rt.alloc(),
+                &mut office.value,
+                TOKENS[1],
+                19700,
+                REFUSED,
+                &mut causes,
+            )?;
+            assert!(rt; whole);
+            assert_eq!(rt; lines.as_str(), REFUSED_LINES);
+            assert!(rt; REFUSED_CAUSES.as_bytes().starts_with(causes.taken()));
+            assert!(rt; causes.taken().len() == fails_at);
+            assert_eq!(rt; parcels(office)?, 3);
+        }
+    }
     Ok(())
 }
 
 #[test]
 fn what_the_office_refuses_is_explained(rt: HostRuntime) -> Result<(), Fail> {
     let list = b"lot,address,owner\nB-1,1 High St,5\n";
-    for (letters, number, wanted) in [
+    for (letters, number, wanted, cause) in [
         (
             TOKENS[4],
             19700,
-            "1 refused: denied by default\n1 why: policy: denied by default\nadded 0 kept 0 refused 1\n",
+            "1 refused: denied by default\nadded 0 kept 0 refused 1\n",
+            "1 why: policy: denied by default\n",
         ),
         (
             "nobodyhasthistoken",
             19700,
-            "1 refused: caller\n1 why: token: no party has it\nadded 0 kept 0 refused 1\n",
+            "1 refused: caller\nadded 0 kept 0 refused 1\n",
+            "1 why: token: no party has it\n",
         ),
         (
             TOKENS[1],
             0,
-            "1 refused: clock\n1 why: day: before that of the last accepted command\nadded 0 kept 0 refused 1\n",
+            "1 refused: clock\nadded 0 kept 0 refused 1\n",
+            "1 why: day: before that of the last accepted command\n",
         ),
     ] {
         let mut office = opened(rt.alloc())?;
-        let (whole, lines) = explained(rt.alloc(), &mut office.value, letters, number, list)?;
+        let mut causes = Vec::new(rt.alloc());
+        let (whole, lines) = explained(
+            rt.alloc(),
+            &mut office.value,
+            letters,
+            number,
+            list,
+            &mut causes,
+        )?;
         assert!(rt; whole);
         assert_eq!(rt; lines.as_str(), wanted);
+        assert!(rt; causes.as_slice() == cause.as_bytes());
     }
     Ok(())
 }
@@ -312,9 +382,18 @@ fn a_heading_that_is_wrong_is_shown(rt: HostRuntime) -> Result<(), Fail> {
         let reason = heading_reason(rt.alloc(), list)?.ok_or("a reason")?;
         assert_eq!(rt; reason.as_str(), wanted);
         let mut office = opened(rt.alloc())?;
-        let (whole, lines) = explained(rt.alloc(), &mut office.value, TOKENS[1], 19700, list)?;
+        let mut causes = Vec::new(rt.alloc());
+        let (whole, lines) = explained(
+            rt.alloc(),
+            &mut office.value,
+            TOKENS[1],
+            19700,
+            list,
+            &mut causes,
+        )?;
         assert!(rt; !whole);
         assert_eq!(rt; lines.as_str(), "");
+        assert!(rt; causes.as_slice().is_empty());
         let (ended, fixed) = imported(rt.alloc(), &mut office.value, TOKENS[1], 19700, list)?;
         assert!(rt; ended == Err(ImportFault::FirstRecord));
         assert_eq!(rt; fixed.as_str(), "");

@@ -14,7 +14,7 @@ use Rattle.permit_import.specs.declared.refused.Refused.TheVariants.{Plain}
 use Rattle.permit_import.specs.declared.refused.RefusalWord.{RefusalWord}
 use Rattle.permit_import.specs.declared.refused.RefusalWord.TheVariants.{Store}
 use Rattle.permit_subcommands.specs.declared.failure.Failure.{Failure}
-use Rattle.permit_subcommands.specs.declared.failure.Failure.TheVariants.{Refused, File, Policy, Facts, Database, History, Day, Zone, Listen, Output}
+use Rattle.permit_subcommands.specs.declared.failure.Failure.TheVariants.{Refused, File, Policy, Against, Facts, Database, History, Day, Zone, Listen, Output}
 use Rattle.permit_subcommands.specs.declared.failure.HistoryFailure.{HistoryFailure}
 use Rattle.permit_subcommands.specs.declared.failure.HistoryFailure.TheVariants as history
 
@@ -41,6 +41,7 @@ abbrev pub failure_line : Failure → List ℕ
 failure_line (Refused why) = refused_line why
 failure_line (File path) = codes "cannot read " ++ string_bytes path
 failure_line (Policy error) = codes "policy: fault " ++ decimal (fault_number error.code) ++ codes " at rule " ++ decimal error.rule
+failure_line (Against error) = codes "against: fault " ++ decimal (fault_number error.code) ++ codes " at rule " ++ decimal error.rule
 failure_line Facts = codes "facts: unreadable"
 failure_line (Database why) = codes "database: " ++ open_word why
 failure_line (History why) = codes "history: " ++ history_words why
@@ -73,6 +74,10 @@ is_memory _ = false
 -- a policy that is refused is reported by its place, and want of memory as the store's refusal
 abbrev pub policy_failure : PolicyError → Failure
 policy_failure error = if is_memory error.code then plain Store else Policy error
+
+-- the same of the policy that another one is compared with
+abbrev pub against_failure : PolicyError → Failure
+against_failure error = if is_memory error.code then plain Store else Against error
 
 -- an import's records can't be read, memory ran out, or the output failed
 abbrev pub IsFailureOfImport : List ℕ → ImportFault → Failure → Type 0

@@ -2,7 +2,7 @@
 
 ghost use Rattle.std.specs.Prelude.{◌≡◌, ◌≤◌, Some};
 ghost use Rattle.std.specs.IoError.{error_kind};
-ghost use Rattle.permit_subcommands.specs.Failures.{failure_line, failure_status, import_status, plain, policy_failure, IsFailureOfImport, IsUnheard, IsUnread};
+ghost use Rattle.permit_subcommands.specs.Failures.{against_failure, failure_line, failure_status, import_status, plain, policy_failure, IsFailureOfImport, IsUnheard, IsUnread};
 ghost use Rattle.permit_import.specs.declared.refused.RefusalWord.TheVariants.{Store};
 
 use crate::refused::{RefusalWord, Refused};
@@ -40,6 +40,8 @@ pub enum Failure {
     File(String),
     /// The policy's text is refused.
     Policy(PolicyError),
+    /// The text of the policy that another one is compared with is refused.
+    Against(PolicyError),
     /// The facts to decide by are in another form.
     Facts,
     /// The database cannot be opened or made.
@@ -125,6 +127,16 @@ impl Failure {
         }
     }
 
+    /// Why the policy was refused that another one is compared with: by its place, unless memory ran out.
+    pub fn of_against(error: PolicyError) -> Failure
+        ensures { result ≡ against_failure error }
+    {
+        match error.code {
+            PolicyFault::Memory => Failure::memory(),
+            _ => Failure::Against(error),
+        }
+    }
+
     /// The program's status: 1 where it is refused or cannot print, 2 for bad words and files.
     pub fn status(&self) -> u8
         ensures { result ≡ failure_status self.now }
@@ -133,6 +145,7 @@ impl Failure {
             Failure::Refused(_) | Failure::Output => 1,
             Failure::File(_)
             | Failure::Policy(_)
+            | Failure::Against(_)
             | Failure::Facts
             | Failure::Database(_)
             | Failure::History(_)
@@ -169,6 +182,11 @@ impl fmt::Display for Failure {
                 let code = error.code.number();
                 let rule = error.rule;
                 write!(f, "policy: fault {code} at rule {rule}")
+            }
+            Failure::Against(error) => {
+                let code = error.code.number();
+                let rule = error.rule;
+                write!(f, "against: fault {code} at rule {rule}")
             }
             Failure::Facts => f.write_str("facts: unreadable"),
             Failure::Database(OpenError::Damaged) => f.write_str("database: damaged"),

@@ -10,14 +10,14 @@ pub returns-in_err-line-clause-imports : goal.returns-in_err-line-clause-imports
 returns-in_err-line-clause-imports g c =
     let p = err_from_is_err_and c.from_residual.result c.from_residual.ensures.1 in
     rw (p.1, p.2) (no_memory g.M.Service.did c.args.token.now c.args.day c.args.why (g.R.Read.remaining c.args.reader)
-    (g.W.Write.contents c.args.out.now) c.args.service.now)
+    (g.W.Write.contents c.args.out.now) (g.E.Write.contents c.args.causes.now) c.args.service.now)
 
 pub returns-in_err-read_heading-clause-imports : goal.returns-in_err-read_heading-clause-imports
 returns-in_err-read_heading-clause-imports g c =
     let left = g.R.Read.remaining c.args.reader in
     let p = err_from_is_err_and c.from_residual-in_err-read_heading.result c.from_residual-in_err-read_heading.ensures.1 in
     rw (p.1, p.2) (no_header g.M.Service.did c.args.token.now c.args.day c.args.why left (g.W.Write.contents c.args.out.now)
-    c.args.service.now _ (c.in_err-read_heading.ensures.headless left c.records-records.ensures))
+    (g.E.Write.contents c.args.causes.now) c.args.service.now _ (c.in_err-read_heading.ensures.headless left c.records-records.ensures))
 
 pub loop-number-init : goal.loop-number-init
 loop-number-init g c =
@@ -25,7 +25,7 @@ loop-number-init g c =
     let behind = c.in_ok-read_heading.ensures.reads left c.records-records.ensures in
     record {
       progress = rw c.new-tally.ensures (begun g.M.Service.did g.R.Read.remaining c.args.token.now c.args.day
-          c.args.why left (g.W.Write.contents c.args.out.now) c.args.service.now c.read_heading.new.records behind);
+          c.args.why left (g.W.Write.contents c.args.out.now) (g.E.Write.contents c.args.causes.now) c.args.service.now c.read_heading.new.records behind);
       ready = c.requires;
       few = omega arith;
     }
@@ -34,7 +34,7 @@ pub returns-in_err-read_next-clause-imports : goal.returns-in_err-read_next-clau
 returns-in_err-read_next-clause-imports g c =
     let inv = c.loop-number.invariant in
     let p = err_from_is_err_and c.from_residual-in_err-read_next.result c.from_residual-in_err-read_next.ensures.1 in
-    rw (p.1, p.2, c.in_err-read_next.ensures.fault) (unread _ _ _ _ _ _ _ _ _ _ _ _ _ inv.progress inv.few)
+    rw (p.1, p.2, c.in_err-read_next.ensures.fault) (unread _ _ _ _ _ _ _ _ _ _ _ _ _ _ _ _ inv.progress inv.few)
 
 pub returns-in_err-write_counts-clause-imports : goal.returns-in_err-write_counts-clause-imports
 returns-in_err-write_counts-clause-imports g c =
@@ -42,20 +42,20 @@ returns-in_err-write_counts-clause-imports g c =
     let all = when_false _ _ c.if-not-branch.true (c.in_ok-read_next.ensures.next (g.R.Read.remaining c.args.reader)
     (header ∷ inv.progress.rows) inv.progress.behind) in
     let p = err_from_is_err_and c.from_residual-in_err-write_counts.result c.from_residual-in_err-write_counts.ensures.1 in
-    rw (p.1, p.2) (counts_short _ _ _ _ _ _ _ _ _ _ _ _ _ _ _ inv.progress inv.few all c.in_err-write_counts.ensures.short)
+    rw (p.1, p.2) (counts_short _ _ _ _ _ _ _ _ _ _ _ _ _ _ _ _ _ _ inv.progress inv.few all c.in_err-write_counts.ensures.short)
 
 pub returns-then-not-branch-clause-imports : goal.returns-then-not-branch-clause-imports
 returns-then-not-branch-clause-imports g c =
     let inv = c.loop-number.invariant in
     let all = when_false _ _ c.if-not-branch.true (c.in_ok-read_next.ensures.next (g.R.Read.remaining c.args.reader)
     (header ∷ inv.progress.rows) inv.progress.behind) in
-    ended _ _ _ _ _ _ _ _ _ _ _ _ _ _ inv.progress inv.few all c.in_ok-write_counts.ensures.whole
+    ended _ _ _ _ _ _ _ _ _ _ _ _ _ _ _ _ _ inv.progress inv.few all c.in_ok-write_counts.ensures.whole
 
 pub returns-in_err-outcome-clause-imports : goal.returns-in_err-outcome-clause-imports
 returns-in_err-outcome-clause-imports g c =
     let inv = c.loop-number.invariant in
     let p = err_from_is_err_and c.from_residual-in_err-outcome.result c.from_residual-in_err-outcome.ensures.1 in
-    rw (p.1, p.2) (unmade _ _ _ _ _ _ _ _ _ _ _ _ _ _ inv.progress inv.few c.in_err-outcome.ensures.err)
+    rw (p.1, p.2) (unmade _ _ _ _ _ _ _ _ _ _ _ _ _ _ _ _ _ inv.progress inv.few c.in_err-outcome.ensures.err)
 
 pub returns-in_err-write_outcome-clause-imports : goal.returns-in_err-write_outcome-clause-imports
 returns-in_err-write_outcome-clause-imports g c =
@@ -63,17 +63,17 @@ returns-in_err-write_outcome-clause-imports g c =
     let behind = when_true _ _ c.if-not-branch.false (c.in_ok-read_next.ensures.next (g.R.Read.remaining c.args.reader)
     (header ∷ inv.progress.rows) inv.progress.behind) in
     let p = err_from_is_err_and c.from_residual-in_err-write_outcome.result c.from_residual-in_err-write_outcome.ensures.1 in
-    rw (p.1, p.2) (line_short _ _ _ _ _ _ _ _ _ _ _ _ _ _ _ _ _ _ _ inv.progress c.if-number-gt-MOST_RECORDS.false behind
-    c.in_ok-outcome.ensures.tries c.in_err-write_outcome.ensures.short)
+    rw (p.1, p.2) (line_short _ _ _ _ _ _ _ _ _ _ _ _ _ _ _ _ _ _ _ _ _ _ _ _ inv.progress c.if-number-gt-MOST_RECORDS.false behind
+    c.in_ok-outcome.ensures.tries c.write_cause-asked.ensures c.in_err-write_outcome.ensures.short)
 
 pub count-requires-clause-added : goal.count-requires-clause-added
-count-requires-clause-added g c = let inv = c.loop-number.invariant in (counts_fit _ _ _ _ _ _ _ _ _ _ _ _ _ inv.progress inv.few).0
+count-requires-clause-added g c = let inv = c.loop-number.invariant in (counts_fit _ _ _ _ _ _ _ _ _ _ _ _ _ _ _ _ inv.progress inv.few).0
 
 pub count-requires-clause-kept : goal.count-requires-clause-kept
-count-requires-clause-kept g c = let inv = c.loop-number.invariant in (counts_fit _ _ _ _ _ _ _ _ _ _ _ _ _ inv.progress inv.few).1
+count-requires-clause-kept g c = let inv = c.loop-number.invariant in (counts_fit _ _ _ _ _ _ _ _ _ _ _ _ _ _ _ _ inv.progress inv.few).1
 
 pub count-requires-clause-refused : goal.count-requires-clause-refused
-count-requires-clause-refused g c = let inv = c.loop-number.invariant in (counts_fit _ _ _ _ _ _ _ _ _ _ _ _ _ inv.progress inv.few).2
+count-requires-clause-refused g c = let inv = c.loop-number.invariant in (counts_fit _ _ _ _ _ _ _ _ _ _ _ _ _ _ _ _ inv.progress inv.few).2
 
 pub loop-number-preserved : goal.loop-number-preserved
 loop-number-preserved g c =
@@ -81,11 +81,11 @@ loop-number-preserved g c =
     let behind = when_true _ _ c.if-not-branch.false (c.in_ok-read_next.ensures.next (g.R.Read.remaining c.args.reader)
     (header ∷ inv.progress.rows) inv.progress.behind) in
     record {
-      progress = rw c.count.ensures (went_on _ _ _ _ _ _ _ _ _ _ _ _ _ _ _ _ _ _ inv.progress behind c.in_ok-outcome.ensures.tries
-          c.in_ok-write_outcome.ensures.whole);
+      progress = rw c.count.ensures (went_on _ _ _ _ _ _ _ _ _ _ _ _ _ _ _ _ _ _ _ _ _ _ _ inv.progress behind c.in_ok-outcome.ensures.tries
+          c.write_cause-asked.ensures c.in_ok-write_outcome.ensures.whole);
       ready = c.add.ensures.ready;
       few = omega (arith, c.if-number-gt-MOST_RECORDS.false);
     }
 
 pub returns-clause-imports : goal.returns-clause-imports
-returns-clause-imports g c = let inv = c.loop-number.invariant in unread _ _ _ _ _ _ _ _ _ _ _ _ _ inv.progress inv.few
+returns-clause-imports g c = let inv = c.loop-number.invariant in unread _ _ _ _ _ _ _ _ _ _ _ _ _ _ _ _ inv.progress inv.few
