@@ -2,8 +2,11 @@
 #![tactic(auto)]
 
 use permit_cli::program::run;
+use permit_cli::stream::Stream;
 use std::process::ExitCode;
 
 fn main(rt: HostRuntime) -> ExitCode {
-    ExitCode::from(run(&rt, rt, &mut rt.stdout(), &mut rt.stderr()))
+    let mut out = Stream::Output(rt.stdout());
+    let mut err = Stream::Errors(rt.stderr());
+    ExitCode::from(run(&rt, rt, &mut out, &mut err))
 }

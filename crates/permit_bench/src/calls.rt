@@ -266,6 +266,7 @@ fn time_papers<S: Store>(
 fn keep_parties<S: Store>(store: &mut S, digests: &[Digest], day: Day, name: &Text) -> Result<()> {
     for digest in digests {
         let role = Role::Public;
+        let digest = *digest;
         keep(store, &Change::NewParty { name, role, digest }, day)?;
     }
     Ok(())

@@ -1,6 +1,7 @@
 -- What is reported of a plan, by what an office makes of its question.
-use Rattle.std.proofs.Common.{◌≡◌, ◌⊎◌, inl, inr, ℕ, Bool, List, Option, None, Some, Result, Ok, Err, refl, sym, subst}
+use Rattle.std.proofs.Common.{◌≡◌, ◌∙◌, ◌⊎◌, inl, inr, ℕ, Bool, true, false, List, [], Option, None, Some, Result, Ok, Err, refl, sym, subst}
 use Rattle.std.specs.Prelude.{IfOk, IfSome, IfNone, string_bytes}
+use Rattle.std.proofs.KnownBytes.{Appends-nil}
 use Rattle.jiff.specs.Placed.{IsPosixZone}
 use Rattle.jiff_core.specs.declared.timestamp.Timestamp.{Timestamp}
 use Rattle.jiff_tz.specs.declared.timezone.TimeZone.{TimeZone}
@@ -9,7 +10,7 @@ use Rattle.permit_office.specs.Office.{OfficeView}
 use Rattle.permit_office.specs.declared.reply.Listing.{Listing}
 use Rattle.permit_store.specs.Frames.{StoreView}
 use Rattle.permit_answer.specs.declared.answer.Answer.TheVariants as answer
-use Rattle.permit_import.specs.Importing.{Imports}
+use Rattle.permit_import.specs.Importing.{Imports, TellsCauses}
 use Rattle.permit_import.specs.declared.fault.ImportFault.{ImportFault}
 use Rattle.permit_import.specs.declared.tally.Tally.{Tally}
 use Rattle.permit_args.specs.declared.plan.ActWords.{ActWords}
@@ -32,12 +33,15 @@ use Rattle.permit_days.specs.Dates.{IsTextOf}
 use Rattle.permit_cli.specs.Opening.{IsUnopened, IsWithoutMemory}
 use Rattle.permit_cli.specs.Served.{Ending, IsServed, SaysWhere}
 use Rattle.permit_cli.specs.Asked.{AsksFiles, AsksImport, AsksRegister, AsksRequest}
-use Rattle.permit_cli.specs.Doing.{ActsAs, ComesTo, IsAnswerTo, IsClockDayIn, IsImported, IsListing, IsRegistered, IsRunDay, IsToldOf, IsToldOnRunDay, ListsAs, RegistersAs}
+use Rattle.permit_cli.specs.Doing.{ActsAs, ComesTo, IsAnswerTo, IsClockDayIn, IsImported, IsListing, IsRegistered, IsRunDay, IsToldOf, IsToldOnRunDay, ListsAs, RegistersAs, ServesAs}
+use Rattle.permit_cli.specs.Doing.{SaysCauses, SaysOf}
 use Rattle.permit_cli.specs.Questions.{AnswersWith, IsAnswered, TellsImport, told_as}
 use Rattle.permit_cli.specs.declared.outcome.Outcome.{Outcome}
 use Rattle.permit_cli.specs.declared.outcome.Outcome.TheVariants as outcome
 use Rattle.permit_cli.specs.declared.question.Question.{Question}
 use Rattle.permit_cli.specs.declared.question.Question.TheVariants as question
+use Rattle.permit_cli.specs.declared.stream.Stream.{Stream}
+use Rattle.permit_cli.specs.Streams.{printed}
 
 -- ---- what is reported of a question
 
@@ -56,26 +60,59 @@ register_told : (kind : RegisterKind) (day : ℕ) (before after : Option (List �
 register_told kind day before after done (Ok _) told some = ((cc), some)
 register_told kind day before after done (Err why) told some = cc
 
-import_told : {S : Type 0} (view : S → StoreView) (token : List ℕ) (day : ℕ) (why : Bool) (path : List ℕ) (left before after : Option (List ℕ))
+import_told : {S : Type 0} (view : S → StoreView) (token : List ℕ) (day : ℕ) (why : Bool) (path : List ℕ) (left before after said saying : Option (List ℕ))
     (old new : OfficeView S) (done : Outcome) (ended : Result Tally ImportFault) → TellsImport path ended (Ok done) →
-    Imports view token day why left before after old new ended → IsImported why before after done
-import_told view token day why path left before after old new done (Ok tally) told imports =
+    Imports view token day why left before after said saying old new ended → IsImported before after done
+import_told view token day why path left before after said saying old new done (Ok tally) told imports =
     let is : outcome.Imported tally ≡ done = cc in
-    subst (IsImported why before after) is (left, imports.rows, imports.replies, imports.ends)
-import_told view token day why path left before after old new done (Err fault) told imports = let is : Ok done ≡ Err told.0 = told.2 in cc
+    subst (IsImported before after) is (left, imports.rows, imports.replies, imports.ends)
+import_told view token day why path left before after said saying old new done (Err fault) told imports = let is : Ok done ≡ Err told.0 = told.2 in cc
 
 -- what an office makes of a question, as the program reports it
 pub told_of : {S R : Type 0} (view : S → StoreView) (remaining : R → Option (List ℕ)) (day : ℕ) (asked : Question R) (old new : OfficeView S)
-    (before after : Option (List ℕ)) (result : Result Outcome Failure) → IsAnswered view remaining day asked old new before after result →
-    IfOk result (IsToldOf day asked before after)
-told_of view remaining day (question.Serve request) old new before after (Ok done) h =
+    (before after said saying : Option (List ℕ)) (result : Result Outcome Failure) →
+    IsAnswered view remaining day asked old new before after said saying result → IfOk result (IsToldOf day asked before after)
+told_of view remaining day (question.Serve request) old new before after said saying (Ok done) h =
     (answer_told view day (string_bytes request) old new done h.0.answer, h.1)
-told_of view remaining day (question.List token filter) old new before after (Ok done) h = (listing_told done _ h.0.told, h.1)
-told_of view remaining day (question.Register token kind) old new before after (Ok done) h =
-    register_told kind day before after done h.written h.told h.some
-told_of view remaining day (question.Import token path records why) old new before after (Ok done) h =
-    import_told view token day why path.now (remaining records) before after old new done h.ended h.told h.imports
-told_of view remaining day asked old new before after (Err why) h = tt
+told_of view remaining day (question.List token filter) old new before after said saying (Ok done) h = (listing_told done _ h.0.told, h.1)
+told_of view remaining day (question.Register token kind) old new before after said saying (Ok done) h =
+    register_told kind day before after done h.0.written h.0.told h.0.some
+told_of view remaining day (question.Import token path records why) old new before after said saying (Ok done) h =
+    import_told view token day why path.now (remaining records) before after said saying old new done h.ended h.told h.imports
+told_of view remaining day asked old new before after said saying (Err why) h = tt
+
+-- why records are refused is said of an import alone
+pub says_of : {S R : Type 0} (view : S → StoreView) (remaining : R → Option (List ℕ)) (day : ℕ) (asked : Question R) (old new : OfficeView S)
+    (before after said saying : Option (List ℕ)) (result : Result Outcome Failure) →
+    IsAnswered view remaining day asked old new before after said saying result → SaysOf asked said saying
+says_of view remaining day (question.Serve request) old new before after said saying result h = h.2
+says_of view remaining day (question.List token filter) old new before after said saying result h = h.2
+says_of view remaining day (question.Register token kind) old new before after said saying result h = h.1
+says_of view remaining day (question.Import token path records why) old new before after said saying result h =
+    (h.imports.rows, h.imports.replies, h.imports.causes)
+
+-- where nothing is asked of an office, nothing is said
+unsaid : (asked : Bool) (held : Option (List ℕ)) → TellsCauses asked held held []
+unsaid true held = inl (Appends-nil held)
+unsaid false held = refl
+
+pub says_nothing : (asked : Bool) (held : Option (List ℕ)) → SaysCauses asked held held
+says_nothing asked held = ([], [], unsaid asked held)
+
+pub says_nothing_of : {R : Type 0} (asked : Question R) (held : Option (List ℕ)) → SaysOf asked held held
+says_nothing_of (question.Serve request) held = refl
+says_nothing_of (question.List token filter) held = refl
+says_nothing_of (question.Register token kind) held = refl
+says_nothing_of (question.Import token path records why) held = says_nothing why held
+
+-- what is said of the question that the words of an import make
+pub says_as : {R : Type 0} (words : ImportWords) (token : List ℕ) (records : R) (asked : Question R) (said saying : Option (List ℕ)) →
+    AsksImport words token records asked → SaysOf asked said saying → SaysCauses words.office.why said saying
+says_as words token records (question.Serve _) said saying asks says = absurd asks
+says_as words token records (question.List _ _) said saying asks says = absurd asks
+says_as words token records (question.Register _ _) said saying asks says = absurd asks
+says_as words token records (question.Import by path from why) said saying asks says =
+    subst (λ (w : Bool). SaysCauses w said saying) asks.3 says
 
 -- ---- the day
 
@@ -126,12 +163,11 @@ registers_as words token (question.Register by kind) before after done asks told
 registers_as words token (question.Import _ _ _ _) before after done asks told = absurd asks
 
 pub imports_as : {R : Type 0} (words : ImportWords) (token : List ℕ) (records : R) (asked : Question R) (before after : Option (List ℕ)) (done : Outcome) →
-    AsksImport words token records asked → IsToldOnRunDay words.office.days asked before after done → IsImported words.office.why before after done
+    AsksImport words token records asked → IsToldOnRunDay words.office.days asked before after done → IsImported before after done
 imports_as words token records (question.Serve _) before after done asks told = absurd asks
 imports_as words token records (question.List _ _) before after done asks told = absurd asks
 imports_as words token records (question.Register _ _) before after done asks told = absurd asks
-imports_as words token records (question.Import by path from why) before after done asks told =
-    subst (λ (w : Bool). IsImported w before after done) asks.3 told.2
+imports_as words token records (question.Import by path from why) before after done asks told = told.2
 
 -- each result of which something is said has that said of it
 pub if_ok : {A E : Type 0} {P Q : A → Type 0} (result : Result A E) → ((a : A) → P a → Q a) → IfOk result P → IfOk result Q
@@ -162,3 +198,12 @@ says_told g view conn_of tick c d policy HasEnded workers conn back before after
 ]
 says_told g view conn_of tick c d policy HasEnded workers conn back before after (Err why) (inl served) = served.says
 says_told g view conn_of tick c d policy HasEnded workers conn back before after (Err why) (inr other) = inr (inl other.1)
+
+-- ---- what is reported of an office that was served
+
+-- the line of the address was written where serving it succeeded
+pub served_there : (before : Option (List ℕ)) (out left : Stream) (served returned : Result (Unit {0}) Failure) (done : Unit {0}) → out ≡ left → served ≡ returned →
+    served ≡ Ok done → SaysWhere before (printed left) returned → ServesAs before (printed out) outcome.Ended
+served_there before out left served returned done same is ok said =
+    let listening = subst (λ (r : Result (Unit {0}) Failure). SaysWhere before (printed left) r) (sym is ∙ ok) said in
+    (refl, subst (λ (s : Stream). SaysWhere before (printed s) (Ok done)) (sym same) listening)

@@ -103,29 +103,32 @@ register_fails kind day before after why (Ok done) told some = cc
 register_fails kind day before after why (Err other) told some =
     let same : other ≡ why = cc in subst (λ (f : Failure). WritesSome kind day before after (Err f)) same some
 
-import_fails : {S : Type 0} (view : S → StoreView) (token : List ℕ) (day : ℕ) (asked : Bool) (path : List ℕ) (left before after : Option (List ℕ))
+import_fails : {S : Type 0} (view : S → StoreView) (token : List ℕ) (day : ℕ) (asked : Bool) (path : List ℕ) (left before after said saying : Option (List ℕ))
     (old new : OfficeView S) (why : Failure) (ended : Result Tally ImportFault) → TellsImport path ended (Err why) →
-    Imports view token day asked left before after old new ended → StopsImport path asked before after why
-import_fails view token day asked path left before after old new why (Ok tally) told imports = cc
-import_fails view token day asked path left before after old new why (Err fault) told imports =
+    Imports view token day asked left before after said saying old new ended → StopsImport path before after why
+import_fails view token day asked path left before after said saying old new why (Ok tally) told imports = cc
+import_fails view token day asked path left before after said saying old new why (Err fault) told imports =
     let same : told.0 ≡ why = cc in
     (fault, subst (IsFailureOfImport path fault) same told.1, left, imports.rows, imports.replies, imports.ends)
 
 -- an office that is asked fails as one may
 fails_of : {S R : Type 0} (view : S → StoreView) (remaining : R → Option (List ℕ)) (day : ℕ) (asked : Question R) (old new : OfficeView S)
-    (before after : Option (List ℕ)) (why : Failure) → IsAnswered view remaining day asked old new before after (Err why) → FailsOf day asked before after why
-fails_of view remaining day (question.Serve request) old new before after why h = (h.0.answer.0, h.1)
-fails_of view remaining day (question.List token filter) old new before after why h = (list_fails why h.0.reply h.0.told, h.1)
-fails_of view remaining day (question.Register token kind) old new before after why h = register_fails kind day before after why h.written h.told h.some
-fails_of view remaining day (question.Import token path records asked) old new before after why h =
-    import_fails view token day asked path.now (remaining records) before after old new why h.ended h.told h.imports
+    (before after said saying : Option (List ℕ)) (why : Failure) → IsAnswered view remaining day asked old new before after said saying (Err why) →
+    FailsOf day asked before after why
+fails_of view remaining day (question.Serve request) old new before after said saying why h = (h.0.answer.0, h.1)
+fails_of view remaining day (question.List token filter) old new before after said saying why h = (list_fails why h.0.reply h.0.told, h.1)
+fails_of view remaining day (question.Register token kind) old new before after said saying why h =
+    register_fails kind day before after why h.0.written h.0.told h.0.some
+fails_of view remaining day (question.Import token path records asked) old new before after said saying why h =
+    import_fails view token day asked path.now (remaining records) before after said saying old new why h.ended h.told h.imports
 
 -- the same of one in a database
 pub fails_in : {S R : Type 0} (view : S → StoreView) (remaining : R → Option (List ℕ)) (day : ℕ) (asked : Question R) (old new : OfficeView S)
-    (before after : Option (List ℕ)) (result : Result Outcome Failure) → IsAnswered view remaining day asked old new before after result →
-    IfErr result (FailsIn day asked before after)
-fails_in view remaining day asked old new before after (Ok done) h = tt
-fails_in view remaining day asked old new before after (Err why) h = inr (fails_of view remaining day asked old new before after why h)
+    (before after said saying : Option (List ℕ)) (result : Result Outcome Failure) →
+    IsAnswered view remaining day asked old new before after said saying result → IfErr result (FailsIn day asked before after)
+fails_in view remaining day asked old new before after said saying (Ok done) h = tt
+fails_in view remaining day asked old new before after said saying (Err why) h =
+    inr (fails_of view remaining day asked old new before after said saying why h)
 
 -- ---- words
 
@@ -190,8 +193,7 @@ imports_fail words token records (question.List _ _) before after why asks faile
 imports_fail words token records (question.Register _ _) before after why asks failed = absurd asks
 imports_fail words token records (question.Import by path from asked) before after why asks (inl unasked) = inl (inr (inr unasked.0), unasked.1)
 imports_fail words token records (question.Import by path from asked) before after why asks (inr failed) =
-    inr (subst (λ (p : List ℕ). StopsImport p words.office.why before after why) asks.1
-    (subst (λ (w : Bool). StopsImport path.now w before after why) asks.3 failed.2))
+    inr (subst (λ (p : List ℕ). StopsImport p before after why) asks.1 failed.2)
 
 -- two things that are said of each failure
 pub both_fail : {A E : Type 0} (P Q : E → Type 0) (result : Result A E) → IfErr result P → IfErr result Q → IfErr result (λ e. P e × Q e)

@@ -1,7 +1,7 @@
 -- What is reported of a database's tables, and of an office that was brought further.
 use Rattle.std.proofs.Common.{◌≡◌, inl, ℕ, List, Option, Result, Ok, sym, subst}
 use Rattle.permit_model.specs.Tables.{Desk}
-use Rattle.permit_opening.specs.declared.bringing.Brought.{Brought}
+use Rattle.permit_replay.specs.declared.opening.bringing.Brought.{Brought}
 use Rattle.permit_subcommands.specs.Lines.{sound_line, upgraded_line}
 use Rattle.permit_subcommands.specs.declared.failure.Failure.{Failure}
 use Rattle.permit_cli.specs.Telling.{IsTold, PrintsThen, replayed_line}

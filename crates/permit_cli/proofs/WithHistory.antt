@@ -23,7 +23,7 @@ use Rattle.permit_subcommands.specs.declared.failure.Failure.{Failure}
 use Rattle.permit_subcommands.specs.declared.failure.Failure.TheVariants as failure
 use Rattle.permit_keeping.specs.Failing.{is_unbegun, is_unfounded, is_unopened, is_unrenewed, telling_failure}
 use Rattle.permit_replay.specs.Histories.{Unsaid}
-use Rattle.permit_cli.specs.Doing.{IsAnswerTo, IsImported}
+use Rattle.permit_cli.specs.Doing.{IsAnswerTo, IsImported, SaysCauses}
 use Rattle.permit_args.specs.declared.plan.ImportWords.{ImportWords}
 use Rattle.permit_cli.specs.Failing.{FailsToImport, FailsToListen, IsOfHistory, IsUnfounded, IsUnrenewed, IsUnusable, StopsImport}
 use Rattle.permit_cli.specs.Questions.{TellsImport}
@@ -48,6 +48,7 @@ unopened_so (failure.Refused (refused.Denied rule)) is = cc
 unopened_so (failure.Refused (refused.NotAdmitted _)) is = cc
 unopened_so (failure.File path) is = cc
 unopened_so (failure.Policy error) is = cc
+unopened_so (failure.Against error) is = cc
 unopened_so failure.Facts is = cc
 unopened_so failure.Day is = cc
 unopened_so failure.Zone is = cc
@@ -86,6 +87,7 @@ unrenewed_so (failure.Refused (refused.NotAdmitted reason.Full)) is = cc
 unrenewed_so (failure.Refused (refused.NotAdmitted reason.Far)) is = cc
 unrenewed_so (failure.File path) is = cc
 unrenewed_so (failure.Policy error) is = cc
+unrenewed_so (failure.Against error) is = cc
 unrenewed_so failure.Facts is = cc
 unrenewed_so failure.Day is = cc
 unrenewed_so failure.Zone is = cc
@@ -110,6 +112,7 @@ unfounded_so (failure.Refused (refused.Denied rule)) is = cc
 unfounded_so (failure.Refused (refused.NotAdmitted _)) is = cc
 unfounded_so (failure.File path) is = cc
 unfounded_so (failure.Policy error) is = cc
+unfounded_so (failure.Against error) is = cc
 unfounded_so failure.Facts is = cc
 unfounded_so failure.Day is = cc
 unfounded_so failure.Zone is = cc
@@ -134,6 +137,7 @@ unbegun_so (failure.Refused (refused.Denied rule)) is = cc
 unbegun_so (failure.Refused (refused.NotAdmitted _)) is = cc
 unbegun_so (failure.File path) is = cc
 unbegun_so (failure.Policy error) is = cc
+unbegun_so (failure.Against error) is = cc
 unbegun_so failure.Facts is = cc
 unbegun_so failure.Day is = cc
 unbegun_so failure.Zone is = cc
@@ -184,27 +188,32 @@ unserved_so address why (inr unheard) = inr unheard
 -- an import by an office with its history, as the program reports it
 module _ {S T H : Type 0} (g : Ghosts S) (begins : Unsaid → Type 0) (view inner : T → StoreView) (conn_of : T → Held S) (text : H → List ℕ)
     (may_leave : H → List ℕ → Type 0) (is_clean : H → Bool) (leaves : List ℕ → List ℕ → Type 0) (policy : Policy) (conn back : Held S)
-    (was token : List ℕ) (day : ℕ) (asked : Bool) (records before after : Option (List ℕ)) (path : List ℕ) where
+    (was token : List ℕ) (day : ℕ) (asked : Bool) (records before after said saying : Option (List ℕ)) (path : List ℕ) where
   pub import_told : (ended : Result Tally ImportFault) (result : Result Outcome Failure) → TellsImport path ended result
-      → keeping.IsImported g begins view inner conn_of text may_leave is_clean leaves policy conn back was token day asked records before after ended
-      → IfOk result (IsImported asked before after)
+      → keeping.IsImported g begins view inner conn_of text may_leave is_clean leaves policy conn back was token day asked records before after said saying ended
+      → IfOk result (IsImported before after)
   import_told (Ok tally) result told made =
-      subst (λ (r : Result Outcome Failure). IfOk r (IsImported asked before after)) (sym told)
+      subst (λ (r : Result Outcome Failure). IfOk r (IsImported before after)) (sym told)
       (records, made.imports.rows, made.imports.replies, made.imports.ends)
-  import_told (Err fault) result told made = subst (λ (r : Result Outcome Failure). IfOk r (IsImported asked before after)) (sym told.2) tt
+  import_told (Err fault) result told made = subst (λ (r : Result Outcome Failure). IfOk r (IsImported before after)) (sym told.2) tt
 
   pub import_stops : (P : Failure → Type 0) (ended : Result Tally ImportFault) (result : Result Outcome Failure) → TellsImport path ended result
-      → keeping.IsImported g begins view inner conn_of text may_leave is_clean leaves policy conn back was token day asked records before after ended
-      → IfErr result (λ why. P why ⊎ StopsImport path asked before after why)
+      → keeping.IsImported g begins view inner conn_of text may_leave is_clean leaves policy conn back was token day asked records before after said saying ended
+      → IfErr result (λ why. P why ⊎ StopsImport path before after why)
   import_stops P (Ok tally) result told made =
-      subst (λ (r : Result Outcome Failure). IfErr r (λ why. P why ⊎ StopsImport path asked before after why)) (sym told) tt
+      subst (λ (r : Result Outcome Failure). IfErr r (λ why. P why ⊎ StopsImport path before after why)) (sym told) tt
   import_stops P (Err fault) result told made =
-      subst (λ (r : Result Outcome Failure). IfErr r (λ why. P why ⊎ StopsImport path asked before after why)) (sym told.2)
+      subst (λ (r : Result Outcome Failure). IfErr r (λ why. P why ⊎ StopsImport path before after why)) (sym told.2)
       (inr (fault, told.1, records, made.imports.rows, made.imports.replies, made.imports.ends))
+
+  pub import_says : (ended : Result Tally ImportFault)
+      → keeping.IsImported g begins view inner conn_of text may_leave is_clean leaves policy conn back was token day asked records before after said saying ended
+      → SaysCauses asked said saying
+  import_says ended made = (made.imports.rows, made.imports.replies, made.imports.causes)
 
 -- an import by an office with its history that isn't done
 pub import_undone : {A : Type 0} (words : ImportWords) (before after : Option (List ℕ)) (R : Failure → Type 0) (result : Result A Failure)
-    → IfErr result (λ why. ((IsUnusable why ⊎ IsOfHistory why) × (after ≡ before)) ⊎ StopsImport words.file.now words.office.why before after why)
+    → IfErr result (λ why. ((IsUnusable why ⊎ IsOfHistory why) × (after ≡ before)) ⊎ StopsImport words.file.now before after why)
     → IfErr result (λ why. FailsToImport words before after why ⊎ ((IsOfHistory why ⊎ R why) × (after ≡ before)))
 import_undone words before after R (Ok done) said = tt
 import_undone words before after R (Err why) (inl (inl unusable, same)) = inl (inl (inr (inr (inr (inr unusable))), same))

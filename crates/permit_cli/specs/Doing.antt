@@ -12,7 +12,7 @@ use Rattle.permit_policy.specs.Explained.{explanation}
 use Rattle.permit_office.specs.declared.reply.Reply.{Reply}
 use Rattle.permit_http.specs.declared.error.WireError.TheVariants as error
 use Rattle.permit_answer.specs.declared.answer.Answer.TheVariants as answer
-use Rattle.permit_import.specs.Importing.{EndsOf}
+use Rattle.permit_import.specs.Importing.{EndsOf, TellsCauses}
 use Rattle.permit_import.specs.Outcomes.{outcomes_of}
 use Rattle.permit_import.specs.Records.{Fields}
 use Rattle.permit_args.specs.Checks.{TellsDead, decided_line, rules_line, tried_lines}
@@ -63,31 +63,46 @@ IsListing _ = ⊥
 abbrev pub IsRegistered : RegisterKind → ℕ → Option (List ℕ) → Option (List ℕ) → Outcome → Type 0
 IsRegistered kind day before after done = (done ≡ outcome.Registered) × WritesSome kind day before after (Ok tt)
 
--- the lines of some records and their counts are written, which are reported, with a reason after a refusal where it is asked for
-abbrev pub IsImported : Bool → Option (List ℕ) → Option (List ℕ) → Outcome → Type 0
-IsImported why before after (outcome.Imported tally) =
-    (left : Option (List ℕ)) × (rows : List Fields) × (replies : List Reply) × EndsOf why left before after (Ok tally) rows (outcomes_of rows replies)
-IsImported why before after _ = ⊥
+-- the lines of some records and their counts are written, which are reported
+abbrev pub IsImported : Option (List ℕ) → Option (List ℕ) → Outcome → Type 0
+IsImported before after (outcome.Imported tally) =
+    (left : Option (List ℕ)) × (rows : List Fields) × (replies : List Reply) × EndsOf left before after (Ok tally) rows (outcomes_of rows replies)
+IsImported before after _ = ⊥
 
 -- what is reported of a question to some office on the day, and written on the way
 abbrev pub IsToldOf : {R : Type 0} → ℕ → Question R → Option (List ℕ) → Option (List ℕ) → Outcome → Type 0
 IsToldOf day (question.Serve request) before after done = IsAnswerTo day (string_bytes request) done × (after ≡ before)
 IsToldOf day (question.List token filter) before after done = IsListing done × (after ≡ before)
 IsToldOf day (question.Register token kind) before after done = IsRegistered kind day before after done
-IsToldOf day (question.Import token path records why) before after done = IsImported why before after done
+IsToldOf day (question.Import token path records why) before after done = IsImported before after done
 
 -- the same on the day of a run
 abbrev pub IsToldOnRunDay : {R : Type 0} → DayWords → Question R → Option (List ℕ) → Option (List ℕ) → Outcome → Type 0
 IsToldOnRunDay words asked before after done = (day : ℕ) × IsRunDay words day × IsToldOf day asked before after done
 
+-- ---- what is said on standard error on the way
+
+-- why records are refused, where that is asked for: the lines of some records, or a prefix of them
+abbrev pub SaysCauses : Bool → Option (List ℕ) → Option (List ℕ) → Type 0
+SaysCauses asked before after = (rows : List Fields) × (replies : List Reply) × TellsCauses asked before after (outcomes_of rows replies)
+
+-- the same where an office is asked something: nothing, but for an import
+abbrev pub SaysOf : {R : Type 0} → Question R → Option (List ℕ) → Option (List ℕ) → Type 0
+SaysOf (question.Serve request) before after = after ≡ before
+SaysOf (question.List token filter) before after = after ≡ before
+SaysOf (question.Register token kind) before after = after ≡ before
+SaysOf (question.Import token path records why) before after = SaysCauses why before after
+
 -- ---- what is reported of a plan
 
--- what is said of some policy
+-- What is said of some policy. What differs from another, and who may do what, is proved as a value; what prints it is only tested.
 abbrev pub Says : Check → List ℕ → Type 0
 Says check.Rules text = (policy : Policy) × (text ≡ rules_line (length policy))
 Says check.Dead text = (policy : Policy) × TellsDead policy text
 Says (check.Facts words) text = (policy : Policy) × (facts : Facts) × (facts_in (pieces 44 words.now) ≡ Some facts)
     × (text ≡ tried_lines (explanation policy facts) ++ decided_line (decision policy facts))
+Says (check.Against path) text = Unit {0}
+Says check.Table text = Unit {0}
 
 abbrev pub IsPolicyChecked : Check → Outcome → Type 0
 IsPolicyChecked check (outcome.Checked text) = Says check (string_bytes text)
@@ -135,7 +150,7 @@ ComesTo (plan.Init words) before after done = (done ≡ outcome.Founded) × (aft
 ComesTo (plan.Act words) before after done = ActsAs words before after done
 ComesTo (plan.List words) before after done = ListsAs before after done
 ComesTo (plan.Register words) before after done = RegistersAs words before after done
-ComesTo (plan.Import words) before after done = IsImported words.office.why before after done
+ComesTo (plan.Import words) before after done = IsImported before after done
 ComesTo (plan.Serve words) before after done = ServesAs before after done
 ComesTo (plan.Upgrade words) before after done = IsUpgrade done × (after ≡ before)
 ComesTo (plan.CheckDb words) before after done = IsCheck words.why done × (after ≡ before)

@@ -75,6 +75,15 @@ policy_of (plan.Import words) = words.office.policy.now
 policy_of (plan.Serve words) = words.policy.now
 policy_of _ = []
 
+-- that of the policy that it is compared with
+abbrev pub against_in : Check → List ℕ
+against_in (check.Against path) = path.now
+against_in _ = []
+
+abbrev pub against_of : Plan → List ℕ
+against_of (plan.CheckPolicy words) = against_in words.check
+against_of _ = []
+
 abbrev pub named_path : Option (Bor (List ℕ)) → List ℕ
 named_path None = []
 named_path (Some path) = path.now
@@ -156,6 +165,7 @@ abbrev pub Explains : Plan → Failure → Option (List ℕ) → Option (List �
 Explains planned (failure.Refused why) before after said = ExplainsRefusal planned why before after said
 Explains planned (failure.File path) before after said = ExplainsFile (string_bytes path) before after said
 Explains planned (failure.Policy error) before after said = ExplainsPolicy (policy_of planned) error before after said
+Explains planned (failure.Against error) before after said = ExplainsPolicy (against_of planned) error before after said
 Explains planned failure.Facts before after said = ExplainsFactsOf planned before after said
 Explains planned (failure.Database why) before after said =
     (found : Reason) × IsReasonFor (wanted_by planned) why found × Prints (about (database_of planned) (reason_line found)) before after said

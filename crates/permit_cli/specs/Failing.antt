@@ -1,5 +1,5 @@
 -- Which failures each plan may come to, whatever its files, the disk and the clock give, and what is written before them.
-use Rattle.std.specs.Prelude.{◌≡◌, ◌⊎◌, ℕ, Bool, false, List, Option, None, Err, IsSomeAnd}
+use Rattle.std.specs.Prelude.{◌≡◌, ◌⊎◌, ℕ, false, List, Option, None, Err, IsSomeAnd}
 use Rattle.std.specs.Borrow.{Bor}
 use Rattle.permit_base.specs.Texts.{is_token}
 use Rattle.permit_base.specs.declared.refusal.Reason.TheVariants as reason
@@ -32,7 +32,7 @@ use Rattle.permit_args.specs.declared.plan.RenewTokenWords.{RenewTokenWords}
 use Rattle.permit_args.specs.declared.plan.ServeWords.{ServeWords}
 use Rattle.permit_args.specs.declared.plan.TokenWords.{TokenWords}
 use Rattle.permit_subcommands.specs.Days as days
-use Rattle.permit_subcommands.specs.Failures.{plain, policy_failure, IsFailureOfImport, IsUnheard, IsUnread}
+use Rattle.permit_subcommands.specs.Failures.{against_failure, plain, policy_failure, IsFailureOfImport, IsUnheard, IsUnread}
 use Rattle.permit_subcommands.specs.Founders as founders
 use Rattle.permit_subcommands.specs.Listings.{WritesSome}
 use Rattle.permit_subcommands.specs.Requests as requests
@@ -55,10 +55,17 @@ abbrev pub IsPolicyFailure : List ℕ → Failure → Type 0
 IsPolicyFailure path why =
     IsUnread path why ⊎ ((text : List ℕ) × (error : PolicyError) × Means (Err error) (meaning text) × (why ≡ policy_failure error))
 
--- the facts to decide by can't be read, where there are any
+-- the same of the policy that another one is compared with
+abbrev pub IsAgainstFailure : List ℕ → Failure → Type 0
+IsAgainstFailure path why =
+    IsUnread path why ⊎ ((text : List ℕ) × (error : PolicyError) × Means (Err error) (meaning text) × (why ≡ against_failure error))
+
+-- the facts to decide by can't be read, or the policy to compare with, where there are any
 abbrev pub IsFactsFailure : Check → Failure → Type 0
 IsFactsFailure check.Rules why = ⊥
 IsFactsFailure check.Dead why = ⊥
+IsFactsFailure check.Table why = ⊥
+IsFactsFailure (check.Against path) why = IsAgainstFailure path.now why
 IsFactsFailure (check.Facts words) why = (why ≡ failure.Facts) × (facts_in (pieces 44 words.now) ≡ None)
 
 -- ---- of a database
@@ -109,16 +116,16 @@ abbrev pub IsRefusal : Failure → Type 0
 IsRefusal why = (refusal : Refusal) × (why ≡ failure.Refused (refused_by refusal))
 
 -- an import stops before its end, and what is written of its lines
-abbrev pub StopsImport : List ℕ → Bool → Option (List ℕ) → Option (List ℕ) → Failure → Type 0
-StopsImport path asked before after why = (fault : ImportFault) × IsFailureOfImport path fault why × (left : Option (List ℕ)) × (rows : List Fields)
-    × (replies : List Reply) × EndsOf asked left before after (Err fault) rows (outcomes_of rows replies)
+abbrev pub StopsImport : List ℕ → Option (List ℕ) → Option (List ℕ) → Failure → Type 0
+StopsImport path before after why = (fault : ImportFault) × IsFailureOfImport path fault why × (left : Option (List ℕ)) × (rows : List Fields)
+    × (replies : List Reply) × EndsOf left before after (Err fault) rows (outcomes_of rows replies)
 
 -- some office that is asked on the day fails so; of a register and an import a prefix may be written
 abbrev pub FailsOf : {R : Type 0} → ℕ → Question R → Option (List ℕ) → Option (List ℕ) → Failure → Type 0
 FailsOf day (question.Serve request) before after why = (why ≡ plain word.Store) × (after ≡ before)
 FailsOf day (question.List token filter) before after why = IsRefusal why × (after ≡ before)
 FailsOf day (question.Register token kind) before after why = WritesSome kind day before after (Err why)
-FailsOf day (question.Import token path records asked) before after why = StopsImport path.now asked before after why
+FailsOf day (question.Import token path records asked) before after why = StopsImport path.now before after why
 
 -- the same, or its database can't be used
 abbrev pub FailsIn : {R : Type 0} → ℕ → Question R → Option (List ℕ) → Option (List ℕ) → Failure → Type 0
@@ -173,7 +180,7 @@ FailsToRegister words before after why = ((IsUncalled words.office.token why ⊎
 abbrev pub FailsToImport : ImportWords → Option (List ℕ) → Option (List ℕ) → Failure → Type 0
 FailsToImport words before after why =
     ((IsUncalled words.office.token why ⊎ (IsUnread words.file.now why ⊎ IsUnasked words.office why)) × (after ≡ before))
-    ⊎ StopsImport words.file.now words.office.why before after why
+    ⊎ StopsImport words.file.now before after why
 
 -- the serving fails once the database can be used: the address can't be listened on, or the output fails
 abbrev pub FailsToListen : List ℕ → Failure → Type 0

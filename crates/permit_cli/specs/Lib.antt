@@ -9,6 +9,7 @@ pub mod Questions
 pub mod Reasons
 pub mod Running
 pub mod Served
+pub mod Streams
 pub mod Telling
 pub mod Wanting
 pub mod Working

@@ -73,31 +73,32 @@ TellsImport path (Ok tally) result = result ≡ Ok (outcome.Imported tally)
 TellsImport path (Err fault) result = (why : Failure) × IsFailureOfImport path fault why × (result ≡ Err why)
 
 -- the records that are left in the reader of a file are imported
-pub record ImportsRecords {S : Type 0} (view : S → StoreView) (day : ℕ) (why : Bool) (token path : List ℕ) (records before after : Option (List ℕ))
+pub record ImportsRecords {S : Type 0} (view : S → StoreView) (day : ℕ) (why : Bool) (token path : List ℕ) (records before after said saying : Option (List ℕ))
     (old new : OfficeView S) (result : Result Outcome Failure) : Type 0 where
   pub ended : Result Tally ImportFault
   pub told : TellsImport path ended result
-  pub imports : Imports view token day why records before after old new ended
+  pub imports : Imports view token day why records before after said saying old new ended
 
 -- What the office makes of the question, what is reported of it, and what is written on the way: a register, or the lines of
--- an import, and else nothing.
+-- an import, and else nothing. The first two are the output before and after, the next two the errors, which get why records are
+-- refused.
 abbrev pub IsAnswered : {S R : Type 0} → (S → StoreView) → (R → Option (List ℕ)) → ℕ → Question R → OfficeView S → OfficeView S
-    → Option (List ℕ) → Option (List ℕ) → Result Outcome Failure → Type 0
-IsAnswered view remaining day (question.Serve request) old new before after result =
-    ServesRequest view day (string_bytes request) old new result × (after ≡ before)
-IsAnswered view remaining day (question.List token filter) old new before after result =
-    ListsFiles view day token filter old new result × (after ≡ before)
-IsAnswered view remaining day (question.Register token kind) old new before after result =
-    WritesRegister view day token kind before after old new result
-IsAnswered view remaining day (question.Import token path records why) old new before after result =
-    ImportsRecords view day why token path.now (remaining records) before after old new result
+    → (before after said saying : Option (List ℕ)) → Result Outcome Failure → Type 0
+IsAnswered view remaining day (question.Serve request) old new before after said saying result =
+    ServesRequest view day (string_bytes request) old new result × (after ≡ before) × (saying ≡ said)
+IsAnswered view remaining day (question.List token filter) old new before after said saying result =
+    ListsFiles view day token filter old new result × (after ≡ before) × (saying ≡ said)
+IsAnswered view remaining day (question.Register token kind) old new before after said saying result =
+    WritesRegister view day token kind before after old new result × (saying ≡ said)
+IsAnswered view remaining day (question.Import token path records why) old new before after said saying result =
+    ImportsRecords view day why token path.now (remaining records) before after said saying old new result
 
 -- an office that is opened over a connection is asked, and the connection of the store that it leaves comes back
 pub record IsAsked {S T R : Type 0} (g : Ghosts S) (view : T → StoreView) (conn_of : T → Held S) (remaining : R → Option (List ℕ)) (policy : Policy)
-    (day : ℕ) (asked : Question R) (conn back : Held S) (before after : Option (List ℕ)) (result : Result Outcome Failure) : Type 0 where
+    (day : ℕ) (asked : Question R) (conn back : Held S) (before after said saying : Option (List ℕ)) (result : Result Outcome Failure) : Type 0 where
   pub office : OfficeView T
   pub left : OfficeView T
   pub opens : Opens g conn (conn_of office.store) (view office.store)
   pub policy_is : office.policy ≡ policy
-  pub answered : IsAnswered view remaining day asked office left before after result
+  pub answered : IsAnswered view remaining day asked office left before after said saying result
   pub back_is : back ≡ conn_of left.store

@@ -9,16 +9,18 @@ use Rattle.permit_subcommands.specs.Failures.{failure_status}
 use Rattle.permit_subcommands.specs.Printing.{TellsNoPlan}
 use Rattle.permit_subcommands.specs.declared.failure.Failure.{Failure}
 use Rattle.permit_subcommands.specs.declared.failure.Failure.TheVariants as failure
-use Rattle.permit_cli.specs.Doing.{ComesTo}
+use Rattle.permit_cli.specs.Doing.{ComesTo, SaysCauses}
 use Rattle.permit_cli.specs.Explained.{database_of, FailsWith}
 use Rattle.permit_cli.specs.Failing.{FailsAs}
 use Rattle.permit_cli.specs.Telling.{IsTold, NamesPlace, SaysEnd, SaysNoPlan, Warns}
 use Rattle.permit_cli.specs.declared.outcome.Outcome.{Outcome}
 
--- what is said on standard error before a plan is carried out: at most that an address isn't this machine's alone
-abbrev pub WarnsOf : Plan → Option (List ℕ) → Option (List ℕ) → Type 0
-WarnsOf (plan.Serve words) before after = Warns words.listen.now before after
-WarnsOf _ before after = after ≡ before
+-- what is said on standard error while a plan is carried out: at most that an address isn't this machine's alone, or why records
+-- are refused, where that is asked for
+abbrev pub SaysFirst : Plan → Option (List ℕ) → Option (List ℕ) → Type 0
+SaysFirst (plan.Serve words) before after = Warns words.listen.now before after
+SaysFirst (plan.Import words) before after = SaysCauses words.office.why before after
+SaysFirst _ before after = after ≡ before
 
 -- a refusal that an answer gives is explained where that is asked for
 abbrev pub ExplainsAnswer : Plan → Result ℕ Failure → Option (List ℕ) → Option (List ℕ) → Type 0
@@ -35,9 +37,9 @@ pub record Reports (planned : Plan) (done : Outcome) (before after said saying :
 -- What a plan came to is printed, and the run ends so; or there is a failure that the plan may come to, which is explained where
 -- that is asked for, and with which the run ends. The first two are the output before and after, the next two the errors.
 abbrev pub Performs : Plan → (before after said saying : Option (List ℕ)) → Result ℕ Failure → Type 0
-Performs planned before after said saying result = (warned : Option (List ℕ)) × WarnsOf planned said warned
-    × (((done : Outcome) × (between : Option (List ℕ)) × ComesTo planned before between done × Reports planned done between after warned saying result)
-    ⊎ ((why : Failure) × FailsAs planned before after why × FailsWith planned why warned saying × (result ≡ Err why)))
+Performs planned before after said saying result = (first : Option (List ℕ)) × SaysFirst planned said first
+    × (((done : Outcome) × (between : Option (List ℕ)) × ComesTo planned before between done × Reports planned done between after first saying result)
+    ⊎ ((why : Failure) × FailsAs planned before after why × FailsWith planned why first saying × (result ≡ Err why)))
 
 -- the status: the one that is given, or the failure's
 abbrev pub status_of : Result ℕ Failure → ℕ

@@ -2,11 +2,11 @@
 use Rattle.std.specs.Prelude.{◌≡◌, ◌⊎◌, ◌-◌, ◌++◌, ℕ, List, Option, Result, Ok, Err, codes, decimal, string_bytes}
 use Rattle.std.specs.Io.KnownBytes.{Appends}
 use Rattle.permit_import.specs.declared.refused.RefusalWord.TheVariants.{Store}
-use Rattle.permit_alike.specs.declared.differing.Difference.{Difference}
-use Rattle.permit_alike.specs.declared.differing.Difference.TheVariants as place
+use Rattle.permit_replay.specs.declared.alike.differing.Difference.{Difference}
+use Rattle.permit_replay.specs.declared.alike.differing.Difference.TheVariants as place
 use Rattle.permit_answer.specs.AnswerText.{answer_data}
 use Rattle.permit_days.specs.Dates.{IsTextOf}
-use Rattle.permit_opening.specs.declared.bringing.Brought.{Brought}
+use Rattle.permit_replay.specs.declared.opening.bringing.Brought.{Brought}
 use Rattle.permit_store.specs.declared.store.OpenError.TheVariants as opening
 use Rattle.permit_sql.specs.FaultText.{fault_text}
 use Rattle.permit_subcommands.specs.Answering.{Shows}

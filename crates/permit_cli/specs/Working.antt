@@ -1,6 +1,6 @@
 -- What work on a database comes to, and which failures it may come to, whatever the disk gives.
 use Rattle.std.specs.Prelude.{◌≡◌, ◌⊎◌, ℕ, true, List, Option}
-use Rattle.permit_cli.specs.Doing.{IsAnswerTo, IsBegin, IsCheck, IsImported, IsReplay, IsToldOf, IsUpgrade}
+use Rattle.permit_cli.specs.Doing.{IsAnswerTo, IsBegin, IsCheck, IsImported, IsReplay, IsToldOf, IsUpgrade, SaysCauses, SaysOf}
 use Rattle.permit_cli.specs.Failing.{FailsIn, IsOfHistory, IsUnfounded, IsUnrenewed, IsUnusable, StopsImport}
 use Rattle.permit_subcommands.specs.declared.failure.Failure.{Failure}
 use Rattle.permit_cli.specs.declared.outcome.Outcome.{Outcome}
@@ -21,7 +21,7 @@ ComesOf (work.RenewRecorded party token history) before after done = done ≡ ou
 ComesOf (work.Replay begins founder source) before after done = IsReplay done
 ComesOf (work.Ask policy day question) before after done = IsToldOf day question before after done
 ComesOf (work.AskRecorded policy day request history) before after done = IsAnswerTo day request.now done
-ComesOf (work.ImportRecorded policy day token path why records history) before after done = IsImported why before after done
+ComesOf (work.ImportRecorded policy day token path why records history) before after done = IsImported before after done
 
 abbrev pub FailsAt : {H R B : Type 0} → Work H R B → Option (List ℕ) → Option (List ℕ) → Failure → Type 0
 FailsAt (work.Found founder) before after why = IsUnfounded why
@@ -37,4 +37,10 @@ FailsAt (work.Replay begins founder source) before after why = IsUnusable why �
 FailsAt (work.Ask policy day question) before after why = FailsIn day question before after why
 FailsAt (work.AskRecorded policy day request history) before after why = IsUnusable why ⊎ IsOfHistory why
 FailsAt (work.ImportRecorded policy day token path asked records history) before after why =
-    ((IsUnusable why ⊎ IsOfHistory why) × (after ≡ before)) ⊎ StopsImport path.now asked before after why
+    ((IsUnusable why ⊎ IsOfHistory why) × (after ≡ before)) ⊎ StopsImport path.now before after why
+
+-- what is said on standard error on the way: nothing, but for an import
+abbrev pub SaysAt : {H R B : Type 0} → Work H R B → Option (List ℕ) → Option (List ℕ) → Type 0
+SaysAt (work.Ask policy day question) before after = SaysOf question before after
+SaysAt (work.ImportRecorded policy day token path asked records history) before after = SaysCauses asked before after
+SaysAt _ before after = after ≡ before

@@ -1,7 +1,7 @@
 //! An office in a database, and what it makes of a question.
 
 ghost use Rattle.std.specs.Prelude.{◌≡◌, ◌≤◌, ◌⊎◌, IfErr, IfOk};
-ghost use Rattle.permit_cli.specs.Doing.{IsToldOf};
+ghost use Rattle.permit_cli.specs.Doing.{IsToldOf, SaysOf};
 ghost use Rattle.permit_cli.specs.Failing.{FailsIn};
 ghost use Rattle.permit_cli.specs.Opening.{IsOver, IsUnopened, Opens, Refuses};
 ghost use Rattle.permit_cli.specs.Questions.{IsAnswered, IsAsked};
@@ -62,15 +62,18 @@ fn office_in<S: Alter + Drop>(
     }
 }
 
-/// Asks an office. What can't be known before the last row or record is written to `out` on the way.
-fn ask_of<S: Store + Drop, R: Read + Drop, O: Write>(
+/// Asks an office. What can't be known before the last row or record is written to `out` on the way, and why records are refused to
+/// `err`.
+fn ask_of<S: Store + Drop, R: Read + Drop, O: Write, E: Write>(
     alloc: Global,
     office: &mut Office<S>,
     day: Day,
     question: Question<'_, R>,
     out: &mut O,
+    err: &mut E,
 ) -> Result<Outcome, Failure>
-    ensures answered { IsAnswered S.view R.remaining day question.entry office.old office.new (O.contents out.old) (O.contents out.new) result }
+    ensures answered { IsAnswered S.view R.remaining day question.entry office.old office.new (O.contents out.old) (O.contents out.new)
+        (E.contents err.old) (E.contents err.new) result }
     ensures policy { office.new.policy ≡ office.old.policy }
     ensures doubt { (S.view office.old.store).doubt ≤ (S.view office.new.store).doubt }
 {
@@ -89,7 +92,7 @@ fn ask_of<S: Store + Drop, R: Read + Drop, O: Write>(
             path,
             records,
             why,
-        } => match import(alloc, office, &token, day, why, records, out) {
+        } => match import(alloc, office, &token, day, why, records, out, err) {
             Ok(tally) => Ok(Outcome::Imported(tally)),
             Err(fault) => Err(Failure::of_import(alloc, path, fault)),
         },
@@ -97,24 +100,26 @@ fn ask_of<S: Store + Drop, R: Read + Drop, O: Write>(
 }
 
 /// Asks the office in a database.
-pub(crate) fn ask_in<S: Alter + Drop, R: Read + Drop, O: Write>(
+pub(crate) fn ask_in<S: Alter + Drop, R: Read + Drop, O: Write, E: Write>(
     alloc: Global,
     conn: Connection<S>,
     policy: Policy,
     day: Day,
     question: Question<'_, R>,
     out: &mut O,
+    err: &mut E,
 ) -> (Connection<S>, Result<Outcome, Failure>)
     ensures asked { IsAsked S.Store (⟦<SqlStore<S> as Store>⟧.view) (λ s. s.conn) R.remaining policy day question.entry conn
-        result.0 (O.contents out.old) (O.contents out.new) result.1
-        ⊎ (IsUnopened S.Store conn result.0 result.1 × (O.contents out.new ≡ O.contents out.old)) }
+        result.0 (O.contents out.old) (O.contents out.new) (E.contents err.old) (E.contents err.new) result.1
+        ⊎ (IsUnopened S.Store conn result.0 result.1 × (O.contents out.new ≡ O.contents out.old) × (E.contents err.new ≡ E.contents err.old)) }
     ensures told { IfOk result.1 (IsToldOf day question.entry (O.contents out.old) (O.contents out.new)) }
     ensures fails { IfErr result.1 (FailsIn day question.entry (O.contents out.old) (O.contents out.new)) }
+    ensures says { SaysOf question.entry (E.contents err.old) (E.contents err.new) }
 {
     match office_in(alloc, conn, policy) {
         Ok(office) => {
             let mut office = office;
-            let done = ask_of(alloc, &mut office, day, question, out);
+            let done = ask_of(alloc, &mut office, day, question, out, err);
             (office.into_store().into_connection(), done)
         }
         Err((conn, why)) => (conn, Err(Failure::Database(why))),

@@ -7,11 +7,11 @@ ghost use Rattle.permit_cli.specs.Failing.{AreUnread, IsOfHistory, IsUnkept, IsU
 use crate::database::{done_at, has_database};
 use crate::history::{beginning_at, reading_at};
 use crate::outcome::Outcome;
+use crate::stream::Stream;
 use crate::work::Work;
 use permit_args::plan::{CheckDbWords, HistoryPaths};
 use permit_store::rows::Desk;
 use permit_subcommands::failure::{Failure, HistoryFailure};
-use std::io::sink;
 
 /// Tests the tables of a database by its rules. None is made where there is none.
 fn check_alone(rt: &HostRuntime, words: &CheckDbWords<'_>) -> Result<Outcome, Failure>
@@ -19,7 +19,13 @@ fn check_alone(rt: &HostRuntime, words: &CheckDbWords<'_>) -> Result<Outcome, Fa
     ensures fails { IfErr result IsUnusable }
 {
     has_database(rt, words.db)?;
-    done_at(rt, words.db, Work::Check { why: words.why }, &mut sink())
+    done_at(
+        rt,
+        words.db,
+        Work::Check { why: words.why },
+        &mut Stream::Sink,
+        &mut Stream::Sink,
+    )
 }
 
 /// Compares the tables of a database, which are sound and count so, with those of a history. What a crash leaves after the tables'
@@ -45,7 +51,7 @@ fn compare(
         source,
         again,
     };
-    match done_at(rt, path, work, &mut sink()) {
+    match done_at(rt, path, work, &mut Stream::Sink, &mut Stream::Sink) {
         Ok(compared) => Ok(compared),
         Err(why) => Err(why),
     }
@@ -65,7 +71,8 @@ fn difference(rt: &HostRuntime, path: &str, history: HistoryPaths<'_>) -> Result
         rt,
         path,
         Work::Difference { beginning, source },
-        &mut sink(),
+        &mut Stream::Sink,
+        &mut Stream::Sink,
     ) {
         Ok(place) => Ok(place),
         Err(why) => Err(why),

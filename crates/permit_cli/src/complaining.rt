@@ -73,6 +73,18 @@ fn say_policy<E: Write>(error: &PolicyError, err: &mut E) -> Result<(), Failure>
     }
 }
 
+/// Says on a line where the policy is refused that another one is compared with.
+fn say_against<E: Write>(error: &PolicyError, err: &mut E) -> Result<(), Failure>
+    ensures { Prints (failure_line (failure.Against error.now) ++ codes "\n") (E.contents err.old) (E.contents err.new) result }
+{
+    let mut digits = Buffer::new();
+    let code = digits.format(error.code.number());
+    match print_three(err, "against: fault ", code, " at rule ") {
+        Ok(()) => end_place(err, error.rule),
+        Err(failure) => Err(failure),
+    }
+}
+
 /// The word of why a database isn't opened.
 fn open_word(why: &OpenError) -> &'static str
     ensures { result.now ≡ open_word why.now }
@@ -110,6 +122,7 @@ fn say<E: Write>(failure: &Failure, err: &mut E) -> Result<(), Failure>
         Failure::Refused(why) => say_refused(why, err),
         Failure::File(path) => print_three(err, "cannot read ", path.as_str(), "\n"),
         Failure::Policy(error) => say_policy(error, err),
+        Failure::Against(error) => say_against(error, err),
         Failure::Facts => print_text(err, "facts: unreadable\n"),
         Failure::Database(why) => print_three(err, "database: ", open_word(why), "\n"),
         Failure::History(why) => say_history(*why, err),

@@ -6,7 +6,8 @@ ghost use Rattle.permit_cli.specs.Failing.{FailsToListen, IsOfHistory, IsUnopene
 ghost use Rattle.permit_cli.specs.Opening.{opening_failure};
 ghost use Rattle.permit_cli.specs.Served.{SaysWhere};
 ghost use Rattle.permit_cli.specs.Reasons.{is_of_path, opening_reason, IsReasonFor};
-ghost use Rattle.permit_cli.specs.Working.{ComesOf, FailsAt};
+ghost use Rattle.permit_cli.specs.Streams.{printed};
+ghost use Rattle.permit_cli.specs.Working.{ComesOf, FailsAt, SaysAt};
 
 use crate::history::HistoryOnDisk;
 use crate::outcome::Outcome;
@@ -14,7 +15,8 @@ use crate::reason::Reason;
 use crate::recorded::Recording;
 use crate::serving::served_in;
 use crate::standing::reason_in;
-use crate::work::{Work, done_in};
+use crate::stream::Stream;
+use crate::work::{WorkOnDisk, done_in};
 use permit_args::plan::ServeWords;
 use permit_base::words::Edition;
 use permit_office_file::copies::{in_memory, on_disk};
@@ -27,15 +29,12 @@ use sqlite::{Connection, Error, ErrorCode, FileStore};
 use sqlite_disk::{Disk, Files};
 use sqlite_pager::Options;
 use sqlite_std_file::{OpenError as FileError, Start, Unknown};
-use std::fs::{self, File, Metadata, OpenOptions};
+use std::fs::{self, Metadata, OpenOptions};
 use std::hash::{BuildHasher, RandomState};
-use std::io::{BufReader, ErrorKind, Write};
+use std::io::{ErrorKind, Write};
 use std::os::unix::fs::MetadataExt;
 use std::sync::Wait;
 use std::thread::Threads;
-
-/// What is to be done on a database in a file, with the file of its history.
-pub(crate) type WorkOnDisk<'a> = Work<'a, HistoryOnDisk, File, BufReader<File>>;
 
 /// Why a database is not opened.
 pub(crate) fn of_opening(error: Error) -> Failure
@@ -178,19 +177,22 @@ pub(crate) fn closed(conn: OfficeConnection) {
     let _ = conn.close();
 }
 
-/// Does the work on the database at a path. A register and the lines of an import are written to `out` on the way.
-pub(crate) fn done_at<O: Write>(
+/// Does the work on the database at a path. A register and the lines of an import are written to `out` on the way, and why records
+/// are refused, where that is asked for, to `err`.
+pub(crate) fn done_at(
     rt: &HostRuntime,
     path: &str,
     work: WorkOnDisk<'_>,
-    out: &mut O,
+    out: &mut Stream,
+    err: &mut Stream,
 ) -> Result<Outcome, Failure>
-    ensures comes { IfOk result (ComesOf work.entry (O.contents out.old) (O.contents out.new)) }
-    ensures fails { IfErr result (FailsAt work.entry (O.contents out.old) (O.contents out.new)) }
+    ensures comes { IfOk result (ComesOf work.entry (printed out.old) (printed out.new)) }
+    ensures fails { IfErr result (FailsAt work.entry (printed out.old) (printed out.new)) }
+    ensures says { SaysAt work.entry (printed err.old) (printed err.new) }
 {
     match opened_for(rt, path, &work) {
         Ok(conn) => {
-            let (conn, done) = done_in(rt.alloc(), conn, work, out);
+            let (conn, done) = done_in(rt.alloc(), conn, work, out, err);
             closed(conn);
             done
         }

@@ -3,7 +3,7 @@
 ghost use Rattle.std.specs.Prelude.{◌≡◌, Err, IfSome, IsTrue, List, ℕ, Option, option_map, string_bytes};
 ghost use Rattle.permit_import.specs.Headings.{IsHeadingText};
 ghost use Rattle.permit_policy.specs.PolicyText.{meaning, Means};
-ghost use Rattle.permit_cli.specs.Explained.{asks_why, database_of, history_of, named_path, policy_of, syntax_reason, text_path, wanted_by};
+ghost use Rattle.permit_cli.specs.Explained.{against_of, asks_why, database_of, history_of, named_path, policy_of, syntax_reason, text_path, wanted_by};
 ghost use Rattle.permit_cli.specs.Explained.{Explains, ExplainsFactsOf, ExplainsFile, ExplainsPolicy, ExplainsRefusal, FailsWith};
 
 use crate::database::reason_at;
@@ -93,6 +93,19 @@ fn policy_of<'a>(plan: &Plan<'a>) -> &'a str
         Plan::Register(words) => words.office.policy,
         Plan::Import(words) => words.office.policy,
         Plan::Serve(words) => words.policy,
+        _ => "",
+    }
+}
+
+/// The path of the policy that it is compared with.
+fn against_of<'a>(plan: &Plan<'a>) -> &'a str
+    ensures { result.now ≡ against_of plan.now }
+{
+    let Plan::CheckPolicy(words) = plan else {
+        return "";
+    };
+    match words.check {
+        Check::Against(path) => path,
         _ => "",
     }
 }
@@ -280,6 +293,7 @@ fn say_why<E: Write>(
         Failure::Refused(why) => explain_refusal(plan, why, err),
         Failure::File(path) => explain_file(rt, plan, path.as_str(), err),
         Failure::Policy(error) => explain_policy(rt, policy_of(plan), error, err),
+        Failure::Against(error) => explain_policy(rt, against_of(plan), error, err),
         Failure::Facts => explain_facts(rt.alloc(), plan, err),
         Failure::Database(why) => {
             let path = database_of(plan);

@@ -12,7 +12,7 @@ use crate::recorded::Recording;
 use permit_args::plan::HistoryPaths;
 use permit_chronicle::tell;
 use permit_chronicle::wanted::Wanted;
-use permit_history_file::disk_file::DiskFile;
+use permit_journal::disk_file::DiskFile;
 use permit_journal::journal::Journal;
 use permit_keeping::copying::copied_in;
 use permit_keeping::failing::of_telling;

@@ -4,7 +4,7 @@
 //! work on a database over any kind of store. `work` has what they do as one value, and `database` does it on a file, or on a copy
 //! in memory where it only reads: `checks` does so. `history` opens the file of a history, `policies` reads a policy, and
 //! `listening` tests an address. `explaining` prints why a plan failed, where that is asked for: `standing` looks at the tables
-//! of a database, and `reason` has the lines.
+//! of a database, and `reason` has the lines. `stream` is where all of it is printed.
 //!
 //! Its public calls are here, those of the crates below among them: `plan` reads the words of a command line to one of
 //! `plans`, `import` the records of a parcel list, and `run_words` is the program but for its streams.
@@ -27,6 +27,7 @@ mod recorded;
 mod serving;
 mod shut;
 mod standing;
+pub mod stream;
 mod telling;
 mod work;
 

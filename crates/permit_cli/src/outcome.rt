@@ -1,11 +1,11 @@
 //! What the program's work came to, and so what is printed.
 
-use permit_alike::differing::Difference;
 use permit_answer::answer::Answer;
 use permit_base::values::Day;
 use permit_import::tally::Tally;
 use permit_office::reply::Listing;
-use permit_opening::bringing::Brought;
+use permit_replay::alike::differing::Difference;
+use permit_replay::opening::bringing::Brought;
 use permit_sql::fault::Fault;
 use permit_store::rows::Desk;
 

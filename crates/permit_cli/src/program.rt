@@ -1,22 +1,23 @@
 //! What the program does: a plan is carried out, and what it came to is printed.
 
-ghost use Rattle.std.specs.Prelude.{◌≡◌, ◌≤◌, ◌⊎◌, ℕ, [], false, true, Err, IfErr, IfOk, List, None, Ok, OnErr, Option, Some, map, string_bytes};
+ghost use Rattle.std.specs.Prelude.{◌≡◌, ◌≤◌, ◌⊎◌, ℕ, [], false, Err, IfErr, IfOk, List, None, Ok, OnErr, Option, Some, map, string_bytes};
 ghost use Rattle.std.specs.Io.KnownBytes.{Appends};
 ghost use Rattle.permit_base.specs.Texts.{is_token};
-ghost use Rattle.permit_import.specs.declared.refused.RefusalWord.TheVariants.{Store, Syntax};
+ghost use Rattle.permit_import.specs.declared.refused.RefusalWord.TheVariants.{Syntax};
 ghost use Rattle.permit_report.specs.Outgoing.{WroteFront};
 ghost use Rattle.permit_args.specs.declared.plan.PlanFault.{PlanFault as TheFault};
 ghost use Rattle.permit_subcommands.specs.Failures.{plain, IsUnread};
 ghost use Rattle.permit_subcommands.specs.Lines.{name_line};
 ghost use Rattle.permit_subcommands.specs.declared.failure.Failure.TheVariants as failure;
 ghost use Rattle.permit_subcommands.specs.Printing.{TellsNoPlan};
-ghost use Rattle.permit_cli.specs.Doing.{ActsAs, ComesTo, IsBegin, IsCheck, IsImported, IsPolicyChecked, IsReplay, IsRunDay, IsToldOnRunDay, IsUpgrade, ListsAs};
-ghost use Rattle.permit_cli.specs.Doing.{RegistersAs, ServesAs};
-ghost use Rattle.permit_cli.specs.Failing.{AreUnread, FailsAs, FailsOnRunDay, FailsToAct, FailsToCheck, FailsToFound, FailsToImport, FailsToList};
-ghost use Rattle.permit_cli.specs.Failing.{FailsToRegister, FailsToRenew, FailsToServe, FailsToTell, IsOfHistory, IsPolicyFailure, IsUnasked};
+ghost use Rattle.permit_cli.specs.Doing.{ActsAs, ComesTo, IsBegin, IsImported, IsReplay, IsRunDay, IsToldOnRunDay, IsUpgrade, ListsAs};
+ghost use Rattle.permit_cli.specs.Doing.{RegistersAs, SaysCauses, SaysOf, ServesAs};
+ghost use Rattle.permit_cli.specs.Failing.{AreUnread, FailsAs, FailsOnRunDay, FailsToAct, FailsToFound, FailsToImport, FailsToList};
+ghost use Rattle.permit_cli.specs.Failing.{FailsToRegister, FailsToRenew, FailsToServe, IsOfHistory, IsUnasked};
 ghost use Rattle.permit_cli.specs.Failing.{IsUnbegun, IsUncalled, IsUnkept, IsUnrenewed, IsUnusable};
-ghost use Rattle.permit_cli.specs.Running.{ExplainsAnswer, Performs, Reports, RunsAs, WarnsOf};
+ghost use Rattle.permit_cli.specs.Running.{ExplainsAnswer, Performs, Reports, RunsAs, SaysFirst};
 ghost use Rattle.permit_cli.specs.Served.{SaysWhere};
+ghost use Rattle.permit_cli.specs.Streams.{printed};
 ghost use Rattle.permit_cli.specs.Telling.{PrintsThen, SaysNoPlan, Warns};
 ghost use Rattle.permit_cli.specs.Wanting.{Wants};
 
@@ -29,6 +30,7 @@ use crate::listening::try_address;
 use crate::outcome::Outcome;
 use crate::policies::{check_policy, policy_at};
 use crate::question::Question;
+use crate::stream::Stream;
 use crate::telling::{tell, without_plan};
 use crate::work::Work;
 use permit_args::plan::{
@@ -50,7 +52,6 @@ use permit_subcommands::request::{caller, request};
 use permit_subcommands::token::token_of;
 use std::alloc::Global;
 use std::fs::{self, File};
-use std::io::{Write, sink};
 use std::sync::Wait;
 use std::thread::Threads;
 
@@ -74,11 +75,17 @@ fn init(rt: &HostRuntime, words: &InitWords<'_>) -> Result<Outcome, Failure>
     };
     let founder = &founder;
     match words.history {
-        None => done_at(rt, words.db, Work::Found { founder }, &mut sink()),
+        None => done_at(
+            rt,
+            words.db,
+            Work::Found { founder },
+            &mut Stream::Sink,
+            &mut Stream::Sink,
+        ),
         Some(history) => match journal_at(rt, history) {
             Ok(journal) => {
                 let work = Work::FoundRecorded { founder, journal };
-                done_at(rt, words.db, work, &mut sink())
+                done_at(rt, words.db, work, &mut Stream::Sink, &mut Stream::Sink)
             }
             Err(why) => Err(why),
         },
@@ -97,14 +104,17 @@ fn day_and_policy(rt: &HostRuntime, words: &OfficeWords<'_>) -> Result<(Day, Pol
 }
 
 /// Asks the office that the words name. No database is made where there is none.
-fn ask_office<O: Write>(
+#[tactic(auto, using(crate::proofs::Doings::says_nothing_of))]
+fn ask_office(
     rt: &HostRuntime,
     words: &OfficeWords<'_>,
     question: Question<'_, File>,
-    out: &mut O,
+    out: &mut Stream,
+    err: &mut Stream,
 ) -> Result<Outcome, Failure>
-    ensures told { IfOk result (IsToldOnRunDay words.now.days question.entry (O.contents out.old) (O.contents out.new)) }
-    ensures fails { IfErr result (FailsOnRunDay words.now question.entry (O.contents out.old) (O.contents out.new)) }
+    ensures told { IfOk result (IsToldOnRunDay words.now.days question.entry (printed out.old) (printed out.new)) }
+    ensures fails { IfErr result (FailsOnRunDay words.now question.entry (printed out.old) (printed out.new)) }
+    ensures says { SaysOf question.entry (printed err.old) (printed err.new) }
 {
     let day = day_of_run(rt, &words.days)?;
     let policy = policy_at(rt, words.policy)?;
@@ -114,22 +124,18 @@ fn ask_office<O: Write>(
         day,
         question,
     };
-    done_at(rt, words.db, work, out)
+    done_at(rt, words.db, work, out, err)
 }
 
 /// Has an office without a history serve one request.
-fn act_alone<O: Write>(
-    rt: &HostRuntime,
-    words: &ActWords<'_>,
-    out: &mut O,
-) -> Result<Outcome, Failure>
-    ensures acts { IfOk result (ActsAs words.now (O.contents out.old) (O.contents out.new)) }
+fn act_alone(rt: &HostRuntime, words: &ActWords<'_>, out: &mut Stream) -> Result<Outcome, Failure>
+    ensures acts { IfOk result (ActsAs words.now (printed out.old) (printed out.new)) }
     ensures fails { IfErr result (FailsToAct words.now) }
-    ensures unwritten { OnErr result (O.contents out.new ≡ O.contents out.old) }
+    ensures unwritten { OnErr result (printed out.new ≡ printed out.old) }
 {
     let token = token_of(rt, &words.office.token)?;
     let question = Question::of_act(rt.alloc(), words, token.as_str())?;
-    ask_office(rt, &words.office, question, out)
+    ask_office(rt, &words.office, question, out, &mut Stream::Sink)
 }
 
 /// Has an office serve one request, and enters it into its history where it is a command that is done.
@@ -161,17 +167,23 @@ fn act_recorded(
                 request: request.as_str(),
                 history,
             };
-            done_at(rt, words.office.db, work, &mut sink())
+            done_at(
+                rt,
+                words.office.db,
+                work,
+                &mut Stream::Sink,
+                &mut Stream::Sink,
+            )
         }
         Err(why) => Err(why),
     }
 }
 
 /// Has the office serve one request.
-fn act<O: Write>(rt: &HostRuntime, words: &ActWords<'_>, out: &mut O) -> Result<Outcome, Failure>
-    ensures acts { IfOk result (ActsAs words.now (O.contents out.old) (O.contents out.new)) }
+fn act(rt: &HostRuntime, words: &ActWords<'_>, out: &mut Stream) -> Result<Outcome, Failure>
+    ensures acts { IfOk result (ActsAs words.now (printed out.old) (printed out.new)) }
     ensures fails { IfErr result (λ why. FailsToAct words.now why ⊎ IsUnkept words.now.history why) }
-    ensures unwritten { OnErr result (O.contents out.new ≡ O.contents out.old) }
+    ensures unwritten { OnErr result (printed out.new ≡ printed out.old) }
 {
     match words.history {
         None => act_alone(rt, words, out),
@@ -180,28 +192,28 @@ fn act<O: Write>(rt: &HostRuntime, words: &ActWords<'_>, out: &mut O) -> Result<
 }
 
 /// Lists files.
-fn list<O: Write>(rt: &HostRuntime, words: &ListWords<'_>, out: &mut O) -> Result<Outcome, Failure>
-    ensures lists { IfOk result (ListsAs (O.contents out.old) (O.contents out.new)) }
+fn list(rt: &HostRuntime, words: &ListWords<'_>, out: &mut Stream) -> Result<Outcome, Failure>
+    ensures lists { IfOk result (ListsAs (printed out.old) (printed out.new)) }
     ensures fails { IfErr result (FailsToList words.now.office) }
-    ensures unwritten { OnErr result (O.contents out.new ≡ O.contents out.old) }
+    ensures unwritten { OnErr result (printed out.new ≡ printed out.old) }
 {
     let token = token_of(rt, &words.office.token)?;
     let question = Question::of_list(rt.alloc(), words, token.as_str())?;
-    ask_office(rt, &words.office, question, out)
+    ask_office(rt, &words.office, question, out, &mut Stream::Sink)
 }
 
 /// Writes a register.
-fn register<O: Write>(
+fn register(
     rt: &HostRuntime,
     words: &RegisterWords<'_>,
-    out: &mut O,
+    out: &mut Stream,
 ) -> Result<Outcome, Failure>
-    ensures registers { IfOk result (RegistersAs words.now (O.contents out.old) (O.contents out.new)) }
-    ensures fails { IfErr result (FailsToRegister words.now (O.contents out.old) (O.contents out.new)) }
+    ensures registers { IfOk result (RegistersAs words.now (printed out.old) (printed out.new)) }
+    ensures fails { IfErr result (FailsToRegister words.now (printed out.old) (printed out.new)) }
 {
     let token = token_of(rt, &words.office.token)?;
     let question = Question::of_register(rt.alloc(), words, token.as_str())?;
-    ask_office(rt, &words.office, question, out)
+    ask_office(rt, &words.office, question, out, &mut Stream::Sink)
 }
 
 /// The file of records that the words name.
@@ -223,15 +235,18 @@ fn caller_of(rt: &HostRuntime, words: &OfficeWords<'_>) -> Result<Token, Failure
 }
 
 /// Imports the records of a file into an office, and enters what is added into its history.
-fn import_recorded<O: Write>(
+#[tactic(auto, using(crate::proofs::Doings::says_nothing))]
+fn import_recorded(
     rt: &HostRuntime,
     words: &ImportWords<'_>,
     history: HistoryPaths<'_>,
-    out: &mut O,
+    out: &mut Stream,
+    err: &mut Stream,
 ) -> Result<Outcome, Failure>
-    ensures imports { IfOk result (IsImported words.now.office.why (O.contents out.old) (O.contents out.new)) }
-    ensures fails { IfErr result (λ why. FailsToImport words.now (O.contents out.old) (O.contents out.new) why
-        ⊎ ((IsOfHistory why ⊎ AreUnread history.entry why) × (O.contents out.new ≡ O.contents out.old))) }
+    ensures imports { IfOk result (IsImported (printed out.old) (printed out.new)) }
+    ensures fails { IfErr result (λ why. FailsToImport words.now (printed out.old) (printed out.new) why
+        ⊎ ((IsOfHistory why ⊎ AreUnread history.entry why) × (printed out.new ≡ printed out.old))) }
+    ensures says { SaysCauses words.now.office.why (printed err.old) (printed err.new) }
 {
     let token = match caller_of(rt, &words.office) {
         Ok(token) => token,
@@ -256,20 +271,23 @@ fn import_recorded<O: Write>(
                 records,
                 history,
             };
-            done_at(rt, words.office.db, work, out)
+            done_at(rt, words.office.db, work, out, err)
         }
         Err(why) => Err(why),
     }
 }
 
 /// Imports the records of a file into an office without a history.
-fn import_alone<O: Write>(
+#[tactic(auto, using(crate::proofs::Doings::says_nothing))]
+fn import_alone(
     rt: &HostRuntime,
     words: &ImportWords<'_>,
-    out: &mut O,
+    out: &mut Stream,
+    err: &mut Stream,
 ) -> Result<Outcome, Failure>
-    ensures imports { IfOk result (IsImported words.now.office.why (O.contents out.old) (O.contents out.new)) }
-    ensures fails { IfErr result (FailsToImport words.now (O.contents out.old) (O.contents out.new)) }
+    ensures imports { IfOk result (IsImported (printed out.old) (printed out.new)) }
+    ensures fails { IfErr result (FailsToImport words.now (printed out.old) (printed out.new)) }
+    ensures says { SaysCauses words.now.office.why (printed err.old) (printed err.new) }
 {
     let token = token_of(rt, &words.office.token)?;
     let token = caller(rt.alloc(), token.as_str())?;
@@ -278,22 +296,24 @@ fn import_alone<O: Write>(
         Err(error) => return Err(Failure::of_reading(rt.alloc(), words.file, &error)),
     };
     let question = Question::of_import(words, token, records);
-    ask_office(rt, &words.office, question, out)
+    ask_office(rt, &words.office, question, out, err)
 }
 
-/// Imports the records of a file.
-fn import<O: Write>(
+/// Imports the records of a file. Where the words ask for that, why records are refused is written to `err` on the way.
+fn import(
     rt: &HostRuntime,
     words: &ImportWords<'_>,
-    out: &mut O,
+    out: &mut Stream,
+    err: &mut Stream,
 ) -> Result<Outcome, Failure>
-    ensures imports { IfOk result (IsImported words.now.office.why (O.contents out.old) (O.contents out.new)) }
-    ensures fails { IfErr result (λ why. FailsToImport words.now (O.contents out.old) (O.contents out.new) why
-        ⊎ (IsUnkept words.now.history why × (O.contents out.new ≡ O.contents out.old))) }
+    ensures imports { IfOk result (IsImported (printed out.old) (printed out.new)) }
+    ensures fails { IfErr result (λ why. FailsToImport words.now (printed out.old) (printed out.new) why
+        ⊎ (IsUnkept words.now.history why × (printed out.new ≡ printed out.old))) }
+    ensures says { SaysCauses words.now.office.why (printed err.old) (printed err.new) }
 {
     match words.history {
-        None => import_alone(rt, words, out),
-        Some(history) => import_recorded(rt, words, history, out),
+        None => import_alone(rt, words, out, err),
+        Some(history) => import_recorded(rt, words, history, out, err),
     }
 }
 
@@ -308,20 +328,19 @@ fn days_and_policy(rt: &HostRuntime, words: &ServeWords<'_>) -> Result<(RunDays,
 }
 
 /// Serves an office over TCP, and enters what is done into its history.
-fn serve_recorded<R, O>(
+fn serve_recorded<R>(
     rt: &HostRuntime,
     workers: R,
     words: &ServeWords<'_>,
     history: HistoryPaths<'_>,
     days: &RunDays,
     policy: Policy,
-    out: &mut O,
+    out: &mut Stream,
 ) -> Result<(), Failure>
 where
     R: Threads + Wait + Copy + Drop + Send + 'static,
-    O: Write,
     ensures fails { IfErr result (λ why. FailsToServe words.now why ⊎ (IsOfHistory why ⊎ AreUnread history.entry why)) }
-    ensures says { SaysWhere (O.contents out.old) (O.contents out.new) result }
+    ensures says { SaysWhere (printed out.old) (printed out.new) result }
 {
     match recording_at(rt, history) {
         Ok(history) => serve_at(rt, workers, policy, days, words, Some(history), out),
@@ -330,20 +349,19 @@ where
 }
 
 /// Serves an office over TCP on the days of a run, with its history where one is named.
-fn serve_on_days<R, O>(
+fn serve_on_days<R>(
     rt: &HostRuntime,
     workers: R,
     words: &ServeWords<'_>,
     days: &RunDays,
     policy: Policy,
-    out: &mut O,
+    out: &mut Stream,
 ) -> Result<Outcome, Failure>
 where
     R: Threads + Wait + Copy + Drop + Send + 'static,
-    O: Write,
-    ensures serves { IfOk result (ServesAs (O.contents out.old) (O.contents out.new)) }
+    ensures serves { IfOk result (ServesAs (printed out.old) (printed out.new)) }
     ensures fails { IfErr result (λ why. FailsToServe words.now why ⊎ IsUnkept words.now.history why) }
-    ensures says { IfErr result (λ why. SaysWhere (O.contents out.old) (O.contents out.new) (Err why)) }
+    ensures says { IfErr result (λ why. SaysWhere (printed out.old) (printed out.new) (Err why)) }
 {
     let served = match words.history {
         None => serve_at(rt, workers, policy, days, words, None, out),
@@ -356,21 +374,19 @@ where
 }
 
 /// Serves the office that the words name over TCP. The policy and the address are tested before the database is opened.
-fn serve<R, O, E>(
+fn serve<R>(
     rt: &HostRuntime,
     workers: R,
     words: &ServeWords<'_>,
-    out: &mut O,
-    err: &mut E,
+    out: &mut Stream,
+    err: &mut Stream,
 ) -> Result<Outcome, Failure>
 where
     R: Threads + Wait + Copy + Drop + Send + 'static,
-    O: Write,
-    E: Write,
-    ensures serves { IfOk result (ServesAs (O.contents out.old) (O.contents out.new)) }
+    ensures serves { IfOk result (ServesAs (printed out.old) (printed out.new)) }
     ensures fails { IfErr result (λ why. FailsToServe words.now why ⊎ IsUnkept words.now.history why) }
-    ensures says { IfErr result (λ why. SaysWhere (O.contents out.old) (O.contents out.new) (Err why)) }
-    ensures warns { Warns words.now.listen.now (E.contents err.old) (E.contents err.new) }
+    ensures says { IfErr result (λ why. SaysWhere (printed out.old) (printed out.new) (Err why)) }
+    ensures warns { Warns words.now.listen.now (printed err.old) (printed err.new) }
 {
     let (days, policy) = match days_and_policy(rt, words) {
         Ok(read) => read,
@@ -395,11 +411,23 @@ fn upgrade_recorded(rt: &HostRuntime, path: &str, history: &str) -> Result<Outco
     if journal.length() != 0 {
         return Err(Failure::History(HistoryFailure::Exists));
     }
-    let upgraded = match done_at(rt, path, Work::Upgrade, &mut sink()) {
+    let upgraded = match done_at(
+        rt,
+        path,
+        Work::Upgrade,
+        &mut Stream::Sink,
+        &mut Stream::Sink,
+    ) {
         Ok(upgraded) => upgraded,
         Err(why) => return Err(why),
     };
-    match done_at(rt, path, Work::Begin { journal }, &mut sink()) {
+    match done_at(
+        rt,
+        path,
+        Work::Begin { journal },
+        &mut Stream::Sink,
+        &mut Stream::Sink,
+    ) {
         Ok(_) => Ok(upgraded),
         Err(why) => Err(why),
     }
@@ -415,7 +443,13 @@ fn upgrade(rt: &HostRuntime, words: &UpgradeWords<'_>) -> Result<Outcome, Failur
         return Err(why);
     }
     match words.history {
-        None => done_at(rt, words.db, Work::Upgrade, &mut sink()),
+        None => done_at(
+            rt,
+            words.db,
+            Work::Upgrade,
+            &mut Stream::Sink,
+            &mut Stream::Sink,
+        ),
         Some(history) => upgrade_recorded(rt, words.db, history),
     }
 }
@@ -444,7 +478,7 @@ fn replay_at(
         founder,
         source,
     };
-    match done_at(rt, path, work, &mut sink()) {
+    match done_at(rt, path, work, &mut Stream::Sink, &mut Stream::Sink) {
         Ok(replayed) => Ok(replayed),
         Err(why) => Err(why),
     }
@@ -468,7 +502,13 @@ fn begin_history(rt: &HostRuntime, words: &BeginHistoryWords<'_>) -> Result<Outc
 {
     match has_database(rt, words.db) {
         Ok(()) => match journal_at(rt, words.history) {
-            Ok(journal) => done_at(rt, words.db, Work::Begin { journal }, &mut sink()),
+            Ok(journal) => done_at(
+                rt,
+                words.db,
+                Work::Begin { journal },
+                &mut Stream::Sink,
+                &mut Stream::Sink,
+            ),
             Err(why) => Err(why),
         },
         Err(why) => Err(why),
@@ -493,13 +533,13 @@ fn wanted(words: &HistoryWords<'_>) -> Result<Wanted, Failure>
 }
 
 /// Prints the entries of a history, a line each.
-fn tell_history<O: Write>(
+fn tell_history(
     rt: &HostRuntime,
     words: &HistoryWords<'_>,
-    out: &mut O,
+    out: &mut Stream,
 ) -> Result<Outcome, Failure>
-    ensures tells { IfOk result (ComesTo (Plan.History words.now) (O.contents out.old) (O.contents out.new)) }
-    ensures fails { IfErr result (FailsAs (Plan.History words.now) (O.contents out.old) (O.contents out.new)) }
+    ensures tells { IfOk result (ComesTo (Plan.History words.now) (printed out.old) (printed out.new)) }
+    ensures fails { IfErr result (FailsAs (Plan.History words.now) (printed out.old) (printed out.new)) }
 {
     match wanted(words) {
         Ok(wanted) => tell_at(rt, words.history, &wanted, out),
@@ -538,7 +578,7 @@ fn renew_recorded(
                 token,
                 history,
             };
-            done_at(rt, words.db, work, &mut sink())
+            done_at(rt, words.db, work, &mut Stream::Sink, &mut Stream::Sink)
         }
         Err(why) => Err(why),
     }
@@ -557,29 +597,28 @@ fn renew_token(rt: &HostRuntime, words: &RenewTokenWords<'_>) -> Result<Outcome,
                 party: words.party,
                 token: &token,
             };
-            done_at(rt, words.db, work, &mut sink())
+            done_at(rt, words.db, work, &mut Stream::Sink, &mut Stream::Sink)
         }
         Some(history) => renew_recorded(rt, words, history, &token),
     }
 }
 
-/// Does what a plan asks for. The database is closed before anything else is printed than a register, the lines of an
-/// import, or the address that is listened on and what is said of it, so that nothing that was printed is undone.
-fn carry_out<R, O, E>(
+/// Does what a plan asks for. The database is closed before anything else is printed than a register, the lines of an import and
+/// why its records are refused, or the address that is listened on and what is said of it, so that nothing that was printed is
+/// undone.
+fn carry_out<R>(
     rt: &HostRuntime,
     workers: R,
     plan: &Plan<'_>,
-    out: &mut O,
-    err: &mut E,
+    out: &mut Stream,
+    err: &mut Stream,
 ) -> Result<Outcome, Failure>
 where
     R: Threads + Wait + Copy + Drop + Send + 'static,
-    O: Write,
-    E: Write,
-    ensures comes { IfOk result (ComesTo plan.now (O.contents out.old) (O.contents out.new)) }
-    ensures fails { IfErr result (FailsAs plan.now (O.contents out.old) (O.contents out.new)) }
-    ensures warns { WarnsOf plan.now (E.contents err.old) (E.contents err.new) }
-    ensures name { plan.now ≡ Plan.Name → (result ≡ Ok Outcome.Name) × (O.contents out.new ≡ O.contents out.old) }
+    ensures comes { IfOk result (ComesTo plan.now (printed out.old) (printed out.new)) }
+    ensures fails { IfErr result (FailsAs plan.now (printed out.old) (printed out.new)) }
+    ensures says { SaysFirst plan.now (printed err.old) (printed err.new) }
+    ensures name { plan.now ≡ Plan.Name → (result ≡ Ok Outcome.Name) × (printed out.new ≡ printed out.old) }
 {
     match plan {
         Plan::Name => Ok(Outcome::Name),
@@ -588,7 +627,7 @@ where
         Plan::Act(words) => act(rt, words, out),
         Plan::List(words) => list(rt, words, out),
         Plan::Register(words) => register(rt, words, out),
-        Plan::Import(words) => import(rt, words, out),
+        Plan::Import(words) => import(rt, words, out, err),
         Plan::Serve(words) => serve(rt, workers, words, out, err),
         Plan::Upgrade(words) => upgrade(rt, words),
         Plan::CheckDb(words) => check_db(rt, words),
@@ -600,13 +639,8 @@ where
 }
 
 /// Prints why an answer is a refusal, where the words ask for that.
-fn explain_answer<E: Write>(
-    rt: &HostRuntime,
-    plan: &Plan<'_>,
-    told: &Result<u8, Failure>,
-    err: &mut E,
-)
-    ensures { ExplainsAnswer plan.now told.now (E.contents err.old) (E.contents err.new) }
+fn explain_answer(rt: &HostRuntime, plan: &Plan<'_>, told: &Result<u8, Failure>, err: &mut Stream)
+    ensures { ExplainsAnswer plan.now told.now (printed err.old) (printed err.new) }
 {
     if let Err(failure) = told
         && let Failure::Refused(_) = failure
@@ -617,14 +651,14 @@ fn explain_answer<E: Write>(
 
 /// Prints what a plan came to, and returns the status. Where an answer is a refusal, it prints why on `err` if the words ask for
 /// that.
-fn report<O: Write, E: Write>(
+fn report(
     rt: &HostRuntime,
     plan: &Plan<'_>,
     outcome: &Outcome,
-    out: &mut O,
-    err: &mut E,
+    out: &mut Stream,
+    err: &mut Stream,
 ) -> Result<u8, Failure>
-    ensures reports { Reports plan.now outcome.now (O.contents out.old) (O.contents out.new) (E.contents err.old) (E.contents err.new) result }
+    ensures reports { Reports plan.now outcome.now (printed out.old) (printed out.new) (printed err.old) (printed err.new) result }
     ensures within { IfOk result (λ status. status ≤ 1) }
 {
     let told = tell(rt.alloc(), database_of(plan), outcome, out, err);
@@ -634,19 +668,17 @@ fn report<O: Write, E: Write>(
 
 /// Does what a plan asks for, prints what it came to, and returns the status. Before a failure it prints why on `err`, where the
 /// words ask for that.
-fn perform<R, O, E>(
+fn perform<R>(
     rt: &HostRuntime,
     workers: R,
     plan: &Plan<'_>,
-    out: &mut O,
-    err: &mut E,
+    out: &mut Stream,
+    err: &mut Stream,
 ) -> Result<u8, Failure>
 where
     R: Threads + Wait + Copy + Drop + Send + 'static,
-    O: Write,
-    E: Write,
-    ensures performs { Performs plan.now (O.contents out.old) (O.contents out.new) (E.contents err.old) (E.contents err.new) result }
-    ensures name { plan.now ≡ Plan.Name → PrintsThen name_line (Ok 0) (O.contents out.old) (O.contents out.new) result }
+    ensures performs { Performs plan.now (printed out.old) (printed out.new) (printed err.old) (printed err.new) result }
+    ensures name { plan.now ≡ Plan.Name → PrintsThen name_line (Ok 0) (printed out.old) (printed out.new) result }
     ensures within { IfOk result (λ status. status ≤ 1) }
 {
     match carry_out(rt, workers, plan, out, err) {
@@ -666,24 +698,23 @@ where
 /// ```
 /// let mut words = Vec::new(alloc);
 /// words.push(String::from_str(alloc, "--version")?)?;
-/// let (mut out, mut err) = (Vec::new(alloc), Vec::new(alloc));
-/// let status = run_words(&rt, rt, words.as_slice(), &mut out, &mut err);
-/// assert!(rt; status == 0 && out.as_slice() == b"permit 2.0 (schema 2)\n".as_slice());
+/// let mut out = Stream::Memory(Vec::new(alloc));
+/// let status = run_words(&rt, rt, words.as_slice(), &mut out, &mut Stream::Sink);
+/// let printed = b"permit 2.0 (schema 2)\n".as_slice();
+/// assert!(rt; status == 0 && matches!(out, Stream::Memory(bytes) if bytes.as_slice() == printed));
 /// ```
-pub fn run_words<R, O, E>(
+pub fn run_words<R>(
     rt: &HostRuntime,
     workers: R,
     words: &[String],
-    out: &mut O,
-    err: &mut E,
+    out: &mut Stream,
+    err: &mut Stream,
 ) -> u8
 where
     R: Threads + Wait + Copy + Drop + Send + 'static,
-    O: Write,
-    E: Write,
-    ensures runs { RunsAs (map string_bytes words.now) (O.contents out.old) (O.contents out.new) (E.contents err.old) (E.contents err.new) result }
-    ensures name { words.now ≡ [] → ((result ≡ 0) × Appends (O.contents out.old) (O.contents out.new) name_line)
-        ⊎ ((result ≡ 1) × WroteFront (O.contents out.old) (O.contents out.new) name_line) }
+    ensures runs { RunsAs (map string_bytes words.now) (printed out.old) (printed out.new) (printed err.old) (printed err.new) result }
+    ensures name { words.now ≡ [] → ((result ≡ 0) × Appends (printed out.old) (printed out.new) name_line)
+        ⊎ ((result ≡ 1) × WroteFront (printed out.old) (printed out.new) name_line) }
     ensures within { result ≤ 2 }
 {
     match plan(rt.alloc(), words) {
@@ -696,14 +727,12 @@ where
 }
 
 /// Runs the program on the words that the process has, as `run_words` does.
-pub fn run<R, O, E>(rt: &HostRuntime, workers: R, out: &mut O, err: &mut E) -> u8
+pub fn run<R>(rt: &HostRuntime, workers: R, out: &mut Stream, err: &mut Stream) -> u8
 where
     R: Threads + Wait + Copy + Drop + Send + 'static,
-    O: Write,
-    E: Write,
-    ensures runs { ((words : List (List ℕ)) × RunsAs words (O.contents out.old) (O.contents out.new) (E.contents err.old) (E.contents err.new) result)
-        ⊎ ((fault : TheFault) × TellsNoPlan fault (O.contents out.old) (O.contents out.new) result
-        × SaysNoPlan fault (E.contents err.old) (E.contents err.new) result) }
+    ensures runs { ((words : List (List ℕ)) × RunsAs words (printed out.old) (printed out.new) (printed err.old) (printed err.new) result)
+        ⊎ ((fault : TheFault) × TellsNoPlan fault (printed out.old) (printed out.new) result
+        × SaysNoPlan fault (printed err.old) (printed err.new) result) }
     ensures within { result ≤ 2 }
 {
     match words_given(rt) {

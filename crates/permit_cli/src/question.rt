@@ -1,6 +1,6 @@
 //! What an office is asked, made of the words of a plan.
 
-ghost use Rattle.std.specs.Prelude.{◌≡◌, IfErr, IfOk};
+ghost use Rattle.std.specs.Prelude.{IfErr, IfOk};
 ghost use Rattle.permit_subcommands.specs.Requests.{IsRefusedFor};
 ghost use Rattle.permit_cli.specs.Asked.{AsksFiles, AsksImport, AsksRegister, AsksRequest, IsRefusedCaller};
 
@@ -30,8 +30,8 @@ pub enum Question<'a, R: Drop> {
         token: Token,
         kind: RegisterKind,
     },
-    /// To import the records that a reader of the file at the path gives, for the caller of the token, and to say after a refusal
-    /// what is wrong where that is asked for.
+    /// To import the records that a reader of the file at the path gives, for the caller of the token, and to say on standard error
+    /// what is wrong with a record that is refused, where that is asked for.
     Import {
         token: Token,
         path: &'a str,

@@ -1,7 +1,7 @@
 //! What is done with an office in a database and its history, over any store and any file of a history.
 
 ghost use Rattle.std.specs.Prelude.{◌≡◌, ◌⊎◌, true, IfErr, IfOk};
-ghost use Rattle.permit_cli.specs.Doing.{IsAnswerTo, IsBegin, IsCheck, IsImported, IsReplay};
+ghost use Rattle.permit_cli.specs.Doing.{IsAnswerTo, IsBegin, IsCheck, IsImported, IsReplay, SaysCauses};
 ghost use Rattle.permit_cli.specs.Failing.{IsOfHistory, IsUnfounded, IsUnrenewed, IsUnusable, StopsImport};
 ghost use Rattle.permit_cli.specs.Questions.{TellsImport};
 
@@ -17,9 +17,9 @@ use permit_keeping::copying::begin_in;
 use permit_keeping::founding::found_with;
 use permit_keeping::renewing::renew_recorded;
 use permit_keeping::replaying::replay_in;
-use permit_opening::compare::Compared;
 use permit_policy::Policy;
 use permit_replay::beginning::Beginning;
+use permit_replay::opening::compare::Compared;
 use permit_store::founder::Founder;
 use permit_store::rows::Desk;
 use permit_subcommands::failure::{Failure, HistoryFailure};
@@ -188,8 +188,9 @@ fn told_of_import(
     }
 }
 
-/// Imports records into the office in a database, and enters what is added into its history.
-pub(crate) fn import_recorded_in<S, H, R, O>(
+/// Imports records into the office in a database, and enters what is added into its history. Why records are refused is written to
+/// `err`.
+pub(crate) fn import_recorded_in<S, H, R, O, E>(
     alloc: Global,
     conn: Connection<S>,
     policy: Policy,
@@ -200,15 +201,18 @@ pub(crate) fn import_recorded_in<S, H, R, O>(
     records: R,
     history: Recording<H>,
     out: &mut O,
+    err: &mut E,
 ) -> (Connection<S>, Result<Outcome, Failure>)
 where
     S: Alter + Drop,
     H: HistoryFile + Drop,
     R: Read + Drop,
     O: Write,
-    ensures told { IfOk result.1 (IsImported why (O.contents out.old) (O.contents out.new)) }
+    E: Write,
+    ensures told { IfOk result.1 (IsImported (O.contents out.old) (O.contents out.new)) }
     ensures fails { IfErr result.1 (λ failed. ((IsUnusable failed ⊎ IsOfHistory failed) × (O.contents out.new ≡ O.contents out.old))
-        ⊎ StopsImport path.now why (O.contents out.old) (O.contents out.new) failed) }
+        ⊎ StopsImport path.now (O.contents out.old) (O.contents out.new) failed) }
+    ensures says { SaysCauses why (E.contents err.old) (E.contents err.new) }
 {
     let Recording {
         mut beginning,
@@ -225,6 +229,7 @@ where
         why,
         records,
         out,
+        err,
     );
     match ended {
         Ok(ended) => (conn, told_of_import(alloc, path, ended)),

@@ -7,11 +7,11 @@ ghost use Rattle.permit_cli.specs.Telling.{begun_line, difference_text, party_li
 use crate::complaining::{complain, print_three};
 use crate::outcome::Outcome;
 use itoa::Buffer;
-use permit_alike::differing::Difference;
 use permit_args::plan::PlanFault;
 use permit_base::values::Day;
 use permit_days::dates::date_text;
-use permit_opening::bringing::Brought;
+use permit_replay::alike::differing::Difference;
+use permit_replay::opening::bringing::Brought;
 use permit_sql::fault::Fault;
 use permit_store::store::OpenError;
 use permit_subcommands::answering::show;

@@ -3,10 +3,12 @@
 //! A call of a function that is generic over the store, with the store of a file, costs the prover half a minute. So `done_in` is
 //! called there once, for all of this.
 
-ghost use Rattle.std.specs.Prelude.{◌≡◌, IfErr, IfOk};
-ghost use Rattle.permit_cli.specs.Working.{ComesOf, FailsAt};
+ghost use Rattle.std.specs.Prelude.{IfErr, IfOk};
+ghost use Rattle.permit_cli.specs.Streams.{printed};
+ghost use Rattle.permit_cli.specs.Working.{ComesOf, FailsAt, SaysAt};
 
 use crate::asking::ask_in;
+use crate::history::HistoryOnDisk;
 use crate::maintenance::{check_in, found_in, renew_in, upgrade_in};
 use crate::outcome::Outcome;
 use crate::question::Question;
@@ -14,6 +16,7 @@ use crate::recorded::{
     Recording, ask_recorded_in, begun_in, compared_in, differing_in, found_recorded_in,
     import_recorded_in, renew_recorded_in, replayed_in,
 };
+use crate::stream::Stream;
 use permit_base::values::{Day, PartyId, Token};
 use permit_journal::file::HistoryFile;
 use permit_journal::journal::Journal;
@@ -24,7 +27,8 @@ use permit_store::rows::Desk;
 use permit_subcommands::failure::Failure;
 use sqlite::{Alter, Connection};
 use std::alloc::Global;
-use std::io::{BufRead, Read, Write};
+use std::fs::File;
+use std::io::BufReader;
 
 /// What is to be done on a database. Where a history is kept, its file comes with it, or its journal, or readings of its text.
 #[derive(Drop)]
@@ -112,21 +116,23 @@ impl<H: HistoryFile + Drop, R: Drop, B: Drop> Work<'_, H, R, B> {
     }
 }
 
-/// Does the work on a database. A register and the lines of an import are written to `out` on the way.
-pub(crate) fn done_in<S, H, R, B, O>(
+/// What is to be done on a database where the history is a file.
+pub(crate) type WorkOnDisk<'a> = Work<'a, HistoryOnDisk, File, BufReader<File>>;
+
+/// Does the work on a database. A register and the lines of an import are written to `out` on the way, and why records are refused,
+/// where that is asked for, to `err`.
+pub(crate) fn done_in<S>(
     alloc: Global,
     conn: Connection<S>,
-    work: Work<'_, H, R, B>,
-    out: &mut O,
+    work: WorkOnDisk<'_>,
+    out: &mut Stream,
+    err: &mut Stream,
 ) -> (Connection<S>, Result<Outcome, Failure>)
 where
     S: Alter + Drop,
-    H: HistoryFile + Drop,
-    R: Read + Drop,
-    B: BufRead + Drop,
-    O: Write,
-    ensures comes { IfOk result.1 (ComesOf work.entry (O.contents out.old) (O.contents out.new)) }
-    ensures fails { IfErr result.1 (FailsAt work.entry (O.contents out.old) (O.contents out.new)) }
+    ensures comes { IfOk result.1 (ComesOf work.entry (printed out.old) (printed out.new)) }
+    ensures fails { IfErr result.1 (FailsAt work.entry (printed out.old) (printed out.new)) }
+    ensures says { SaysAt work.entry (printed err.old) (printed err.new) }
 {
     match work {
         Work::Found { founder } => found_in(alloc, conn, founder),
@@ -158,7 +164,7 @@ where
             policy,
             day,
             question,
-        } => ask_in(alloc, conn, policy, day, question, out),
+        } => ask_in(alloc, conn, policy, day, question, out, err),
         Work::AskRecorded {
             policy,
             day,
@@ -174,7 +180,7 @@ where
             records,
             history,
         } => import_recorded_in(
-            alloc, conn, policy, day, token, path, why, records, history, out,
+            alloc, conn, policy, day, token, path, why, records, history, out, err,
         ),
     }
 }

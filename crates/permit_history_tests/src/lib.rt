@@ -1,18 +1,13 @@
-//! Lines of histories against those that are written here by hand, and lines that are none. They are in a crate apart from what
-//! they call, so that a change of a test proves nothing of it anew.
+//! Histories, their texts, and offices that keep them. The tests are in a crate apart from what they call, so that a change of a
+//! test proves nothing of it anew.
 #![tactic(auto)]
 
 #[cfg(test)]
-mod commands;
+mod entries;
 #[cfg(test)]
-mod deeds;
+mod opening;
+mod recorded;
 #[cfg(test)]
-mod examples;
+mod replay;
 #[cfg(test)]
-mod faults;
-#[cfg(test)]
-mod lines;
-#[cfg(test)]
-mod makers;
-#[cfg(test)]
-mod texts;
+mod scenarios;

@@ -4,9 +4,9 @@ use Rattle.sqlite_trees.specs.declared.store.Store.{Ghosts}
 use Rattle.sqlite.specs.State.{State, HasCleanDisk}
 use Rattle.sqlite.specs.Held.{Held, state}
 use Rattle.permit_model.specs.Tables.{Tables}
-use Rattle.permit_alike.specs.Alike.{unordered}
-use Rattle.permit_opening.specs.Bringing.{IsBrought, IsOnTheWay}
-use Rattle.permit_opening.specs.declared.bringing.Brought.{Brought}
+use Rattle.permit_replay.specs.Alike.{unordered}
+use Rattle.permit_replay.specs.Bringing.{IsBrought, IsOnTheWay}
+use Rattle.permit_replay.specs.declared.opening.bringing.Brought.{Brought}
 use Rattle.permit_replay.specs.Histories.{Unsaid}
 use Rattle.permit_replay.specs.Holding.{HoldsHistory}
 use Rattle.permit_model.specs.History.{History}

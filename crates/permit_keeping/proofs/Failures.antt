@@ -2,15 +2,15 @@
 use Rattle.std.proofs.Common.{◌≡◌, ◌⊎◌, inl, inr, Result, Ok, Err, ap, refl, sym, subst}
 use Rattle.std.specs.Prelude.{IfErr, IsTrue, OnErr}
 use Rattle.permit_history.specs.declared.fault.LineFault.TheVariants as reading
-use Rattle.permit_opening.specs.declared.bringing.BringFault.{BringFault}
-use Rattle.permit_opening.specs.declared.bringing.BringFault.TheVariants as bringing
-use Rattle.permit_opening.specs.declared.fault.CompareFault.{CompareFault}
-use Rattle.permit_opening.specs.declared.fault.CompareFault.TheVariants as comparing
+use Rattle.permit_replay.specs.declared.opening.bringing.BringFault.{BringFault}
+use Rattle.permit_replay.specs.declared.opening.bringing.BringFault.TheVariants as bringing
+use Rattle.permit_replay.specs.declared.opening.fault.CompareFault.{CompareFault}
+use Rattle.permit_replay.specs.declared.opening.fault.CompareFault.TheVariants as comparing
 use Rattle.permit_replay.specs.declared.fault.ReplayFault.{ReplayFault}
 use Rattle.permit_replay.specs.declared.fault.ReplayFault.TheVariants as replaying
 use Rattle.permit_replay.specs.declared.fault.Why.TheVariants as why
-use Rattle.permit_resuming.specs.declared.fault.ResumeFault.{ResumeFault}
-use Rattle.permit_resuming.specs.declared.fault.ResumeFault.TheVariants as resuming
+use Rattle.permit_recorded.specs.declared.resuming.fault.ResumeFault.{ResumeFault}
+use Rattle.permit_recorded.specs.declared.resuming.fault.ResumeFault.TheVariants as resuming
 use Rattle.permit_subcommands.specs.declared.failure.Failure.{Failure}
 use Rattle.permit_subcommands.specs.declared.failure.Failure.TheVariants as failure
 use Rattle.permit_subcommands.specs.declared.failure.HistoryFailure.TheVariants as history

@@ -50,9 +50,9 @@ module _ {S : Type 0} (g : Ghosts S) where
       (was_held.0 ∙ sym told, subst (λ (h : Held S). Shows t (state g h)) (sym same) was_held.1)
 
   -- what is said of an office is said of the service that is made of it
-  pub opens_as : {D T H : Type 0} (begins : Unsaid → Type 0) (office made : RecordedView D T H) (text : H → List ℕ) (may_leave : H → List ℕ → Type 0) (is_clean : H → Bool)
+  pub opens_as : {T H : Type 0} (begins : Unsaid → Type 0) (office made : RecordedView T H) (text : H → List ℕ) (may_leave : H → List ℕ → Type 0) (is_clean : H → Bool)
       (conn : Held S) (conn_of : T → Held S) (before : List ℕ) (inner : T → StoreView) → made ≡ office →
       OpensWith g begins text may_leave is_clean conn (conn_of office.store) before (inner office.store) office.journal →
       OpensWith g begins text may_leave is_clean conn (conn_of made.store) before (inner made.store) made.journal
-  opens_as {D = D} {T = T} {H = H} begins office made text may_leave is_clean conn conn_of before inner is =
-      subst (λ (o : RecordedView D T H). OpensWith g begins text may_leave is_clean conn (conn_of o.store) before (inner o.store) o.journal) (sym is)
+  opens_as {T = T} {H = H} begins office made text may_leave is_clean conn conn_of before inner is =
+      subst (λ (o : RecordedView T H). OpensWith g begins text may_leave is_clean conn (conn_of o.store) before (inner o.store) o.journal) (sym is)

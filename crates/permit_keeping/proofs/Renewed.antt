@@ -10,7 +10,7 @@ use Rattle.permit_model.specs.History.{History}
 use Rattle.permit_model.specs.Machine.{IsHistory}
 use Rattle.permit_model.specs.Renewal.{against_renewal, renewed, with_digest, with_renewed}
 use Rattle.permit_model.specs.Tables.{Tables, tables}
-use Rattle.permit_alike.specs.Alike.{AreAlike}
+use Rattle.permit_replay.specs.Alike.{AreAlike}
 use Rattle.permit_store.proofs.Renewals.{tables_renewed}
 use Rattle.permit_store.proofs.RenewedHistories.{renewed_follows}
 use Rattle.permit_history.specs.LineData.{text_of}
@@ -19,10 +19,10 @@ use Rattle.permit_history.specs.declared.entry.Deed.TheVariants as deed
 use Rattle.permit_history.specs.declared.entry.Entry.{Entry}
 use Rattle.permit_replay.specs.Histories.{Unsaid, history_by}
 use Rattle.permit_replay.proofs.Reading.{told_more, tokens_parted}
-use Rattle.permit_opening.specs.Opening.{TellTables}
-use Rattle.permit_opening.proofs.Opened.{text_split, whole_length}
+use Rattle.permit_replay.specs.Opening.{TellTables}
+use Rattle.permit_replay.proofs.Opened.{text_split, whole_length}
 use Rattle.permit_journal.specs.Journals.{Has, IsSettled, JournalView}
-use Rattle.permit_resuming.specs.Resuming.{IsCutTo}
+use Rattle.permit_recorded.specs.Resuming.{IsCutTo}
 use Rattle.permit_sql_rows.specs.Kept.{IsFine, Keeps}
 use Rattle.permit_sql.specs.Found.{KeepsSound}
 use Rattle.permit_sql.specs.Renewing.{OverKept}

@@ -18,7 +18,7 @@ use Rattle.permit_keeping.specs.Serving.{IsServed}
 pub served_as : {S T H C A E : Type 0} (g : Ghosts S) (begins : Unsaid → Type 0) (view inner : T → StoreView) (conn_of : T → Held S) (text : H → List ℕ)
     (may_leave : H → List ℕ → Type 0) (is_clean : H → Bool) (leaves : List ℕ → List ℕ → Type 0) (tick : C → ℕ → C → Type 0) (c d : C)
     (workers : ℕ) (policy : Policy) (conn back : Held S) (before : List ℕ) (ended : A → List (Entry Asked Dated) → Type 0)
-    (office made left : RecordedView Policy T H) (result : Result A E) → made ≡ office → IsKept g begins view inner conn_of text may_leave is_clean leaves policy conn back before office left →
+    (office made left : RecordedView T H) (result : Result A E) → made ≡ office → IsKept g begins view inner conn_of text may_leave is_clean leaves policy conn back before office left →
     IfOk result (λ a. (served : List (Entry Asked Dated))
     × OneRun (Serves g begins view inner conn_of text may_leave is_clean leaves) tick workers made left c d served × ended a served) →
     IfOk result (λ a. IsServed g begins view inner conn_of text may_leave is_clean leaves tick c d workers policy conn back before (ended a))
@@ -27,7 +27,7 @@ served_as {T = T} {H = H} g begins view inner conn_of text may_leave is_clean le
   left = left;
   kept = kept;
   served = run.0;
-  run = subst (λ (o : RecordedView Policy T H). OneRun (Serves g begins view inner conn_of text may_leave is_clean leaves) tick workers o left c d run.0) is run.1;
+  run = subst (λ (o : RecordedView T H). OneRun (Serves g begins view inner conn_of text may_leave is_clean leaves) tick workers o left c d run.0) is run.1;
   so = run.2;
 }
 served_as g begins view inner conn_of text may_leave is_clean leaves tick c d workers policy conn back before ended office made left (Err e) is kept run = tt

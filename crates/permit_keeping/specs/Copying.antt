@@ -4,10 +4,10 @@ use Rattle.permit_history.specs.Told.{told_on}
 use Rattle.permit_history.specs.declared.entry.Deed.TheVariants as deed
 use Rattle.permit_journal.specs.Journals.{Has, JournalView}
 use Rattle.permit_model.specs.Tables.{Tables}
-use Rattle.permit_recorded.specs.Planned.{whole_line_of}
+use Rattle.permit_recorded.specs.Lines.{whole_line_of}
 use Rattle.permit_replay.specs.declared.beginning.Beginning.{Beginning}
 use Rattle.permit_replay.specs.declared.beginning.Beginning.TheVariants as beginning
-use Rattle.permit_seal.specs.Sealing.{IsSealOf}
+use Rattle.permit_replay.specs.Sealing.{IsSealOf}
 use Rattle.permit_store.specs.Frames.{StoreView}
 use Rattle.permit_store.specs.declared.plain.PlainStore.{PlainStore}
 

@@ -7,16 +7,16 @@ use Rattle.permit_base.specs.declared.refusal.Reason.TheVariants.{Taken}
 use Rattle.permit_import.specs.Refusals.{refused_by}
 use Rattle.permit_import.specs.declared.refused.Refused.TheVariants.{NotAdmitted, Plain}
 use Rattle.permit_import.specs.declared.refused.RefusalWord.TheVariants.{Record, Store}
-use Rattle.permit_opening.specs.declared.bringing.BringFault.{BringFault}
-use Rattle.permit_opening.specs.declared.bringing.BringFault.TheVariants as bringing
-use Rattle.permit_opening.specs.declared.fault.CompareFault.{CompareFault}
-use Rattle.permit_opening.specs.declared.fault.CompareFault.TheVariants as comparing
+use Rattle.permit_replay.specs.declared.opening.bringing.BringFault.{BringFault}
+use Rattle.permit_replay.specs.declared.opening.bringing.BringFault.TheVariants as bringing
+use Rattle.permit_replay.specs.declared.opening.fault.CompareFault.{CompareFault}
+use Rattle.permit_replay.specs.declared.opening.fault.CompareFault.TheVariants as comparing
 use Rattle.permit_replay.specs.declared.fault.ReplayFault.{ReplayFault}
 use Rattle.permit_replay.specs.declared.fault.ReplayFault.TheVariants as replaying
 use Rattle.permit_replay.specs.declared.fault.Why.{Why}
 use Rattle.permit_replay.specs.declared.fault.Why.TheVariants as why
-use Rattle.permit_resuming.specs.declared.fault.ResumeFault.{ResumeFault}
-use Rattle.permit_resuming.specs.declared.fault.ResumeFault.TheVariants as resuming
+use Rattle.permit_recorded.specs.declared.resuming.fault.ResumeFault.{ResumeFault}
+use Rattle.permit_recorded.specs.declared.resuming.fault.ResumeFault.TheVariants as resuming
 use Rattle.permit_sql.specs.declared.renew.RenewError.{RenewError}
 use Rattle.permit_sql.specs.declared.renew.RenewError.TheVariants as renewal
 use Rattle.permit_store.specs.declared.store.OpenError.TheVariants as opening

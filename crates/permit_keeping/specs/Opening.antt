@@ -8,7 +8,7 @@ use Rattle.permit_journal.specs.Journals.{IsSettled, JournalView}
 use Rattle.permit_model.specs.Sound.{IsSoundTables}
 use Rattle.permit_model.specs.Tables.{Tables}
 use Rattle.permit_replay.specs.Histories.{Unsaid}
-use Rattle.permit_resuming.specs.Resuming.{IsCutTo, IsResumed}
+use Rattle.permit_recorded.specs.Resuming.{IsCutTo, IsResumed}
 use Rattle.permit_store.specs.Frames.{StoreView}
 use Rattle.permit_sql_rows.specs.Kept.{IsFine, Keeps, Shows}
 use Rattle.permit_sql.specs.Found.{KeepsSound}

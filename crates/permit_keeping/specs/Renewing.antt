@@ -11,10 +11,10 @@ use Rattle.permit_history.specs.Told.{told_on}
 use Rattle.permit_history.specs.declared.entry.Deed.TheVariants as deed
 use Rattle.permit_history.specs.declared.entry.Entry.{Entry}
 use Rattle.permit_journal.specs.Journals.{Has, IsSettled, JournalView}
-use Rattle.permit_opening.specs.Opening.{TellTables}
-use Rattle.permit_recorded.specs.Planned.{whole_line_of}
+use Rattle.permit_replay.specs.Opening.{TellTables}
+use Rattle.permit_recorded.specs.Lines.{whole_line_of}
 use Rattle.permit_replay.specs.Histories.{Unsaid}
-use Rattle.permit_resuming.specs.Resuming.{IsCutTo}
+use Rattle.permit_recorded.specs.Resuming.{IsCutTo}
 use Rattle.permit_sql_rows.specs.Kept.{Keeps}
 use Rattle.permit_sql.specs.Found.{KeepsSound}
 use Rattle.permit_keeping.specs.Opening.{StillKeepsSound}

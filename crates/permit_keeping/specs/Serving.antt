@@ -17,8 +17,8 @@ use Rattle.permit_keeping.specs.Asking.{Serves, IsKept}
 pub record IsServed {S T H C : Type 0} (g : Ghosts S) (begins : Unsaid → Type 0) (view inner : T → StoreView) (conn_of : T → Held S) (text : H → List ℕ)
     (may_leave : H → List ℕ → Type 0) (is_clean : H → Bool) (leaves : List ℕ → List ℕ → Type 0) (tick : C → ℕ → C → Type 0) (c d : C)
     (workers : ℕ) (policy : Policy) (conn back : Held S) (before : List ℕ) (is_so : List (Entry Asked Dated) → Type 0) : Type 0 where
-  pub office : RecordedView Policy T H
-  pub left : RecordedView Policy T H
+  pub office : RecordedView T H
+  pub left : RecordedView T H
   pub kept : IsKept g begins view inner conn_of text may_leave is_clean leaves policy conn back before office left
   pub served : List (Entry Asked Dated)
   pub run : OneRun (Serves g begins view inner conn_of text may_leave is_clean leaves) tick workers office left c d served

@@ -7,7 +7,6 @@ ghost use Rattle.permit_keeping.specs.Opening.{LeavesUnsound, StillKeepsSound};
 ghost use Rattle.permit_replay.specs.Holding.{IsBeginning, StillBegins};
 
 use crate::opening::{Kept, recorded_in};
-use permit_alike::unordered::Unordered;
 use permit_answer::answer::Answer;
 use permit_base::values::{Day, Token};
 use permit_import::fault::ImportFault;
@@ -15,7 +14,8 @@ use permit_import::importing::import_by;
 use permit_import::tally::Tally;
 use permit_journal::file::HistoryFile;
 use permit_policy::Policy;
-use permit_recorder::asking::ask;
+use permit_recorded::recorder::asking::ask;
+use permit_replay::alike::unordered::Unordered;
 use permit_replay::beginning::Beginning;
 use permit_sql::store::SqlStore;
 use permit_store::plain::PlainStore;
@@ -69,7 +69,7 @@ pub fn ask_recorded<S: Alter + Drop, H: HistoryFile + Drop>(
 
 /// Imports a parcel list into the office in a database, for the caller of the token on the day, and enters each parcel that is
 /// added into its history.
-pub fn import_recorded<S: Alter + Drop, H: HistoryFile + Drop, R: Read + Drop, W: Write>(
+pub fn import_recorded<S, H, R, W, E>(
     alloc: Global,
     beginning: &mut Beginning,
     conn: Connection<S>,
@@ -80,20 +80,28 @@ pub fn import_recorded<S: Alter + Drop, H: HistoryFile + Drop, R: Read + Drop, W
     why: bool,
     records: R,
     out: &mut W,
+    causes: &mut E,
 ) -> (Connection<S>, Result<Result<Tally, ImportFault>, Failure>)
+where
+    S: Alter + Drop,
+    H: HistoryFile + Drop,
+    R: Read + Drop,
+    W: Write,
+    E: Write,
     ensures imported { IfOk result.1 (IsImported S.Store (IsBeginning ⟦<PlainStore as Store>⟧.view beginning.old) (⟦<Unordered<SqlStore<S>> as Store>⟧.view)
         (λ s. ⟦<SqlStore<S> as Store>⟧.view s.store) (λ s. s.store.conn) H.text H.may_leave H.is_clean
-        H.leaves policy conn result.0 (H.text file) token.now day why (R.remaining records) (W.contents out.old) (W.contents out.new)) }
+        H.leaves policy conn result.0 (H.text file) token.now day why (R.remaining records) (W.contents out.old) (W.contents out.new)
+        (E.contents causes.old) (E.contents causes.new)) }
     ensures still { StillBegins ⟦<PlainStore as Store>⟧.view beginning.old beginning.new }
     ensures unopened { IfErr result.1 (λ _. StillKeepsSound S.Store conn result.0) }
     ensures unsound { IfErr result.1 (λ _. LeavesUnsound S.Store conn result.0) }
-    ensures unwritten { IfErr result.1 (λ _. W.contents out.new ≡ W.contents out.old) }
+    ensures unwritten { IfErr result.1 (λ _. (W.contents out.new ≡ W.contents out.old) × (E.contents causes.new ≡ E.contents causes.old)) }
     ensures fails { IfErr result.1 (λ why. IsTrue (is_unopened why)) }
 {
     match recorded_in(alloc, beginning, conn, policy, file) {
         Ok(office) => {
             let mut office = office;
-            let ended = import_by(alloc, &mut office, token, day, why, records, out);
+            let ended = import_by(alloc, &mut office, token, day, why, records, out, causes);
             (connection_of(office), Ok(ended))
         }
         Err((conn, why)) => (conn, Err(why)),

@@ -5,10 +5,10 @@ ghost use Rattle.permit_keeping.specs.Failing.{bringing_failure, comparing_failu
 
 use permit_chronicle::ChronicleFault;
 use permit_history::fault::LineFault;
-use permit_opening::bringing::BringFault;
-use permit_opening::fault::CompareFault;
+use permit_recorded::resuming::fault::ResumeFault;
 use permit_replay::fault::{ReplayFault, Why};
-use permit_resuming::fault::ResumeFault;
+use permit_replay::opening::bringing::BringFault;
+use permit_replay::opening::fault::CompareFault;
 use permit_sql::renew::RenewError;
 use permit_store::store::OpenError;
 use permit_subcommands::failure::{Failure, HistoryFailure};

@@ -2,7 +2,7 @@
 
 ghost use Rattle.std.specs.Prelude.{◌≡◌, IfOk};
 ghost use Rattle.permit_history.specs.Told.{told_on};
-ghost use Rattle.permit_recorded.specs.Planned.{whole_line_of};
+ghost use Rattle.permit_recorded.specs.Lines.{whole_line_of};
 
 use permit_base::values::Day;
 use permit_history::entry::{Deed, Entry};

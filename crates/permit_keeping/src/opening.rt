@@ -6,12 +6,12 @@ ghost use Rattle.permit_keeping.specs.Opening.{LeavesUnsound, OpensWith, StillKe
 ghost use Rattle.permit_replay.specs.Holding.{IsBeginning, StillBegins};
 
 use crate::failing::of_resuming;
-use permit_alike::unordered::Unordered;
 use permit_journal::file::HistoryFile;
 use permit_policy::Policy;
-use permit_recorder::recorder::Recorder;
+use permit_recorded::recorder::Recorder;
+use permit_recorded::resuming::resume;
+use permit_replay::alike::unordered::Unordered;
 use permit_replay::beginning::Beginning;
-use permit_resuming::resume::resume;
 use permit_sql::store::SqlStore;
 use permit_store::plain::PlainStore;
 use permit_store::store::Store;
@@ -20,7 +20,7 @@ use sqlite::{Alter, Connection};
 use std::alloc::Global;
 
 /// An office in a database, with its history.
-pub type Kept<S, H> = Recorder<Policy, Unordered<SqlStore<S>>, H>;
+pub type Kept<S, H> = Recorder<Unordered<SqlStore<S>>, H>;
 
 /// Opens the office in a database with its history, under the policy. The text of the file is cut to the history of the tables;
 /// where it isn't theirs, the office isn't opened, and nothing is changed. The connection comes back with the failure.
@@ -33,7 +33,7 @@ pub fn recorded_in<S: Alter + Drop, H: HistoryFile + Drop>(
 ) -> Result<Kept<S, H>, (Connection<S>, Failure)>
     ensures opened { IfOk result (λ office. OpensWith S.Store (IsBeginning ⟦<PlainStore as Store>⟧.view beginning.old) H.text H.may_leave H.is_clean conn office.store.store.conn (H.text file)
         (⟦<SqlStore<S> as Store>⟧.view office.store.store) office.journal) }
-    ensures policy { IfOk result (λ office. office.decider ≡ policy) }
+    ensures policy { IfOk result (λ office. office.policy ≡ policy) }
     ensures back { IfErr result (λ back. StillKeepsSound S.Store conn back.0) }
     ensures unsound { IfErr result (λ back. LeavesUnsound S.Store conn back.0) }
     ensures still { StillBegins ⟦<PlainStore as Store>⟧.view beginning.old beginning.new }

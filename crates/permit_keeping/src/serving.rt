@@ -17,7 +17,6 @@ ghost use Rattle.permit_keeping.specs.Serving.{IsServed};
 ghost use Rattle.permit_replay.specs.Holding.{IsBeginning, StillBegins};
 
 use crate::failing::of_resuming;
-use permit_alike::unordered::Unordered;
 use permit_args::plan::ServeWords;
 use permit_base::values::Day;
 use permit_hall::doors::Door;
@@ -26,9 +25,10 @@ use permit_mirror::indexed::Indexed;
 use permit_mirror::mirrored::Mirrored;
 use permit_policy::Policy;
 use permit_recorded::recorded::RecordedOffice;
-use permit_recorder::recorder::Recorder;
+use permit_recorded::recorder::Recorder;
+use permit_recorded::resuming::resume;
+use permit_replay::alike::unordered::Unordered;
 use permit_replay::beginning::Beginning;
-use permit_resuming::resume::resume;
 use permit_sockets::connections::{Connections, Flag};
 use permit_sockets::pace::{AnswerWriter, RequestReader};
 use permit_sockets::serving::{Ends, serve_service};
@@ -46,7 +46,7 @@ use std::thread::Threads;
 type InMemory<S> = Mirrored<SqlStore<S>, Indexed<PlainStore>>;
 
 /// An office with its tables in memory and with its history.
-type Kept<S, H> = RecordedOffice<Policy, Unordered<InMemory<S>>, H>;
+type Kept<S, H> = RecordedOffice<Unordered<InMemory<S>>, H>;
 
 /// The connection of an office.
 fn connection_of<S: Alter + Drop, H: HistoryFile + Drop>(office: Kept<S, H>) -> Connection<S>
@@ -94,7 +94,7 @@ fn recorded_beside_memory<S: Alter + Drop, H: HistoryFile + Drop>(
 ) -> Result<Kept<S, H>, (Connection<S>, Failure)>
     ensures opened { IfOk result (λ office. OpensWith S.Store (IsBeginning ⟦<PlainStore as Store>⟧.view beginning.old) H.text H.may_leave H.is_clean conn office.store.store.kept.conn (H.text file)
         (⟦<InMemory<S> as Store>⟧.view office.store.store) office.journal) }
-    ensures policy { IfOk result (λ office. office.decider ≡ policy) }
+    ensures policy { IfOk result (λ office. office.policy ≡ policy) }
     ensures still { StillBegins ⟦<PlainStore as Store>⟧.view beginning.old beginning.new }
     ensures back { IfErr result (λ back. StillKeepsSound S.Store conn back.0) }
     ensures unsound { IfErr result (λ back. LeavesUnsound S.Store conn back.0) }

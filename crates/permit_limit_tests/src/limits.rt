@@ -119,7 +119,7 @@ fn add(
             &Change::NewParty {
                 name,
                 role,
-                digest: &digest,
+                digest,
             },
             on,
         )?;

@@ -18,12 +18,14 @@ use Rattle.permit_store.specs.Counts.{next_count}
 use Rattle.permit_store.specs.Frames.{StoreView, HasOneDesk}
 use Rattle.permit_office.specs.declared.reply.Reply.{Reply as Given}
 use Rattle.permit_office.specs.declared.reply.Reply.TheVariants as given
+use Rattle.permit_office.specs.declared.decision.Decision.{Decision}
+use Rattle.permit_office.specs.Decisions.{reply_for}
 use Rattle.permit_office.specs.Office.{OfficeView}
 use Rattle.permit_office.specs.Answers.{CommittedBy, commits_after, IsOwn, failed_by, is_store_refusal}
 use Rattle.permit_office.specs.Reach.{Reach, NoRow, OneRow, ManyRows, reach_of, is_many, HandedBy, HandedIn, FailedBy, FailedIn}
 use Rattle.permit_office.specs.Opening.{opened_for, rows_opened, Opens}
 use Rattle.permit_office.specs.Frames.{IsAttempt, IsStep, Steps, UnlessDone}
-use Rattle.permit_office.specs.Sound.{KeepsSound, IsSoundChange, OnMade, MakesOne}
+use Rattle.permit_office.specs.Sound.{KeepsSound, IsSoundChange, MakesOne}
 use Rattle.permit_model.proofs.Histories.{found_by_number}
 
 pub stepped : (policy : Policy) (h : History) (digest : List ℕ) (request : Request) (day : ℕ) (caller : Party) → Some caller ≡ who h digest → last_day h ≤ day →
@@ -39,7 +41,7 @@ caller_there h digest caller found = found_by_number (parties h) digest caller (
 next_differs : (n : ℕ) → next_count n ≢ n
 next_differs n e = omega arith
 
-committed_by : (reply : Given) (old new : ℕ) → new ≡ commits_after reply old → CommittedBy reply old new
+pub committed_by : (reply : Given) (old new : ℕ) → new ≡ commits_after reply old → CommittedBy reply old new
 committed_by (given.Refused refusal.Store) old new e = inl e
 committed_by (given.Refused refusal.Syntax) old new e = e
 committed_by (given.Refused refusal.Caller) old new e = e
@@ -53,12 +55,12 @@ committed_by (given.File f ps) old new e = e
 committed_by (given.Listed l) old new e = e
 committed_by (given.Register k l) old new e = e
 
-handed_ok : (r : Reach) (reply : Given) (old new : ℕ) → HandedIn r (Ok reply) old new → HandedBy r reply old new
+pub handed_ok : (r : Reach) (reply : Given) (old new : ℕ) → HandedIn r (Ok reply) old new → HandedBy r reply old new
 handed_ok NoRow reply old new e = e
 handed_ok OneRow reply old new e = e
 handed_ok ManyRows reply old new e = e
 
-handed_err : (r : Reach) (e : StoreError) (old new : ℕ) → HandedIn r (Err e) old new → HandedBy r (given.Refused refusal.Store) old new
+pub handed_err : (r : Reach) (e : StoreError) (old new : ℕ) → HandedIn r (Err e) old new → HandedBy r (given.Refused refusal.Store) old new
 handed_err NoRow e old new same = same
 handed_err OneRow e old new either = either
 handed_err ManyRows e old new any = tt
@@ -117,12 +119,12 @@ opens_refused (Some n) why old new = tt
 
 -- the rows that the known caller's request opens
 pub opened_known : (policy : Policy) (h : History) (digest : List ℕ) (asked : Request) (day : ℕ) (caller : Party) → Some caller ≡ who h digest →
-    (result : Result Given StoreError) (mid old new : ℕ) → mid ≡ old →
-    IfOk result (λ reply. Opens (opened_for policy h day caller asked) reply mid new) →
-    IfOk result (λ reply. Opens (rows_opened policy h digest asked day) reply old new)
+    (result : Result Decision StoreError) (mid old new : ℕ) → mid ≡ old →
+    IfOk result (λ d. Opens (opened_for policy h day caller asked) (reply_for d) mid new) →
+    IfOk result (λ d. Opens (rows_opened policy h digest asked day) (reply_for d) old new)
 opened_known policy h digest asked day caller found result mid old new same opened =
-    subst (λ n. IfOk result (λ reply. Opens (rows_opened policy h digest asked day) reply n new)) same
-    (subst (λ rows. IfOk result (λ reply. Opens rows reply mid new)) (ap (option_and_then (λ (p : Party). opened_for policy h day p asked)) found) opened)
+    subst (λ n. IfOk result (λ d. Opens (rows_opened policy h digest asked day) (reply_for d) n new)) same
+    (subst (λ rows. IfOk result (λ d. Opens rows (reply_for d) mid new)) (ap (option_and_then (λ (p : Party). opened_for policy h day p asked)) found) opened)
 
 -- an attempt that gives a reply of the office's own is a step
 pub stepped_ok : {S : Type 0} (view : S → StoreView) (digest : List ℕ) (asked : Request) (day : ℕ) (old new : OfficeView S) (reply : Given) →
@@ -164,16 +166,6 @@ stepped_err view digest asked day old new e same attempt = record {
 }
 
 -- ---- sound tables
-
--- a reading that isn't a command which is done says nothing of one
-pub unmade : (r : Result Given StoreError) (said : Type 0) → OnMade r ⊥ → OnMade r said
-unmade (Ok (given.Done number)) said none = absurd none
-unmade (Ok (given.Parcel p)) said none = tt
-unmade (Ok (given.File f ps)) said none = tt
-unmade (Ok (given.Listed l)) said none = tt
-unmade (Ok (given.Register k l)) said none = tt
-unmade (Ok (given.Refused why)) said none = tt
-unmade (Err e) said none = tt
 
 keeps_by : (old new : StoreView) (day : ℕ) (reply : Given) → ((t : Tables) → old.holds t → UnlessDone reply (new.holds t)) → MakesOne old new day reply →
     KeepsSound old new

@@ -1,8 +1,9 @@
 -- Who a request's caller is in the tables, or why it is refused.
-use Rattle.std.specs.Prelude.{ℕ, nat_lt, bytes_eq, if◌then◌else◌, List, find, Option, None, Some, Result, Ok, Err, ⊤}
+use Rattle.std.specs.Prelude.{ℕ, nat_lt, bytes_eq, if◌then◌else◌, List, find, Option, None, Some, Result, Ok, Err, option_map, ⊤}
 use Rattle.permit_base.specs.declared.refusal.Refusal.{Refusal}
 use Rattle.permit_base.specs.declared.refusal.Refusal.TheVariants as refusal
-use Rattle.permit_model.specs.Caller.{Party}
+use Rattle.permit_model.specs.Caller.{Party, who}
+use Rattle.permit_model.specs.History.{History}
 use Rattle.permit_model.specs.Tables.{Desk, Tables}
 
 -- a known caller on a day that isn't below the last, with the desk, or why its request is refused
@@ -19,3 +20,7 @@ abbrev pub RefusesCaller : Refusal → Type 0
 RefusesCaller refusal.Caller = ⊤
 RefusesCaller refusal.Clock = ⊤
 RefusesCaller why = ⊥
+
+-- the number of the party that keeps the digest
+abbrev pub number_of : History → List ℕ → Option ℕ
+number_of h digest = option_map (λ (p : Party). p.id) (who h digest)

@@ -16,15 +16,15 @@ ghost use Rattle.permit_core.specs.RowAfter;
 ghost use Rattle.permit_model.specs.Sound.{IsSoundTables};
 ghost use Rattle.permit_store.specs.Changes.{papers_after, suits_effect};
 ghost use Rattle.permit_store.specs.Frames.{OverHistory, OverTables};
-ghost use Rattle.permit_office.specs.Answers.{Attempts, IsDecided, IsOwn};
+ghost use Rattle.permit_office.specs.Answers.{IsDecided, IsOwn};
 ghost use Rattle.permit_office.specs.Effects.{papers_with};
-ghost use Rattle.permit_office.specs.Frames.{OnlyReads, IsAttempt};
+ghost use Rattle.permit_office.specs.Decisions.{DecidesBy, Decides, IsDeciding, IsProper, LeavesSound, replies, reply_for};
+ghost use Rattle.permit_office.specs.Frames.{OnlyReads};
 ghost use Rattle.permit_office.specs.Reach.{NoRow, OneRow};
-ghost use Rattle.permit_office.specs.Sound.{HasState, IsSoundChange, MakesBy, MayAct, OnMade, is_open_in, role_named};
+ghost use Rattle.permit_office.specs.Sound.{HasState, MayAct, is_open_in, role_named};
 
-use crate::commit::carry_out;
+use crate::decision::{Decision, refused};
 use crate::facts::{facts_on_file, owner_on};
-use crate::reply::Reply;
 use crate::within::{command_within, state_within};
 use permit_base::refusal::Refusal;
 use permit_base::request::Command;
@@ -120,29 +120,29 @@ fn effect_of<'a>(state: &FileState, author: PartyId, command: &'a Command) -> Ro
 }
 
 /// Admits an allowed command on a file whose parcel has this owner, and makes its change.
-pub(crate) fn perform<S: Store>(
+pub(crate) fn perform<'a, S: Store>(
     store: &mut S,
     caller: PartyId,
     file: FileId,
     state: &FileState,
     owner: Option<PartyId>,
-    command: &Command,
+    command: &'a Command,
     day: Day,
-) -> Got<Reply>
+) -> Got<Decision<'a>>
     ensures model { OverHistory (S.view store.old) (S.view store.new) (λ h.
         (one : CaseFile) → case_numbered h file ≡ Some one → state.now ≡ state_of one → owner ≡ Parcels.owner h one.filing.parcel
         → last_day h ≤ day → IsTrue (Caller.is_party h caller)
-        → Attempts (S.view store.new).holds result
-        (outcome_by_reason h (entry_of h day caller (request.OnFile file command.now)) (reason_against h day caller (request.OnFile file command.now))) h) }
+        → IfOk result (λ d. Decides day d
+        (outcome_by_reason h (entry_of h day caller (request.OnFile file command.now)) (reason_against h day caller (request.OnFile file command.now))) h)) }
     ensures sound { OverTables (S.view store.old) (S.view store.new) (λ t. IsSoundTables t → HasState t file state.now → MayAct t caller day
-        → OnMade result (IsSoundChange (S.view store.new).holds day t)) }
-    ensures attempt { IsAttempt NoRow (S.view store.old) (S.view store.new) result }
-    ensures decided { IfOk result IsDecided }
-    ensures own { IfOk result IsOwn }
+        → IfOk result (LeavesSound day t)) }
+    ensures deciding { IsDeciding NoRow (S.view store.old) (S.view store.new) (replies result) }
+    ensures decided { IfOk result (λ d. IsDecided (reply_for d)) }
+    ensures proper { IfOk result (IsProper caller) }
 {
     let people = people_about(store, file, state, owner, command)?;
     if let Err(reason) = state.admit(day, command, &people) {
-        return Ok(Reply::Refused(Refusal::NotAdmitted(reason)));
+        return Ok(refused(Refusal::NotAdmitted(reason)));
     }
     let number = state.paper_number(command);
     let effect = effect_of(state, caller, command);
@@ -155,33 +155,37 @@ pub(crate) fn perform<S: Store>(
         state,
         effect,
     };
-    carry_out(store, Ok(number), &change, day)
+    Ok(Decision::Admitted {
+        caller,
+        number,
+        change,
+    })
 }
 
 /// Serves a command on a file.
-pub(crate) fn on_file<S: Store>(
+pub(crate) fn on_file<'a, S: Store>(
     store: &mut S,
     policy: &Policy,
     caller: &Party,
     file: FileId,
-    command: &Command,
+    command: &'a Command,
     day: Day,
-) -> Got<Reply>
+) -> Got<Decision<'a>>
     ensures model { OverHistory (S.view store.old) (S.view store.new) (λ h.
         last_day h ≤ day
         → IsTrue (Caller.is_party h caller.now.id)
-        → Attempts (S.view store.new).holds result (outcome_by_request policy.now h day caller.now (request.OnFile file command.now)) h) }
-    ensures sound { MakesBy (S.view store.old) (S.view store.new) caller.now.id day result }
-    ensures attempt { IsAttempt OneRow (S.view store.old) (S.view store.new) result }
-    ensures own { IfOk result IsOwn }
+        → IfOk result (λ d. Decides day d (outcome_by_request policy.now h day caller.now (request.OnFile file command.now)) h)) }
+    ensures sound { DecidesBy (S.view store.old) (S.view store.new) caller.now.id day result }
+    ensures deciding { IsDeciding OneRow (S.view store.old) (S.view store.new) (replies result) }
+    ensures proper { IfOk result (IsProper caller.now.id) }
 {
     let Some(state) = store.state(file)? else {
-        return Ok(Reply::Refused(Refusal::Record));
+        return Ok(refused(Refusal::Record));
     };
     let owner = owner_on(store, &state)?;
     let facts = facts_on_file(store, caller, &state, &owner, command.action(), day)?;
     if let Some(name) = policy.denial(&facts) {
-        return Ok(Reply::Refused(Refusal::Denied(name)));
+        return Ok(refused(Refusal::Denied(name)));
     }
     perform(store, caller.id, file, &state, owner, command, day)
 }

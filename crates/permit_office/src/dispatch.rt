@@ -1,13 +1,15 @@
 //! From a caller's digest to the request: who asks, whether the clock goes on, and what is asked.
 
-ghost use Rattle.std.specs.Prelude.{◌≡◌, ◌≤◌, IsTrue, IfOk, OnOk};
+ghost use Rattle.std.specs.Prelude.{◌≡◌, ◌≤◌, ℕ, IsTrue, IfOk, OnOk};
 ghost use Rattle.permit_model.specs.Caller;
 ghost use Rattle.permit_model.specs.History.{last_day};
 ghost use Rattle.permit_model.specs.Tables.{desk_of};
 ghost use Rattle.permit_model.specs.Machine.{outcome_by_request, step_as};
 ghost use Rattle.permit_model.specs.Sound.{IsSoundTables};
 ghost use Rattle.permit_store.specs.Frames.{HasOneDesk, OverHistory, OverTables};
+ghost use Rattle.permit_office.specs.Callers.{number_of};
 ghost use Rattle.permit_office.specs.Answers.{Attempts, IsOwn};
+ghost use Rattle.permit_office.specs.Decisions.{replies, reply_for, Decides, IsDeciding, IsOf, IsProper, LeavesSound};
 ghost use Rattle.permit_office.specs.Frames.{IsAttempt};
 ghost use Rattle.permit_office.specs.Opening.{opened_for, rows_opened, Opens};
 ghost use Rattle.permit_office.specs.Reach.{reach_of};
@@ -15,6 +17,7 @@ ghost use Rattle.permit_office.specs.Sound.{IsSoundChange, MayAct, OnMade};
 
 use crate::callers::known_caller;
 use crate::commands::on_file;
+use crate::decision::{Decision, carry_out, refused};
 use crate::filing::file;
 use crate::listing::{list_files, show_register};
 use crate::parcels::{add_parcel, declare, transfer};
@@ -27,25 +30,26 @@ use permit_policy::Policy;
 use permit_store::rows::{Desk, Party};
 use permit_store::store::{Got, Store};
 
-/// Serves a known caller on a day that isn't below the last.
-fn serve_known<S: Store>(
+/// What the request of a known caller comes to, on a day that isn't below the last. Nothing is changed. It fails where a call of
+/// the store failed, or where memory was refused to a listing.
+fn decide_known<'a, S: Store>(
     store: &mut S,
     policy: &Policy,
     caller: &Party,
     desk: &Desk,
-    request: &Request,
+    request: &'a Request,
     day: Day,
-) -> Got<Reply>
+) -> Got<Decision<'a>>
     ensures model { OverHistory (S.view store.old) (S.view store.new) (λ h.
         desk.now ≡ desk_of h
         → last_day h ≤ day → IsTrue (Caller.is_party h caller.now.id)
-        → Attempts (S.view store.new).holds result (outcome_by_request policy.now h day caller.now request.now) h) }
+        → IfOk result (λ d. Decides day d (outcome_by_request policy.now h day caller.now request.now) h)) }
     ensures opened { OverHistory (S.view store.old) (S.view store.new) (λ h.
-        IfOk result (λ reply. Opens (opened_for policy.now h day caller.now request.now) reply (S.view store.old).handed (S.view store.new).handed)) }
+        IfOk result (λ d. Opens (opened_for policy.now h day caller.now request.now) (reply_for d) (S.view store.old).handed (S.view store.new).handed)) }
     ensures sound { OverTables (S.view store.old) (S.view store.new) (λ t. IsSoundTables t → desk.now ≡ t.desk → MayAct t caller.now.id day
-        → OnMade result (IsSoundChange (S.view store.new).holds day t)) }
-    ensures attempt { IsAttempt (reach_of request.now) (S.view store.old) (S.view store.new) result }
-    ensures own { IfOk result IsOwn }
+        → IfOk result (LeavesSound day t)) }
+    ensures deciding { IsDeciding (reach_of request.now) (S.view store.old) (S.view store.new) (replies result) }
+    ensures proper { IfOk result (IsProper caller.now.id) }
 {
     match request {
         Request::AddParty { name, role, token } => add_party(
@@ -82,9 +86,35 @@ fn serve_known<S: Store>(
     }
 }
 
-/// Serves a request of the party that keeps the digest, on the day, by the policy. The refusals are tested in the order of
-/// `Office::step_as`. It fails where a call of the store failed, or where memory was refused to a listing; then nothing has
-/// changed.
+/// What the request of the party that keeps the digest comes to on the day, by the policy. Nothing is changed.
+///
+/// The refusals are tested in the order of `Office::step_as`. A change that is admitted is the caller's. It fails where a call of
+/// the store failed, or where memory was refused to a listing.
+pub fn decide<'a, S: Store>(
+    store: &mut S,
+    policy: &Policy,
+    digest: &Digest,
+    request: &'a Request,
+    day: Day,
+) -> Got<Decision<'a>>
+    ensures model { OverHistory (S.view store.old) (S.view store.new) (λ h.
+        IfOk result (λ d. Decides day d (step_as policy.now h digest.now request.now day) h)) }
+    ensures of { OverHistory (S.view store.old) (S.view store.new) (λ h. IfOk result (IsOf (number_of h digest.now))) }
+    ensures opened { OverHistory (S.view store.old) (S.view store.new) (λ h.
+        IfOk result (λ d. Opens (rows_opened policy.now h digest.now request.now day) (reply_for d) (S.view store.old).handed (S.view store.new).handed)) }
+    ensures sound { OverTables (S.view store.old) (S.view store.new) (λ t. IsSoundTables t → IfOk result (LeavesSound day t)) }
+    ensures deciding { IsDeciding (reach_of request.now) (S.view store.old) (S.view store.new) (replies result) }
+    ensures one { (S.view store.new).doubt ≡ 0 → OnOk result (HasOneDesk (S.view store.new)) }
+    ensures proper { IfOk result (λ d. (caller : ℕ) × IsProper caller d) }
+{
+    match known_caller(store, digest, day)? {
+        Ok((caller, desk)) => decide_known(store, policy, &caller, &desk, request, day),
+        Err(refusal) => Ok(refused(refusal)),
+    }
+}
+
+/// Serves a request of the party that keeps the digest, on the day, by the policy: what `decide` returns is carried out. It fails
+/// where a call of the store failed, or where memory was refused to a listing; then nothing has changed.
 pub fn attempt<S: Store>(
     store: &mut S,
     policy: &Policy,
@@ -101,8 +131,8 @@ pub fn attempt<S: Store>(
     ensures one { (S.view store.new).doubt ≡ 0 → OnOk result (HasOneDesk (S.view store.new)) }
     ensures own { IfOk result IsOwn }
 {
-    match known_caller(store, digest, day)? {
-        Ok((caller, desk)) => serve_known(store, policy, &caller, &desk, request, day),
-        Err(refusal) => Ok(Reply::Refused(refusal)),
+    match decide(store, policy, digest, request, day) {
+        Ok(decision) => carry_out(store, decision, day),
+        Err(error) => Err(error),
     }
 }

@@ -5,19 +5,20 @@ ghost use Rattle.std.specs.List.{Contains, Any};
 ghost use Rattle.permit_base.specs.declared.request.Request.TheVariants as request;
 ghost use Rattle.permit_base.specs.declared.request.Filter.{Filter as TheFilter};
 ghost use Rattle.permit_base.specs.declared.words.Action.TheVariants as action;
-ghost use Rattle.permit_model.specs.Tables.{FileView as TheView};
+ghost use Rattle.permit_model.specs.Tables.{FileView as TheView, Tables};
 ghost use Rattle.permit_model.specs.Listing.{listing, register_filter};
 ghost use Rattle.permit_model.specs.Opened.{opened, allowed_by};
 ghost use Rattle.permit_policy.specs.Selections.{items_of, selections_of};
 ghost use Rattle.permit_model.specs.Machine.{outcome_by_request};
 ghost use Rattle.permit_store.specs.Frames.{OverHistory};
-ghost use Rattle.permit_office.specs.Answers.{Attempts, IsOwn};
-ghost use Rattle.permit_office.specs.Frames.{IsAttempt, IsMaking};
+ghost use Rattle.permit_office.specs.Answers.{IsOwn};
+ghost use Rattle.permit_office.specs.Decisions.{Decides, IsDeciding, IsProper, LeavesSound, replies, reply_for};
+ghost use Rattle.permit_office.specs.Frames.{IsMaking};
 ghost use Rattle.permit_office.specs.Listings.{Adds, Gathers, AreRising, selections_for};
 ghost use Rattle.permit_office.specs.Opening.{Opens, OpensRows};
 ghost use Rattle.permit_office.specs.Reach.{ManyRows, WereRead};
-ghost use Rattle.permit_office.specs.Sound.{OnMade};
 
+use crate::decision::Decision;
 use crate::passing::pass_on;
 use crate::reply::{Listing, Reply};
 use crate::showing::{RowsEnd, register_filter};
@@ -161,42 +162,42 @@ fn make_listing<S: Store>(
 }
 
 /// Lists the files wanted.
-pub(crate) fn list_files<S: Store>(
+pub(crate) fn list_files<'a, S: Store>(
     store: &mut S,
     policy: &Policy,
     caller: &Party,
     day: Day,
     wanted: Filter,
-) -> Got<Reply>
+) -> Got<Decision<'a>>
     ensures model { OverHistory (S.view store.old) (S.view store.new) (λ h.
-        Attempts (S.view store.new).holds result (outcome_by_request policy.now h day caller.now (request.ListFiles wanted)) h) }
+        IfOk result (λ d. Decides day d (outcome_by_request policy.now h day caller.now (request.ListFiles wanted)) h)) }
     ensures opened { OverHistory (S.view store.old) (S.view store.new) (λ h.
-        IfOk result (λ reply. Opens (Some (length (opened policy.now h day caller.now wanted))) reply (S.view store.old).handed (S.view store.new).handed)) }
-    ensures attempt { IsAttempt ManyRows (S.view store.old) (S.view store.new) result }
-    ensures unmade { OnMade result ⊥ }
-    ensures own { IfOk result IsOwn }
+        IfOk result (λ d. Opens (Some (length (opened policy.now h day caller.now wanted))) (reply_for d) (S.view store.old).handed (S.view store.new).handed)) }
+    ensures sound { (t : Tables) → IfOk result (LeavesSound day t) }
+    ensures deciding { IsDeciding ManyRows (S.view store.old) (S.view store.new) (replies result) }
+    ensures proper { IfOk result (IsProper caller.now.id) }
 {
     let listing = make_listing(store, policy, caller, day, wanted)?;
-    Ok(Reply::Listed(listing))
+    Ok(Decision::Answered(Reply::Listed(listing)))
 }
 
 /// Shows a register.
-pub(crate) fn show_register<S: Store>(
+pub(crate) fn show_register<'a, S: Store>(
     store: &mut S,
     policy: &Policy,
     caller: &Party,
     day: Day,
     kind: RegisterKind,
-) -> Got<Reply>
+) -> Got<Decision<'a>>
     ensures model { OverHistory (S.view store.old) (S.view store.new) (λ h.
-        Attempts (S.view store.new).holds result (outcome_by_request policy.now h day caller.now (request.Register kind)) h) }
+        IfOk result (λ d. Decides day d (outcome_by_request policy.now h day caller.now (request.Register kind)) h)) }
     ensures opened { OverHistory (S.view store.old) (S.view store.new) (λ h.
-        IfOk result (λ reply. Opens (Some (length (opened policy.now h day caller.now (register_filter kind)))) reply
+        IfOk result (λ d. Opens (Some (length (opened policy.now h day caller.now (register_filter kind)))) (reply_for d)
         (S.view store.old).handed (S.view store.new).handed)) }
-    ensures attempt { IsAttempt ManyRows (S.view store.old) (S.view store.new) result }
-    ensures unmade { OnMade result ⊥ }
-    ensures own { IfOk result IsOwn }
+    ensures sound { (t : Tables) → IfOk result (LeavesSound day t) }
+    ensures deciding { IsDeciding ManyRows (S.view store.old) (S.view store.new) (replies result) }
+    ensures proper { IfOk result (IsProper caller.now.id) }
 {
     let listing = make_listing(store, policy, caller, day, register_filter(kind))?;
-    Ok(Reply::Register { kind, listing })
+    Ok(Decision::Answered(Reply::Register { kind, listing }))
 }

@@ -15,15 +15,15 @@ ghost use Rattle.permit_model.specs.Tables.{Tables, tables, desk_of};
 ghost use Rattle.permit_model.specs.Machine.{outcome_by_request, outcome_of_command};
 ghost use Rattle.permit_model.specs.Sound.{IsSoundTables, has_party};
 ghost use Rattle.permit_store.specs.Frames.{OverHistory, OverTables};
-ghost use Rattle.permit_office.specs.Answers.{Attempts, IsDecided, IsOwn, reason_in};
-ghost use Rattle.permit_office.specs.Frames.{OnlyReads, IsAttempt};
+ghost use Rattle.permit_office.specs.Answers.{IsDecided, IsOwn, reason_in};
+ghost use Rattle.permit_office.specs.Decisions.{DecidesBy, Decides, IsDeciding, IsProper, LeavesSound, replies, reply_for};
+ghost use Rattle.permit_office.specs.Frames.{OnlyReads};
 ghost use Rattle.permit_office.specs.Reach.{NoRow};
-ghost use Rattle.permit_office.specs.Sound.{IsSoundChange, MakesBy, MayAct, OnMade};
+ghost use Rattle.permit_office.specs.Sound.{MayAct};
 
-use crate::commit::{Admitted, carry_out, next_number};
+use crate::decision::{Admitted, Decision, next_number, refused};
 use crate::facts::facts_on_parcel;
 use crate::parties::is_party;
-use crate::reply::Reply;
 use crate::within::parcel_within;
 use permit_base::refusal::{Reason, Refusal};
 use permit_base::values::{Day, Lot, ParcelId, PartyId, Text};
@@ -65,59 +65,63 @@ fn admit_parcel<S: Store>(store: &mut S, desk: &Desk, lot: &Lot, owner: PartyId)
 }
 
 /// Admits a new parcel, and adds it.
-pub(crate) fn make_parcel<S: Store>(
+pub(crate) fn make_parcel<'a, S: Store>(
     store: &mut S,
+    caller: PartyId,
     desk: &Desk,
-    lot: &Lot,
-    address: &Text,
+    lot: &'a Lot,
+    address: &'a Text,
     owner: PartyId,
     day: Day,
-) -> Got<Reply>
-    ensures model { OverHistory (S.view store.old) (S.view store.new) (λ h. (caller : ℕ) → desk.now ≡ desk_of h → last_day h ≤ day
-        → Attempts (S.view store.new).holds result (outcome_of_command h day caller (request.AddParcel lot.now address.now owner)) h) }
-    ensures sound { OverTables (S.view store.old) (S.view store.new) (λ t. (caller : ℕ) → IsSoundTables t → desk.now ≡ t.desk → MayAct t caller day
-        → OnMade result (IsSoundChange (S.view store.new).holds day t)) }
-    ensures attempt { IsAttempt NoRow (S.view store.old) (S.view store.new) result }
-    ensures own { IfOk result IsOwn }
-    ensures decided { IfOk result IsDecided }
+) -> Got<Decision<'a>>
+    ensures model { OverHistory (S.view store.old) (S.view store.new) (λ h. desk.now ≡ desk_of h → last_day h ≤ day
+        → IfOk result (λ d. Decides day d (outcome_of_command h day caller (request.AddParcel lot.now address.now owner)) h)) }
+    ensures sound { OverTables (S.view store.old) (S.view store.new) (λ t. IsSoundTables t → desk.now ≡ t.desk → MayAct t caller day
+        → IfOk result (LeavesSound day t)) }
+    ensures deciding { IsDeciding NoRow (S.view store.old) (S.view store.new) (replies result) }
+    ensures proper { IfOk result (IsProper caller) }
+    ensures decided { IfOk result (λ d. IsDecided (reply_for d)) }
 {
-    let admitted = admit_parcel(store, desk, lot, owner)?;
+    let number = match admit_parcel(store, desk, lot, owner)? {
+        Ok(number) => number,
+        Err(reason) => return Ok(refused(Refusal::NotAdmitted(reason))),
+    };
     parcel_within(lot, address);
-    carry_out(
-        store,
-        admitted,
-        &Change::NewParcel {
-            lot,
-            address,
-            owner,
-        },
-        day,
-    )
+    let change = Change::NewParcel {
+        lot,
+        address,
+        owner,
+    };
+    Ok(Decision::Admitted {
+        caller,
+        number,
+        change,
+    })
 }
 
 /// Adds a parcel.
-pub(crate) fn add_parcel<S: Store>(
+pub(crate) fn add_parcel<'a, S: Store>(
     store: &mut S,
     policy: &Policy,
     caller: &Party,
     desk: &Desk,
-    lot: &Lot,
-    address: &Text,
+    lot: &'a Lot,
+    address: &'a Text,
     owner: PartyId,
     day: Day,
-) -> Got<Reply>
+) -> Got<Decision<'a>>
     ensures model { OverHistory (S.view store.old) (S.view store.new) (λ h.
         desk.now ≡ desk_of h → last_day h ≤ day
-        → Attempts (S.view store.new).holds result (outcome_by_request policy.now h day caller.now (request.AddParcel lot.now address.now owner)) h) }
+        → IfOk result (λ d. Decides day d (outcome_by_request policy.now h day caller.now (request.AddParcel lot.now address.now owner)) h)) }
     ensures sound { OverTables (S.view store.old) (S.view store.new) (λ t. IsSoundTables t → desk.now ≡ t.desk → MayAct t caller.now.id day
-        → OnMade result (IsSoundChange (S.view store.new).holds day t)) }
-    ensures attempt { IsAttempt NoRow (S.view store.old) (S.view store.new) result }
-    ensures own { IfOk result IsOwn }
+        → IfOk result (LeavesSound day t)) }
+    ensures deciding { IsDeciding NoRow (S.view store.old) (S.view store.new) (replies result) }
+    ensures proper { IfOk result (IsProper caller.now.id) }
 {
     if let Some(name) = policy.denial(&Facts::office(caller.role, Action::AddParcel)) {
-        return Ok(Reply::Refused(Refusal::Denied(name)));
+        return Ok(refused(Refusal::Denied(name)));
     }
-    make_parcel(store, desk, lot, address, owner, day)
+    make_parcel(store, caller.id, desk, lot, address, owner, day)
 }
 
 /// Nobody declares an interest twice, and a declaration makes no record with a number.
@@ -132,49 +136,57 @@ fn admit_declaration(has_interest: bool) -> Admitted
 }
 
 /// Admits the declaration of a party that has this interest in a parcel that is there, and makes it.
-pub(crate) fn make_interest<S: Store>(
+pub(crate) fn make_interest<'a, S: Store>(
     store: &mut S,
     party: PartyId,
     parcel: ParcelId,
     has_interest: bool,
     day: Day,
-) -> Got<Reply>
+) -> Got<Decision<'a>>
     ensures model { (S.view store.new).doubt ≡ 0 → (h : History) → (S.view store.old).holds (tables h)
         → (land : Parcels.Parcel) → Parcels.parcel_numbered h parcel ≡ Some land
         → has_interest ≡ Parcels.has_interest h parcel party → last_day h ≤ day → IsTrue (Caller.is_party h party)
-        → Attempts (S.view store.new).holds result (outcome_of_command h day party (request.Declare parcel)) h }
+        → IfOk result (λ d. Decides day d (outcome_of_command h day party (request.Declare parcel)) h) }
     ensures sound { OverTables (S.view store.old) (S.view store.new) (λ t. IsTrue (is_some (find (λ p. p.id == parcel) t.parcels))
         → has_interest ≡ list_any (λ i. (i.parcel == parcel) && (i.party == party)) t.interests
-        → IsSoundTables t → MayAct t party day → OnMade result (IsSoundChange (S.view store.new).holds day t)) }
-    ensures attempt { IsAttempt NoRow (S.view store.old) (S.view store.new) result }
-    ensures own { IfOk result IsOwn }
-    ensures decided { IfOk result IsDecided }
+        → IsSoundTables t → MayAct t party day → IfOk result (LeavesSound day t)) }
+    ensures deciding { IsDeciding NoRow (S.view store.old) (S.view store.new) (replies result) }
+    ensures proper { IfOk result (IsProper party) }
+    ensures decided { IfOk result (λ d. IsDecided (reply_for d)) }
 {
-    let admitted = admit_declaration(has_interest);
-    carry_out(store, admitted, &Change::NewInterest { parcel, party }, day)
+    let number = match admit_declaration(has_interest) {
+        Ok(number) => number,
+        Err(reason) => return Ok(refused(Refusal::NotAdmitted(reason))),
+    };
+    let change = Change::NewInterest { parcel, party };
+    Ok(Decision::Admitted {
+        caller: party,
+        number,
+        change,
+    })
 }
 
 /// Declares an interest.
-pub(crate) fn declare<S: Store>(
+pub(crate) fn declare<'a, S: Store>(
     store: &mut S,
     policy: &Policy,
     caller: &Party,
     parcel: ParcelId,
     day: Day,
-) -> Got<Reply>
+) -> Got<Decision<'a>>
     ensures model { (S.view store.new).doubt ≡ 0 → (h : History) → (S.view store.old).holds (tables h) → last_day h ≤ day
         → IsTrue (Caller.is_party h caller.now.id)
-        → Attempts (S.view store.new).holds result (outcome_by_request policy.now h day caller.now (request.Declare parcel)) h }
-    ensures sound { MakesBy (S.view store.old) (S.view store.new) caller.now.id day result }
-    ensures attempt { IsAttempt NoRow (S.view store.old) (S.view store.new) result }
-    ensures own { IfOk result IsOwn }
+        → IfOk result (λ d. Decides day d (outcome_by_request policy.now h day caller.now (request.Declare parcel)) h) }
+    ensures sound { DecidesBy (S.view store.old) (S.view store.new) caller.now.id day result }
+    ensures deciding { IsDeciding NoRow (S.view store.old) (S.view store.new) (replies result) }
+    ensures proper { IfOk result (IsProper caller.now.id) }
 {
     let Some(owner) = store.owner(parcel)? else {
-        return Ok(Reply::Refused(Refusal::Record));
+        return Ok(refused(Refusal::Record));
     };
     let facts = facts_on_parcel(store, caller, parcel, owner, Stage::Office, Action::Declare)?;
     if let Some(name) = policy.denial(&facts) {
-        return Ok(Reply::Refused(Refusal::Denied(name)));
+        return Ok(refused(Refusal::Denied(name)));
     }
     make_interest(store, caller.id, parcel, facts.relations.conflict, day)
 }
@@ -203,48 +215,52 @@ fn admit_transfer<S: Store>(
 }
 
 /// Admits the transfer of a parcel of this owner, and makes it.
-pub(crate) fn make_transfer<S: Store>(
+pub(crate) fn make_transfer<'a, S: Store>(
     store: &mut S,
+    caller: PartyId,
     parcel: ParcelId,
     owner: PartyId,
     to: PartyId,
     day: Day,
-) -> Got<Reply>
-    ensures model { (S.view store.new).doubt ≡ 0 → (h : History) (caller : ℕ) → (S.view store.old).holds (tables h)
+) -> Got<Decision<'a>>
+    ensures model { (S.view store.new).doubt ≡ 0 → (h : History) → (S.view store.old).holds (tables h)
         → Parcels.owner h parcel ≡ Some owner → last_day h ≤ day
-        → Attempts (S.view store.new).holds result (outcome_of_command h day caller (request.Transfer parcel to)) h }
-    ensures sound { OverTables (S.view store.old) (S.view store.new) (λ t. (caller : ℕ) → IsTrue (is_some (find (λ p. p.id == parcel) t.parcels))
-        → IsSoundTables t → MayAct t caller day → OnMade result (IsSoundChange (S.view store.new).holds day t)) }
-    ensures attempt { IsAttempt NoRow (S.view store.old) (S.view store.new) result }
-    ensures own { IfOk result IsOwn }
-    ensures decided { IfOk result IsDecided }
+        → IfOk result (λ d. Decides day d (outcome_of_command h day caller (request.Transfer parcel to)) h) }
+    ensures sound { OverTables (S.view store.old) (S.view store.new) (λ t. IsTrue (is_some (find (λ p. p.id == parcel) t.parcels))
+        → IsSoundTables t → MayAct t caller day → IfOk result (LeavesSound day t)) }
+    ensures deciding { IsDeciding NoRow (S.view store.old) (S.view store.new) (replies result) }
+    ensures proper { IfOk result (IsProper caller) }
+    ensures decided { IfOk result (λ d. IsDecided (reply_for d)) }
 {
-    let admitted = admit_transfer(store, parcel, owner, to)?;
-    carry_out(
-        store,
-        admitted,
-        &Change::NewOwner { parcel, owner: to },
-        day,
-    )
+    let number = match admit_transfer(store, parcel, owner, to)? {
+        Ok(number) => number,
+        Err(reason) => return Ok(refused(Refusal::NotAdmitted(reason))),
+    };
+    let change = Change::NewOwner { parcel, owner: to };
+    Ok(Decision::Admitted {
+        caller,
+        number,
+        change,
+    })
 }
 
 /// Transfers a parcel.
-pub(crate) fn transfer<S: Store>(
+pub(crate) fn transfer<'a, S: Store>(
     store: &mut S,
     policy: &Policy,
     caller: &Party,
     parcel: ParcelId,
     to: PartyId,
     day: Day,
-) -> Got<Reply>
+) -> Got<Decision<'a>>
     ensures model { (S.view store.new).doubt ≡ 0 → (h : History) → (S.view store.old).holds (tables h) → last_day h ≤ day
-        → Attempts (S.view store.new).holds result (outcome_by_request policy.now h day caller.now (request.Transfer parcel to)) h }
-    ensures sound { MakesBy (S.view store.old) (S.view store.new) caller.now.id day result }
-    ensures attempt { IsAttempt NoRow (S.view store.old) (S.view store.new) result }
-    ensures own { IfOk result IsOwn }
+        → IfOk result (λ d. Decides day d (outcome_by_request policy.now h day caller.now (request.Transfer parcel to)) h) }
+    ensures sound { DecidesBy (S.view store.old) (S.view store.new) caller.now.id day result }
+    ensures deciding { IsDeciding NoRow (S.view store.old) (S.view store.new) (replies result) }
+    ensures proper { IfOk result (IsProper caller.now.id) }
 {
     let Some(owner) = store.owner(parcel)? else {
-        return Ok(Reply::Refused(Refusal::Record));
+        return Ok(refused(Refusal::Record));
     };
     let facts = facts_on_parcel(
         store,
@@ -255,7 +271,7 @@ pub(crate) fn transfer<S: Store>(
         Action::Transfer,
     )?;
     if let Some(name) = policy.denial(&facts) {
-        return Ok(Reply::Refused(Refusal::Denied(name)));
+        return Ok(refused(Refusal::Denied(name)));
     }
-    make_transfer(store, parcel, owner, to, day)
+    make_transfer(store, caller.id, parcel, owner, to, day)
 }

@@ -12,13 +12,13 @@ ghost use Rattle.permit_model.specs.Tables.{Tables, tables, desk_of};
 ghost use Rattle.permit_model.specs.Machine.{outcome_by_request, outcome_of_command};
 ghost use Rattle.permit_model.specs.Sound.{IsSoundTables, has_party};
 ghost use Rattle.permit_store.specs.Frames.{HasOneDesk, OverHistory, OverTables};
-ghost use Rattle.permit_office.specs.Answers.{Attempts, IsDecided, IsOwn, reason_in};
-ghost use Rattle.permit_office.specs.Frames.{OnlyReads, IsAttempt};
+ghost use Rattle.permit_office.specs.Answers.{IsDecided, IsOwn, reason_in};
+ghost use Rattle.permit_office.specs.Decisions.{Decides, IsDeciding, IsProper, LeavesSound, replies, reply_for};
+ghost use Rattle.permit_office.specs.Frames.{OnlyReads};
 ghost use Rattle.permit_office.specs.Reach.{NoRow};
-ghost use Rattle.permit_office.specs.Sound.{IsSoundChange, MayAct, OnMade};
+ghost use Rattle.permit_office.specs.Sound.{MayAct};
 
-use crate::commit::{Admitted, carry_out, next_number};
-use crate::reply::Reply;
+use crate::decision::{Admitted, Decision, next_number, refused};
 use crate::within::party_within;
 use permit_base::digests::digest;
 use permit_base::refusal::{Reason, Refusal};
@@ -67,57 +67,62 @@ fn admit_party<S: Store>(store: &mut S, desk: &Desk, digest: &Digest) -> Got<Adm
 }
 
 /// Admits a new party of this digest, and adds it.
-pub(crate) fn make_party<S: Store>(
+pub(crate) fn make_party<'a, S: Store>(
     store: &mut S,
+    caller: PartyId,
     desk: &Desk,
-    name: &Text,
+    name: &'a Text,
     role: Role,
     digest: &Digest,
     day: Day,
-) -> Got<Reply>
-    ensures model { OverHistory (S.view store.old) (S.view store.new) (λ h. (caller : ℕ) (token : List ℕ) → digest.now ≡ digest_of token
+) -> Got<Decision<'a>>
+    ensures model { OverHistory (S.view store.old) (S.view store.new) (λ h. (token : List ℕ) → digest.now ≡ digest_of token
         → desk.now ≡ desk_of h → last_day h ≤ day
-        → Attempts (S.view store.new).holds result (outcome_of_command h day caller (request.AddParty name.now role token)) h) }
-    ensures sound { OverTables (S.view store.old) (S.view store.new) (λ t. (caller : ℕ) → IsSoundTables t → desk.now ≡ t.desk → MayAct t caller day
-        → OnMade result (IsSoundChange (S.view store.new).holds day t)) }
-    ensures attempt { IsAttempt NoRow (S.view store.old) (S.view store.new) result }
-    ensures own { IfOk result IsOwn }
-    ensures decided { IfOk result IsDecided }
+        → IfOk result (λ d. Decides day d (outcome_of_command h day caller (request.AddParty name.now role token)) h)) }
+    ensures sound { OverTables (S.view store.old) (S.view store.new) (λ t. IsSoundTables t → desk.now ≡ t.desk → MayAct t caller day
+        → IfOk result (LeavesSound day t)) }
+    ensures deciding { IsDeciding NoRow (S.view store.old) (S.view store.new) (replies result) }
+    ensures proper { IfOk result (IsProper caller) }
+    ensures decided { IfOk result (λ d. IsDecided (reply_for d)) }
 {
-    let admitted = admit_party(store, desk, digest)?;
+    let number = match admit_party(store, desk, digest)? {
+        Ok(number) => number,
+        Err(reason) => return Ok(refused(Refusal::NotAdmitted(reason))),
+    };
     party_within(name, digest);
-    carry_out(
-        store,
-        admitted,
-        &Change::NewParty { name, role, digest },
-        day,
-    )
+    let digest = *digest;
+    let change = Change::NewParty { name, role, digest };
+    Ok(Decision::Admitted {
+        caller,
+        number,
+        change,
+    })
 }
 
 /// Adds a party.
-pub(crate) fn add_party<S: Store>(
+pub(crate) fn add_party<'a, S: Store>(
     store: &mut S,
     policy: &Policy,
     caller: &Party,
     desk: &Desk,
-    name: &Text,
+    name: &'a Text,
     role: Role,
     token: &Token,
     day: Day,
-) -> Got<Reply>
+) -> Got<Decision<'a>>
     ensures model { OverHistory (S.view store.old) (S.view store.new) (λ h.
         desk.now ≡ desk_of h → last_day h ≤ day
-        → Attempts (S.view store.new).holds result (outcome_by_request policy.now h day caller.now (request.AddParty name.now role token.now)) h) }
+        → IfOk result (λ d. Decides day d (outcome_by_request policy.now h day caller.now (request.AddParty name.now role token.now)) h)) }
     ensures sound { OverTables (S.view store.old) (S.view store.new) (λ t. IsSoundTables t → desk.now ≡ t.desk → MayAct t caller.now.id day
-        → OnMade result (IsSoundChange (S.view store.new).holds day t)) }
-    ensures attempt { IsAttempt NoRow (S.view store.old) (S.view store.new) result }
-    ensures own { IfOk result IsOwn }
+        → IfOk result (LeavesSound day t)) }
+    ensures deciding { IsDeciding NoRow (S.view store.old) (S.view store.new) (replies result) }
+    ensures proper { IfOk result (IsProper caller.now.id) }
 {
     if let Some(rule) = policy.denial(&Facts::office(caller.role, adding(role))) {
-        return Ok(Reply::Refused(Refusal::Denied(rule)));
+        return Ok(refused(Refusal::Denied(rule)));
     }
     let Ok(digest) = digest(token) else {
         return Err(StoreError);
     };
-    make_party(store, desk, name, role, &digest, day)
+    make_party(store, caller.id, desk, name, role, &digest, day)
 }

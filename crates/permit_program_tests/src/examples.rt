@@ -1,14 +1,15 @@
 //! The examples of the doc comments on stores, databases and words, line by line as they are written there.
 
-use permit_alike::unordered::Unordered;
 use permit_cli::program::run_words;
+use permit_cli::stream::Stream;
 use permit_journal::journal::Journal;
 use permit_journal::memory::MemoryFile;
 use permit_keeping::comparing::compare_in;
 use permit_keeping::copying::begin_in;
 use permit_keeping::founding::found_with;
-use permit_opening::bringing::{Brought, bring};
+use permit_replay::alike::unordered::Unordered;
 use permit_replay::beginning::Beginning;
+use permit_replay::opening::bringing::{Brought, bring};
 use permit_samples::held::Held;
 use permit_samples::offices::founder;
 use permit_sql::store::SqlStore;
@@ -132,8 +133,9 @@ fn examples_of_words_hold(rt: HostRuntime) -> Result<(), Fail> {
     let alloc = rt.alloc();
     let mut words = Vec::new(alloc);
     words.push(String::from_str(alloc, "--version")?)?;
-    let (mut out, mut err) = (Vec::new(alloc), Vec::new(alloc));
-    let status = run_words(&rt, rt, words.as_slice(), &mut out, &mut err);
-    assert!(rt; status == 0 && out.as_slice() == b"permit 2.0 (schema 2)\n".as_slice());
+    let mut out = Stream::Memory(Vec::new(alloc));
+    let status = run_words(&rt, rt, words.as_slice(), &mut out, &mut Stream::Sink);
+    let printed = b"permit 2.0 (schema 2)\n".as_slice();
+    assert!(rt; status == 0 && matches!(out, Stream::Memory(bytes) if bytes.as_slice() == printed));
     Ok(())
 }

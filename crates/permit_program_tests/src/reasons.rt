@@ -217,6 +217,22 @@ $ import parcels.csv --db reasons.db --policy policy.toml --token abcdefghijklmn
 ! parcels.csv: heading `Lot` `address` `owner`: lot,address,owner
 ! cannot read parcels.csv
 = 2
+> lot,address,owner
+> B-1,1 High St,9
+> b-2,2 High St,1
++ refused.csv
+$ import refused.csv --db reasons.db --policy policy.toml --token abcdefghijklmnopqrstuvwxyz --day 2023-12-09
+| 1 refused: not admitted, person
+| 2 refused: syntax
+| added 0 kept 0 refused 2
+= 1
+$ import refused.csv --db reasons.db --policy policy.toml --token abcdefghijklmnopqrstuvwxyz --day 2023-12-09 --why
+| 1 refused: not admitted, person
+| 2 refused: syntax
+| added 0 kept 0 refused 2
+! 1 why: owner: no party has this number
+! 2 why: lot: 1 to 20 of A-Z, 0-9 and -
+= 1
 $ serve --db reasons.db --policy policy.toml --listen nowhere --day 2023-12-09
 ! cannot listen nowhere
 = 2

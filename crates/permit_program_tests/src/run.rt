@@ -1,6 +1,7 @@
 //! Running the program on words.
 
 use permit_cli::program::run_words;
+use permit_cli::stream::Stream;
 use std::sync::Wait;
 use std::test::Fail;
 use std::thread::Threads;
@@ -11,8 +12,8 @@ pub fn run_owned<R: Threads + Wait + Copy + Drop + Send + 'static>(
     workers: R,
     words: &[String],
 ) -> Result<(u8, String, String), Fail> {
-    let mut out = Vec::new(rt.alloc());
-    let mut err = Vec::new(rt.alloc());
+    let mut out = Stream::Memory(Vec::new(rt.alloc()));
+    let mut err = Stream::Memory(Vec::new(rt.alloc()));
     let status = run_words(rt, workers, words, &mut out, &mut err);
     Ok((status, text(out)?, text(err)?))
 }
@@ -31,9 +32,12 @@ pub fn run<R: Threads + Wait + Copy + Drop + Send + 'static>(
     run_owned(rt, workers, owned.as_slice())
 }
 
-/// Bytes that are to be text.
-pub fn text(bytes: Vec<u8>) -> Result<String, Fail> {
-    Ok(String::from_utf8(bytes).ok().ok_or("text")?)
+/// What was printed to a stream in memory, which is to be text.
+fn text(stream: Stream) -> Result<String, Fail> {
+    match stream {
+        Stream::Memory(bytes) => Ok(String::from_utf8(bytes).ok().ok_or("text")?),
+        _ => Err(Fail::new("a stream in memory")),
+    }
 }
 
 /// Fails where the status, the output or the errors aren't the wanted ones.

@@ -1,5 +1,10 @@
-mod Planning
-mod Refusing
-mod Probed
+mod Adding
 mod Telling
+mod Making
 mod Stepping
+mod Resumed
+mod Cutting
+mod Connection
+pub mod Deciding
+pub mod Opened
+pub mod Running

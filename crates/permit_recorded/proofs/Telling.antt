@@ -1,14 +1,17 @@
 -- A text with the line of one entry more gives the history with it.
-use Rattle.std.proofs.Common.{◌≡◌, refl, sym, ap, ◌∙◌, ℕ, List, [], ◌∷◌, ◌++◌, append_assoc, Some}
+use Rattle.std.proofs.Common.{◌≡◌, refl, sym, ap, ◌∙◌, ℕ, List, [], ◌∷◌, ◌++◌, append_assoc, Option, Some}
+use Rattle.std.specs.Prelude.{option_map}
 use Rattle.permit_model.specs.History.{Entry as TheEntry, History}
+use Rattle.permit_base.specs.declared.request.Request.{Request}
+use Rattle.permit_model.specs.Machine.{entry_of, number_made}
 use Rattle.permit_model.specs.Search.{add_last}
 use Rattle.permit_history.specs.declared.entry.Act.{Act}
 use Rattle.permit_history.specs.declared.entry.Deed.TheVariants as deed
 use Rattle.permit_history.specs.declared.entry.Entry.{Entry}
 use Rattle.permit_history.specs.LineData.{line_of, text_of}
 use Rattle.permit_history.specs.Meaning.{meant_after, meant_with}
-use Rattle.permit_history.specs.Told.{told, told_on, told_history}
-use Rattle.permit_recorded.specs.Planned.{whole_line_of}
+use Rattle.permit_history.specs.Told.{act_told, told, told_on, told_history}
+use Rattle.permit_recorded.specs.Lines.{whole_line_of}
 use Rattle.permit_recorded.specs.Recorded.{TellsOver}
 
 after-append : (start before first later : List Entry)
@@ -30,3 +33,8 @@ tells_more start text line h e day caller act tells said is =
       after-append start [] tells.0 (entry ∷ []) ∙ ap (λ (es : List Entry). es ++ entry ∷ []) tells.2
           ∙ sym (ap (add_last (told_history h)) said),
     )
+
+-- the entry that the request adds, by its command
+pub entry_said : (h : History) (day caller : ℕ) (asked : Request) (act : Act) → act_told asked (number_made h asked) ≡ Some act
+    → told (entry_of h day caller asked) ≡ Some (told_on day (deed.Accepted caller act))
+entry_said h day caller asked act e = ap (λ (o : Option Act). option_map (told_on day) (option_map (deed.Accepted caller) o)) e

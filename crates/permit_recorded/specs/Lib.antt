@@ -1,4 +1,7 @@
-pub mod Adding
-pub mod Planned
-pub mod Probing
+pub mod Lines
 pub mod Recorded
+pub mod Resuming
+pub mod Asking
+pub mod Laws
+pub mod Runs
+pub mod Serving

@@ -1,5 +1,5 @@
 -- What an office with a history leaves.
-use Rattle.std.specs.Prelude.{◌≡◌, ◌≤◌, ◌⊎◌, ℕ, Bool, false, List, [], ◌++◌, Result, Ok, Err, OnOk, ⊤}
+use Rattle.std.specs.Prelude.{◌≡◌, ◌≤◌, ◌⊎◌, ℕ, Bool, false, List, [], ◌++◌, Option, Result, Ok, Err, OnOk, ⊤}
 use Rattle.permit_base.specs.declared.request.Request.{Request}
 use Rattle.permit_model.specs.History.{History}
 use Rattle.permit_model.specs.Tables.{Tables}
@@ -14,15 +14,18 @@ use Rattle.permit_office.specs.declared.reply.Reply.TheVariants as given
 use Rattle.permit_office.specs.Frames.{UnlessDone}
 use Rattle.permit_office.specs.Answers.{IsOwn}
 use Rattle.permit_office.specs.Sound.{MakesOne}
-use Rattle.permit_store.specs.Frames.{StoreView, HasOneDesk, OverHistory, OverTables}
+use Rattle.permit_store.specs.Frames.{StoreView, HasOneDesk, OverHistory}
 use Rattle.permit_store.specs.declared.store.StoreError.{StoreError}
 use Rattle.permit_journal.specs.Files.{LeavesGrown}
-use Rattle.permit_recorded.specs.Planned.{IsLineBehind}
-use Rattle.permit_recorded.specs.Probing.{HasCounted}
+use Rattle.permit_model.specs.Policy.{Policy}
+use Rattle.permit_office.specs.Answers.{Committed, CommittedBy}
+use Rattle.permit_office.specs.Opening.{Opens, rows_opened}
+use Rattle.permit_office.specs.Reach.{HandedBy, reach_of}
+use Rattle.permit_recorded.specs.Lines.{IsLineBehind, IsLineOf}
 
 -- what contracts see of the office
-pub record RecordedView (D S H : Type 0) : Type 0 where
-  pub decider : D
+pub record RecordedView (S H : Type 0) : Type 0 where
+  pub policy : Policy
   pub store : S
   pub journal : JournalView H
 
@@ -32,11 +35,36 @@ Enters text may_leave is_clean (Ok (given.Done number)) before line journal = Ha
 Enters text may_leave is_clean (Ok reply) before line journal = HasUnlessShut text may_leave is_clean journal journal.is_shut before
 Enters text may_leave is_clean (Err e) before line journal = HasUnlessShut text may_leave is_clean journal journal.is_shut before
 
--- Unless a command is done, any tables stay; no doubt goes. After a reply a store that is without doubt can be read.
+-- Unless a command is done, any tables stay; no doubt goes. After a reply a store that is without doubt can be read. A command that
+-- is done has made one commit, a failed one at most one, and no row was handed out.
 pub record IsRecording (old new : StoreView) (result : Result Given StoreError) : Type 0 where
   pub kept : (t : Tables) → old.holds t → UnlessMade result (new.holds t)
   pub one : new.doubt ≡ 0 → OnOk result (HasOneDesk new)
   pub doubt : old.doubt ≤ new.doubt
+  pub commits : Committed result old.commits new.commits
+  pub handed : new.handed ≡ old.handed
+
+-- what is held stays, no doubt goes, no commit was called, and no row was handed out
+pub record IsTakenBack (old new : StoreView) : Type 0 where
+  pub kept : (t : Tables) → old.holds t → new.holds t
+  pub doubt : old.doubt ≤ new.doubt
+  pub commits : new.commits ≡ old.commits
+  pub handed : new.handed ≡ old.handed
+
+-- after a command that is done the text has its line at the end; after anything else it is as it was, or the journal is shut
+abbrev pub Writes : {H : Type 0} → (H → List ℕ) → (H → List ℕ → Type 0) → (H → Bool) → Result Given StoreError → ℕ → Request → ℕ
+    → List ℕ → JournalView H → Type 0
+Writes text may_leave is_clean (Ok (given.Done number)) caller asked day before journal =
+    (line : List ℕ) × IsLineOf caller asked number day line × Has text may_leave is_clean journal (before ++ line)
+Writes text may_leave is_clean (Ok reply) caller asked day before journal = HasUnlessShut text may_leave is_clean journal journal.is_shut before
+Writes text may_leave is_clean (Err e) caller asked day before journal = HasUnlessShut text may_leave is_clean journal journal.is_shut before
+
+-- a crash leaves the text, with nothing, a part or all of the command's line after it
+pub record LeavesLine (leaves : List ℕ → List ℕ → Type 0) (text : List ℕ) (outcomes : List ℕ → Type 0) (caller : ℕ) (asked : Request) (number : Option ℕ)
+    (day : ℕ) : Type 0 where
+  pub line : List ℕ
+  pub left : LeavesGrown leaves line text outcomes
+  pub is : (line ≡ []) ⊎ IsLineOf caller asked number day line
 
 -- ---- with the history
 
@@ -79,13 +107,18 @@ TellsAfter text start reply before after journal = journal.is_shut ≡ false →
 abbrev pub IsReadable : {H : Type 0} → StoreView → (old new : JournalView H) → Type 0
 IsReadable store old new = new.is_shut ≡ false → store.doubt ≡ 0 → (new ≡ old) ⊎ HasOneDesk store
 
--- A step of the office: what decides stays, and tables that have counted, unless a command is done, which makes one change of sound tables and
+-- A step of the office leaves the policy, and any tables, unless a command is done, which makes one change of sound tables and
 -- leaves them sound; no doubt goes. After any reply but the store's refusal, a store that is without doubt can be read. After any
--- reply it can, where something was written to the history's file and the journal isn't shut.
-pub record IsRecordedStep {D S H : Type 0} (view : S → StoreView) (day : ℕ) (old new : RecordedView D S H) (reply : Given) : Type 0 where
-  pub decider : new.decider ≡ old.decider
-  pub kept : OverTables (view old.store) (view new.store) (λ t. HasCounted t → UnlessDone reply ((view new.store).holds t))
+-- reply it can, where something was written to the history's file and the journal isn't shut. The rows handed out for a listing
+-- are those that it opens.
+pub record IsRecordedStep {S H : Type 0} (view : S → StoreView) (digest : List ℕ) (asked : Request) (day : ℕ) (old new : RecordedView S H) (reply : Given) : Type 0 where
+  pub policy : new.policy ≡ old.policy
+  pub kept : (t : Tables) → (view old.store).holds t → UnlessDone reply ((view new.store).holds t)
   pub made : MakesOne (view old.store) (view new.store) day reply
   pub one : (view new.store).doubt ≡ 0 → IsOwn reply → HasOneDesk (view new.store)
   pub read : IsReadable (view new.store) old.journal new.journal
   pub doubt : (view old.store).doubt ≤ (view new.store).doubt
+  pub commits : CommittedBy reply (view old.store).commits (view new.store).commits
+  pub handed : HandedBy (reach_of asked) reply (view old.store).handed (view new.store).handed
+  pub opened : OverHistory (view old.store) (view new.store)
+      (λ h. Opens (rows_opened old.policy h digest asked day) reply (view old.store).handed (view new.store).handed)

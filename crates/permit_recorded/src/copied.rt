@@ -1,7 +1,6 @@
 //! Commands once more, for the history.
 
 ghost use Rattle.std.specs.Prelude.{◌≡◌, IfOk};
-ghost use Rattle.permit_model.specs.Work.{makes_paper};
 
 use permit_base::request::Command;
 use std::alloc::AllocError;
@@ -58,34 +57,4 @@ pub(crate) fn copied(command: &Command) -> Result<Command, AllocError>
         },
         Command::Certify => Command::Certify,
     })
-}
-
-/// Whether the command makes a paper.
-pub(crate) fn makes_paper(command: &Command) -> bool
-    ensures { result ≡ makes_paper command.now }
-{
-    match command {
-        Command::Return { .. }
-        | Command::Resubmit { .. }
-        | Command::Reject { .. }
-        | Command::Issue
-        | Command::AskExtension { .. }
-        | Command::GrantExtension
-        | Command::RefuseExtension { .. }
-        | Command::Notice { .. }
-        | Command::Stop { .. }
-        | Command::Lift
-        | Command::Revoke { .. }
-        | Command::Temporary { .. }
-        | Command::Certify => true,
-        Command::AssignReviewer { .. }
-        | Command::AssignInspector { .. }
-        | Command::NameContractor { .. }
-        | Command::StartReview
-        | Command::ApprovePlans
-        | Command::BeginWork
-        | Command::RequestInspection { .. }
-        | Command::ApproveStep { .. }
-        | Command::ClearNotice { .. } => false,
-    }
 }

@@ -1,10 +1,11 @@
 //! An office with a history: each command's line is in the history's file, and on the disk, before the command is done.
+//!
+//! `recorded` has the office, `resuming` opens one after a crash, and `recorder` serves its requests.
 #![tactic(auto)]
 
 mod copied;
-pub mod decider;
 mod entering;
-mod planned;
-mod policy;
-pub mod probe;
+mod line;
 pub mod recorded;
+pub mod recorder;
+pub mod resuming;

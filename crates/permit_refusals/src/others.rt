@@ -28,6 +28,7 @@ use permit_samples::standard::POLICY;
 use permit_store::plain::PlainStore;
 use permit_wire::read::read_request;
 use std::alloc::{AllocError, Global};
+use std::io::sink;
 use std::test::Fail;
 
 /// Texts of policies: the standard one, and one for each fault that a text of a few lines can have.
@@ -231,6 +232,7 @@ pub fn imported(
         false,
         list.as_str().as_bytes(),
         &mut out,
+        &mut sink(),
     );
     println!(rt; "{REST}")?;
     let word = match ended {

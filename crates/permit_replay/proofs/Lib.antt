@@ -7,3 +7,22 @@ pub mod Standing
 pub mod Telling
 pub mod Leaving
 pub mod Counted
+mod Numbered
+mod AlikeTables
+mod Declared
+mod Stepping
+mod Transferred
+mod Added
+mod Sorted
+mod Numbering
+mod Few
+mod SealedTables
+mod Letters
+mod OneOrder
+mod OneSeal
+pub mod SoundTables
+pub mod Earlier
+pub mod Lines
+pub mod Looking
+pub mod Opened
+pub mod Brought

@@ -2,3 +2,14 @@ pub mod Histories
 pub mod Against
 pub mod Holding
 pub mod Texts
+pub mod Alike
+pub mod Differing
+pub mod Comparing
+pub mod TablesText
+pub mod Sealing
+pub mod Adding
+pub mod Numbered
+pub mod Prefixes
+pub mod Telling
+pub mod Opening
+pub mod Bringing

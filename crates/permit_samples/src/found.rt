@@ -46,7 +46,7 @@ fn add_party<S: Store>(store: &mut S, alloc: Global, token: &str) -> Result<(), 
     let change = Change::NewParty {
         name: &name,
         role: Role::Public,
-        digest: &digest,
+        digest,
     };
     commit(store, &change, 19700)
 }

@@ -96,12 +96,12 @@ more_files : {a b : Desk} (n : ℕ) → a ≡ b → n ≤ b.files → n ≤ a.fi
 more_files n is low = subst (λ (e : Desk). n ≤ e.files) (sym is) low
 
 module _ {S : Type 0} (g : Ghosts S) (old last : Held S) (t : Tables) (k : Keeps t (state g old).now) (day : ℕ) (d : Desk) where
-  pub party_committed : (name : Bor (List ℕ)) (role : Role) (digest : Bor (List ℕ)) → d ≡ (changed t (NewParty name role digest) day).desk →
+  pub party_committed : (name : Bor (List ℕ)) (role : Role) (digest : List ℕ) → d ≡ (changed t (NewParty name role digest) day).desk →
       Fits t (NewParty name role digest) day
-      → Ran g ((ADD_PARTY.now, int d.parties ∷ Text name.now ∷ int (role_code role) ∷ Text digest.now ∷ []) ∷ desk_statement d ∷ []) old last →
+      → Ran g ((ADD_PARTY.now, int d.parties ∷ Text name.now ∷ int (role_code role) ∷ Text digest ∷ []) ∷ desk_statement d ∷ []) old last →
       Keeps (changed t (NewParty name role digest) day) (state g last).now
   party_committed name role digest is fits ran =
-      let new : ℕ → Party = λ id. record { id = id; name = name.now; role = role; digest = digest.now } in
+      let new : ℕ → Party = λ id. record { id = id; name = name.now; role = role; digest = digest } in
       subst (λ (e : Desk). Keeps (record t { desk = e; parties = t.parties ++ new e.parties ∷ [] }) (state g last).now) is
       (party_made g old last t k d (more_files _ is (omega arith)) (ap (λ (e : Desk). e.edition) is) (new d.parties) (none_is _ (and_parts _ _ fits.suits).1) ran)
 

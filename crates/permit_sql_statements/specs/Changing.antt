@@ -25,7 +25,7 @@ effect_statements d file s (effect.NoticeClosed number) = (CLOSE_NOTICE.now, int
 -- what a change writes but for the desk, which is the one after it
 abbrev pub row_statements : Desk → Change → List Statement
 row_statements d (NewParty name role digest) =
-    (ADD_PARTY.now, int d.parties ∷ Text name.now ∷ int (role_code role) ∷ Text digest.now ∷ []) ∷ []
+    (ADD_PARTY.now, int d.parties ∷ Text name.now ∷ int (role_code role) ∷ Text digest ∷ []) ∷ []
 row_statements d (NewParcel lot address owner) = (ADD_PARCEL.now, int d.parcels ∷ Text lot.now ∷ Text address.now ∷ int owner ∷ []) ∷ []
 row_statements d (NewOwner parcel owner) = (SET_OWNER.now, int parcel ∷ int owner ∷ []) ∷ []
 row_statements d (NewInterest parcel party) = (ADD_INTEREST.now, int parcel ∷ int party ∷ []) ∷ []

@@ -248,7 +248,7 @@ pub fn renewal_step(alloc: Global, party: PartyId, digest: &Digest) -> Got<Step>
 /// let change = Change::NewParty {
 ///     name: &name,
 ///     role: Role::Clerk,
-///     digest: &digest,
+///     digest,
 /// };
 /// commit_in(conn, alloc, &change, day)?;
 /// assert!(rt; read_desk(conn)?.parties == 2);

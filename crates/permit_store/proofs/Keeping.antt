@@ -18,11 +18,11 @@ use Rattle.permit_store.proofs.Kept.{papers_pushed, papers_filtered}
 
 -- a party more
 pub keeps_party : (upgrade last day : ℕ) (parties later : List Party) (parcels : List Parcel) (interests : List Interest) (files : List KeptFile) (t : Tables)
-    (name : Bor (List ℕ)) (role : Role) (digest : Bor (List ℕ)) →
-    later ≡ parties ++ (record { id = length parties + 1; name = name.now; role = role; digest = digest.now }) ∷ [] →
+    (name : Bor (List ℕ)) (role : Role) (digest : List ℕ) →
+    later ≡ parties ++ (record { id = length parties + 1; name = name.now; role = role; digest = digest }) ∷ [] →
     Keeps upgrade last parties parcels interests files t → Keeps upgrade day later parcels interests files (changed t (NewParty name role digest) day)
 keeps_party upgrade last day parties later parcels interests files t name role digest e k =
-    let new : ℕ → Party = λ n. record { id = n + 1; name = name.now; role = role; digest = digest.now } in
+    let new : ℕ → Party = λ n. record { id = n + 1; name = name.now; role = role; digest = digest } in
     let more : length parties + 1 ≡ length later = sym (length-append parties (new (length parties) ∷ [])) ∙ ap length (sym e) in
     record {
       desk = ap (λ (d : Desk). record d { last = day; parties = d.parties + 1 }) k.desk

@@ -58,7 +58,7 @@ papers_after file count day (effect.NoticeClosed number) papers = map (closed_by
 abbrev pub changed : Tables → Change → ℕ → Tables
 changed t (NewParty name role digest) day = record t {
   desk = record t.desk { last = day; parties = t.desk.parties + 1 };
-  parties = t.parties ++ (record { id = t.desk.parties + 1; name = name.now; role = role; digest = digest.now }) ∷ [];
+  parties = t.parties ++ (record { id = t.desk.parties + 1; name = name.now; role = role; digest = digest }) ∷ [];
 }
 changed t (NewParcel lot address owner) day = record t {
   desk = record t.desk { last = day; parcels = t.desk.parcels + 1 };
@@ -101,7 +101,7 @@ suits_row t (Some row) after effect =
 -- what the change adds has room and breaks no key, and what it speaks of is there; a new file is of the edition in force
 abbrev pub suits : Tables → Change → Bool
 suits t (NewParty name role digest) =
-    nat_lt t.desk.parties most_records && is_none (find (λ p. bytes_eq p.digest digest.now) t.parties)
+    nat_lt t.desk.parties most_records && is_none (find (λ p. bytes_eq p.digest digest) t.parties)
 suits t (NewParcel lot address owner) =
     nat_lt t.desk.parcels most_records && is_none (find (λ p. bytes_eq p.lot lot.now) t.parcels) && is_some (find (λ p. p.id == owner) t.parties)
 suits t (NewOwner parcel owner) =

@@ -47,7 +47,7 @@ pub record TakesInterest (interests : Interests) : Type 0 where
 -- the row that the change adds, with room for it among these rows, of whose files so many have room
 abbrev pub IsReady : Parties → Parcels → Interests → List KeptFile → ℕ → Ready → Change → ℕ → Type 0
 IsReady ps ls ns fs fm ready (NewParty name role digest) day =
-    (ready ≡ is.Party (record { id = length ps.rows.items + 1; name = name.now; role = role; digest = digest.now })) × TakesParty ps
+    (ready ≡ is.Party (record { id = length ps.rows.items + 1; name = name.now; role = role; digest = digest })) × TakesParty ps
 IsReady ps ls ns fs fm ready (NewParcel lot address owner) day =
     (ready ≡ is.Parcel (record { id = length ls.rows.items + 1; lot = lot.now; address = address.now; owner = owner })) × TakesParcel ls
 IsReady ps ls ns fs fm ready (NewOwner parcel owner) day = ⊤

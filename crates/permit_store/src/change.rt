@@ -12,7 +12,7 @@ pub enum Change<'a> {
     NewParty {
         name: &'a Text,
         role: Role,
-        digest: &'a Digest,
+        digest: Digest,
     },
     /// A parcel more.
     NewParcel {

@@ -47,7 +47,7 @@ fn add_party<S: Renewing>(alloc: Global, store: &mut S, number: u32) -> Result<(
     let new = Change::NewParty {
         name: &name,
         role: Role::Clerk,
-        digest: &digest,
+        digest,
     };
     store.commit(&new, day(19701)?)?;
     Ok(())

@@ -231,7 +231,7 @@ fn people_and_land<S: Store>(
     let party = Change::NewParty {
         name: &texts.ada,
         role: Role::Clerk,
-        digest: &digest,
+        digest,
     };
     commit(alloc, store, &party, day(19701)?, SHOWN[1])?;
     let parcel = Change::NewParcel {

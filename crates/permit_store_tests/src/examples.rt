@@ -208,7 +208,7 @@ fn commits_in(
     let change = Change::NewParty {
         name: &name,
         role: Role::Clerk,
-        digest: &digest,
+        digest,
     };
     commit_in(conn, alloc, &change, day)?;
     assert!(rt; read_desk(conn)?.parties == 2);

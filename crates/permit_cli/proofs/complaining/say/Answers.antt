@@ -18,6 +18,9 @@ returns-in-Listen g c =
 pub returns-in-Policy : goal.returns-in-Policy
 returns-in-Policy g c = known_said _ (failure.Policy c.in-Policy.error) _ _ _ c.in-Policy.is c.say_policy.ensures
 
+pub returns-in-Against : goal.returns-in-Against
+returns-in-Against g c = known_said _ (failure.Against c.in-Against.error) _ _ _ c.in-Against.is c.say_against.ensures
+
 pub returns-in-Facts : goal.returns-in-Facts
 returns-in-Facts g c = known_said _ failure.Facts _ _ _ c.in-Facts.is c.print_text.ensures
 

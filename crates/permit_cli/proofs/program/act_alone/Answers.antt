@@ -5,7 +5,7 @@ use Rattle.permit_cli.proofs.Failings.{acts_fail, if_err}
 use Rattle.permit_cli.proofs.program.act_alone.Goals as goal
 
 pub returns : goal.returns
-returns g c =
+returns c =
     let named = subst (λ (t : List ℕ). IsTokenOf c.args.words.now.office.token t) (sym c.as_str.ensures.value) c.in_ok-token.ensures.named in
     let came = c.ask_office in
     let asks = c.in_ok-question.ensures.asks in

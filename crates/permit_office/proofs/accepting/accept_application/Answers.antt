@@ -1,4 +1,4 @@
-use Rattle.std.proofs.Common.{◌≡◌, ◌==◌, ◌∙◌, sym, refl, inl, arith}
+use Rattle.std.proofs.Common.{◌≡◌, ◌==◌, ◌∙◌, sym, arith}
 use Rattle.std.specs.Prelude.{find}
 use Rattle.permit_base.specs.declared.request.Request.TheVariants.{File}
 use Rattle.permit_model.specs.Parcels.{Parcel}
@@ -6,6 +6,7 @@ use Rattle.permit_model.specs.Tables.{tables}
 use Rattle.permit_office.proofs.Finding.{parcel_owned}
 use Rattle.permit_office.proofs.SoundChanges.{owned_there}
 use Rattle.permit_office.proofs.Unjudged.{parcel_missing, parcel_there}
+use Rattle.permit_office.proofs.Carrying.{refuses}
 use Rattle.permit_office.proofs.accepting.accept_application.Goals as goal
 
 pub returns-in_default-clause-model : goal.returns-in_default-clause-model
@@ -13,7 +14,7 @@ returns-in_default-clause-model g c = λ doubt h is held e t party.
     let a = c.args in
     let none = sym c.in_default.is ∙ c.in_ok-_owner.ensures.found doubt (tables h) held in
     rw (parcel_missing h a.day a.caller a.parcel (File a.parcel a.kind a.valuation a.description.now) none)
-    (inl (refl, c.owner.ensures.read.kept (tables h) held))
+    (refuses _ _ _ _ c.refused.ensures)
 
 pub returns-clause-model : goal.returns-clause-model
 returns-clause-model g c = λ doubt h is held e t party.

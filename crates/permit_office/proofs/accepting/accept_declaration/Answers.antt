@@ -1,4 +1,4 @@
-use Rattle.std.proofs.Common.{◌≡◌, ◌==◌, ◌∙◌, sym, refl, inl, arith}
+use Rattle.std.proofs.Common.{◌≡◌, ◌==◌, ◌∙◌, sym, arith}
 use Rattle.std.specs.Prelude.{find}
 use Rattle.permit_base.specs.declared.request.Request.TheVariants.{Declare}
 use Rattle.permit_model.specs.Parcels.{Parcel}
@@ -6,13 +6,14 @@ use Rattle.permit_model.specs.Tables.{tables}
 use Rattle.permit_office.proofs.Finding.{parcel_owned}
 use Rattle.permit_office.proofs.SoundChanges.{owned_there}
 use Rattle.permit_office.proofs.Unjudged.{parcel_missing, parcel_there}
+use Rattle.permit_office.proofs.Carrying.{refuses}
 use Rattle.permit_office.proofs.accepting.accept_declaration.Goals as goal
 
 pub returns-in_default-clause-model : goal.returns-in_default-clause-model
 returns-in_default-clause-model g c = λ doubt h is held t party.
     let a = c.args in
     let none = sym c.in_default.is ∙ c.in_ok-_owner.ensures.found doubt (tables h) held in
-    rw (parcel_missing h a.day a.caller a.parcel (Declare a.parcel) none) (inl (refl, c.owner.ensures.read.kept (tables h) held))
+    rw (parcel_missing h a.day a.caller a.parcel (Declare a.parcel) none) (refuses _ _ _ _ c.refused.ensures)
 
 pub returns-clause-model : goal.returns-clause-model
 returns-clause-model g c = λ doubt h is held t party.

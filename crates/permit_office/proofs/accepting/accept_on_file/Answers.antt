@@ -1,16 +1,17 @@
-use Rattle.std.proofs.Common.{◌≡◌, arith, ◌∙◌, sym, refl, inl}
+use Rattle.std.proofs.Common.{◌≡◌, arith, ◌∙◌, sym}
 use Rattle.permit_base.specs.declared.request.Request.TheVariants.{OnFile}
 use Rattle.permit_model.specs.Files.{CaseFile}
 use Rattle.permit_model.specs.Tables.{tables}
 use Rattle.permit_office.proofs.Finding.{IsStateOf, state_found}
 use Rattle.permit_office.proofs.Unjudged.{file_missing, file_there}
+use Rattle.permit_office.proofs.Carrying.{refuses}
 use Rattle.permit_office.proofs.accepting.accept_on_file.Goals as goal
 
 pub returns-in_default-clause-model : goal.returns-in_default-clause-model
 returns-in_default-clause-model g c = λ doubt h is held time party.
     let a = c.args in
     let none = sym c.in_default.is ∙ c.in_ok-state.ensures.found doubt (tables h) held in
-    rw (file_missing h a.day a.caller a.file (OnFile a.file a.command.now) none) (inl (refl, c.state.ensures.read.kept (tables h) held))
+    rw (file_missing h a.day a.caller a.file (OnFile a.file a.command.now) none) (refuses _ _ _ _ c.refused.ensures)
 
 pub returns-clause-model : goal.returns-clause-model
 returns-clause-model g c = λ doubt h is held time party.

@@ -1,4 +1,4 @@
-use Rattle.std.proofs.Common.{◌≡◌, ◌==◌, ◌∙◌, sym, refl, inl, arith}
+use Rattle.std.proofs.Common.{◌≡◌, ◌==◌, ◌∙◌, sym, arith}
 use Rattle.std.specs.Prelude.{find}
 use Rattle.permit_base.specs.declared.request.Request.TheVariants.{Transfer}
 use Rattle.permit_model.specs.Parcels.{Parcel}
@@ -6,27 +6,28 @@ use Rattle.permit_model.specs.Tables.{tables}
 use Rattle.permit_office.proofs.Finding.{parcel_owned}
 use Rattle.permit_office.proofs.SoundChanges.{owned_there}
 use Rattle.permit_office.proofs.Unjudged.{parcel_missing, parcel_there}
+use Rattle.permit_office.proofs.Carrying.{refuses}
 use Rattle.permit_office.proofs.accepting.accept_transfer.Goals as goal
 
 pub returns-in_default-clause-model : goal.returns-in_default-clause-model
-returns-in_default-clause-model g c = λ doubt h is held caller t.
+returns-in_default-clause-model g c = λ doubt h is held t.
     let a = c.args in
     let none = sym c.in_default.is ∙ c.in_ok-owner.ensures.found doubt (tables h) held in
-    rw (parcel_missing h a.day caller a.parcel (Transfer a.parcel a.to) none) (inl (refl, c.owner.ensures.read.kept (tables h) held))
+    rw (parcel_missing h a.day a.caller a.parcel (Transfer a.parcel a.to) none) (refuses _ _ _ _ c.refused.ensures)
 
 pub returns-clause-model : goal.returns-clause-model
-returns-clause-model g c = λ doubt h is held caller t.
+returns-clause-model g c = λ doubt h is held t.
     let late : (g.S.Store.view c.owner.new.self).doubt ≡ 0 = omega arith in
     let a = c.args in
     let found = sym c.in-Some.is ∙ c.in_ok-owner.ensures.found late (tables h) held in
     let owned = parcel_owned h a.parcel c.in-Some.owner found in
-    rw (parcel_there h a.day caller a.parcel (Transfer a.parcel a.to) owned.land owned.found)
-    (c.make_transfer.ensures.model doubt h caller (c.owner.ensures.read.kept (tables h) held) (sym found) t)
+    rw (parcel_there h a.day a.caller a.parcel (Transfer a.parcel a.to) owned.land owned.found)
+    (c.make_transfer.ensures.model doubt h (c.owner.ensures.read.kept (tables h) held) (sym found) t)
 
 pub returns-clause-sound : goal.returns-clause-sound
-returns-clause-sound g c = λ doubt t held caller sound may.
+returns-clause-sound g c = λ doubt t held sound may.
     let late : (g.S.Store.view c.owner.new.self).doubt ≡ 0 = omega arith in
     let a = c.args in
     let placed = owned_there (find (λ (p : Parcel). p.id == a.parcel) t.parcels) c.in-Some.owner
     (sym c.in-Some.is ∙ c.in_ok-owner.ensures.found late t held) in
-    c.make_transfer.ensures.sound doubt t (c.owner.ensures.read.kept t held) caller placed sound may
+    c.make_transfer.ensures.sound doubt t (c.owner.ensures.read.kept t held) placed sound may

@@ -1,4 +1,4 @@
-use Rattle.std.proofs.Common.{◌≡◌, arith, ap, ◌∙◌, sym, refl, inl}
+use Rattle.std.proofs.Common.{◌≡◌, arith, ap, ◌∙◌, sym}
 use Rattle.permit_base.specs.declared.request.Request.TheVariants.{OnFile}
 use Rattle.permit_base.specs.Actions.{command_action}
 use Rattle.permit_model.specs.Caller.{Party}
@@ -8,13 +8,14 @@ use Rattle.permit_model.specs.Facts.{file_facts}
 use Rattle.permit_model.specs.Policy.{decision}
 use Rattle.permit_office.proofs.Deciding.{denied_outcome, allowed_outcome}
 use Rattle.permit_office.proofs.Finding.{IsStateOf, state_found, command_missing, command_judged}
+use Rattle.permit_office.proofs.Carrying.{refuses}
 use Rattle.permit_office.proofs.commands.on_file.Goals as goal
 
 pub returns-in_default-clause-model : goal.returns-in_default-clause-model
 returns-in_default-clause-model g c = λ doubt h is held time party.
     let a = c.args in
     let none = sym c.in_default.is ∙ c.in_ok-state.ensures.found doubt (tables h) held in
-    rw (command_missing a.policy.now h a.day a.caller.now a.file a.command.now none) (inl (refl, c.state.ensures.read.kept (tables h) held))
+    rw (command_missing a.policy.now h a.day a.caller.now a.file a.command.now none) (refuses _ _ _ _ c.refused.ensures)
 
 pub returns-in-Some-denial-clause-model : goal.returns-in-Some-denial-clause-model
 returns-in-Some-denial-clause-model g c = λ doubt h is held time party.
@@ -31,7 +32,7 @@ returns-in-Some-denial-clause-model g c = λ doubt h is held time party.
     rw (command_judged a.policy.now h a.day a.caller.now a.file a.command.now file f.found
     ∙ denied_outcome a.policy.now h a.day a.caller.now (OnFile a.file a.command.now)
     (decision a.policy.now (file_facts h a.day a.caller.now file (command_action a.command.now))) c.in-Some-denial.name denied)
-    (inl (refl, c.facts_on_file.ensures.read.kept (tables h) kept_2))
+    (refuses _ _ _ _ c.refused-in-Some-denial.ensures)
 
 pub returns-clause-model : goal.returns-clause-model
 returns-clause-model g c = λ doubt h is held time party.

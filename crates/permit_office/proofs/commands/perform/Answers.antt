@@ -1,4 +1,4 @@
-use Rattle.std.proofs.Common.{◌≡◌, arith, ap, subst, ◌∙◌, sym, refl, inl}
+use Rattle.std.proofs.Common.{◌≡◌, arith, ap, subst, ◌∙◌, sym, refl}
 use Rattle.std.proofs.lemmas.Bool.{leb-false, lt-ltb}
 use Rattle.permit_base.specs.Limits.{most_papers}
 use Rattle.permit_core.specs.RowTests.{row_tests}
@@ -12,6 +12,7 @@ use Rattle.std.specs.Prelude.{Ok}
 use Rattle.permit_base.specs.declared.request.Request.TheVariants.{OnFile}
 use Rattle.permit_model.specs.Tables.{State, papers_made, tables}
 use Rattle.permit_model.specs.Machine.{entry_of, paper_number}
+use Rattle.permit_office.proofs.Carrying.{admitted, refuses}
 use Rattle.permit_office.proofs.Deciding.{number_is}
 use Rattle.permit_office.proofs.Entered.{command_more, row_suits, papers_counted, papers_room}
 use Rattle.permit_office.proofs.RowPapers.{room}
@@ -22,7 +23,7 @@ pub returns-in-Err-clause-model : goal.returns-in-Err-clause-model
 returns-in-Err-clause-model g c = λ doubt h is held one there state owner time party.
     let a = c.args in
     let people = c.in_ok-people.ensures.people doubt h is held one there state owner in
-    rw (c.in-Err.ensures.model h a.file a.caller one is there state people) (inl (refl, c.people_about.ensures.read.kept (tables h) held))
+    rw (c.in-Err.ensures.model h a.file a.caller one is there state people) (refuses _ _ _ _ c.refused.ensures)
 
 pub returns-clause-model : goal.returns-clause-model
 returns-clause-model g c = λ doubt h is held one there state owner time party.
@@ -41,14 +42,9 @@ returns-clause-model g c = λ doubt h is held one there state owner time party.
     (λ makes. rw state (papers_room h a.day a.caller a.file a.command.now one there none makes)) in
     let suits = row_suits h a.file one c.apply.new.self c.effect_of-effect.result there (ap (λ (s : State). s.parcel) after)
     (ap (λ (s : State). s.applicant) after) (ap (λ (s : State). s.edition) after) (rw state at effect) in
-    let done = c.carry_out.ensures.model h (entry_of h a.day a.caller (OnFile a.file a.command.now)) (c.people_about.ensures.read.kept (tables h) held)
-    (λ same is_ok. (
-      number_is (Ok c.paper_number-number.result) same _ number is_ok
-          ∙ ap (paper_number a.command.now) (sym there),
-      record { suits = suits; in_time = time },
-      more,
-    )) in
-    rw none done
+    let number_said = number_is (Ok c.paper_number-number.result) c.paper_number-number.result _ number refl in
+    admitted c.args.day h (entry_of h a.day a.caller (OnFile a.file a.command.now)) a.caller c.paper_number-number.result _ _ (sym none)
+    (number_said ∙ ap (paper_number a.command.now) (sym there)) (record { suits = suits; in_time = time }) more
 
 pub returns-clause-sound : goal.returns-clause-sound
 returns-clause-sound g c = λ doubt t held sound there may.
@@ -76,4 +72,4 @@ returns-clause-sound g c = λ doubt t held sound there may.
     (leb-false most_papers a.state.now.papers (room a.day a.command.now a.state.now people passed makes))) in
     let fits = row_fits t a.file a.state.now c.apply.new.self c.effect_of-effect.result there (ap (λ (s : State). s.parcel) after)
     (ap (λ (s : State). s.applicant) after) (ap (λ (s : State). s.edition) after) effect in
-    c.carry_out.ensures.sound t (c.people_about.ensures.read.kept t held) (λ number is_ok. (record { suits = fits; in_time = may.in_time }, whole))
+    (record { suits = fits; in_time = may.in_time }, whole)

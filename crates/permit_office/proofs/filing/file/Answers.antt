@@ -1,4 +1,4 @@
-use Rattle.std.proofs.Common.{◌≡◌, ◌==◌, ap, ◌∙◌, sym, refl, inl, arith}
+use Rattle.std.proofs.Common.{◌≡◌, ◌==◌, ap, ◌∙◌, sym, arith}
 use Rattle.permit_model.specs.Parcels.{Parcel}
 use Rattle.permit_base.specs.declared.request.Request.TheVariants.{File}
 use Rattle.permit_base.specs.declared.words.Stage.TheVariants.{New}
@@ -11,6 +11,7 @@ use Rattle.permit_model.specs.Policy.{decision}
 use Rattle.permit_office.proofs.Deciding.{denied_outcome, allowed_outcome}
 use Rattle.permit_office.proofs.Finding.{parcel_owned, file_unplaced, file_judged}
 use Rattle.permit_office.proofs.SoundChanges.{owned_there}
+use Rattle.permit_office.proofs.Carrying.{refuses}
 use Rattle.permit_office.proofs.filing.file.Goals as goal
 
 pub returns-in_default-clause-model : goal.returns-in_default-clause-model
@@ -18,7 +19,7 @@ returns-in_default-clause-model g c = λ doubt h is held e t party.
     let a = c.args in
     let none = sym c.in_default.is ∙ c.in_ok-owner.ensures.found doubt (tables h) held in
     rw (file_unplaced a.policy.now h a.day a.caller.now a.parcel a.kind a.valuation a.description.now none)
-    (inl (refl, c.owner.ensures.read.kept (tables h) held))
+    (refuses _ _ _ _ c.refused.ensures)
 
 pub returns-in-Some-denial-clause-model : goal.returns-in-Some-denial-clause-model
 returns-in-Some-denial-clause-model g c = λ doubt h is held e t party.
@@ -32,7 +33,7 @@ returns-in-Some-denial-clause-model g c = λ doubt h is held e t party.
     rw (file_judged a.policy.now h a.day a.caller.now a.parcel a.kind a.valuation a.description.now owned.land owned.found
     ∙ denied_outcome a.policy.now h a.day a.caller.now (File a.parcel a.kind a.valuation a.description.now)
     (decision a.policy.now (parcel_facts h a.caller.now a.parcel New action.File)) c.in-Some-denial.name denied)
-    (inl (refl, c.facts_on_parcel.ensures.read.kept (tables h) kept))
+    (refuses _ _ _ _ c.refused-in-Some-denial.ensures)
 
 pub returns-clause-model : goal.returns-clause-model
 returns-clause-model g c = λ doubt h is held e t party.

@@ -1,7 +1,6 @@
-use Rattle.std.proofs.Common.{ap, inl, ◌∙◌, subst}
+use Rattle.std.proofs.Common.{ap, refl, ◌∙◌, subst}
 use Rattle.std.specs.Prelude.{length}
 use Rattle.permit_base.specs.declared.request.Filter.{Filter}
-use Rattle.permit_model.specs.Tables.{tables}
 use Rattle.permit_model.specs.Listing.{listing}
 use Rattle.permit_model.specs.Opened.{opened}
 use Rattle.permit_model.specs.Machine.{RegisterShown}
@@ -12,7 +11,7 @@ pub returns-clause-model : goal.returns-clause-model
 returns-clause-model g c = λ doubt h is held.
     let a = c.args in
     let files = c.in_ok-listing.ensures.files doubt h is held ∙ ap (λ (w : Filter). listing a.policy.now h a.day a.caller.now w) c.register_filter.ensures in
-    inl (ap (RegisterShown a.kind) files, c.make_listing.ensures.making.kept (tables h) held)
+    (ap (RegisterShown a.kind) files, refl)
 
 pub returns-clause-opened : goal.returns-clause-opened
 returns-clause-opened g c = λ doubt h is held.

@@ -1,4 +1,4 @@
-use Rattle.std.proofs.Common.{◌≡◌, ◌==◌, ap, ◌∙◌, sym, refl, inl, arith}
+use Rattle.std.proofs.Common.{◌≡◌, ◌==◌, ap, ◌∙◌, sym, arith}
 use Rattle.std.specs.Prelude.{find}
 use Rattle.permit_base.specs.declared.request.Request.TheVariants.{Declare}
 use Rattle.permit_base.specs.declared.words.Stage.TheVariants.{Office}
@@ -11,6 +11,7 @@ use Rattle.permit_model.specs.Policy.{decision}
 use Rattle.permit_office.proofs.Deciding.{denied_outcome, allowed_outcome}
 use Rattle.permit_office.proofs.Finding.{parcel_owned, declare_judged}
 use Rattle.permit_office.proofs.SoundChanges.{owned_there}
+use Rattle.permit_office.proofs.Carrying.{refuses}
 use Rattle.permit_office.proofs.parcels.declare.Goals as goal
 
 pub returns-in-Some-denial-clause-model : goal.returns-in-Some-denial-clause-model
@@ -25,7 +26,7 @@ returns-in-Some-denial-clause-model g c = λ doubt h held t party.
     rw (declare_judged a.policy.now h a.day a.caller.now a.parcel owned.land owned.found
     ∙ denied_outcome a.policy.now h a.day a.caller.now (Declare a.parcel)
     (decision a.policy.now (parcel_facts h a.caller.now a.parcel Office action.Declare)) c.in-Some-denial.name denied)
-    (inl (refl, c.facts_on_parcel.ensures.read.kept (tables h) kept))
+    (refuses _ _ _ _ c.refused-in-Some-denial.ensures)
 
 pub returns-clause-model : goal.returns-clause-model
 returns-clause-model g c = λ doubt h held t party.

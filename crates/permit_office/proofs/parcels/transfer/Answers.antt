@@ -1,5 +1,6 @@
-use Rattle.std.proofs.Common.{◌≡◌, ◌==◌, ◌∙◌, sym, refl, inl, arith}
+use Rattle.std.proofs.Common.{ap, ◌≡◌, ◌==◌, ◌∙◌, sym, arith}
 use Rattle.std.specs.Prelude.{find}
+use Rattle.permit_model.specs.Caller.{Party}
 use Rattle.permit_model.specs.Parcels.{Parcel}
 use Rattle.permit_base.specs.declared.request.Request.TheVariants.{Transfer}
 use Rattle.permit_base.specs.declared.words.Stage.TheVariants.{Office}
@@ -10,6 +11,7 @@ use Rattle.permit_model.specs.Policy.{decision}
 use Rattle.permit_office.proofs.Deciding.{denied_outcome, allowed_outcome}
 use Rattle.permit_office.proofs.Finding.{parcel_owned, transfer_judged}
 use Rattle.permit_office.proofs.SoundChanges.{owned_there}
+use Rattle.permit_office.proofs.Carrying.{refuses}
 use Rattle.permit_office.proofs.parcels.transfer.Goals as goal
 
 pub returns-in-Some-denial-clause-model : goal.returns-in-Some-denial-clause-model
@@ -24,7 +26,7 @@ returns-in-Some-denial-clause-model g c = λ doubt h held t.
     rw (transfer_judged a.policy.now h a.day a.caller.now a.parcel a.to owned.land owned.found
     ∙ denied_outcome a.policy.now h a.day a.caller.now (Transfer a.parcel a.to)
     (decision a.policy.now (parcel_facts h a.caller.now a.parcel Office action.Transfer)) c.in-Some-denial.name denied)
-    (inl (refl, c.facts_on_parcel.ensures.read.kept (tables h) kept))
+    (refuses _ _ _ _ c.refused-in-Some-denial.ensures)
 
 pub returns-clause-model : goal.returns-clause-model
 returns-clause-model g c = λ doubt h held t.
@@ -37,11 +39,12 @@ returns-clause-model g c = λ doubt h held t.
     let facts = c.in_ok-facts.ensures.facts later h kept (sym found) in
     let allowed = rw facts at (sym c.in_default-denial.is ∙ c.denial.ensures) in
     let kept_2 = c.facts_on_parcel.ensures.read.kept (tables h) kept in
-    let done = c.make_transfer.ensures.model doubt h a.caller.now.id kept_2 (sym found) t in
+    let caller : c.caller.inside.id ≡ a.caller.now.id = ap (λ (p : Party). p.id) c.caller.view_is in
+    let done = c.make_transfer.ensures.model doubt h kept_2 (sym found) t in
     rw (transfer_judged a.policy.now h a.day a.caller.now a.parcel a.to owned.land owned.found
     ∙ allowed_outcome a.policy.now h a.day a.caller.now (Transfer a.parcel a.to)
     (decision a.policy.now (parcel_facts h a.caller.now a.parcel Office action.Transfer)) allowed)
-    done
+    (rw caller at done)
 
 pub returns-clause-sound : goal.returns-clause-sound
 returns-clause-sound g c = λ doubt t held sound may.
@@ -50,4 +53,5 @@ returns-clause-sound g c = λ doubt t held sound may.
     let placed = owned_there (find (λ (p : Parcel). p.id == a.parcel) t.parcels) c.in-Some.owner
     (sym c.in-Some.is ∙ c.in_ok-owner.ensures.found late t held) in
     let kept = c.facts_on_parcel.ensures.read.kept t (c.owner.ensures.read.kept t held) in
-    c.make_transfer.ensures.sound doubt t kept a.caller.now.id placed sound may
+    let caller : c.caller.inside.id ≡ a.caller.now.id = ap (λ (p : Party). p.id) c.caller.view_is in
+    c.make_transfer.ensures.sound doubt t kept placed sound (record { there = rw caller may.there; in_time = may.in_time; early = may.early })

@@ -1,10 +1,11 @@
-use Rattle.std.proofs.Common.{◌≡◌, arith, ap, ◌∙◌, sym, refl, inl}
+use Rattle.std.proofs.Common.{◌≡◌, arith, ap, ◌∙◌, sym, refl}
 use Rattle.permit_base.specs.declared.request.Request.TheVariants.{ReadFile}
 use Rattle.permit_base.specs.declared.words.Action.TheVariants as action
 use Rattle.permit_model.specs.Files.{CaseFile, case_file}
 use Rattle.permit_model.specs.Tables.{FileRow, tables}
 use Rattle.permit_model.specs.Facts.{file_facts}
 use Rattle.permit_model.specs.Policy.{decision}
+use Rattle.permit_office.proofs.Carrying.{refuses}
 use Rattle.permit_office.proofs.Deciding.{denied_outcome}
 use Rattle.permit_office.proofs.Finding.{IsFound, file_found, read_missing, read_judged, read_shown, shown_as}
 use Rattle.permit_office.proofs.reading.read_file.Goals as goal
@@ -13,7 +14,7 @@ pub returns-in_default-clause-model : goal.returns-in_default-clause-model
 returns-in_default-clause-model g c = λ doubt h held.
     let a = c.args in
     let none = sym c.in_default.is ∙ c.in_ok-row.ensures.found doubt (tables h) held in
-    rw (read_missing a.policy.now h a.day a.caller.now a.file none) (inl (refl, c.file.ensures.read.kept (tables h) held))
+    rw (read_missing a.policy.now h a.day a.caller.now a.file none) (refuses _ _ _ _ c.refused.ensures)
 
 pub returns-in-Some-denial-clause-model : goal.returns-in-Some-denial-clause-model
 returns-in-Some-denial-clause-model g c = λ doubt h held.
@@ -31,7 +32,7 @@ returns-in-Some-denial-clause-model g c = λ doubt h held.
     rw (read_judged a.policy.now h a.day a.caller.now a.file file f.found
     ∙ denied_outcome a.policy.now h a.day a.caller.now (ReadFile a.file)
     (decision a.policy.now (file_facts h a.day a.caller.now file action.Read)) c.in-Some-denial.name denied)
-    (inl (refl, c.facts_on_file.ensures.read.kept (tables h) kept_2))
+    (refuses _ _ _ _ c.refused-in-Some-denial.ensures)
 
 pub returns-clause-model : goal.returns-clause-model
 returns-clause-model g c = λ doubt h held.
@@ -50,9 +51,8 @@ returns-clause-model g c = λ doubt h held.
     let allowed = rw facts at (sym c.in_default-denial.is ∙ c.denial.ensures) in
     let papers = c.in_ok-papers.ensures.found doubt (tables h) kept_3 in
     let state = ap (λ (r : FileRow). r.state) c.row.view_is in
-    rw (read_shown a.policy.now h a.day a.caller.now a.file file f.found allowed)
-    (inl (
+    rw (read_shown a.policy.now h a.day a.caller.now a.file file f.found allowed) (
       shown_as h a.day a.file f.filing c.in-Some.row _ _ _ f.row_is f.named (rw state at c.stage-stage.ensures.row)
           (rw state at c.timing-timing.ensures.row) papers,
-      c.papers.ensures.read.kept (tables h) kept_3,
-    ))
+      refl,
+    )

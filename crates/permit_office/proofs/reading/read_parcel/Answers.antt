@@ -1,4 +1,4 @@
-use Rattle.std.proofs.Common.{◌≡◌, ap, ◌∙◌, sym, refl, inl, arith}
+use Rattle.std.proofs.Common.{◌≡◌, ap, ◌∙◌, sym, refl, arith}
 use Rattle.permit_base.specs.declared.request.Request.TheVariants.{ReadParcel}
 use Rattle.permit_base.specs.declared.words.Stage.TheVariants.{Office}
 use Rattle.permit_base.specs.declared.words.Action.TheVariants as action
@@ -8,6 +8,7 @@ use Rattle.std.specs.Prelude.{Some, option_map}
 use Rattle.permit_model.specs.Tables.{tables}
 use Rattle.permit_model.specs.Facts.{parcel_facts}
 use Rattle.permit_model.specs.Policy.{decision}
+use Rattle.permit_office.proofs.Carrying.{refuses}
 use Rattle.permit_office.proofs.Deciding.{denied_outcome}
 use Rattle.permit_office.proofs.Finding.{parcel_judged, parcel_read}
 use Rattle.permit_office.proofs.reading.read_parcel.Goals as goal
@@ -25,7 +26,7 @@ returns-in-Some-denial-clause-model g c = λ doubt h held.
     rw (parcel_judged a.policy.now h a.day a.caller.now a.parcel c.in-Some.land (sym found)
     ∙ denied_outcome a.policy.now h a.day a.caller.now (ReadParcel a.parcel)
     (decision a.policy.now (parcel_facts h a.caller.now a.parcel Office action.ReadParcel)) c.in-Some-denial.name denied)
-    (inl (refl, c.facts_on_parcel.ensures.read.kept (tables h) kept))
+    (refuses _ _ _ _ c.refused-in-Some-denial.ensures)
 
 pub returns-clause-model : goal.returns-clause-model
 returns-clause-model g c = λ doubt h held.
@@ -38,4 +39,4 @@ returns-clause-model g c = λ doubt h held.
     let facts = c.in_ok-facts.ensures.facts doubt h kept there in
     let allowed = rw facts at (sym c.in_default-denial.is ∙ c.denial.ensures) in
     rw (parcel_read a.policy.now h a.day a.caller.now a.parcel c.in-Some.land (sym found) allowed)
-    (inl (refl, c.facts_on_parcel.ensures.read.kept (tables h) kept))
+    (refl, refl)

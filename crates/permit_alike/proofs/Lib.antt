@@ -1,5 +1,0 @@
-mod Numbered
-mod Whole
-mod Declared
-mod Stepping
-mod Transferred

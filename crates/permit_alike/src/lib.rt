@@ -1,7 +1,0 @@
-//! Tables that no call of a store distinguishes, and the comparison of two stores, row by row.
-#![tactic(auto)]
-
-pub mod compare;
-pub mod differing;
-mod rows;
-pub mod unordered;

@@ -1,4 +1,0 @@
-pub mod Texts
-pub mod Telling
-pub mod Opening
-pub mod Bringing

@@ -1,4 +1,0 @@
-mod Connection
-pub mod Deciding
-pub mod Opened
-pub mod Running

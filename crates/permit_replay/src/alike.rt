@@ -1,0 +1,6 @@
+//! Tables that no call of a store distinguishes, and the comparison of two stores, row by row.
+
+pub mod compare;
+pub mod differing;
+mod rows;
+pub mod unordered;

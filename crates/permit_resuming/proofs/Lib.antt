@@ -1,2 +1,0 @@
-mod Resumed
-mod Cutting

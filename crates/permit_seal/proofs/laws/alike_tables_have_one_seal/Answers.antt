@@ -1,5 +1,0 @@
-use Rattle.permit_seal.proofs.OneSeal.{one_seal}
-use Rattle.permit_seal.proofs.laws.alike_tables_have_one_seal.Goals as goal
-
-pub returns : goal.returns
-returns c = λ t u one other same first second. one_seal t u same one other first second

@@ -1,4 +1,0 @@
-pub mod TablesText
-pub mod Sealing
-pub mod Adding
-pub mod Numbered

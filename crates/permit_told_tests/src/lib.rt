@@ -1,7 +1,0 @@
-//! The scenarios written as texts of histories and replayed: the tables are those of the office that served them.
-#![tactic(auto)]
-
-#[cfg(test)]
-mod scenarios;
-#[cfg(test)]
-mod telling;
