@@ -1,9 +1,10 @@
 //! The commands on a file.
 
-use crate::entries::makers::{days, on_file, paper, party, text};
+use crate::entries::makers::{days, on_file, paper};
 use permit_base::request::Command;
 use permit_base::words::Step;
 use permit_history::entry::Entry;
+use permit_samples::makers::{party, text};
 use std::alloc::Global;
 use std::test::Fail;
 

@@ -1,9 +1,10 @@
 //! The entries that are no command, and the commands on the office and on a parcel.
 
-use crate::entries::makers::{accepted, digest, entry, file, parcel, party, text};
+use crate::entries::makers::{accepted, digest, entry};
 use permit_base::values::{Cents, Lot};
 use permit_base::words::{Kind, Role};
 use permit_history::entry::{Act, Deed, Entry};
+use permit_samples::makers::{file, parcel, party, text};
 use std::alloc::Global;
 use std::test::Fail;
 

@@ -2,10 +2,11 @@
 
 use crate::entries::commands::{self, command};
 use crate::entries::deeds::{self, deed};
-use crate::entries::makers::{accepted, file, on_file, text};
+use crate::entries::makers::{accepted, on_file};
 use permit_base::request::Command;
 use permit_history::entry::{Act, Entry};
 use permit_history::{read_line, write_line};
+use permit_samples::makers::{file, text};
 use std::alloc::Global;
 use std::test::*;
 

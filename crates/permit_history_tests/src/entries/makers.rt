@@ -1,28 +1,13 @@
 //! Values by their numbers and texts, and entries of them.
 
 use permit_base::request::Command;
-use permit_base::values::{Day, Days, Digest, FileId, PaperNumber, ParcelId, PartyId, Text};
+use permit_base::values::{Day, Days, Digest, PaperNumber};
 use permit_history::entry::{Act, Deed, Entry};
-use std::alloc::Global;
+use permit_samples::makers::{file, party};
 use std::test::Fail;
 
 /// The digest of the token of the letters from a to z.
 pub const DIGEST: &str = "71c480df93d6ae2f1efad1447c66c9525e316218cf51fc8d9ed832f2daf18b73";
-
-/// A party's number.
-pub fn party(number: u32) -> Result<PartyId, Fail> {
-    Ok(PartyId::new(number).ok_or("a party")?)
-}
-
-/// A parcel's number.
-pub fn parcel(number: u32) -> Result<ParcelId, Fail> {
-    Ok(ParcelId::new(number).ok_or("a parcel")?)
-}
-
-/// A file's number.
-pub fn file(number: u32) -> Result<FileId, Fail> {
-    Ok(FileId::new(number).ok_or("a file")?)
-}
 
 /// A paper's number.
 pub fn paper(number: u32) -> Result<PaperNumber, Fail> {
@@ -32,11 +17,6 @@ pub fn paper(number: u32) -> Result<PaperNumber, Fail> {
 /// A count of days.
 pub fn days(number: u32) -> Result<Days, Fail> {
     Ok(Days::new(number).ok_or("days")?)
-}
-
-/// A text within its limits.
-pub fn text(alloc: Global, letters: &str) -> Result<Text, Fail> {
-    Ok(Text::new(String::from_str(alloc, letters)?).ok_or("a text")?)
 }
 
 /// A digest.
